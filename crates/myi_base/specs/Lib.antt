@@ -1,0 +1,5 @@
+pub mod Numbers
+pub mod Items
+pub mod Ranges
+pub mod Holding
+pub mod Causes

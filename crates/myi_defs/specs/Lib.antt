@@ -1,0 +1,2 @@
+pub mod Addressable
+pub mod Sound

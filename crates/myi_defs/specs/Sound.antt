@@ -1,0 +1,53 @@
+-- What the definitions of every table that is not refused keep. The crates above rest on these facts
+-- alone; the law that joins them to the header stands with `read_defs`.
+use Rattle.std.specs.Prelude.{◌≡◌, ◌≢◌, ◌≤◌, ◌<◌, ◌+◌, ◌*◌, ℕ, List, [], ◌∷◌, length, All, sum_by}
+use Rattle.myi_base.specs.Numbers.{num_at}
+use Rattle.myi_defs.specs.declared.types.RowFormat.{RowFormat}
+use Rattle.myi_defs.specs.declared.types.RowFormat.TheVariants.{Static, Dynamic}
+use Rattle.myi_defs.specs.declared.types.FieldKind.{FieldKind}
+use Rattle.myi_defs.specs.declared.types.FieldKind.TheVariants.{Normal, SkipEndspace, SkipPrespace, SkipZero, Blob, Varchar}
+use Rattle.myi_defs.specs.declared.types.Field.{Field}
+use Rattle.myi_defs.specs.declared.types.Defs.{Defs}
+
+-- the lengths that a field of a kind may have
+abbrev pub IsLengthOf : RowFormat → FieldKind → ℕ → Type 0
+IsLengthOf format Normal n = 0 < n
+IsLengthOf format SkipEndspace n = 0 < n
+IsLengthOf format SkipPrespace n = 0 < n
+IsLengthOf format SkipZero n = 0 < n
+IsLengthOf format Blob n = (format ≡ Dynamic) × (9 ≤ n) × (n ≤ 12)
+IsLengthOf format Varchar n = (2 ≤ n) × (n ≢ 257)
+
+-- each field starts where the fields before it end
+abbrev pub StartFrom : ℕ → List Field → Type 0
+StartFrom at [] = Unit {0}
+StartFrom at (f ∷ fs) = (f.start ≡ at) × StartFrom (at + f.length) fs
+
+-- the sum of the lengths of the fields
+abbrev pub fields_length : List Field → ℕ
+fields_length fs = sum_by (λ f. f.length) fs
+
+-- where the base section of a header stands, by its counts of keys, of page sizes and of key parts
+abbrev pub base_place : ℕ → ℕ → ℕ → ℕ
+base_place keys sizes parts = 176 + 8 * keys + 8 * sizes + 4 * parts
+
+pub record IsSound (d : Defs) : Type 0 where
+  pub some_fields : 0 < length d.fields
+  pub few_fields : length d.fields ≤ 4096
+  pub lengths : All (λ f. IsLengthOf d.format f.kind f.length) d.fields
+  pub starts : StartFrom 0 d.fields
+  pub total : fields_length d.fields ≤ d.row_length
+  pub some_row : 0 < d.row_length
+  pub short_row : d.row_length ≤ 1048576
+  pub long_slot : d.format ≡ Static → d.row_length ≤ d.slot_length
+  pub short_slot : d.format ≡ Static → d.slot_length ≤ 1048576
+  pub slot_pointer : d.format ≡ Static → d.rec_ref + 1 ≤ d.slot_length
+  pub rec_ref_least : 2 ≤ d.rec_ref
+  pub rec_ref_most : d.rec_ref ≤ 8
+  pub key_ref_least : 1 ≤ d.key_ref
+  pub key_ref_most : d.key_ref ≤ 8
+  pub few_keys : length d.keys ≤ 64
+  pub header : length d.raw ≡ num_at 6 2 d.raw
+  pub keys : num_at 18 1 d.raw ≡ length d.keys
+  pub base : num_at 12 2 d.raw ≡ base_place (length d.keys) (num_at 21 1 d.raw) (num_at 14 2 d.raw)
+  pub base_inside : num_at 12 2 d.raw + 100 ≤ length d.raw

@@ -1,0 +1,10 @@
+//! The definitions of a table, as the header of its index file gives them.
+//!
+//! `Defs` says how the rows of a table stand in its data file and which keys the table has: the row
+//! format, the fields, the keys with their segments, and the sizes. Nothing else of the index file is
+//! looked at. The layout of the header is that of the MySQL Internals Manual, "The .MYI file".
+#![tactic(auto)]
+
+mod types;
+
+pub use types::{DefFault, Defs, Field, FieldKind, Key, RowFormat, SegType, Segment};
