@@ -1,0 +1,4 @@
+pub mod Stored
+pub mod MemFiles
+pub mod MemSink
+pub mod RealFiles

@@ -1,0 +1,12 @@
+-- The counts of an object of real files.
+use Rattle.std.specs.Prelude.{ℕ, vec_len}
+use Rattle.myi_io.specs.declared.real.RealFiles.{RealFiles}
+use Rattle.myi_io.specs.declared.real.Disk.{Disk}
+
+-- how often a call has failed
+abbrev pub real_faults : {R : Type 0} → RealFiles R → ℕ
+real_faults s = s.faults
+
+-- how many files are kept open
+abbrev pub opened_count : {R : Type 0} → Disk R → ℕ
+opened_count s = vec_len s.opened
