@@ -1,2 +1,4 @@
 pub mod Addressable
+pub mod Header
+pub mod ReadDefs
 pub mod Sound

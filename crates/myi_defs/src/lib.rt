@@ -5,6 +5,11 @@
 //! looked at. The layout of the header is that of the MySQL Internals Manual, "The .MYI file".
 #![tactic(auto)]
 
+mod header;
+mod laws;
+mod read;
 mod types;
 
+pub use laws::definitions_are_sound;
+pub use read::read_defs;
 pub use types::{DefFault, Defs, Field, FieldKind, Key, RowFormat, SegType, Segment};
