@@ -2,3 +2,4 @@ pub mod Addressable
 pub mod Header
 pub mod ReadDefs
 pub mod Sound
+pub mod Elsewhere

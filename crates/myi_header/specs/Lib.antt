@@ -1,0 +1,4 @@
+pub mod Parts
+pub mod Layout
+pub mod StateOf
+pub mod HeaderOf

@@ -1,0 +1,17 @@
+//! The state of a table, as the header of its index file keeps it, and the mark.
+//!
+//! The state stands between the first 24 bytes of the header and its base section: counts of rows and
+//! of deleted blocks, the lengths of both files, the root of each key's tree, and bytes that are kept
+//! as they are. An index file that this project wrote carries a mark in the last six bytes of the base
+//! section; a file without it is foreign. `read_state` reads the state of a marked file, `print_state`
+//! writes the header with a state and the mark, and `first_page` is the place behind it at which the
+//! first page of a tree stands.
+#![tactic(auto)]
+
+mod print;
+mod read;
+mod state;
+
+pub use print::print_state;
+pub use read::read_state;
+pub use state::{MARK, State, StateFault, first_page};
