@@ -1,13 +1,13 @@
 -- What is printed has the length of a header, and its state is read again.
-use Rattle.std.proofs.Common.{◌≡◌, ℕ, zero, suc, ◌+◌, ◌-◌, ◌*◌, ◌^◌, ◌<◌, ◌≤◌, List, [], ◌∷◌, ◌++◌, length, take, drop, get_or, Option, Some, None, refl, sym, ap, subst, ◌∙◌, arith, append_assoc, length-append}
+use Rattle.std.proofs.Common.{◌≡◌, ℕ, ◌+◌, ◌-◌, ◌*◌, ◌^◌, ◌<◌, ◌≤◌, List, [], ◌∷◌, ◌++◌, length, take, drop, get_or, Option, Some, None, refl, sym, ap, subst, ◌∙◌, arith, append_assoc, length-append}
 use Rattle.std.specs.Prelude.{map, replicate, All, true}
 use Rattle.std.specs.List.{AllByRecursion}
 use Rattle.std.proofs.lemmas.List.Elements.{recursion_from_All}
 use Rattle.myi_defs.specs.declared.types.Defs.{Defs}
 use Rattle.myi_defs.specs.Sound.{IsSound}
 use Rattle.myi_defs.specs.Elsewhere.{AgreeOutsideState}
-use Rattle.myi_header.specs.Layout.{layout_of, page_sizes, key_parts, first_page_of}
-use Rattle.std.proofs.lemmas.List.{append-nil, take_at, drop_at, drop-drop, drop-take, take_all, take-append-drop, length-take-le, length-drop, length-replicate}
+use Rattle.myi_header.specs.Layout.{layout_of, first_page_of}
+use Rattle.std.proofs.lemmas.List.{take_at, drop_at, drop-drop, drop-take, take_all, take-append-drop, length-take-le, length-drop, length-replicate}
 use Rattle.myi_base.specs.Numbers.{num, num_at, num_bytes, pointer_of, pointer_number}
 use Rattle.myi_base.specs.Items.{numbers, spelling, Fit}
 use Rattle.myi_base.proofs.NumberLaws.{num-num_bytes, length-num_bytes}

@@ -1,5 +1,5 @@
 -- The header that a state is written into, and what it shares with the header that was read.
-use Rattle.std.specs.Prelude.{◌≡◌, ◌<◌, ◌-◌, ◌^◌, ℕ, ◌+◌, ◌*◌, List, [], ◌∷◌, ◌++◌, length, take, drop, map, replicate, Option}
+use Rattle.std.specs.Prelude.{◌<◌, ◌-◌, ◌^◌, ℕ, ◌+◌, List, [], ◌∷◌, ◌++◌, length, take, drop, map, replicate, Option}
 use Rattle.myi_base.specs.Numbers.{num_bytes, pointer_number}
 use Rattle.myi_base.specs.Items.{spelling, Fit}
 use Rattle.myi_defs.specs.declared.types.Defs.{Defs}

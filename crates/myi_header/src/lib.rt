@@ -13,5 +13,5 @@ mod read;
 mod state;
 
 pub use print::print_state;
-pub use read::read_state;
+pub use read::{read_state, stored_state};
 pub use state::{MARK, State, StateFault, first_page};

@@ -1,5 +1,5 @@
 //! Reading the state of a marked file.
-ghost use Rattle.std.specs.Prelude.{◌≡◌, ◌≢◌, ◌≤◌, ◌<◌, ◌+◌, ◌*◌, length, IfOk, IfErr};
+ghost use Rattle.std.specs.Prelude.{◌≡◌, ◌≢◌, ◌≤◌, ◌<◌, ◌+◌, ◌-◌, ◌*◌, length, IfOk, IfErr};
 ghost use Rattle.std.specs.Str.{bytes_eq};
 ghost use Rattle.myi_defs.specs.Sound.{IsSound};
 ghost use Rattle.myi_header.specs.declared.state.StateFault.TheVariants.{Memory};
@@ -61,7 +61,8 @@ fn rest(alloc: Global, layout: Layout, bytes: &[u8]) -> Result<Vec<u8>, AllocErr
     requires end { layout.recover_time + 8 ≤ layout.base }
     requires inside { layout.base ≤ length bytes.now }
     requires room { 124 ≤ length bytes.now }
-    ensures { IfOk result (λ rest. rest.items ≡ spec.rest_at layout bytes.now) }
+    ensures value { IfOk result (λ rest. rest.items ≡ spec.rest_at layout bytes.now) }
+    ensures length { IfOk result (λ rest. length rest.items ≡ 32 + (layout.key_map - layout.key_del) + (layout.base - (layout.recover_time + 8))) }
 {
     let mut rest = Vec::new(alloc);
     append_part(&mut rest, bytes, 100, 24)?;
@@ -77,11 +78,22 @@ fn rest(alloc: Global, layout: Layout, bytes: &[u8]) -> Result<Vec<u8>, AllocErr
     Ok(rest)
 }
 
+/// The state in the header that the definitions were read from, whether it has the mark or not: what a
+/// repair of a foreign table begins with.
+pub fn stored_state(alloc: Global, defs: &Defs) -> Result<State, AllocError>
+    requires { IsSound defs.now }
+    ensures value { IfOk result (λ s. s ≡ spec.state_of defs.now defs.now.raw) }
+    ensures rest { IfOk result (λ s. length s.rest ≡ spec.rest_length defs.now) }
+{
+    Ok(state_of(alloc, defs, defs.raw.as_slice())?)
+}
+
 #[tactic(auto, unfolding(crate::specs::StateOf::state_of))]
 fn state_of(alloc: Global, defs: &Defs, bytes: &[u8]) -> Result<State, AllocError>
     requires sound { IsSound defs.now }
     requires long { length defs.now.raw ≤ length bytes.now }
-    ensures { IfOk result (λ s. s ≡ spec.state_of defs.now bytes.now) }
+    ensures value { IfOk result (λ s. s ≡ spec.state_of defs.now bytes.now) }
+    ensures rest { IfOk result (λ s. length s.rest ≡ spec.rest_length defs.now) }
 {
     let layout = Layout::of(defs);
     let roots = roots(alloc, defs.keys.as_slice().len(), bytes)?;

@@ -2,7 +2,7 @@
 //!
 //! A `State` has the numbers that this project reads and, in `rest`, the bytes between them in their
 //! order. `Layout` has the places that depend on how many keys, page sizes and key parts there are.
-ghost use Rattle.std.specs.Prelude.{◌≡◌, ◌≤◌, ◌<◌, ◌+◌, ◌%◌, ◌++◌, length, OnOk};
+ghost use Rattle.std.specs.Prelude.{◌≡◌, ◌≤◌, ◌<◌, ◌+◌, ◌%◌, ◌++◌, length, vec_len, OnOk};
 ghost use Rattle.myi_defs.specs.Sound.{IsSound};
 ghost use Rattle.myi_header.specs.Layout.{layout_of, first_page_of};
 ghost use Rattle.myi_header.specs.Parts.{part};
@@ -133,7 +133,8 @@ pub(crate) fn append_part(
     count: usize,
 ) -> Result<(), AllocError>
     requires { at + count ≤ length bytes.now }
-    ensures { OnOk result (out.new.items ≡ out.old.items ++ part at count bytes.now) }
+    ensures bytes { OnOk result (out.new.items ≡ out.old.items ++ part at count bytes.now) }
+    ensures long { OnOk result (vec_len out.new ≡ vec_len out.old + count) }
 {
     out.extend_from_slice(&bytes[at..at + count])?;
     Ok(())

@@ -1,0 +1,4 @@
+pub mod Readable
+pub mod Scanning
+pub mod DataFile
+pub mod ScanFaults
