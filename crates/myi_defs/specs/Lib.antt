@@ -1,4 +1,6 @@
 pub mod Addressable
+pub mod Conditions
 pub mod Header
+pub mod Kinds
 pub mod ReadDefs
 pub mod Sound
