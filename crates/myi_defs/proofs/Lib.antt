@@ -1,3 +1,6 @@
 pub mod HeaderLemmas
+pub mod OutlineLemmas
+pub mod PlaceLemmas
 pub mod ReadLemmas
 pub mod SoundLaws
+pub mod SoundSegments

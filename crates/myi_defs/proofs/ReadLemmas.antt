@@ -1,41 +1,96 @@
 -- What the definitions of a header give back.
-use Rattle.std.proofs.Common.{◌≡◌, ℕ, zero, suc, ◌+◌, ◌≤◌, Bool, true, false, List, [], ◌∷◌, length, take, Result, Ok, Err, if◌then◌else◌, refl, sym, ap, subst, arith}
+use Rattle.std.proofs.Common.{◌≡◌, ℕ, zero, suc, ◌+◌, ◌≤◌, Bool, true, false, List, [], ◌∷◌, length, take, Option, Some, None, Result, Ok, Err, if◌then◌else◌, refl, sym, ap, subst, arith}
 use Rattle.std.proofs.lemmas.List.{length-take-le}
 use Rattle.std.proofs.lemmas.Bool.Decides.{nat_tests}
 use Rattle.myi_base.specs.Numbers.{num_at}
 use Rattle.myi_base.proofs.ItemLaws.{numbers-take}
 use Rattle.myi_defs.specs.declared.types.Defs.{Defs}
 use Rattle.myi_defs.specs.declared.types.DefFault.{DefFault}
+use Rattle.myi_defs.specs.declared.types.DefFault.TheVariants.{Lengths}
 use Rattle.myi_defs.specs.declared.header.Front.{Front}
 use Rattle.myi_defs.specs.declared.header.Outline.{Outline}
 use Rattle.myi_defs.specs.Header.{front, header, outline}
-use Rattle.myi_defs.specs.ReadDefs.{is_short, has_other_magic, judged, has_wrong_front, has_other_form, has_wrong_count, has_wrong_row, has_other_fields, has_wrong_pointers, definitions, read_defs, AreDefs}
+use Rattle.myi_defs.specs.Conditions.{has_wrong_front, is_packed, has_checksum, has_fulltext, has_spatial, has_uniques, has_wrong_types, has_wrong_segment, has_wrong_place, has_wrong_collation, has_wrong_blocks, has_wrong_pointers, has_wide_rows, has_long_keys}
+use Rattle.myi_defs.specs.ReadDefs.{is_short, has_other_magic, has_wrong_lengths, refusal, unless, judged, definitions, read_defs, AreDefs}
+use Rattle.myi_defs.proofs.PlaceLemmas.{or_parts}
 
 -- a condition that was passed
-pub passed : (b : Bool) (e : DefFault) (r : Result Defs DefFault) (d : Defs) → (if b then Err e else r) ≡ Ok d → (b ≡ false) × (r ≡ Ok d)
-passed true e r d same = absurd (cc)
-passed false e r d same = (refl, same)
+passed : (b : Bool) (f : DefFault) (r : Option DefFault) → (if b then Some f else r) ≡ None → (b ≡ false) × (r ≡ None)
+passed true f r same = absurd (cc)
+passed false f r same = (refl, same)
 
--- no condition holds of the outline, and the definitions are what it gives
-pub record Passes (o : Outline) (h : List ℕ) (d : Defs) : Type 0 where
-  pub front : has_wrong_front o.front ≡ false
-  pub form : has_other_form o.front ≡ false
-  pub count : has_wrong_count o.front o.base ≡ false
-  pub row : has_wrong_row o ≡ false
-  pub fields : has_other_fields o ≡ false
-  pub pointers : has_wrong_pointers o.base ≡ false
-  pub value : definitions o h ≡ d
+-- no condition holds
+pub record Passes (o : Outline) : Type 0 where
+  pub lengths : has_wrong_lengths o ≡ false
+  pub types : has_wrong_types o ≡ false
+  pub segments : has_wrong_segment o ≡ false
+  pub places : has_wrong_place o ≡ false
+  pub collations : has_wrong_collation o ≡ false
+  pub blocks : has_wrong_blocks o ≡ false
+  pub pointers : has_wrong_pointers o ≡ false
+  pub rows : has_wide_rows o ≡ false
+  pub keys : has_long_keys o ≡ false
 
-pub judged-passes : (o : Outline) (h : List ℕ) (d : Defs) → judged o h ≡ Ok d → Passes o h d
-unfolding judged
-judged-passes o h d same =
-    let a = passed _ _ _ d same in
-    let b = passed _ _ _ d a.1 in
-    let e = passed _ _ _ d b.1 in
-    let f = passed _ _ _ d e.1 in
-    let g = passed _ _ _ d f.1 in
-    let i = passed _ _ _ d g.1 in
-    record { front = a.0; form = b.0; count = e.0; row = f.0; fields = g.0; pointers = i.0; value = cc (i.1) }
+pub refusal-passes : (o : Outline) → refusal o ≡ None → Passes o
+unfolding refusal
+refusal-passes o same =
+    let c3 = passed (has_wrong_lengths o) _ _ same in
+    let c4 = passed (is_packed o) _ _ c3.1 in
+    let c5 = passed (has_checksum o) _ _ c4.1 in
+    let c6 = passed (has_fulltext o) _ _ c5.1 in
+    let c7 = passed (has_spatial o) _ _ c6.1 in
+    let c8 = passed (has_uniques o) _ _ c7.1 in
+    let c9 = passed (has_wrong_types o) _ _ c8.1 in
+    let c10 = passed (has_wrong_segment o) _ _ c9.1 in
+    let c11 = passed (has_wrong_place o) _ _ c10.1 in
+    let c12 = passed (has_wrong_collation o) _ _ c11.1 in
+    let c13 = passed (has_wrong_blocks o) _ _ c12.1 in
+    let c14 = passed (has_wrong_pointers o) _ _ c13.1 in
+    let c15 = passed (has_wide_rows o) _ _ c14.1 in
+    let c16 = passed (has_long_keys o) _ _ c15.1 in
+    record {
+      lengths = c3.0;
+      types = c9.0;
+      segments = c10.0;
+      places = c11.0;
+      collations = c12.0;
+      blocks = c13.0;
+      pointers = c14.0;
+      rows = c15.0;
+      keys = c16.0;
+    }
+
+pub wrong_lengths-judged : (o : Outline) (h : List ℕ) → has_wrong_lengths o ≡ true → judged o h ≡ Err Lengths
+unfolding refusal
+wrong_lengths-judged o h wrong = rw wrong refl
+
+unless-ok : (r : Option DefFault) (e d : Defs) → unless r e ≡ Ok d → (r ≡ None) × (e ≡ d)
+unless-ok None e d same = (refl, cc)
+unless-ok (Some f) e d same = absurd (cc)
+
+-- what is judged of accepted bytes
+pub record Accepted (x : List ℕ) (d : Defs) : Type 0 where
+  pub short : is_short x ≡ false
+  pub magic : has_other_magic (front x) ≡ false
+  pub rest : judged (outline (front x) (header x)) (header x) ≡ Ok d
+  pub none : refusal (outline (front x) (header x)) ≡ None
+  pub value : definitions (outline (front x) (header x)) (header x) ≡ d
+
+passed_result : (b : Bool) (f : DefFault) (r : Result Defs DefFault) (d : Defs) → (if b then Err f else r) ≡ Ok d → (b ≡ false) × (r ≡ Ok d)
+passed_result true f r d same = absurd (cc)
+passed_result false f r d same = (refl, same)
+
+pub accepted : (x : List ℕ) (d : Defs) → read_defs x ≡ Ok d → Accepted x d
+unfolding read_defs
+accepted x d same =
+    let a = passed_result _ _ _ d same in
+    let b = passed_result _ _ _ d a.1 in
+    let both = unless-ok (refusal (outline (front x) (header x))) _ d b.1 in
+    record { short = a.0; magic = b.0; rest = b.1; none = both.0; value = both.1 }
+
+read_accepted : (x : List ℕ) (d : Defs) → is_short x ≡ false → has_other_magic (front x) ≡ false → judged (outline (front x) (header x)) (header x) ≡ Ok d → read_defs x ≡ Ok d
+unfolding read_defs
+read_accepted x d short magic rest = rw (short, magic) rest
 
 take-take : (k : ℕ) (x : List ℕ) → take k (take k x) ≡ take k x
 take-take zero x = refl
@@ -64,9 +119,13 @@ front-take k x long =
     let fulltext_keys = num_at-take 22 1 k x (omega arith) in
     cc
 
-has_wrong_front-false : (f : Front) → has_wrong_front f ≡ false → f.base_pos + 100 ≤ f.header_length × 276 ≤ f.header_length
+has_wrong_front-false : (f : Front) → has_wrong_front f ≡ false → 276 ≤ f.header_length
 unfolding has_wrong_front
-has_wrong_front-false f right = (grind (arith, nat_tests), grind (arith, nat_tests))
+has_wrong_front-false f right = grind (arith, nat_tests)
+
+pub wrong_lengths-front : (o : Outline) → has_wrong_lengths o ≡ false → has_wrong_front o.front ≡ false
+unfolding has_wrong_lengths
+wrong_lengths-front o right = (or_parts _ _ (or_parts _ _ (or_parts _ _ right).0).0).0
 
 pub is_short-false : (x : List ℕ) → is_short x ≡ false → (24 ≤ length x) × ((front x).header_length ≤ length x)
 unfolding is_short
@@ -80,43 +139,23 @@ pub outline-front : (f : Front) (h : List ℕ) → (outline f h).front ≡ f
 unfolding outline
 outline-front f h = refl
 
--- what is judged of accepted bytes
-pub record Accepted (x : List ℕ) (d : Defs) : Type 0 where
-  pub short : is_short x ≡ false
-  pub magic : has_other_magic (front x) ≡ false
-  pub rest : judged (outline (front x) (header x)) (header x) ≡ Ok d
-
-pub accepted : (x : List ℕ) (d : Defs) → read_defs x ≡ Ok d → Accepted x d
-unfolding read_defs
-accepted x d same =
-    let a = passed _ _ _ d same in
-    let b = passed _ _ _ d a.1 in
-    record { short = a.0; magic = b.0; rest = b.1 }
-
-pub read_accepted : (x : List ℕ) (d : Defs) → Accepted x d → read_defs x ≡ Ok d
-unfolding read_defs
-read_accepted x d all = rw (all.short, all.magic) all.rest
-
 pub raw-is : (x : List ℕ) (d : Defs) → read_defs x ≡ Ok d → d.raw ≡ header x
-raw-is x d same =
-    let all = accepted x d same in
-    let good = judged-passes _ _ d all.rest in
-    sym (ap (λ (d : Defs). d.raw) good.value)
+raw-is x d same = sym (ap (λ (d : Defs). d.raw) (accepted x d same).value)
 
 pub are_defs : (x : List ℕ) (d : Defs) → read_defs x ≡ Ok d → AreDefs d
 are_defs x d same =
     let all = accepted x d same in
-    let good = judged-passes _ _ d all.rest in
-    let long = has_wrong_front-false (front x) (subst (λ f. has_wrong_front f ≡ false) (outline-front (front x) (header x)) good.front) in
+    let o = outline (front x) (header x) in
+    let right = wrong_lengths-front o (refusal-passes o all.none).lengths in
+    let long = has_wrong_front-false (front x) (subst (λ f. has_wrong_front f ≡ false) (outline-front (front x) (header x)) right) in
     let whole = is_short-false x all.short in
     let n = (front x).header_length in
     let front_same : front (header x) ≡ front x = front-take n x (omega arith) in
     let count : length (header x) ≡ n = length-take-le n x whole.1 in
     let twice : take n (header x) ≡ header x = take-take n x in
     let short : is_short (header x) ≡ false = not_short (header x) (omega arith) (omega (arith, ap (λ (f : Front). f.header_length) front_same)) in
-    let judge : judged (outline (front (header x)) (header (header x))) (header (header x)) ≡ Ok d =
-    rw (front_same, twice) all.rest in
-    let both : read_defs (header x) ≡ Ok d = read_accepted (header x) d (record { short = short; magic = rw front_same all.magic; rest = judge }) in
+    let judge : judged (outline (front (header x)) (header (header x))) (header (header x)) ≡ Ok d = rw (front_same, twice) all.rest in
+    let both : read_defs (header x) ≡ Ok d = read_accepted (header x) d short (rw front_same all.magic) judge in
     subst (λ h. read_defs h ≡ Ok d) (sym (raw-is x d same)) both
 
 pub raw-header : (x : List ℕ) (d : Defs) → read_defs x ≡ Ok d → d.raw ≡ take (num_at 6 2 x) x

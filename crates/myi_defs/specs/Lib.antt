@@ -1,5 +1,7 @@
 pub mod Addressable
+pub mod Conditions
 pub mod Header
+pub mod Kinds
 pub mod ReadDefs
 pub mod Sound
 pub mod Elsewhere

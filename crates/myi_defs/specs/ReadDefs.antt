@@ -1,47 +1,23 @@
--- Read definitions: what the bytes of an index file say of its table, or why the table is refused
--- (MySQL Internals Manual, "The .MYI file"; which tables are refused is this project's own).
-use Rattle.std.specs.Prelude.{◌≡◌, ℕ, ◌+◌, ◌*◌, Bool, true, false, not, ◌||◌, ◌==◌, nat_lt, bit_and, if◌then◌else◌, List, [], ◌∷◌, length, sum_by, Option, Some, unwrap_or, Result, Ok, Err}
-use Rattle.std.specs.List.{list_any}
-use Rattle.myi_defs.specs.declared.types.RowFormat.{RowFormat}
-use Rattle.myi_defs.specs.declared.types.RowFormat.TheVariants.{Static, Dynamic}
-use Rattle.myi_defs.specs.declared.types.FieldKind.{FieldKind}
+-- Read definitions: what the bytes of an index file say of its table, or why the table is refused: the first
+-- of sixteen conditions that holds decides (MySQL Internals Manual, "The .MYI file", for what is read; the
+-- conditions are this project's own).
+use Rattle.std.specs.Prelude.{◌≡◌, ℕ, Bool, not, ◌||◌, ◌==◌, nat_lt, if◌then◌else◌, List, length, map, unwrap_or, Option, Some, None, Result, Ok, Err}
+use Rattle.std.specs.List.{position_or_len}
 use Rattle.myi_defs.specs.declared.types.FieldKind.TheVariants.{Normal}
+use Rattle.myi_defs.specs.declared.types.SegType.TheVariants.{Binary}
 use Rattle.myi_defs.specs.declared.types.Field.{Field}
+use Rattle.myi_defs.specs.declared.types.Segment.{Segment}
+use Rattle.myi_defs.specs.declared.types.Key.{Key}
 use Rattle.myi_defs.specs.declared.types.Defs.{Defs}
 use Rattle.myi_defs.specs.declared.types.DefFault.{DefFault}
-use Rattle.myi_defs.specs.declared.types.DefFault.TheVariants.{NotBuilt}
+use Rattle.myi_defs.specs.declared.types.DefFault.TheVariants as fault
 use Rattle.myi_defs.specs.declared.header.Front.{Front}
-use Rattle.myi_defs.specs.declared.header.Base.{Base}
+use Rattle.myi_defs.specs.declared.header.SegItem.{SegItem}
+use Rattle.myi_defs.specs.declared.header.KeyItem.{KeyItem}
 use Rattle.myi_defs.specs.declared.header.FieldItem.{FieldItem}
 use Rattle.myi_defs.specs.declared.header.Outline.{Outline}
 use Rattle.myi_defs.specs.Header.{front, header, fields_place, outline}
-use Rattle.myi_defs.specs.Sound.{base_place}
-
--- a bit of a number is set
-abbrev pub has_bit : ℕ → ℕ → Bool
-has_bit bit n = not (bit_and n bit == 0)
-
--- the row format, by the options: 1 dynamic
-abbrev pub row_format : ℕ → RowFormat
-row_format options = if has_bit 1 options then Dynamic else Static
-
--- each field with its place, the fields standing one after the other from a place on
-abbrev pub fields_from : ℕ → List FieldItem → List Field
-fields_from at [] = []
-fields_from at (f ∷ fs) = record { kind = unwrap_or f.kind Normal; length = f.length; start = at } ∷ fields_from (at + f.length) fs
-
--- the definitions that a header gives
-abbrev pub definitions : Outline → List ℕ → Defs
-definitions o h = record {
-  format = row_format o.front.options;
-  fields = fields_from 0 o.fields;
-  keys = [];
-  rec_ref = o.base.rec_ref;
-  key_ref = o.base.key_ref;
-  row_length = o.base.row_length;
-  slot_length = o.base.slot_length;
-  raw = h;
-}
+use Rattle.myi_defs.specs.Conditions.{has_bit, row_format, has_wrong_front, has_wrong_keys, has_wrong_fields, has_wrong_row, is_packed, has_checksum, has_fulltext, has_spatial, has_uniques, has_wrong_types, has_wrong_segment, is_held, has_wrong_place, has_wrong_collation, has_wrong_blocks, has_wrong_pointers, has_wide_rows, has_long_keys}
 
 -- the file is cut short: it has no 24 bytes, or not the whole header
 unfoldable pub is_short : List ℕ → Bool
@@ -51,79 +27,81 @@ is_short x = nat_lt (length x) 24 || nat_lt (length x) (front x).header_length
 unfoldable pub has_other_magic : Front → Bool
 has_other_magic f = not (f.magic == 0xFEFE0701)
 
--- the lengths in the first 24 bytes are not those of this format, or the base section is not where it must be
--- or reaches past the header
-unfoldable pub has_wrong_front : Front → Bool
-has_wrong_front f =
-    not (f.state_info_length == 176)
-    || not (f.base_info_length == 100)
-    || not (f.base_pos == base_place f.keys f.page_sizes f.key_parts)
-    || nat_lt f.header_length (f.base_pos + 100)
+-- the lengths and counts in the header do not fit together
+unfoldable pub has_wrong_lengths : Outline → Bool
+has_wrong_lengths o =
+    has_wrong_front o.front
+    || has_wrong_keys o.front o.keys
+    || has_wrong_fields o.front o.base (fields_place o.front o.keys)
+    || has_wrong_row o.front o.base
 
--- there are no fields or too many, or they reach past the header
-unfoldable pub has_wrong_count : Front → Base → Bool
-has_wrong_count f b =
-    (b.fields == 0)
-    || nat_lt 4096 b.fields
-    || nat_lt f.header_length (fields_place f + 7 * b.fields)
+-- a field of the definitions; a kind is always there in a table that is not refused
+abbrev pub field_of : FieldItem → Field
+field_of f = record { kind = unwrap_or f.kind Normal; length = f.length; start = f.start }
 
--- the row has no bytes or too many, or in a static table the slot is shorter than the row or too long
-unfoldable pub has_wrong_row : Outline → Bool
-has_wrong_row o =
-    (o.base.row_length == 0)
-    || nat_lt 1048576 o.base.row_length
-    || nat_lt o.base.slot_length o.base.row_length
-    || nat_lt 1048576 o.base.slot_length
+-- a segment; the first field that holds it is its field
+abbrev pub segment_of : List FieldItem → SegItem → Segment
+segment_of fields s = record {
+  seg = unwrap_or s.seg Binary;
+  language = s.language;
+  null_bit = s.null_bit;
+  null_pos = s.null_pos;
+  length = s.length;
+  start = s.start;
+  field = position_or_len (is_held s) fields;
+}
 
--- the table is dynamic, packed or has checksums, or it has keys of some kind
-unfoldable pub has_other_form : Front → Bool
-has_other_form f =
-    has_bit 1 f.options
-    || has_bit 4 f.options
-    || has_bit 32 f.options
-    || not (f.keys == 0)
-    || not (f.uniques == 0)
-    || not (f.fulltext_keys == 0)
+-- a key; flag 1 says that it is unique
+abbrev pub key_of : List FieldItem → KeyItem → Key
+key_of fields k = record {
+  unique = has_bit 1 k.flag;
+  block_length = k.block_length;
+  segments = map (segment_of fields) k.segments;
+}
 
--- a field is one of fixed bytes
-abbrev pub is_normal : Option FieldKind → Bool
-is_normal (Some Normal) = true
-is_normal kind = false
+-- the definitions that a header gives
+abbrev pub definitions : Outline → List ℕ → Defs
+definitions o h = record {
+  format = row_format o.front.options;
+  fields = map field_of o.fields;
+  keys = map (key_of o.fields) o.keys;
+  rec_ref = o.base.rec_ref;
+  key_ref = o.base.key_ref;
+  row_length = o.base.row_length;
+  slot_length = o.base.slot_length;
+  raw = h;
+}
 
--- a field is not NORMAL or has no bytes
-abbrev pub is_other_field : FieldItem → Bool
-is_other_field f = not (is_normal f.kind) || (f.length == 0)
+-- why a header is refused: the first of the third condition and those after it
+unfoldable pub refusal : Outline → Option DefFault
+refusal o =
+    if has_wrong_lengths o then Some fault.Lengths  -- 3: lengths or counts do not fit together
+    else if is_packed o then Some fault.Packed  -- 4: the data file is compressed
+    else if has_checksum o then Some fault.Checksum  -- 5: rows have checksums
+    else if has_fulltext o then Some fault.Fulltext  -- 6: a key is a full-text one
+    else if has_spatial o then Some fault.Spatial  -- 7: a key is a spatial one
+    else if has_uniques o then Some fault.Uniques  -- 8: there are unique constraints
+    else if has_wrong_types o then Some fault.FieldType  -- 9: a field's type or length is not taken
+    else if has_wrong_segment o then Some fault.SegType  -- 10: a segment's type is not taken
+    else if has_wrong_place o then Some fault.SegPlace  -- 11: a segment lies in no field that can hold it
+    else if has_wrong_collation o then Some fault.Collation  -- 12: a text's collation is not taken
+    else if has_wrong_blocks o then Some fault.BlockLength  -- 13: a key's pages have a wrong length
+    else if has_wrong_pointers o then Some fault.PointerSize  -- 14: a pointer has a wrong length
+    else if has_wide_rows o then Some fault.WideBlob  -- 15: a packed row may be too long
+    else if has_long_keys o then Some fault.KeyTooLong  -- 16: a key may be too long
+    else None
 
--- one of the fields is such, or the fields are longer than the row
-unfoldable pub has_other_fields : Outline → Bool
-has_other_fields o =
-    list_any is_other_field o.fields
-    || nat_lt o.base.row_length (sum_by (λ f. f.length) o.fields)
+abbrev pub unless : Option DefFault → Defs → Result Defs DefFault
+unless (Some f) d = Err f
+unless None d = Ok d
 
--- a pointer has too few or too many bytes, or a slot has no room for a deleted row's pointer
-unfoldable pub has_wrong_pointers : Base → Bool
-has_wrong_pointers b =
-    nat_lt b.rec_ref 2
-    || nat_lt 8 b.rec_ref
-    || nat_lt b.key_ref 1
-    || nat_lt 8 b.key_ref
-    || nat_lt b.slot_length (b.rec_ref + 1)
-
--- what the first 24 bytes and the whole header give
-unfoldable pub judged : Outline → List ℕ → Result Defs DefFault
-judged o h =
-    if has_wrong_front o.front then Err NotBuilt
-    else if has_other_form o.front then Err NotBuilt
-    else if has_wrong_count o.front o.base then Err NotBuilt
-    else if has_wrong_row o then Err NotBuilt
-    else if has_other_fields o then Err NotBuilt
-    else if has_wrong_pointers o.base then Err NotBuilt
-    else Ok (definitions o h)
+abbrev pub judged : Outline → List ℕ → Result Defs DefFault
+judged o h = unless (refusal o) (definitions o h)
 
 unfoldable pub read_defs : List ℕ → Result Defs DefFault
 read_defs x =
-    if is_short x then Err NotBuilt
-    else if has_other_magic (front x) then Err NotBuilt
+    if is_short x then Err fault.Short  -- 1: the file is cut short
+    else if has_other_magic (front x) then Err fault.Magic  -- 2: it is no index file
     else judged (outline (front x) (header x)) (header x)
 
 -- definitions that are those of their own header

@@ -5,8 +5,11 @@
 //! looked at. The layout of the header is that of the MySQL Internals Manual, "The .MYI file".
 #![tactic(auto)]
 
+mod conditions;
 mod header;
 mod laws;
+mod outline;
+mod places;
 mod read;
 mod types;
 

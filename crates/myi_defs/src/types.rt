@@ -7,7 +7,7 @@ ghost use Rattle.std.specs.Prelude.{◌≡◌, ◌≤◌, ◌-◌, ◌^◌, nat_
 ghost use Rattle.myi_defs.specs.Addressable.{pointers, is_addressable};
 
 use myi_base::Sequence;
-use std::alloc::{AllocError, Global};
+use std::alloc::{AllocError, AllocFailed, Global};
 use thiserror::Error;
 
 /// How the rows of a table stand in its data file: in slots of one length, or packed into blocks.
@@ -105,8 +105,7 @@ pub struct Defs {
 }
 
 /// Why definitions are refused: the first condition that holds of a header, in the order of the
-/// variants, by its number from 1. `NotBuilt` stands for every header that is not of the first form,
-/// and `Memory` is want of memory.
+/// variants, which is that of their numbers from 1 on. `Memory` is want of memory.
 #[derive(Clone, Copy, Debug, PartialEq, Eq, Error)]
 pub enum DefFault {
     #[error("the header is cut short")]
@@ -141,8 +140,6 @@ pub enum DefFault {
     WideBlob,
     #[error("a key may have more than 1000 bytes")]
     KeyTooLong,
-    #[error("the form of the table is not built")]
-    NotBuilt,
     #[error("out of memory")]
     Memory,
 }
@@ -154,6 +151,17 @@ impl From<AllocError> for DefFault {
     ghost from_gives = { λ _ e. e ≡ Memory };
 
     fn from(_: AllocError) -> Self {
+        DefFault::Memory
+    }
+}
+
+impl<T: Drop> From<AllocFailed<T>> for DefFault {
+    ghost use Rattle.std.specs.Prelude.{◌≡◌};
+    ghost use Rattle.myi_defs.specs.declared.types.DefFault.TheVariants.{Memory};
+
+    ghost from_gives = { λ _ e. e ≡ Memory };
+
+    fn from(_: AllocFailed<T>) -> Self {
         DefFault::Memory
     }
 }
