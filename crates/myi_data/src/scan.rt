@@ -10,8 +10,8 @@ ghost use Rattle.myi_base.specs.Causes.{HasCause};
 ghost use Rattle.myi_data.specs.declared.scan.ScanFault.TheVariants.{File, Memory};
 ghost use Rattle.myi_data.specs.Readable.{Slot, rows_in};
 
-use myi_io::{FileErr, Files};
-use std::alloc::{AllocError, Global};
+use myi_io::{FileErr, Files, read_front};
+use std::alloc::AllocError;
 use std::marker::Model;
 
 /// The longest row that is lent, in bytes.
@@ -19,9 +19,24 @@ const WINDOW: usize = 131_072;
 
 /// The bytes of a row: a slice of what was read, or, of a row longer than 131,072 bytes, one that the
 /// scan keeps.
+#[derive(Clone, Copy, Debug)]
 pub enum Piece<'w> {
     Lent(&'w [u8]),
     Joined(&'w [u8]),
+}
+
+impl<'w> Piece<'w> {
+    ghost use Rattle.std.specs.Prelude.{◌≡◌};
+    ghost use Rattle.myi_data.specs.Scanning.{shown};
+
+    /// The bytes of the row.
+    pub fn bytes(&self) -> &'w [u8]
+        ensures { result.now ≡ shown self.now }
+    {
+        match self {
+            Piece::Lent(bytes) | Piece::Joined(bytes) => bytes,
+        }
+    }
 }
 
 /// Why a scan did not go on. The next call tries the same place again.
@@ -72,36 +87,6 @@ fn next_row_place(bytes: &[u8], from: usize, size: usize) -> Option<usize>
         at += size;
     }
     None
-}
-
-/// Reads a file as far as a length, or to its end where that comes first.
-fn read_front<F: Files>(
-    alloc: Global,
-    files: &mut F,
-    name: &str,
-    length: u64,
-) -> Result<Vec<u8>, ScanFault>
-    ensures told { IfOk result (λ bytes. (m : Holding) → F.holds files.old ≡ Some m → bytes.items ≡ take length (bytes_of name.now m)) }
-    ensures short { IfOk result (λ bytes. vec_len bytes ≤ length) }
-    ensures holds { F.holds files.new ≡ F.holds files.old }
-    ensures cause { HasCause File (F.faults files.old) (F.faults files.new) result }
-{
-    let mut bytes = Vec::new(alloc);
-    bytes.resize(length as usize, 0)?;
-    let count = fill(files, name, &mut bytes)?;
-    bytes.truncate(count);
-    Ok(bytes)
-}
-
-// Fills the buffer from the file's start.
-fn fill<F: Files>(files: &mut F, name: &str, into: &mut [u8]) -> Result<usize, ScanFault>
-    ensures bound { IfOk result (λ count. count ≤ length into.new) }
-    ensures told { IfOk result (λ count. (m : Holding) → F.holds files.old ≡ Some m → take count into.new ≡ take (length into.old) (bytes_of name.now m)) }
-    ensures holds { F.holds files.new ≡ F.holds files.old }
-    ensures cause { HasCause File (F.faults files.old) (F.faults files.new) result }
-{
-    let count = files.read_at(name, 0, into)?;
-    Ok(count)
 }
 
 /// A scan of the rows of a data file.

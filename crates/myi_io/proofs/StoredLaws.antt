@@ -1,5 +1,5 @@
 -- What the calls of files in memory do, over plain lists.
-use Rattle.std.proofs.Common.{◌≡◌, ℕ, ◌+◌, ◌-◌, ◌≤◌, ◌<◌, List, [], ◌∷◌, ◌++◌, length, take, drop, sym, arith, inl, inr, append_assoc, length-append, Option, Some, None, String, Vec, Result, Ok, Err, OnOk, OnErr, refl, ap, ◌∙◌}
+use Rattle.std.proofs.Common.{◌≡◌, ℕ, ◌+◌, ◌-◌, ◌≤◌, List, [], ◌∷◌, ◌++◌, length, take, drop, sym, arith, inl, inr, append_assoc, length-append, Option, Some, None, String, Vec, Result, Ok, Err, OnOk, OnErr, refl, ap, ◌∙◌}
 use Rattle.std.specs.Prelude.{replicate}
 use Rattle.std.specs.Option.{option_or}
 use Rattle.std.proofs.lemmas.Bool.{cases_lt}

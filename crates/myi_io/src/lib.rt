@@ -8,6 +8,7 @@
 #![tactic(auto)]
 
 mod files;
+mod front;
 mod memory;
 mod real;
 mod sink;
@@ -15,6 +16,7 @@ mod sink;
 mod tests;
 
 pub use files::{FileErr, Files};
+pub use front::read_front;
 pub use memory::MemFiles;
 pub use myi_base::{be, le};
 pub use real::{RealFiles, RealSink};

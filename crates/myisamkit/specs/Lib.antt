@@ -5,3 +5,7 @@ pub mod Recovered
 pub mod Lines
 pub mod Runs
 pub mod Stops
+pub mod Plans
+pub mod Finished
+pub mod Opened
+pub mod Gathered

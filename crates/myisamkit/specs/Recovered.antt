@@ -1,6 +1,7 @@
 -- What a repair leaves of a static table without keys (this project's own form of what the MySQL Reference
 -- Manual says of myisamchk --recover).
-use Rattle.std.specs.Prelude.{◌≡◌, ◌≤◌, ◌*◌, ◌%◌, ℕ, true, List, [], length, map, Ok}
+use Rattle.std.specs.Prelude.{◌≡◌, ◌≤◌, ◌*◌, ℕ, true, List, length, take, map, Ok}
+use Rattle.myi_base.specs.Numbers.{num_at}
 use Rattle.myi_defs.specs.declared.types.Defs.{Defs}
 use Rattle.myi_defs.specs.ReadDefs.{read_defs}
 use Rattle.myi_defs.specs.Addressable.{is_addressable}
@@ -34,7 +35,7 @@ pub record Recovered (defs : Defs) (d x : List ℕ) (now : ℕ) (e y : List ℕ)
   pub slots : e ≡ slots_of (fields_length defs.fields) defs.slot_length (kept defs d)
   pub shorter : length e ≤ length d
   -- the same definitions, and no byte changed that is neither state nor mark
-  pub definitions : read_defs y ≡ Ok (record defs { raw = y.raw })
+  pub definitions : read_defs y ≡ Ok (record defs { raw = take (num_at 6 2 x) y })
   pub elsewhere : AgreeOutsideState x y
   pub clean : IsClean defs e y
   pub state : state_of defs y ≡ new_state defs (state_of defs x) (length (kept defs d)) now

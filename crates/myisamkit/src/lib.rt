@@ -1,13 +1,19 @@
-// A library with one function.
+//! The program `kit` as a library: from the words of a command line and files to the repaired files,
+//! the printed line and the status.
+//!
+//! `kit` is the top call. What the words ask for is a `Plan`; what a run says and does is defined over
+//! what the files hold before it (`Runs`), and the files that a repair leaves over the bytes of the
+//! two files before it (`Rebuilt`, `Recovered`). The one command that is built is `chk --recover NAME`,
+//! on static tables without keys whose fields are all NORMAL; other tables are refused by name.
 #![tactic(auto)]
 
-ghost use Rattle.std.specs.Prelude.{◌≡◌};
-ghost use Rattle.myisamkit.specs.Echo.{echo_of};
+mod files;
+mod gather;
+mod lines;
+mod open;
+mod rebuild;
+mod status;
+mod words;
 
-// The `ensures` clause is the contract: what `echo` returns is `echo_of` of its argument, a definition
-// in `specs/Echo.antt`, which a caller's clause can cite too.
-pub fn echo(x: usize) -> usize
-    ensures { result ≡ echo_of x }
-{
-    x
-}
+pub use status::{Status, Stop};
+pub use words::{Plan, read_words};

@@ -1,0 +1,65 @@
+-- How the steps of a rebuild compose, over plain values.
+use Rattle.std.proofs.Common.{◌≡◌, ◌≢◌, ◌⊎◌, ℕ, ◌+◌, ◌-◌, ◌*◌, ◌≤◌, List, [], ◌++◌, length, take, drop, Option, Some, None, unwrap_or, refl, sym, ap, subst, ◌∙◌, arith, inl, inr, length-append}
+use Rattle.std.specs.Prelude.{replicate}
+use Rattle.std.proofs.lemmas.List.{take_all, length-take-le, length-drop, length-replicate}
+use Rattle.myi_base.specs.Holding.{Holding, bytes_of}
+use Rattle.myi_defs.specs.declared.types.Defs.{Defs}
+use Rattle.myi_defs.specs.Sound.{fields_length}
+use Rattle.myi_header.specs.declared.state.State.{State}
+use Rattle.myi_header.specs.StateOf.{state_of}
+use Rattle.myi_header.specs.HeaderOf.{header_of}
+use Rattle.myi_data.specs.Readable.{Slot, readable}
+use Rattle.myi_data.specs.Scanning.{Scanning, rows_left}
+use Rattle.myisamkit.specs.Gathered.{KeepsOthers, Gathers}
+use Rattle.myisamkit.specs.Rebuilt.{slots_of, kept, new_rows, new_state, new_index, without_free_pages}
+use Rattle.myisamkit.specs.Finished.{FourNames, AreApart, Holds, KeepsBoth, Replaces, IsWhole, Finishes, FinishesPart}
+
+-- a scan of which nothing was read yet
+abbrev pub fresh_scan : List ℕ → ℕ → ℕ → Scanning
+fresh_scan name size end = record { name = name; size = size; end = end; left = None }
+
+pub fresh_is : (s : Scanning) (n0 n1 n2 : List ℕ) (z0 z1 e0 e1 : ℕ) → s ≡ fresh_scan n0 z0 e0 → n0 ≡ n1 → n1 ≡ n2 → z0 ≡ z1 → e0 ≡ e1 → s ≡ fresh_scan n2 z1 e1
+fresh_is s n0 n1 n2 z0 z1 e0 e1 is first second size end = is ∙ (λ i. fresh_scan ((first ∙ second) i) (size i) (end i))
+
+fresh_rows : (name d : List ℕ) (size : ℕ) (m : Holding) → m name ≡ Some d → rows_left (fresh_scan name size (length d)) m ≡ readable size d
+fresh_rows name d size m is =
+    let file : bytes_of name m ≡ d = ap (λ o. unwrap_or o []) is in
+    ap (λ b. readable size (take (length d) b)) file ∙ ap (readable size) (take_all (length d) d (omega arith))
+
+-- the rows of a file that is read whole are written
+pub gathers_rows : (t : FourNames) (defs : Defs) (scan : Scanning) (row end count : ℕ) (m n : Holding) (d : List ℕ) → scan ≡ fresh_scan t.rows defs.slot_length end → row ≡ fields_length defs.fields → end ≡ length d → m t.rows ≡ Some d → Gathers scan t.new_rows row count m n
+    → (n t.new_rows ≡ Some (new_rows defs d)) × (count ≡ length (kept defs d))
+unfolding new_rows
+gathers_rows t defs scan row end count m n d is total long there gathers =
+    let P : Scanning → ℕ → Type 0 = λ s r. Gathers s t.new_rows r count m n in
+    let fresh : Gathers (fresh_scan t.rows defs.slot_length (length d)) t.new_rows (fields_length defs.fields) count m n =
+    subst (λ e. P (fresh_scan t.rows defs.slot_length e) (fields_length defs.fields)) long (subst (λ s. P s (fields_length defs.fields)) is (subst (λ r. P scan r) total gathers)) in
+    let rows = fresh_rows t.rows d defs.slot_length m there in
+    (fresh.here ∙ ap (λ r. Some (slots_of (fields_length defs.fields) defs.slot_length r)) rows, fresh.all ∙ ap (λ (r : List Slot). length r) rows)
+
+pub length-without_free_pages : (n : ℕ) (rest : List ℕ) → 24 + n ≤ length rest → length (take 24 rest ++ (replicate n 255 ++ drop (24 + n) rest)) ≡ length rest
+length-without_free_pages n rest inside =
+    let front = length-take-le 24 rest (omega arith) in
+    let end = length-drop (24 + n) rest in
+    let pages = length-replicate {A = ℕ} n 255 in
+    omega (arith, front, end, pages, length-append (take 24 rest) (replicate n 255 ++ drop (24 + n) rest), length-append (replicate n 255) (drop (24 + n) rest))
+
+-- the header that is printed is the new index file
+pub index_is : (defs : Defs) (d x index : List ℕ) (s stored : State) (length_read rows now : ℕ) → x ≡ index → index ≡ header_of defs s → s ≡ new_state defs (record stored { data_file_length = length_read }) rows now → stored ≡ state_of defs defs.raw → rows ≡ length (kept defs d) → x ≡ new_index defs d now
+unfolding new_index
+index_is defs d x index s stored length_read rows now same printed state was count =
+    same ∙ printed ∙ ap (header_of defs) state ∙ ap (λ b. header_of defs (new_state defs b rows now)) was ∙ ap (λ r. header_of defs (new_state defs (state_of defs defs.raw) r now)) count
+
+module _ (t : FourNames) (apart : AreApart t) (d x : List ℕ) (m n p : Holding) (gathered : KeepsOthers t.new_rows m n) where
+  -- what is whole beside the files after the rows were gathered is so beside those before
+  pub whole_before : IsWhole t d x n p → IsWhole t d x m p
+  whole_before (inl keeps) = inl (record { rows = keeps.rows ∙ gathered t.rows apart.rows-new_rows; index = keeps.index ∙ gathered t.index apart.index-new_rows })
+  whole_before (inr replaced) = inr (record { rows = replaced.rows; index = index_before replaced.index })
+    where
+      index_before : (p t.index ≡ n t.index) ⊎ (p t.index ≡ Some x) → (p t.index ≡ m t.index) ⊎ (p t.index ≡ Some x)
+      index_before (inl same) = inl (same ∙ gathered t.index apart.index-new_rows)
+      index_before (inr new) = inr new
+
+-- files hold one thing
+pub same_holding : (h : Option Holding) (n o : Holding) → h ≡ Some n → h ≡ Some o → n ≡ o
+same_holding h n o one other = ap (λ b. unwrap_or b n) (sym one ∙ other)

@@ -1,0 +1,73 @@
+//! The words of a command line, and what they ask for.
+ghost use Rattle.std.specs.Prelude.{◌≡◌, ◌<◌, ◌≤◌, length, nat_le, map, string_bytes};
+ghost use Rattle.std.specs.List.{list_all};
+ghost use Rattle.myisamkit.specs.Words as spec;
+ghost use Rattle.myisamkit.specs.Plans.{asked};
+
+/// What the words ask for. A table is named without the end `.MYI` of its index file.
+#[derive(Clone, Copy)]
+pub enum Plan<'a> {
+    /// The words are refused.
+    Usage,
+    /// `chk --recover` of one table.
+    Recover(&'a str),
+}
+
+/// Reads the words after the program's name.
+pub fn read_words(words: &[String]) -> Plan<'_>
+    ensures { asked result ≡ spec.plan (map (λ w. string_bytes w) words.now) }
+{
+    match words {
+        [command, mode, word] => plan_three(command.as_str(), mode.as_str(), word.as_str()),
+        _ => Plan::Usage,
+    }
+}
+
+fn plan_three<'a>(command: &str, mode: &str, word: &'a str) -> Plan<'a>
+    ensures { asked result ≡ spec.plan_three command.now mode.now word.now }
+{
+    if command == "chk" && mode == "--recover" && is_name(word) {
+        Plan::Recover(table_name(word))
+    } else {
+        Plan::Usage
+    }
+}
+
+fn is_name(word: &str) -> bool
+    ensures { result ≡ spec.is_name word.now }
+{
+    let bytes = word.as_bytes();
+    if bytes.is_empty() || bytes.len() > 200 {
+        return false;
+    }
+    are_printed(bytes) && !is_option(bytes)
+}
+
+fn are_printed(bytes: &[u8]) -> bool
+    ensures { result ≡ list_all (λ b. nat_le 32 b) bytes.now }
+{
+    bytes.iter().all(|b| *b >= 32)
+}
+
+fn is_option(bytes: &[u8]) -> bool
+    requires { 0 < length bytes.now }
+    ensures { result ≡ spec.is_option bytes.now }
+{
+    bytes[0] == b'-' && bytes.len() > 1
+}
+
+/// The table that a word names.
+fn table_name(word: &str) -> &str
+    ensures { result.now ≡ spec.table_name word.now }
+{
+    match word.strip_suffix(".MYI") {
+        None => word,
+        Some(name) => {
+            if name.is_empty() {
+                word
+            } else {
+                name
+            }
+        }
+    }
+}
