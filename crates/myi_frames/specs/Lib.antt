@@ -1,0 +1,3 @@
+pub mod Form
+pub mod Block
+pub mod Seeing
