@@ -1,2 +1,4 @@
 pub mod FormLemmas
 pub mod BlockLemmas
+pub mod FileLemmas
+pub mod WriteLemmas

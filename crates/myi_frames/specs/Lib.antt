@@ -1,3 +1,5 @@
 pub mod Form
 pub mod Block
 pub mod Seeing
+pub mod Sizes
+pub mod Writing

@@ -15,7 +15,11 @@
 mod form;
 mod frame;
 mod head;
+mod sizes;
+mod write;
 
 pub use form::FrameKind;
 pub use frame::{Frame, Seen, frame_at};
 pub use head::{Head, LEAST_SIZE, head_at};
+pub use sizes::{MOST_SIZE, least_size, middle_room, start_room};
+pub use write::{FrameSpec, deleted_head, write_frame};

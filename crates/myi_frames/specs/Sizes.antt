@@ -1,0 +1,40 @@
+-- How large a block is for its row bytes, and how many row bytes a block of a size holds (this project's
+-- own choice among the sizes and forms that MySQL reads).
+use Rattle.std.specs.Prelude.{ℕ, ◌+◌, ◌-◌, ◌*◌, ◌/◌, ◌^◌, Bool, ◌&&◌, nat_le, if◌then◌else◌, max, List, sum_by, length}
+use Rattle.myi_frames.specs.Block.{Block}
+
+-- the next multiple of 4
+abbrev pub rounded_up : ℕ → ℕ
+rounded_up n = (n + 3) / 4 * 4
+
+-- the header of a whole row or an end without unused bytes
+abbrev pub row_header : ℕ → ℕ
+row_header n = if nat_le n 65535 then 3 else 4
+
+-- the header of a start with n row bytes, of a row of rec_len bytes
+abbrev pub start_header : ℕ → ℕ → ℕ
+start_header rec_len n = if nat_le (2 ^ 24) rec_len then 16 else (if nat_le rec_len 65535 && nat_le n 65535 then 13 else 15)
+
+-- the header of a middle with n row bytes
+abbrev pub middle_header : ℕ → ℕ
+middle_header n = if nat_le n 65535 then 11 else 12
+
+-- the least size of a block that holds n row bytes as a whole row or an end
+unfoldable pub least_size : ℕ → ℕ
+least_size n = max 20 (rounded_up (row_header n + n))
+
+-- how many bytes of a row of rec_len bytes a start of this size holds
+unfoldable pub start_room : ℕ → ℕ → ℕ
+start_room rec_len size = size - (if nat_le (2 ^ 24) rec_len then 16 else (if nat_le rec_len 65535 then 13 else 15))
+
+-- how many row bytes a middle of this size holds
+unfoldable pub middle_room : ℕ → ℕ
+middle_room size = if nat_le size 65546 then size - 11 else size - 12
+
+-- what these blocks hold and take together
+
+abbrev pub held_bytes : List Block → ℕ
+held_bytes bs = sum_by (λ b. length b.bytes) bs
+
+abbrev pub total_size : List Block → ℕ
+total_size bs = sum_by (λ b. b.size) bs
