@@ -15,7 +15,7 @@ use Rattle.myi_frames.specs.declared.frame.Seen.TheVariants as seen
 use Rattle.myi_frames.specs.Seeing.{IsPartAt, shown, SeesBlock, Sees}
 use Rattle.myi_frames.specs.Form.{form_of, len_at, unused_at, next_at, prev_at, header_len, data_len, block_size, IsNarrow}
 use Rattle.myi_frames.specs.Block.{Block, link_of, read_header, is_place, if_placed, header_of, block_by, block_of, head_of, IsPlace, OfKind, Stands, IsPointer, IsBounded}
-use Rattle.myi_frames.proofs.FormLemmas.{both_true, below_width, OfWidths, form-widths, form-narrow, data-inside, data-room}
+use Rattle.myi_frames.proofs.FormLemmas.{both_true, below_width, OfWidths, form-widths, form-narrow, data-inside, data-room, data-short}
 
 -- ---- headers
 
@@ -65,7 +65,7 @@ pub read-inside : (bytes : List ℕ) (at len : ℕ) (h : Header) → Read bytes 
 read-inside bytes at len h r =
     let narrow = form-narrow (get_or bytes 0 0) r.form r.is in
     let P : Header → Type 0 = λ x. 20 ≤ x.head.size → (x.start + x.data_len ≤ x.head.size) × (x.data_len + 3 ≤ x.head.size) × (x.start ≤ 20) in
-    let here : P (read_header bytes at r.form) = λ least. (data-inside r.form.kind (header_len r.form) _ _ _ narrow.header least, data-room r.form.kind (header_len r.form) _ _ _ narrow.long least, narrow.header) in
+    let here : P (read_header bytes at r.form) = λ least. (data-inside r.form.kind (header_len r.form) _ _ _ narrow.header least, data-short r.form.kind (header_len r.form) _ _ _ narrow.long least, narrow.header) in
     subst P r.header here r.place.least
 
 -- ---- the first twenty bytes decide the header
@@ -174,7 +174,7 @@ header_in k f bytes at = record {
   data_len = data_len k (num_at 1 f.rec_len bytes) (num_at (len_at f) f.len bytes);
 }
 
-no_number : (at w : ℕ) (bytes : List ℕ) → w ≡ 0 → num_at at w bytes ≡ 0
+pub no_number : (at w : ℕ) (bytes : List ℕ) → w ≡ 0 → num_at at w bytes ≡ 0
 no_number at w bytes e = ap (λ (n : ℕ). num_at at n bytes) e ∙ num-none (drop at bytes)
 
 no_link : (w n : ℕ) → w ≡ 0 → link_of w n ≡ None
@@ -185,7 +185,7 @@ kind-kept Deleted f bytes at w inside = (refl, no_number 1 f.rec_len bytes w)
 kind-kept Whole f bytes at w inside =
     let n = num_at 1 f.rec_len bytes in
     (sym (length-take-le n (drop (header_len f) bytes) (omega (arith, length-drop (header_len f) bytes))), no_link f.next _ w.1, no_link f.prev _ w.2)
-kind-kept Start f bytes at w inside = no_link f.prev _ w
+kind-kept Start f bytes at w inside = no_link f.prev _ w.0
 kind-kept Middle f bytes at w inside = (no_number 1 f.rec_len bytes w.0, no_link f.prev _ w.1)
 kind-kept End f bytes at w inside = (no_number 1 f.rec_len bytes w.0, no_link f.next _ w.1, no_link f.prev _ w.2)
 
@@ -220,7 +220,7 @@ block-stands d p b here =
 
 -- ---- the numbers of a block in a file of bytes
 
-number-below : (at w k : ℕ) (bytes : List ℕ) → AreBytes bytes → w ≤ k → num_at at w bytes < 256 ^ k
+pub number-below : (at w k : ℕ) (bytes : List ℕ) → AreBytes bytes → w ≤ k → num_at at w bytes < 256 ^ k
 number-below at w k bytes are h = below_width w k (num_at at w bytes) h (num-below w (drop at bytes) (bytes-drop at bytes are))
 
 link-below : (w n : ℕ) → n < 256 ^ 8 → IsPointer (link_of w n)

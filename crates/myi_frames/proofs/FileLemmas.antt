@@ -1,8 +1,12 @@
 -- The bytes of a file after it was changed.
 use Rattle.std.proofs.Common.{◌≡◌, ℕ, zero, suc, ◌+◌, ◌-◌, ◌<◌, ◌≤◌, ◌⊎◌, inl, inr, List, [], ◌∷◌, ◌++◌, length, take, drop, replicate, refl, sym, ap, ◌∙◌, arith, append_assoc, length-append, length-drop}
+use Rattle.std.specs.Prelude.{Bool, true, false, ◌||◌, nat_le, Option, Some}
+use Rattle.std.proofs.lemmas.Bool.{leb-true}
 use Rattle.std.proofs.lemmas.List.{drop_at, drop-drop, drop-append-le, take-append-le, length-take, length-replicate}
 use Rattle.myi_base.specs.Holding.{resized, overwritten}
-use Rattle.myi_frames.proofs.BlockLemmas.{take_inside}
+use Rattle.myi_base.specs.Ranges.{are_apart}
+use Rattle.myi_frames.specs.Block.{Block, block_of}
+use Rattle.myi_frames.proofs.BlockLemmas.{take_inside, block-own, block-stands}
 
 pub length-resized : (n : ℕ) (xs : List ℕ) → length (resized n xs) ≡ n
 length-resized n xs =
@@ -48,3 +52,24 @@ after at bytes d p far =
 pub part-overwritten : (at : ℕ) (bytes d : List ℕ) (p n : ℕ) → (p + n ≤ at) ⊎ (at + length bytes ≤ p) → p + n ≤ length d → take n (drop p (overwritten at bytes d)) ≡ take n (drop p d)
 part-overwritten at bytes d p n (inl far) inside = before at bytes d p n far inside
 part-overwritten at bytes d p n (inr far) inside = ap (λ (x : List ℕ). take n x) (after at bytes d p far)
+
+-- ---- blocks in a changed file
+
+pub block-grown : (d more : List ℕ) (p : ℕ) (b : Block) → block_of d p ≡ Some b → block_of (d ++ more) p ≡ Some b
+block-grown d more p b here =
+    block-own d (d ++ more) p b (part_front p b.size d more (block-stands d p b here).inside) here
+
+pub block-resized : (d : List ℕ) (n p : ℕ) (b : Block) → block_of d p ≡ Some b → p + b.size ≤ n → block_of (resized n d) p ≡ Some b
+block-resized d n p b here le =
+    block-own d (resized n d) p b (part-resized n p b.size d le (block-stands d p b here).inside) here
+
+apart : (p q a e : ℕ) → are_apart (p, q) (a, e) ≡ true → (q ≤ a) ⊎ (e ≤ p)
+apart p q a e t = by_test (nat_le q a) refl t
+  where
+    by_test : (b : Bool) → nat_le q a ≡ b → (b || nat_le e p) ≡ true → (q ≤ a) ⊎ (e ≤ p)
+    by_test true s t = inl (leb-true _ _ s)
+    by_test false s t = inr (leb-true _ _ t)
+
+pub block-elsewhere : (d bytes : List ℕ) (at p : ℕ) (b : Block) → block_of d p ≡ Some b → are_apart (p, p + b.size) (at, at + length bytes) ≡ true → block_of (overwritten at bytes d) p ≡ Some b
+block-elsewhere d bytes at p b here far =
+    block-own d (overwritten at bytes d) p b (part-overwritten at bytes d p b.size (apart p (p + b.size) at (at + length bytes) far) (block-stands d p b here).inside) here

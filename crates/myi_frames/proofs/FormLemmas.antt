@@ -1,12 +1,13 @@
 -- What the table of types keeps.
-use Rattle.std.proofs.Common.{◌≡◌, ℕ, zero, suc, ◌+◌, ◌^◌, ◌<◌, ◌≤◌, List, [], ◌∷◌, Option, Some, None, refl, subst, arith, lit≤}
-use Rattle.std.specs.Prelude.{Bool, true, false, nat_le, ◌&&◌, slice_get}
+use Rattle.std.proofs.Common.{inl, inr, ◌≡◌, ℕ, zero, suc, ◌+◌, ◌^◌, ◌<◌, ◌≤◌, List, [], ◌∷◌, Option, Some, None, refl, subst, arith, lit≤}
+use Rattle.std.specs.Prelude.{Bool, true, false, nat_le, ◌&&◌, if◌then◌else◌, slice_get}
 use Rattle.std.specs.List.{AllByRecursion, list_all}
 use Rattle.std.proofs.Math.Nat.{pow-le-pow_right}
-use Rattle.std.proofs.lemmas.Bool.{leb-true}
+use Rattle.std.proofs.lemmas.Bool.{leb-true, leb-false, cases_lt}
 use Rattle.myi_frames.specs.declared.form.FrameKind.{FrameKind}
 use Rattle.myi_frames.specs.declared.form.FrameKind.TheVariants.{Deleted, Whole, Start, Middle, End}
 use Rattle.myi_frames.specs.declared.form.Form.{Form}
+use Rattle.myi_frames.specs.Sizes.{row_header}
 use Rattle.myi_frames.specs.Form.{row, forms, form_of, header_len, IsNarrow, data_len, block_size}
 
 pub below_width : (w k n : ℕ) → w ≤ k → n < 256 ^ w → n < 256 ^ k
@@ -27,8 +28,8 @@ row_holds P (x ∷ xs) all (suc t) f e = row_holds P xs all.1 t f e
 abbrev pub OfWidths : FrameKind → Form → Type 0
 OfWidths Deleted f = f.rec_len ≡ 0
 OfWidths Whole f = (f.rec_len ≤ 3) × (f.next ≡ 0) × (f.prev ≡ 0)
-OfWidths Start f = f.prev ≡ 0
-OfWidths Middle f = (f.rec_len ≡ 0) × (f.prev ≡ 0)
+OfWidths Start f = (f.prev ≡ 0) × (f.unused ≡ 0) × (f.next ≡ 8) × (2 ≤ f.rec_len) × (2 ≤ f.len) × (3 ≤ f.rec_len → 3 ≤ f.len)
+OfWidths Middle f = (f.rec_len ≡ 0) × (f.prev ≡ 0) × (f.unused ≡ 0) × (f.next ≡ 8) × (2 ≤ f.len)
 OfWidths End f = (f.rec_len ≡ 0) × (f.next ≡ 0) × (f.prev ≡ 0)
 
 pub form-widths : (t : ℕ) (f : Form) → form_of t ≡ Some f → OfWidths f.kind f
@@ -42,15 +43,15 @@ form-widths t f e = row_holds (λ f. OfWidths f.kind f) forms all t f e
        ((lit≤ tt, refl, refl),
         ((lit≤ tt, refl, refl),
          ((lit≤ tt, refl, refl),
-          (refl,
-           (refl,
+          ((refl, refl, refl, lit≤ tt, lit≤ tt, λ h. h),
+           ((refl, refl, refl, lit≤ tt, lit≤ tt, λ h. h),
             ((refl, refl, refl),
              ((refl, refl, refl),
               ((refl, refl, refl),
                ((refl, refl, refl),
-                ((refl, refl),
-                 ((refl, refl),
-                  (refl, tt))))))))))))),
+                ((refl, refl, refl, refl, lit≤ tt),
+                 ((refl, refl, refl, refl, lit≤ tt),
+                  ((refl, refl, refl, lit≤ tt, lit≤ tt, λ h. lit≤ tt), tt))))))))))))),
     )
 
 abbrev are_narrow : Form → Bool
@@ -98,9 +99,35 @@ data-inside Start header rec_len len unused short least = omega arith
 data-inside Middle header rec_len len unused short least = omega arith
 data-inside End header rec_len len unused short least = omega arith
 
-pub data-room : (k : FrameKind) (header rec_len len unused : ℕ) → 3 ≤ header → 20 ≤ block_size k header rec_len len unused → data_len k rec_len len + 3 ≤ block_size k header rec_len len unused
-data-room Deleted header rec_len len unused long least = omega arith
-data-room Whole header rec_len len unused long least = omega arith
-data-room Start header rec_len len unused long least = omega arith
-data-room Middle header rec_len len unused long least = omega arith
-data-room End header rec_len len unused long least = omega arith
+-- a number that does not fit w bytes has more than w
+pub width-more : (v w n : ℕ) → n < 256 ^ v → 256 ^ w ≤ n → w < v
+width-more v w n small large = elim (cases_lt w v) [
+  | inl more ↦ more
+  | inr less ↦ absurd (omega (arith, below_width v w n less small))
+]
+
+pub width-wide : (w n : ℕ) → n < 256 ^ w → 65536 ≤ n → 3 ≤ w
+width-wide w n small large = omega (arith, width-more w 2 n small (omega arith))
+
+-- the block has room for a header of the least length and its row bytes
+pub data-room : (k : FrameKind) (header rl ll rec_len len unused : ℕ) → 3 ≤ header → 1 + rl + ll ≤ header → rec_len < 256 ^ rl → len < 256 ^ ll → 20 ≤ block_size k header rec_len len unused → row_header (data_len k rec_len len) + data_len k rec_len len ≤ block_size k header rec_len len unused
+data-room k header rl ll rec_len len unused long wide r l least = by_kind k least
+  where
+    held : (w n rest : ℕ) → n < 256 ^ w → 1 + w ≤ header → (b : Bool) → nat_le n 65535 ≡ b → (if b then 3 else 4) + n ≤ header + n + rest
+    held w n rest small w_in true e = omega arith
+    held w n rest small w_in false e = omega (arith, width-wide w n small (omega (arith, leb-false _ _ e)))
+
+    by_kind : (k : FrameKind) → 20 ≤ block_size k header rec_len len unused → row_header (data_len k rec_len len) + data_len k rec_len len ≤ block_size k header rec_len len unused
+    by_kind Deleted least = omega arith
+    by_kind Whole least = held rl rec_len unused r (omega arith) (nat_le rec_len 65535) refl
+    by_kind Start least = held ll len unused l (omega arith) (nat_le len 65535) refl
+    by_kind Middle least = held ll len unused l (omega arith) (nat_le len 65535) refl
+    by_kind End least = held ll len unused l (omega arith) (nat_le len 65535) refl
+
+-- and for three bytes more than the row bytes, whatever the numbers
+pub data-short : (k : FrameKind) (header rec_len len unused : ℕ) → 3 ≤ header → 20 ≤ block_size k header rec_len len unused → data_len k rec_len len + 3 ≤ block_size k header rec_len len unused
+data-short Deleted header rec_len len unused long least = omega arith
+data-short Whole header rec_len len unused long least = omega arith
+data-short Start header rec_len len unused long least = omega arith
+data-short Middle header rec_len len unused long least = omega arith
+data-short End header rec_len len unused long least = omega arith

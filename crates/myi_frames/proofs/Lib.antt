@@ -2,3 +2,4 @@ pub mod FormLemmas
 pub mod BlockLemmas
 pub mod FileLemmas
 pub mod WriteLemmas
+pub mod SizeLemmas

@@ -362,3 +362,9 @@ pub deleted-is : (size : ℕ) (next prev : Option ℕ) (form : Form) (bytes : Li
 unfolding deleted_head
 deleted-is size next prev form bytes is long put =
     sym (take_all (header_len form) bytes (omega (arith, deleted-form form is))) ∙ put ∙ sym (header-is (deleted_spec next prev) 0 size form is)
+
+pub length-deleted_head : (size : ℕ) (next prev : Option ℕ) → 20 ≤ size → size < 2 ^ 24 → IsPointer next → IsPointer prev → length (deleted_head size next prev) ≡ 20
+unfolding deleted_head
+length-deleted_head size next prev least most px py =
+    let w = deleted-fits size next prev least most px py in
+    length-header (deleted_spec next prev) 0 size w ∙ deleted-form w.form w.is

@@ -5,6 +5,7 @@ use Rattle.myi_frames.specs.declared.frame.Seen.{Seen}
 use Rattle.myi_frames.specs.declared.frame.Seen.TheVariants as seen
 use Rattle.myi_frames.specs.declared.head.Header.{Header}
 use Rattle.myi_frames.specs.Block.{Block, IsPlace, block_by}
+use Rattle.myi_frames.specs.Sizes.{IsSized}
 
 -- the file's bytes from a place on begin with these
 abbrev pub IsPartAt : ℕ → List ℕ → List ℕ → Type 0
@@ -20,11 +21,11 @@ SeesBlock seen.Nothing n b = b ≡ None
 SeesBlock (seen.Longer size) n b = IsSomeAnd b (λ b. (b.size ≡ size) × (n < size))
 SeesBlock (seen.Frame f) n b = (b ≡ Some (shown f)) × (f.size ≤ n)
 
--- the block that is seen lies in the file, and what is lent of it in the block
+-- the block that is seen lies in the file, and has room for what is lent of it
 abbrev pub SeesPlace : Seen → ℕ → ℕ → Type 0
 SeesPlace seen.Nothing at len = Unit {0}
 SeesPlace (seen.Longer size) at len = IsPlace at size len
-SeesPlace (seen.Frame f) at len = (f.at ≡ at) × IsPlace at f.size len × (length f.bytes.now + 3 ≤ f.size)
+SeesPlace (seen.Frame f) at len = (f.at ≡ at) × IsPlace at f.size len × IsSized (length f.bytes.now) f.size
 
 -- an answer by bytes that have this header or none
 abbrev pub Sees : Seen → List ℕ → Option Header → Type 0

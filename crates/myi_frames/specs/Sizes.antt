@@ -1,6 +1,6 @@
 -- How large a block is for its row bytes, and how many row bytes a block of a size holds (this project's
 -- own choice among the sizes and forms that MySQL reads).
-use Rattle.std.specs.Prelude.{ℕ, ◌+◌, ◌-◌, ◌*◌, ◌/◌, ◌^◌, Bool, ◌&&◌, nat_le, if◌then◌else◌, max, List, sum_by, length}
+use Rattle.std.specs.Prelude.{◌≡◌, ℕ, ◌+◌, ◌-◌, ◌*◌, ◌/◌, ◌%◌, ◌^◌, ◌≤◌, Bool, ◌&&◌, nat_le, if◌then◌else◌, max, List, sum_by, length}
 use Rattle.myi_frames.specs.Block.{Block}
 
 -- the next multiple of 4
@@ -30,6 +30,12 @@ start_room rec_len size = size - (if nat_le (2 ^ 24) rec_len then 16 else (if na
 -- how many row bytes a middle of this size holds
 unfoldable pub middle_room : ℕ → ℕ
 middle_room size = if nat_le size 65546 then size - 11 else size - 12
+
+-- a block of this size has room for n row bytes
+pub record IsSized (n size : ℕ) : Type 0 where
+  pub multiple : size % 4 ≡ 0
+  pub least : 20 ≤ size
+  pub room : row_header n + n ≤ size
 
 -- what these blocks hold and take together
 

@@ -74,6 +74,15 @@ deleted_spec next prev = record { kind = Deleted; rec_len = 0; next = next; prev
 abbrev pub whole_spec : ℕ → FrameSpec
 whole_spec n = record { kind = Whole; rec_len = n; next = None; prev = None }
 
+abbrev pub start_spec : ℕ → Option ℕ → FrameSpec
+start_spec rec_len next = record { kind = Start; rec_len = rec_len; next = next; prev = None }
+
+abbrev pub middle_spec : Option ℕ → FrameSpec
+middle_spec next = record { kind = Middle; rec_len = 0; next = next; prev = None }
+
+abbrev pub end_spec : FrameSpec
+end_spec = record { kind = End; rec_len = 0; next = None; prev = None }
+
 -- the first 20 bytes of a deleted block
 unfoldable pub deleted_head : ℕ → Option ℕ → Option ℕ → List ℕ
 deleted_head size next prev = header_bytes (deleted_spec next prev) 0 size

@@ -7,6 +7,7 @@ ghost use Rattle.std.specs.Prelude.{◌≡◌, ℕ, ◌+◌, ◌≤◌, ◌⊎�
 ghost use Rattle.std.specs.Option.{option_map};
 ghost use Rattle.myi_frames.specs.Block.{is_place, link_of, header_of, block_of, head_of, IsPlace};
 ghost use Rattle.myi_frames.specs.Seeing.{IsPartAt};
+ghost use Rattle.myi_frames.specs.Sizes.{IsSized};
 
 use crate::form::{FrameKind, block_size, data_len, form_of};
 use myi_base::{number_at, pointer_of};
@@ -67,7 +68,7 @@ pub fn header_at(bytes: &[u8], at: u64, file_len: u64) -> Option<Header>
     requires window { (20 ≤ length bytes.now) ⊎ (file_len ≤ at + length bytes.now) }
     ensures header { result ≡ header_of bytes.now at file_len }
     ensures inside { IfSome result (λ h. h.start + h.data_len ≤ h.head.size) }
-    ensures place { IfSome result (λ h. (h.head.at ≡ at) × IsPlace at h.head.size file_len × (h.data_len + 3 ≤ h.head.size)) }
+    ensures place { IfSome result (λ h. (h.head.at ≡ at) × IsPlace at h.head.size file_len × IsSized h.data_len h.head.size) }
 {
     if bytes.len() < LEAST_SIZE {
         return None;

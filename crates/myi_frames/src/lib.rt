@@ -15,11 +15,15 @@
 mod form;
 mod frame;
 mod head;
+mod laws;
 mod sizes;
 mod write;
 
 pub use form::FrameKind;
 pub use frame::{Frame, Seen, frame_at};
 pub use head::{Head, LEAST_SIZE, head_at};
+pub use laws::{
+    blocks_are_local, blocks_stand, least_sizes_are_least, rooms_are_greatest, written_blocks_read_back,
+};
 pub use sizes::{MOST_SIZE, least_size, middle_room, start_room};
 pub use write::{FrameSpec, deleted_head, write_frame};

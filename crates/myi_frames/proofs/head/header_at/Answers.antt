@@ -32,5 +32,8 @@ returns-clause-place c =
     let test : is_place c.args.at c.block_size-size.result c.args.file_len ≡ true = cc (c.is_place.ensures, c.if-not-is_place.false) in
     let place = place_test c.args.at c.block_size-size.result c.args.file_len test in
     let size = c.block_size-size.ensures.size in
-    let room = data-room form.kind (header_len form) c.number_at-rec_len.result c.number_at-len.result c.number_at-unused.result c.in-Some.ensures.narrow.long (omega (arith, size, place.least)) in
-    (refl, place, omega (arith, room, size, c.data_len.ensures))
+    let rec_len = c.number_at-rec_len in
+    let len = c.number_at-len in
+    let held = c.data_len.ensures in
+    let room = data-room form.kind (header_len form) form.rec_len form.len rec_len.result len.result c.number_at-unused.result c.in-Some.ensures.narrow.long (omega arith) rec_len.ensures.below len.ensures.below (omega (arith, size, place.least)) in
+    (refl, place, record { multiple = place.multiple; least = place.least; room = rw (held, size) room })
