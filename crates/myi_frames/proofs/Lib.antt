@@ -3,3 +3,4 @@ pub mod BlockLemmas
 pub mod FileLemmas
 pub mod WriteLemmas
 pub mod SizeLemmas
+pub mod RuleLemmas

@@ -1,7 +1,7 @@
 -- The type that a writer chooses, and that the block that is written is read again.
-use Rattle.std.proofs.Common.{◌≡◌, ℕ, zero, suc, ◌+◌, ◌-◌, ◌%◌, ◌^◌, ◌<◌, ◌≤◌, List, [], ◌∷◌, ◌++◌, length, get_or, take, drop, replicate, Option, Some, None, refl, sym, subst, ap, ◌∙◌, arith, lit<, append_assoc, length-append, length-drop}
+use Rattle.std.proofs.Common.{◌≡◌, ◌≢◌, ℕ, zero, suc, ◌+◌, ◌-◌, ◌%◌, ◌^◌, ◌<◌, ◌≤◌, List, [], ◌∷◌, ◌++◌, length, get_or, take, drop, replicate, Option, Some, None, refl, sym, subst, ap, ◌∙◌, arith, lit<, append_assoc, length-append, length-drop}
 use Rattle.std.specs.Prelude.{Bool, true, false, nat_le, ◌&&◌, ◌==◌, if◌then◌else◌}
-use Rattle.std.proofs.lemmas.Bool.{leb-true, leb-false, eqb-true, eqb-false}
+use Rattle.std.proofs.lemmas.Bool.{leb-true, leb-false, le-leb, eqb-true, eqb-false}
 use Rattle.std.proofs.lemmas.List.{drop_at, take_at, length-replicate, take_all}
 use Rattle.myi_base.specs.Numbers.{num_at, pointer_of, pointer_number}
 use Rattle.myi_base.specs.Items.{numbers, spelling, Fit, total_width}
@@ -29,12 +29,14 @@ pub record FitsType (t : ℕ) (f : FrameSpec) (n size : ℕ) : Type 0 where
   pub kind : form.kind ≡ f.kind
   pub fit : Fit (widths form) (numbers_of form f n size)
   pub room : header_len form + n ≤ size
+  pub short : f.kind ≢ Deleted → f.rec_len ≤ 65535 → n ≤ 65535 → (form.rec_len ≤ 2) × (form.len ≤ 2)
+  pub giant : 4 ≤ form.rec_len → 2 ^ 24 ≤ f.rec_len
   pub length : block_size f.kind (header_len form) f.rec_len (len_of f.kind n size) (unused_of f.kind (header_len form + n) size) ≡ size
   pub held : data_len f.kind f.rec_len (len_of f.kind n size) ≡ n
   pub next : link_of form.next (link_number form.next f.next) ≡ f.next
   pub prev : link_of form.prev (link_number form.prev f.prev) ≡ f.prev
 
-abbrev spec : FrameKind → ℕ → Option ℕ → Option ℕ → FrameSpec
+abbrev pub spec : FrameKind → ℕ → Option ℕ → Option ℕ → FrameSpec
 spec k r x y = record { kind = k; rec_len = r; next = x; prev = y }
 
 type_0 : form_of 0 ≡ Some (row Deleted 0 3 0 8 8)
@@ -114,6 +116,8 @@ choose_deleted r x y n size least px py a = let rec = a.1 in let none = a.0 in l
   kind = refl;
   fit = (omega arith, (omega arith, (lit< tt, (pointer-below x px, (pointer-below y py, tt)))));
   room = omega arith;
+  short = λ other r m. absurd (other refl);
+  giant = λ h. absurd (omega arith);
   length = refl;
   held = sym none;
   next = pointer-again x px;
@@ -123,11 +127,13 @@ choose_deleted r x y n size least px py a = let rec = a.1 in let none = a.0 in l
 choose_whole : (r : ℕ) (x y : Option ℕ) (n size : ℕ) → n < 2 ^ 24 → Allows Whole (spec Whole r x y) n size → FitsType (type_for Whole r n size) (spec Whole r x y) n size
 choose_whole r x y n size few a = by_length (nat_le n 65535) refl a.0
   where
-    form_fits : (t w u : ℕ) → form_of t ≡ Some (row Whole w 0 u 0 0) → n < 256 ^ w → 1 + w + u + n ≤ size → size - (1 + w + u + n) < 256 ^ u → FitsType t (spec Whole r x y) n size
-    form_fits t w u is small room rest = let rec = a.1 in record {
+    form_fits : (t w u : ℕ) → form_of t ≡ Some (row Whole w 0 u 0 0) → n < 256 ^ w → w ≤ 3 → (n ≤ 65535 → w ≤ 2) → 1 + w + u + n ≤ size → size - (1 + w + u + n) < 256 ^ u → FitsType t (spec Whole r x y) n size
+    form_fits t w u is small narrow two room rest = let rec = a.1 in record {
       form = row Whole w 0 u 0 0;
       is = is;
       kind = refl;
+      short = λ other few m. (two m, omega arith);
+      giant = λ h. absurd (omega arith);
       fit = (omega arith, (lit< tt, (subst (λ k. size - k < 256 ^ u) (let e : 1 + w + u + n ≡ 1 + w + 0 + u + 0 + 0 + n = omega arith in e) rest, (lit< tt, (lit< tt, tt)))));
       room = omega arith;
       length = omega arith;
@@ -137,25 +143,27 @@ choose_whole r x y n size few a = by_length (nat_le n 65535) refl a.0
     }
 
     short_form : (b : Bool) → (size == 3 + n) ≡ b → n < 65536 → HasRoom 3 n size → FitsType (if b then 1 else 3) (spec Whole r x y) n size
-    short_form true e small h = let same = eqb-true _ _ e in form_fits 1 2 0 type_1 (omega arith) (omega arith) (omega arith)
-    short_form false e small h = let other = eqb-false _ _ e in let room = h.room in let most = h.few in form_fits 3 2 1 type_3 (omega arith) (omega arith) (omega arith)
+    short_form true e small h = let same = eqb-true _ _ e in form_fits 1 2 0 type_1 (omega arith) (omega arith) (λ m. omega arith) (omega arith) (omega arith)
+    short_form false e small h = let other = eqb-false _ _ e in let room = h.room in let most = h.few in form_fits 3 2 1 type_3 (omega arith) (omega arith) (λ m. omega arith) (omega arith) (omega arith)
 
-    long_form : (b : Bool) → (size == 4 + n) ≡ b → HasRoom 4 n size → FitsType (if b then 2 else 4) (spec Whole r x y) n size
-    long_form true e h = let same = eqb-true _ _ e in form_fits 2 3 0 type_2 (omega arith) (omega arith) (omega arith)
-    long_form false e h = let other = eqb-false _ _ e in let room = h.room in let most = h.few in form_fits 4 3 1 type_4 (omega arith) (omega arith) (omega arith)
+    long_form : (b : Bool) → (size == 4 + n) ≡ b → 65535 < n → HasRoom 4 n size → FitsType (if b then 2 else 4) (spec Whole r x y) n size
+    long_form true e large h = let same = eqb-true _ _ e in form_fits 2 3 0 type_2 (omega arith) (omega arith) (λ m. absurd (omega arith)) (omega arith) (omega arith)
+    long_form false e large h = let other = eqb-false _ _ e in let room = h.room in let most = h.few in form_fits 4 3 1 type_4 (omega arith) (omega arith) (λ m. absurd (omega arith)) (omega arith) (omega arith)
 
     by_length : (b : Bool) → nat_le n 65535 ≡ b → HasRoom (if b then 3 else 4) n size → FitsType (if b then (if size == 3 + n then 1 else 3) else (if size == 4 + n then 2 else 4)) (spec Whole r x y) n size
     by_length true e h = short_form (size == 3 + n) refl (omega (arith, leb-true _ _ e)) h
-    by_length false e h = long_form (size == 4 + n) refl h
+    by_length false e h = long_form (size == 4 + n) refl (leb-false _ _ e) h
 
 choose_end : (r : ℕ) (x y : Option ℕ) (n size : ℕ) → n < 2 ^ 24 → Allows End (spec End r x y) n size → FitsType (type_for End r n size) (spec End r x y) n size
 choose_end r x y n size few a = by_length (nat_le n 65535) refl a.0
   where
-    form_fits : (t w u : ℕ) → form_of t ≡ Some (row End 0 w u 0 0) → n < 256 ^ w → 1 + w + u + n ≤ size → size - (1 + w + u + n) < 256 ^ u → FitsType t (spec End r x y) n size
-    form_fits t w u is small room rest = let rec = a.1 in record {
+    form_fits : (t w u : ℕ) → form_of t ≡ Some (row End 0 w u 0 0) → n < 256 ^ w → (n ≤ 65535 → w ≤ 2) → 1 + w + u + n ≤ size → size - (1 + w + u + n) < 256 ^ u → FitsType t (spec End r x y) n size
+    form_fits t w u is small two room rest = let rec = a.1 in record {
       form = row End 0 w u 0 0;
       is = is;
       kind = refl;
+      short = λ other few m. (omega arith, two m);
+      giant = λ h. absurd (omega arith);
       fit = (omega arith, (small, (subst (λ k. size - k < 256 ^ u) (let e : 1 + w + u + n ≡ 1 + 0 + w + u + 0 + 0 + n = omega arith in e) rest, (lit< tt, (lit< tt, tt)))));
       room = omega arith;
       length = omega arith;
@@ -165,25 +173,27 @@ choose_end r x y n size few a = by_length (nat_le n 65535) refl a.0
     }
 
     short_form : (b : Bool) → (size == 3 + n) ≡ b → n < 65536 → HasRoom 3 n size → FitsType (if b then 7 else 9) (spec End r x y) n size
-    short_form true e small h = let same = eqb-true _ _ e in form_fits 7 2 0 type_7 (omega arith) (omega arith) (omega arith)
-    short_form false e small h = let other = eqb-false _ _ e in let room = h.room in let most = h.few in form_fits 9 2 1 type_9 (omega arith) (omega arith) (omega arith)
+    short_form true e small h = let same = eqb-true _ _ e in form_fits 7 2 0 type_7 (omega arith) (λ m. omega arith) (omega arith) (omega arith)
+    short_form false e small h = let other = eqb-false _ _ e in let room = h.room in let most = h.few in form_fits 9 2 1 type_9 (omega arith) (λ m. omega arith) (omega arith) (omega arith)
 
-    long_form : (b : Bool) → (size == 4 + n) ≡ b → HasRoom 4 n size → FitsType (if b then 8 else 10) (spec End r x y) n size
-    long_form true e h = let same = eqb-true _ _ e in form_fits 8 3 0 type_8 (omega arith) (omega arith) (omega arith)
-    long_form false e h = let other = eqb-false _ _ e in let room = h.room in let most = h.few in form_fits 10 3 1 type_10 (omega arith) (omega arith) (omega arith)
+    long_form : (b : Bool) → (size == 4 + n) ≡ b → 65535 < n → HasRoom 4 n size → FitsType (if b then 8 else 10) (spec End r x y) n size
+    long_form true e large h = let same = eqb-true _ _ e in form_fits 8 3 0 type_8 (omega arith) (λ m. absurd (omega arith)) (omega arith) (omega arith)
+    long_form false e large h = let other = eqb-false _ _ e in let room = h.room in let most = h.few in form_fits 10 3 1 type_10 (omega arith) (λ m. absurd (omega arith)) (omega arith) (omega arith)
 
     by_length : (b : Bool) → nat_le n 65535 ≡ b → HasRoom (if b then 3 else 4) n size → FitsType (if b then (if size == 3 + n then 7 else 9) else (if size == 4 + n then 8 else 10)) (spec End r x y) n size
     by_length true e h = short_form (size == 3 + n) refl (omega (arith, leb-true _ _ e)) h
-    by_length false e h = long_form (size == 4 + n) refl h
+    by_length false e h = long_form (size == 4 + n) refl (leb-false _ _ e) h
 
 choose_start : (r : ℕ) (x y : Option ℕ) (n size : ℕ) → n < 2 ^ 24 → IsPointer x → Allows Start (spec Start r x y) n size → FitsType (type_for Start r n size) (spec Start r x y) n size
 choose_start r x y n size few px a = by_giant (nat_le (2 ^ 24) r) refl a.0
   where
-    form_fits : (t w v : ℕ) → form_of t ≡ Some (row Start w v 0 8 0) → r < 256 ^ w → n < 256 ^ v → 1 + w + v + 8 + n ≡ size → FitsType t (spec Start r x y) n size
-    form_fits t w v is small short long = record {
+    form_fits : (t w v : ℕ) → form_of t ≡ Some (row Start w v 0 8 0) → r < 256 ^ w → n < 256 ^ v → (r ≤ 65535 → n ≤ 65535 → (w ≤ 2) × (v ≤ 2)) → (4 ≤ w → 2 ^ 24 ≤ r) → 1 + w + v + 8 + n ≡ size → FitsType t (spec Start r x y) n size
+    form_fits t w v is small short two four long = record {
       form = row Start w v 0 8 0;
       is = is;
       kind = refl;
+      short = λ other few m. two few m;
+      giant = four;
       fit = (small, (short, (omega arith, (pointer-below x px, (lit< tt, tt)))));
       room = omega arith;
       length = omega arith;
@@ -192,24 +202,34 @@ choose_start r x y n size few px a = by_giant (nat_le (2 ^ 24) r) refl a.0
       prev = sym a.2;
     }
 
+    both_false : r ≤ 65535 → n ≤ 65535 → (nat_le r 65535 && nat_le n 65535) ≡ false → ⊥
+    both_false few m e =
+        let s : nat_le r 65535 ≡ true = le-leb _ _ few in
+        let t : nat_le n 65535 ≡ true = le-leb _ _ m in
+        let is : (nat_le r 65535 && nat_le n 65535) ≡ true = rw (s, t) refl in
+        cc (is, e)
+
     by_length : (b : Bool) → (nat_le r 65535 && nat_le n 65535) ≡ b → r < 2 ^ 24 → (if b then 13 else 15) + n ≡ size → FitsType (if b then 5 else 6) (spec Start r x y) n size
     by_length true e small long =
         let both = both_true (nat_le r 65535) (nat_le n 65535) e in
-        form_fits 5 2 2 type_5 (omega (arith, leb-true _ _ both.0)) (omega (arith, leb-true _ _ both.1)) (omega arith)
-    by_length false e small long = form_fits 6 3 3 type_6 (omega arith) (omega arith) (omega arith)
+        form_fits 5 2 2 type_5 (omega (arith, leb-true _ _ both.0)) (omega (arith, leb-true _ _ both.1)) (λ few m. (omega arith, omega arith)) (λ h. absurd (omega arith)) (omega arith)
+    by_length false e small long =
+        form_fits 6 3 3 type_6 (omega arith) (omega arith) (λ few m. absurd (both_false few m e)) (λ h. absurd (omega arith)) (omega arith)
 
     by_giant : (b : Bool) → nat_le (2 ^ 24) r ≡ b → (if b then 16 else (if nat_le r 65535 && nat_le n 65535 then 13 else 15)) + n ≡ size → FitsType (if b then 13 else (if nat_le r 65535 && nat_le n 65535 then 5 else 6)) (spec Start r x y) n size
-    by_giant true e long = let most = a.1 in form_fits 13 4 3 type_13 (omega arith) (omega arith) (omega arith)
+    by_giant true e long = let most = a.1 in form_fits 13 4 3 type_13 (omega arith) (omega arith) (λ few m. absurd (omega (arith, leb-true _ _ e))) (λ h. leb-true _ _ e) (omega arith)
     by_giant false e long = by_length (nat_le r 65535 && nat_le n 65535) refl (leb-false _ _ e) long
 
 choose_middle : (r : ℕ) (x y : Option ℕ) (n size : ℕ) → n < 2 ^ 24 → IsPointer x → Allows Middle (spec Middle r x y) n size → FitsType (type_for Middle r n size) (spec Middle r x y) n size
 choose_middle r x y n size few px a = by_length (nat_le n 65535) refl a.0
   where
-    form_fits : (t v : ℕ) → form_of t ≡ Some (row Middle 0 v 0 8 0) → n < 256 ^ v → 1 + v + 8 + n ≡ size → FitsType t (spec Middle r x y) n size
-    form_fits t v is short long = let rec = a.1 in record {
+    form_fits : (t v : ℕ) → form_of t ≡ Some (row Middle 0 v 0 8 0) → n < 256 ^ v → (n ≤ 65535 → v ≤ 2) → 1 + v + 8 + n ≡ size → FitsType t (spec Middle r x y) n size
+    form_fits t v is short two long = let rec = a.1 in record {
       form = row Middle 0 v 0 8 0;
       is = is;
       kind = refl;
+      short = λ other few m. (omega arith, two m);
+      giant = λ h. absurd (omega arith);
       fit = (omega arith, (short, (omega arith, (pointer-below x px, (lit< tt, tt)))));
       room = omega arith;
       length = omega arith;
@@ -219,8 +239,8 @@ choose_middle r x y n size few px a = by_length (nat_le n 65535) refl a.0
     }
 
     by_length : (b : Bool) → nat_le n 65535 ≡ b → (if b then 11 else 12) + n ≡ size → FitsType (if b then 11 else 12) (spec Middle r x y) n size
-    by_length true e long = form_fits 11 2 type_11 (omega (arith, leb-true _ _ e)) (omega arith)
-    by_length false e long = form_fits 12 3 type_12 (omega arith) (omega arith)
+    by_length true e long = form_fits 11 2 type_11 (omega (arith, leb-true _ _ e)) (λ m. omega arith) (omega arith)
+    by_length false e long = form_fits 12 3 type_12 (omega arith) (λ m. absurd (omega (arith, leb-false _ _ e))) (omega arith)
 
 choose : (k : FrameKind) (r : ℕ) (x y : Option ℕ) (n size : ℕ) → 20 ≤ size → n < 2 ^ 24 → IsPointer x → IsPointer y → Allows k (spec k r x y) n size → FitsType (type_for k r n size) (spec k r x y) n size
 choose Deleted r x y n size least few px py a = choose_deleted r x y n size least px py a

@@ -3,3 +3,4 @@ pub mod Block
 pub mod Seeing
 pub mod Sizes
 pub mod Writing
+pub mod Rules

@@ -8,8 +8,9 @@ ghost use Rattle.myi_base.specs.Holding.{resized, overwritten};
 ghost use Rattle.myi_frames.specs.declared.form.FrameKind.TheVariants.{Start, Middle};
 ghost use Rattle.myi_frames.specs.declared.write.FrameSpec.{FrameSpec};
 ghost use Rattle.myi_frames.specs.Block.{Block, block_of, Stands, IsPlace, IsPointer, IsBounded};
+ghost use Rattle.myi_frames.specs.Rules.{IsChosen};
 ghost use Rattle.myi_frames.specs.Sizes.{least_size, start_room, middle_room, IsSized, held_bytes, total_size};
-ghost use Rattle.myi_frames.specs.Writing.{block_bytes, deleted_head, written_block, deleted_spec, whole_spec, start_spec, middle_spec, end_spec, IsWritable};
+ghost use Rattle.myi_frames.specs.Writing.{type_of, header_as, header_bytes, block_bytes, deleted_head, written_block, deleted_spec, whole_spec, start_spec, middle_spec, end_spec, IsWritable};
 
 /// What every block of a file keeps: its place, its size and its row bytes lie in the file, and in a
 /// file of bytes its numbers are as small as their bytes, and its size has room for its row bytes.
@@ -36,6 +37,14 @@ pub fn written_blocks_read_back()
     ensures overwritten { (f : FrameSpec) (content d : List ℕ) (at size : ℕ) → IsWritable f (length content) size → at % 4 ≡ 0 → block_of (overwritten at (block_bytes f content size) d) at ≡ Some (written_block f at size content) }
     ensures deleted { (size at : ℕ) (next prev : Option ℕ) (d : List ℕ) → size < 2 ^ 24 → IsPointer next → IsPointer prev → IsPlace at size (length d) → block_of (overwritten at (deleted_head size next prev) d) at ≡ Some (written_block (deleted_spec next prev) at size []) }
     ensures deleted_length { (size : ℕ) (next prev : Option ℕ) → 20 ≤ size → size < 2 ^ 24 → IsPointer next → IsPointer prev → length (deleted_head size next prev) ≡ 20 }
+{}
+
+/// What a block says, the number of its row bytes and its size determine its form: of all types that
+/// could say it the rules choose one, and the block's header is written in it.
+pub fn forms_are_chosen_once()
+    ensures chosen { (f : FrameSpec) (n size : ℕ) → IsWritable f n size → IsChosen f n size (type_of f n size) }
+    ensures once { (f : FrameSpec) (n size t : ℕ) → IsWritable f n size → IsChosen f n size t → t ≡ type_of f n size }
+    ensures header { (f : FrameSpec) (n size t : ℕ) → IsWritable f n size → (c : IsChosen f n size t) → header_bytes f n size ≡ header_as t c.form f n size }
 {}
 
 /// A block of the least size can be written, and no block that holds as many row bytes is smaller,
