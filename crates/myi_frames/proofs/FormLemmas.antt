@@ -39,19 +39,43 @@ form-widths t f e = row_holds (λ f. OfWidths f.kind f) forms all t f e
     all : AllByRecursion (λ f. OfWidths f.kind f) forms
     all = (
       refl,
-      ((lit≤ tt, refl, refl),
-       ((lit≤ tt, refl, refl),
-        ((lit≤ tt, refl, refl),
-         ((lit≤ tt, refl, refl),
-          ((refl, refl, refl, lit≤ tt, lit≤ tt, λ h. h),
-           ((refl, refl, refl, lit≤ tt, lit≤ tt, λ h. h),
-            ((refl, refl, refl),
-             ((refl, refl, refl),
-              ((refl, refl, refl),
-               ((refl, refl, refl),
-                ((refl, refl, refl, refl, lit≤ tt),
-                 ((refl, refl, refl, refl, lit≤ tt),
-                  ((refl, refl, refl, lit≤ tt, lit≤ tt, λ h. lit≤ tt), tt))))))))))))),
+      (
+        (lit≤ tt, refl, refl),
+        (
+          (lit≤ tt, refl, refl),
+          (
+            (lit≤ tt, refl, refl),
+            (
+              (lit≤ tt, refl, refl),
+              (
+                (refl, refl, refl, lit≤ tt, lit≤ tt, λ h. h),
+                (
+                  (refl, refl, refl, lit≤ tt, lit≤ tt, λ h. h),
+                  (
+                    (refl, refl, refl),
+                    (
+                      (refl, refl, refl),
+                      (
+                        (refl, refl, refl),
+                        (
+                          (refl, refl, refl),
+                          (
+                            (refl, refl, refl, refl, lit≤ tt),
+                            (
+                              (refl, refl, refl, refl, lit≤ tt),
+                              ((refl, refl, refl, lit≤ tt, lit≤ tt, λ h. lit≤ tt), tt),
+                            ),
+                          ),
+                        ),
+                      ),
+                    ),
+                  ),
+                ),
+              ),
+            ),
+          ),
+        ),
+      ),
     )
 
 abbrev are_narrow : Form → Bool

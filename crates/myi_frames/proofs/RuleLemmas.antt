@@ -56,51 +56,51 @@ once_0 r x y n size a fit sized short = refl
 
 once_1 : Rules 1 (row Whole 2 0 0 0 0) Whole
 once_1 = whole_once 1 2 0 (λ n size small two sized rest.
-  let s : nat_le n 65535 ≡ true = le-leb _ _ (omega arith) in
-  let t : (size == 3 + n) ≡ true = eq-eqb _ _ (omega arith) in
-  rw (s, t) refl)
+    let s : nat_le n 65535 ≡ true = le-leb _ _ (omega arith) in
+    let t : (size == 3 + n) ≡ true = eq-eqb _ _ (omega arith) in
+    rw (s, t) refl)
 
 once_2 : Rules 2 (row Whole 3 0 0 0 0) Whole
 once_2 = whole_once 2 3 0 (λ n size small two sized rest.
-  let s : nat_le n 65535 ≡ false = lt-leb _ _ (long_from n 3 two (omega arith)) in
-  let t : (size == 4 + n) ≡ true = eq-eqb _ _ (omega arith) in
-  rw (s, t) refl)
+    let s : nat_le n 65535 ≡ false = lt-leb _ _ (long_from n 3 two (omega arith)) in
+    let t : (size == 4 + n) ≡ true = eq-eqb _ _ (omega arith) in
+    rw (s, t) refl)
 
 once_3 : Rules 3 (row Whole 2 0 1 0 0) Whole
 once_3 = whole_once 3 2 1 (λ n size small two sized rest.
-  let s : nat_le n 65535 ≡ true = le-leb _ _ (omega arith) in
-  let t : (size == 3 + n) ≡ false = ne_eqb _ _ (λ e. omega arith) in
-  rw (s, t) refl)
+    let s : nat_le n 65535 ≡ true = le-leb _ _ (omega arith) in
+    let t : (size == 3 + n) ≡ false = ne_eqb _ _ (λ e. omega arith) in
+    rw (s, t) refl)
 
 once_4 : Rules 4 (row Whole 3 0 1 0 0) Whole
 once_4 = whole_once 4 3 1 (λ n size small two sized rest.
-  let s : nat_le n 65535 ≡ false = lt-leb _ _ (long_from n 3 two (omega arith)) in
-  let t : (size == 4 + n) ≡ false = ne_eqb _ _ (λ e. omega arith) in
-  rw (s, t) refl)
+    let s : nat_le n 65535 ≡ false = lt-leb _ _ (long_from n 3 two (omega arith)) in
+    let t : (size == 4 + n) ≡ false = ne_eqb _ _ (λ e. omega arith) in
+    rw (s, t) refl)
 
 once_7 : Rules 7 (row End 0 2 0 0 0) End
 once_7 = end_once 7 2 0 (λ r n size small two sized rest.
-  let s : nat_le n 65535 ≡ true = le-leb _ _ (omega arith) in
-  let t : (size == 3 + n) ≡ true = eq-eqb _ _ (omega arith) in
-  rw (s, t) refl)
+    let s : nat_le n 65535 ≡ true = le-leb _ _ (omega arith) in
+    let t : (size == 3 + n) ≡ true = eq-eqb _ _ (omega arith) in
+    rw (s, t) refl)
 
 once_8 : Rules 8 (row End 0 3 0 0 0) End
 once_8 = end_once 8 3 0 (λ r n size small two sized rest.
-  let s : nat_le n 65535 ≡ false = lt-leb _ _ (long_from n 3 two (omega arith)) in
-  let t : (size == 4 + n) ≡ true = eq-eqb _ _ (omega arith) in
-  rw (s, t) refl)
+    let s : nat_le n 65535 ≡ false = lt-leb _ _ (long_from n 3 two (omega arith)) in
+    let t : (size == 4 + n) ≡ true = eq-eqb _ _ (omega arith) in
+    rw (s, t) refl)
 
 once_9 : Rules 9 (row End 0 2 1 0 0) End
 once_9 = end_once 9 2 1 (λ r n size small two sized rest.
-  let s : nat_le n 65535 ≡ true = le-leb _ _ (omega arith) in
-  let t : (size == 3 + n) ≡ false = ne_eqb _ _ (λ e. omega arith) in
-  rw (s, t) refl)
+    let s : nat_le n 65535 ≡ true = le-leb _ _ (omega arith) in
+    let t : (size == 3 + n) ≡ false = ne_eqb _ _ (λ e. omega arith) in
+    rw (s, t) refl)
 
 once_10 : Rules 10 (row End 0 3 1 0 0) End
 once_10 = end_once 10 3 1 (λ r n size small two sized rest.
-  let s : nat_le n 65535 ≡ false = lt-leb _ _ (long_from n 3 two (omega arith)) in
-  let t : (size == 4 + n) ≡ false = ne_eqb _ _ (λ e. omega arith) in
-  rw (s, t) refl)
+    let s : nat_le n 65535 ≡ false = lt-leb _ _ (long_from n 3 two (omega arith)) in
+    let t : (size == 4 + n) ≡ false = ne_eqb _ _ (λ e. omega arith) in
+    rw (s, t) refl)
 
 -- the header of a start, or of a middle, says its type
 

@@ -10,10 +10,8 @@ ghost use Rattle.myi_frames.specs.Seeing.{IsPartAt};
 ghost use Rattle.myi_frames.specs.Sizes.{IsSized};
 
 use crate::form::{FrameKind, block_size, data_len, form_of};
+use crate::sizes::LEAST_SIZE;
 use myi_base::{number_at, pointer_of};
-
-/// The least size of a block, in bytes. No header is longer.
-pub const LEAST_SIZE: usize = 20;
 
 /// Places and sizes of blocks are multiples of this.
 const ALIGNMENT: u64 = 4;
@@ -55,11 +53,7 @@ fn is_place(at: u64, size: u64, file_len: u64) -> bool
 fn link_of(width: usize, number: u64) -> Option<u64>
     ensures { result ≡ link_of width number }
 {
-    if width == 0 {
-        None
-    } else {
-        pointer_of(number)
-    }
+    if width == 0 { None } else { pointer_of(number) }
 }
 
 /// The header at a place of a file of `file_len` bytes, by the file's bytes from there on.

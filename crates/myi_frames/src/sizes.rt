@@ -5,17 +5,18 @@
 ghost use Rattle.std.specs.Prelude.{◌≡◌, ◌^◌, ◌<◌, ◌≤◌};
 ghost use Rattle.myi_frames.specs.Sizes.{row_header, rounded_up, least_size, start_room, middle_room};
 
-use crate::head::LEAST_SIZE;
+/// The least size of a block, in bytes. No header is longer.
+pub const LEAST_SIZE: usize = 20;
 
-/// The greatest size of a deleted block, and of a block at the file's end, in bytes: the greatest
-/// multiple of 4 that three bytes hold.
+/// The greatest size of a deleted block, and of a block that is taken at the file's end, in bytes: the
+/// greatest multiple of 4 that three bytes hold.
 pub const MOST_SIZE: u32 = 16_777_212;
 
-/// The greatest length that two bytes hold.
-const MOST_SHORT: u32 = 65_535;
+/// The greatest length that stands in two bytes.
+pub const MOST_SHORT: u32 = 65_535;
 
-/// The number of row bytes from which on a row is giant.
-const GIANT: u32 = 1 << 24;
+/// The number of row bytes from which on a row is giant: no whole row, and begun with type 13.
+pub const GIANT: u32 = 1 << 24;
 
 /// The greatest size of a middle whose length stands in two bytes.
 const MOST_SHORT_MIDDLE: u32 = MOST_SHORT + 11;

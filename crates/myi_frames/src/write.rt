@@ -12,14 +12,8 @@ ghost use Rattle.myi_frames.specs.Block.{block_of, IsPlace, IsPointer};
 ghost use Rattle.myi_frames.specs.Writing.{type_for, len_of, unused_of, link_number, widths, numbers_of, header_as, block_bytes, deleted_head, written_block, deleted_spec, IsWritable};
 
 use crate::form::{Form, FrameKind, form_of};
-use crate::head::LEAST_SIZE;
+use crate::sizes::{GIANT, LEAST_SIZE, MOST_SHORT};
 use myi_base::{pointer_number, put_number};
-
-/// The greatest length that two bytes hold.
-const MOST_SHORT: usize = 65_535;
-
-/// The number of row bytes from which on a row is giant.
-const GIANT: u32 = 1 << 24;
 
 /// The type of deleted blocks.
 const DELETED: u8 = 0;
@@ -40,13 +34,13 @@ fn type_for(kind: FrameKind, rec_len: u32, len: usize, size: usize) -> u8
     requires { len < 2 ^ 63 }
     ensures { result ≡ type_for kind rec_len len size }
 {
-    let short = len <= MOST_SHORT;
+    let short = len <= MOST_SHORT as usize;
     match kind {
         FrameKind::Deleted => DELETED,
         FrameKind::Whole if short => { if size == 3 + len { 1 } else { 3 } }
         FrameKind::Whole => { if size == 4 + len { 2 } else { 4 } }
         FrameKind::Start if rec_len >= GIANT => 13,
-        FrameKind::Start => { if rec_len <= MOST_SHORT as u32 && short { 5 } else { 6 } }
+        FrameKind::Start => { if rec_len <= MOST_SHORT && short { 5 } else { 6 } }
         FrameKind::Middle => { if short { 11 } else { 12 } }
         FrameKind::End if short => { if size == 3 + len { 7 } else { 9 } }
         FrameKind::End => { if size == 4 + len { 8 } else { 10 } }
