@@ -37,6 +37,50 @@ pub struct Form {
     pub prev: usize,
 }
 
+impl Form {
+    ghost use Rattle.myi_frames.specs.Form.{len_at, unused_at, next_at, prev_at, header_len};
+
+    /// The place in the header of the block's size or of the number of its row bytes.
+    pub fn len_at(self) -> usize
+        requires { IsNarrow self }
+        ensures { result ≡ len_at self }
+    {
+        1 + self.rec_len
+    }
+
+    /// The place in the header of the number of unused bytes.
+    pub fn unused_at(self) -> usize
+        requires { IsNarrow self }
+        ensures { result ≡ unused_at self }
+    {
+        self.len_at() + self.len
+    }
+
+    /// The place in the header of the place of the next block.
+    pub fn next_at(self) -> usize
+        requires { IsNarrow self }
+        ensures { result ≡ next_at self }
+    {
+        self.unused_at() + self.unused
+    }
+
+    /// The place in the header of the place of the previous block.
+    pub fn prev_at(self) -> usize
+        requires { IsNarrow self }
+        ensures { result ≡ prev_at self }
+    {
+        self.next_at() + self.next
+    }
+
+    /// The length of the header, in bytes.
+    pub fn header_len(self) -> usize
+        requires { IsNarrow self }
+        ensures { result ≡ header_len self }
+    {
+        self.prev_at() + self.prev
+    }
+}
+
 fn row(kind: FrameKind, rec_len: usize, len: usize, unused: usize, next: usize, prev: usize) -> Form
     ensures { result ≡ record { kind = kind; rec_len = rec_len; len = len; unused = unused; next = next; prev = prev } }
 {

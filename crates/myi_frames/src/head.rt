@@ -70,20 +70,16 @@ pub fn header_at(bytes: &[u8], at: u64, file_len: u64) -> Option<Header>
     let Some(form) = form_of(bytes[0]) else {
         return None;
     };
-    let len_at = 1 + form.rec_len;
-    let unused_at = len_at + form.len;
-    let next_at = unused_at + form.unused;
-    let prev_at = next_at + form.next;
-    let start = prev_at + form.prev;
+    let start = form.header_len();
     let rec_len = number_at(bytes, 1, form.rec_len);
-    let len = number_at(bytes, len_at, form.len);
-    let unused = number_at(bytes, unused_at, form.unused);
+    let len = number_at(bytes, form.len_at(), form.len);
+    let unused = number_at(bytes, form.unused_at(), form.unused);
     let size = block_size(form.kind, start as u64, rec_len, len, unused);
     if !is_place(at, size, file_len) {
         return None;
     }
-    let next = number_at(bytes, next_at, form.next);
-    let prev = number_at(bytes, prev_at, form.prev);
+    let next = number_at(bytes, form.next_at(), form.next);
+    let prev = number_at(bytes, form.prev_at(), form.prev);
     Some(Header {
         head: Head {
             kind: form.kind,

@@ -75,13 +75,6 @@ fn link_number(width: usize, place: Option<u64>) -> u64
     if width == 0 { 0 } else { pointer_number(place) }
 }
 
-fn header_len(form: Form) -> usize
-    requires { IsNarrow form }
-    ensures { result ≡ header_len form }
-{
-    1 + form.rec_len + form.len + form.unused + form.next + form.prev
-}
-
 // Writes the header of a block with `len` row bytes and this size to the front of `into`.
 fn put_header(into: &mut [u8], number: u8, form: Form, spec: &FrameSpec, len: usize, size: usize)
     requires narrow { IsNarrow form }
@@ -90,18 +83,23 @@ fn put_header(into: &mut [u8], number: u8, form: Form, spec: &FrameSpec, len: us
     requires fit { Fit (widths form) (numbers_of form spec.now len size) }
     ensures { take (header_len form) into.new ≡ header_as number form spec.now len size }
 {
-    let len_at = 1 + form.rec_len;
-    let unused_at = len_at + form.len;
-    let next_at = unused_at + form.unused;
-    let prev_at = next_at + form.next;
-    let used = prev_at + form.prev + len;
-    let unused = unused_of(spec.kind, used, size);
+    let unused = unused_of(spec.kind, form.header_len() + len, size);
     into[0] = number;
     put_number(into, 1, form.rec_len, spec.rec_len as u64);
-    put_number(into, len_at, form.len, len_of(spec.kind, len, size));
-    put_number(into, unused_at, form.unused, unused);
-    put_number(into, next_at, form.next, link_number(form.next, spec.next));
-    put_number(into, prev_at, form.prev, link_number(form.prev, spec.prev));
+    put_number(into, form.len_at(), form.len, len_of(spec.kind, len, size));
+    put_number(into, form.unused_at(), form.unused, unused);
+    put_number(
+        into,
+        form.next_at(),
+        form.next,
+        link_number(form.next, spec.next),
+    );
+    put_number(
+        into,
+        form.prev_at(),
+        form.prev,
+        link_number(form.prev, spec.prev),
+    );
 }
 
 fn put_bytes(into: &mut [u8], at: usize, bytes: &[u8])
@@ -131,7 +129,7 @@ pub fn write_frame(into: &mut [u8], spec: &FrameSpec, bytes: &[u8])
     let Some(form) = form_of(number) else {
         unreachable!();
     };
-    let start = header_len(form);
+    let start = form.header_len();
     put_header(into, number, form, spec, bytes.len(), size);
     put_bytes(into, start, bytes);
     put_zeros(into, start + bytes.len());

@@ -1,6 +1,5 @@
 use Rattle.std.proofs.Common.{◌≡◌, arith, refl}
 use Rattle.std.specs.Prelude.{true}
-use Rattle.myi_frames.specs.Form.{header_len}
 use Rattle.myi_frames.specs.Block.{is_place}
 use Rattle.myi_frames.proofs.FormLemmas.{below_width, data-room}
 use Rattle.myi_frames.proofs.BlockLemmas.{place_test}
@@ -35,5 +34,7 @@ returns-clause-place c =
     let rec_len = c.number_at-rec_len in
     let len = c.number_at-len in
     let held = c.data_len.ensures in
-    let room = data-room form.kind (header_len form) form.rec_len form.len rec_len.result len.result c.number_at-unused.result c.in-Some.ensures.narrow.long (omega arith) rec_len.ensures.below len.ensures.below (omega (arith, size, place.least)) in
+    let start = c.header_len-start.ensures in
+    let long = c.in-Some.ensures.narrow.long in
+    let room = data-room form.kind c.header_len-start.result form.rec_len form.len rec_len.result len.result c.number_at-unused.result (omega arith) (omega arith) rec_len.ensures.below len.ensures.below (omega (arith, size, place.least)) in
     (refl, place, record { multiple = place.multiple; least = place.least; room = rw (held, size) room })
