@@ -2,6 +2,7 @@
 use Rattle.std.proofs.Common.{◌≡◌, ◌⊎◌, inl, inr, ℕ, zero, suc, ◌+◌, ◌-◌, ◌%◌, ◌/◌, ◌*◌, ◌^◌, ◌<◌, ◌≤◌, List, [], ◌∷◌, length, get_or, take, drop, Option, Some, None, refl, sym, subst, ap, ◌∙◌, arith}
 use Rattle.std.specs.Prelude.{Bool, true, false, nat_le, ◌&&◌, if◌then◌else◌, max}
 use Rattle.std.specs.List.{AllByRecursion}
+use Rattle.std.specs.Int.{next_multiple_of}
 use Rattle.std.proofs.lemmas.Bool.{leb-true, leb-false, le-leb, lt-leb, cases_lt}
 use Rattle.std.proofs.lemmas.List.{length-take-le, length-drop}
 use Rattle.std.proofs.lemmas.List.Sums.{sum_by-cons}
@@ -14,7 +15,7 @@ use Rattle.myi_frames.specs.declared.head.Header.{Header}
 use Rattle.myi_frames.specs.declared.write.FrameSpec.{FrameSpec}
 use Rattle.myi_frames.specs.Form.{form_of, len_at, unused_at, header_len, data_len, block_size}
 use Rattle.myi_frames.specs.Block.{Block, read_header, block_by, block_of, IsPlace, IsPointer}
-use Rattle.myi_frames.specs.Sizes.{row_header, start_header, middle_header, rounded_up, least_size, start_room, middle_room, IsSized, held_bytes, total_size}
+use Rattle.myi_frames.specs.Sizes.{row_header, start_header, middle_header, least_size, start_room, middle_room, IsSized, held_bytes, total_size}
 use Rattle.myi_frames.specs.Writing.{HasRoom, Allows, IsWritable, whole_spec, end_spec, start_spec, middle_spec}
 use Rattle.myi_frames.proofs.FormLemmas.{below_width, width-wide, width-more, OfWidths, form-widths, form-narrow, data-room}
 use Rattle.myi_frames.proofs.BlockLemmas.{Read, header-read, read-inside, Found, block-found, number-below, no_number}
@@ -28,14 +29,14 @@ header-small n = by_length (nat_le n 65535)
     by_length true = (omega arith, omega arith)
     by_length false = (omega arith, omega arith)
 
-size-bounds : (h n : ℕ) → (20 ≤ max 20 (rounded_up (h + n))) × (max 20 (rounded_up (h + n)) % 4 ≡ 0) × (h + n ≤ max 20 (rounded_up (h + n)))
+size-bounds : (h n : ℕ) → (20 ≤ max 20 (next_multiple_of (h + n) 4)) × (max 20 (next_multiple_of (h + n) 4) % 4 ≡ 0) × (h + n ≤ max 20 (next_multiple_of (h + n) 4))
 size-bounds h n = (omega arith, omega arith, omega arith)
 
 least-bounds : (n : ℕ) → (20 ≤ least_size n) × (least_size n % 4 ≡ 0) × (row_header n + n ≤ least_size n) × (least_size n < row_header n + n + 20)
 unfolding least_size
 least-bounds n = let b = size-bounds (row_header n) n in (b.0, b.1, b.2, few (row_header n) (header-small n).0)
   where
-    few : (h : ℕ) → 3 ≤ h → max 20 (rounded_up (h + n)) < h + n + 20
+    few : (h : ℕ) → 3 ≤ h → max 20 (next_multiple_of (h + n) 4) < h + n + 20
     few h some = omega arith
 
 pub least-sized : (n : ℕ) → IsSized n (least_size n)
@@ -45,7 +46,7 @@ least-fits : (n size : ℕ) → IsSized n size → least_size n ≤ size
 unfolding least_size
 least-fits n size s = by_header (row_header n) s.room s.multiple s.least
   where
-    by_header : (h : ℕ) → h + n ≤ size → size % 4 ≡ 0 → 20 ≤ size → max 20 (rounded_up (h + n)) ≤ size
+    by_header : (h : ℕ) → h + n ≤ size → size % 4 ≡ 0 → 20 ≤ size → max 20 (next_multiple_of (h + n) 4) ≤ size
     by_header h r m l = omega arith
 
 header-rises : (n m : ℕ) → n ≤ m → row_header n ≤ row_header m

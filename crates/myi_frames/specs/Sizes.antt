@@ -1,11 +1,8 @@
 -- How large a block is for its row bytes, and how many row bytes a block of a size holds (this project's
 -- own choice among the sizes and forms that MySQL reads).
-use Rattle.std.specs.Prelude.{◌≡◌, ℕ, ◌+◌, ◌-◌, ◌*◌, ◌/◌, ◌%◌, ◌^◌, ◌≤◌, Bool, ◌&&◌, nat_le, if◌then◌else◌, max, List, sum_by, length}
+use Rattle.std.specs.Prelude.{◌≡◌, ℕ, ◌+◌, ◌-◌, ◌%◌, ◌^◌, ◌≤◌, Bool, ◌&&◌, nat_le, if◌then◌else◌, max, List, sum_by, length}
+use Rattle.std.specs.Int.{next_multiple_of}
 use Rattle.myi_frames.specs.Block.{Block}
-
--- the next multiple of 4
-abbrev pub rounded_up : ℕ → ℕ
-rounded_up n = (n + 3) / 4 * 4
 
 -- the header of a whole row or an end without unused bytes
 abbrev pub row_header : ℕ → ℕ
@@ -21,7 +18,7 @@ middle_header n = if nat_le n 65535 then 11 else 12
 
 -- the least size of a block that holds n row bytes as a whole row or an end
 unfoldable pub least_size : ℕ → ℕ
-least_size n = max 20 (rounded_up (row_header n + n))
+least_size n = max 20 (next_multiple_of (row_header n + n) 4)
 
 -- how many bytes of a row of rec_len bytes a start of this size holds
 unfoldable pub start_room : ℕ → ℕ → ℕ

@@ -3,7 +3,7 @@
 //! A row that is one block, and the end of a chain, have the least size that holds their row bytes. A
 //! start and a middle are as long as the space that they take, and are filled with row bytes.
 ghost use Rattle.std.specs.Prelude.{◌≡◌, ◌^◌, ◌<◌, ◌≤◌};
-ghost use Rattle.myi_frames.specs.Sizes.{row_header, rounded_up, least_size, start_room, middle_room};
+ghost use Rattle.myi_frames.specs.Sizes.{row_header, least_size, start_room, middle_room};
 
 /// The least size of a block, in bytes. No header is longer.
 pub const LEAST_SIZE: usize = 20;
@@ -28,7 +28,7 @@ pub fn least_size(len: u32) -> u32
     ensures { result ≡ least_size len }
 {
     let header = if len <= MOST_SHORT { 3 } else { 4 };
-    (header + len).div_ceil(4).max(LEAST_SIZE as u32 / 4) * 4
+    (header + len).next_multiple_of(4).max(LEAST_SIZE as u32)
 }
 
 /// How many bytes of a row of `rec_len` bytes a start of this size holds.
