@@ -1,21 +1,21 @@
 -- What holds of each header and each block that the definitions find.
-use Rattle.std.proofs.Common.{◌≡◌, ℕ, zero, suc, ◌+◌, ◌-◌, ◌%◌, ◌^◌, ◌<◌, ◌≤◌, ◌⊎◌, List, [], ◌∷◌, ◌++◌, length, get_or, take, drop, Option, Some, None, refl, sym, subst, ap, ◌∙◌, arith, inl, inr}
-use Rattle.std.specs.Prelude.{Bool, true, false, nat_le, ◌&&◌, ◌==◌, if◌then◌else◌, IsSomeAnd, option_and_then}
+use Rattle.std.proofs.Common.{◌≡◌, ◌≢◌, ℕ, ◌+◌, ◌-◌, ◌%◌, ◌^◌, ◌<◌, ◌≤◌, ◌⊎◌, List, [], ◌∷◌, ◌++◌, length, get_or, take, drop, Option, Some, None, refl, sym, subst, ap, ◌∙◌, add-zero, arith, inl, inr}
+use Rattle.std.specs.Prelude.{Bool, true, false, nat_le, ◌&&◌, ◌==◌, if◌then◌else◌, option_and_then}
 use Rattle.std.specs.Option.{option_map}
 use Rattle.std.proofs.lemmas.Bool.{leb-true, le-leb, eqb-true, eqb-false, eq-eqb}
-use Rattle.std.proofs.lemmas.List.{take-take, drop-take, take_all, get_or-take, length-take, length-take-le, length-drop}
+use Rattle.std.proofs.lemmas.List.{take-take, drop-take, take_all, get_or-take, get_or-drop, length-take, length-take-le, length-drop}
 use Rattle.myi_base.specs.Numbers.{num, num_bytes, num_at, pointer_of, AreBytes}
-use Rattle.myi_base.proofs.NumberLaws.{num-take, num-below, num-num_bytes, length-num_bytes, bytes-drop}
+use Rattle.myi_base.proofs.NumberLaws.{num-take, num-below, num-num_bytes, length-num_bytes, bytes-take, bytes-drop}
 use Rattle.myi_frames.specs.declared.form.FrameKind.{FrameKind}
 use Rattle.myi_frames.specs.declared.form.FrameKind.TheVariants.{Deleted, Whole, Start, Middle, End}
 use Rattle.myi_frames.specs.declared.form.Form.{Form}
 use Rattle.myi_frames.specs.declared.head.Header.{Header}
 use Rattle.myi_frames.specs.declared.frame.Seen.{Seen}
 use Rattle.myi_frames.specs.declared.frame.Seen.TheVariants as seen
-use Rattle.myi_frames.specs.Seeing.{IsPartAt, shown, SeesBlock, Sees}
-use Rattle.myi_frames.specs.Form.{form_of, len_at, unused_at, next_at, prev_at, header_len, data_len, block_size, IsNarrow}
+use Rattle.myi_frames.specs.Seeing.{IsPartAt, SeesBlock, Sees}
+use Rattle.myi_frames.specs.Form.{form_of, len_at, unused_at, next_at, prev_at, header_len, data_len, block_size}
 use Rattle.myi_frames.specs.Block.{Block, link_of, read_header, is_place, if_placed, header_of, block_by, block_of, head_of, IsPlace, OfKind, Stands, IsPointer, IsBounded}
-use Rattle.myi_frames.proofs.FormLemmas.{both_true, below_width, OfWidths, form-widths, form-narrow, data-inside, data-room, data-short}
+use Rattle.myi_frames.proofs.FormLemmas.{both_true, below_width, OfWidths, form-widths, form-narrow, form-known, data-inside, data-short}
 
 -- ---- headers
 
@@ -218,6 +218,40 @@ block-stands d p b here =
     } in
     subst (λ (x : Block). Stands d p x) q.block made
 
+-- ---- where no block starts
+
+no_block : (d : List ℕ) (p : ℕ) → ((b : Block) → block_of d p ≡ Some b → ⊥) → block_of d p ≡ None
+no_block d p refuted = by_cases (block_of d p) refl
+  where
+    by_cases : (o : Option Block) → block_of d p ≡ o → o ≡ None
+    by_cases None e = refl
+    by_cases (Some b) e = absurd (refuted b e)
+
+pub block-short : (d : List ℕ) (p : ℕ) → length d < p + 20 → block_of d p ≡ None
+block-short d p short = no_block d p (λ b here. let s = block-stands d p b here in let l = s.least in let i = s.inside in omega arith)
+
+pub block-unaligned : (d : List ℕ) (p : ℕ) → p % 4 ≢ 0 → block_of d p ≡ None
+block-unaligned d p odd = no_block d p (λ b here. odd (block-stands d p b here).aligned)
+
+pub block-unknown : (d : List ℕ) (p : ℕ) → 13 < get_or d p 0 → block_of d p ≡ None
+block-unknown d p high =
+    no_block d p (λ b here.
+    let q = block-found d p b here in
+    let r = header-read (drop p d) p (length d) q.header q.is in
+    let same : get_or (drop p d) 0 0 ≡ get_or d p 0 = get_or-drop p d 0 0 ∙ ap (λ (k : ℕ). get_or d k 0) (add-zero p) in
+    let known = form-known (get_or (drop p d) 0 0) r.form r.is in
+    omega arith)
+
+pub block-none : (d e : List ℕ) (p : ℕ) → block_of d p ≡ None → take 20 (drop p e) ≡ take 20 (drop p d) → length e ≤ length d → block_of e p ≡ None
+block-none d e p none same le =
+    no_block e p (λ b here.
+    let q = block-found e p b here in
+    let h : Header = q.header in
+    let r = header-read (drop p e) p (length e) h q.is in
+    let stop = r.place.inside in
+    let found = header-kept 20 (drop p e) (drop p d) p (length e) (length d) h (omega arith) same (omega arith) q.is in
+    cc (found-block d p h found, none))
+
 -- ---- the numbers of a block in a file of bytes
 
 pub number-below : (at w k : ℕ) (bytes : List ℕ) → AreBytes bytes → w ≤ k → num_at at w bytes < 256 ^ k
@@ -259,6 +293,13 @@ block-bounded d p b are here =
       prev = link-below f.prev (num_at (prev_at f) f.prev x) (number-below (prev_at f) f.prev 8 x bytes narrow.prev);
     } in
     subst IsBounded q.block (subst P r.header made)
+
+pub block-bytes : (d : List ℕ) (p : ℕ) (b : Block) → AreBytes d → block_of d p ≡ Some b → AreBytes b.bytes
+block-bytes d p b are here =
+    let q = block-found d p b here in
+    let h : Header = q.header in
+    let part : AreBytes (take h.data_len (drop h.start (drop p d))) = bytes-take h.data_len (drop h.start (drop p d)) (bytes-drop h.start (drop p d) (bytes-drop p d are)) in
+    subst (λ (x : Block). AreBytes x.bytes) q.block part
 
 -- ---- what the bytes at hand show is what the file has
 

@@ -1,14 +1,15 @@
 -- What the table of types keeps.
-use Rattle.std.proofs.Common.{inl, inr, ◌≡◌, ℕ, zero, suc, ◌+◌, ◌^◌, ◌<◌, ◌≤◌, List, [], ◌∷◌, Option, Some, None, refl, subst, arith, lit≤}
+use Rattle.std.proofs.Common.{inl, inr, ◌≡◌, ℕ, zero, suc, ◌+◌, ◌^◌, ◌<◌, ◌≤◌, List, [], ◌∷◌, Some, refl, subst, arith, lit≤}
 use Rattle.std.specs.Prelude.{Bool, true, false, nat_le, ◌&&◌, if◌then◌else◌, slice_get}
 use Rattle.std.specs.List.{AllByRecursion, list_all}
 use Rattle.std.proofs.Math.Nat.{pow-le-pow_right}
 use Rattle.std.proofs.lemmas.Bool.{leb-true, leb-false, cases_lt}
+use Rattle.std.proofs.lemmas.Option.{slice_get_past}
 use Rattle.myi_frames.specs.declared.form.FrameKind.{FrameKind}
 use Rattle.myi_frames.specs.declared.form.FrameKind.TheVariants.{Deleted, Whole, Start, Middle, End}
 use Rattle.myi_frames.specs.declared.form.Form.{Form}
 use Rattle.myi_frames.specs.Sizes.{row_header}
-use Rattle.myi_frames.specs.Form.{row, forms, form_of, header_len, IsNarrow, data_len, block_size}
+use Rattle.myi_frames.specs.Form.{forms, form_of, header_len, IsNarrow, data_len, block_size}
 
 pub below_width : (w k n : ℕ) → w ≤ k → n < 256 ^ w → n < 256 ^ k
 below_width w k n h lt =
@@ -155,3 +156,11 @@ data-short Whole header rec_len len unused long least = omega arith
 data-short Start header rec_len len unused long least = omega arith
 data-short Middle header rec_len len unused long least = omega arith
 data-short End header rec_len len unused long least = omega arith
+
+-- no type is above 13
+pub form-known : (t : ℕ) (f : Form) → form_of t ≡ Some f → t ≤ 13
+unfolding form_of
+form-known t f e = elim (cases_lt t 14) [
+  | inl less ↦ omega arith
+  | inr more ↦ absurd (cc (slice_get_past forms t more, e))
+]

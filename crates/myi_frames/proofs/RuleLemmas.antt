@@ -1,7 +1,7 @@
 -- The rules choose one type.
-use Rattle.std.proofs.Common.{◌≡◌, ◌≢◌, inl, inr, ℕ, zero, suc, ◌+◌, ◌-◌, ◌^◌, ◌<◌, ◌≤◌, List, [], ◌∷◌, Option, Some, None, refl, sym, subst, ap, ◌∙◌, arith}
+use Rattle.std.proofs.Common.{◌≡◌, ◌≢◌, inl, inr, ℕ, zero, suc, ◌+◌, ◌-◌, ◌^◌, ◌<◌, ◌≤◌, List, [], ◌∷◌, Option, Some, refl, sym, subst, ap, ◌∙◌, arith}
 use Rattle.std.specs.Prelude.{Bool, true, false, nat_le, ◌&&◌, ◌==◌, if◌then◌else◌, slice_get}
-use Rattle.std.proofs.lemmas.Bool.{leb-true, leb-false, le-leb, lt-leb, eq-eqb, ne_eqb, cases_lt}
+use Rattle.std.proofs.lemmas.Bool.{le-leb, lt-leb, eq-eqb, ne_eqb, cases_lt}
 use Rattle.myi_base.specs.Items.{Fit}
 use Rattle.myi_frames.specs.declared.form.FrameKind.{FrameKind}
 use Rattle.myi_frames.specs.declared.form.FrameKind.TheVariants.{Deleted, Whole, Start, Middle, End}
@@ -11,7 +11,7 @@ use Rattle.myi_frames.specs.Form.{row, forms, form_of, header_len, block_size}
 use Rattle.myi_frames.specs.Sizes.{start_header, middle_header}
 use Rattle.myi_frames.specs.Writing.{type_for, type_of, len_of, unused_of, widths, numbers_of, header_as, header_bytes, Allows, IsWritable}
 use Rattle.myi_frames.specs.Rules.{IsChosen}
-use Rattle.myi_frames.proofs.WriteLemmas.{FitsType, type-fits, header-is, spec}
+use Rattle.myi_frames.proofs.WriteLemmas.{type-fits, header-is, spec}
 
 pub type-chosen : (f : FrameSpec) (n size : ℕ) → IsWritable f n size → IsChosen f n size (type_of f n size)
 type-chosen f n size w =

@@ -1,5 +1,5 @@
 -- Which sizes blocks have for their row bytes.
-use Rattle.std.proofs.Common.{◌≡◌, ◌⊎◌, inl, inr, ℕ, zero, suc, ◌+◌, ◌-◌, ◌%◌, ◌/◌, ◌*◌, ◌^◌, ◌<◌, ◌≤◌, List, [], ◌∷◌, length, get_or, take, drop, Option, Some, None, refl, sym, subst, ap, ◌∙◌, arith}
+use Rattle.std.proofs.Common.{◌≡◌, ◌⊎◌, inl, inr, ℕ, ◌+◌, ◌-◌, ◌%◌, ◌^◌, ◌<◌, ◌≤◌, List, [], ◌∷◌, length, get_or, drop, Option, Some, refl, sym, subst, ap, ◌∙◌, arith}
 use Rattle.std.specs.Prelude.{Bool, true, false, nat_le, ◌&&◌, if◌then◌else◌, max}
 use Rattle.std.specs.List.{AllByRecursion}
 use Rattle.std.specs.Int.{next_multiple_of}
@@ -18,7 +18,7 @@ use Rattle.myi_frames.specs.Block.{Block, read_header, block_by, block_of, IsPla
 use Rattle.myi_frames.specs.Sizes.{row_header, start_header, middle_header, least_size, start_room, middle_room, IsSized, held_bytes, total_size}
 use Rattle.myi_frames.specs.Writing.{HasRoom, Allows, IsWritable, whole_spec, end_spec, start_spec, middle_spec}
 use Rattle.myi_frames.proofs.FormLemmas.{below_width, width-wide, width-more, OfWidths, form-widths, form-narrow, data-room}
-use Rattle.myi_frames.proofs.BlockLemmas.{Read, header-read, read-inside, Found, block-found, number-below, no_number}
+use Rattle.myi_frames.proofs.BlockLemmas.{header-read, read-inside, block-found, number-below, no_number}
 
 -- ---- the least size
 

@@ -1,11 +1,12 @@
 -- The type that a writer chooses, and that the block that is written is read again.
-use Rattle.std.proofs.Common.{◌≡◌, ◌≢◌, ℕ, zero, suc, ◌+◌, ◌-◌, ◌%◌, ◌^◌, ◌<◌, ◌≤◌, List, [], ◌∷◌, ◌++◌, length, get_or, take, drop, replicate, Option, Some, None, refl, sym, subst, ap, ◌∙◌, arith, lit<, append_assoc, length-append, length-drop}
+use Rattle.std.proofs.Common.{◌≡◌, ◌≢◌, ℕ, zero, suc, ◌+◌, ◌-◌, ◌%◌, ◌^◌, ◌<◌, ◌≤◌, List, [], ◌∷◌, ◌++◌, length, take, drop, replicate, Option, Some, None, refl, sym, subst, ap, ◌∙◌, arith, lit<, append_assoc, length-append}
 use Rattle.std.specs.Prelude.{Bool, true, false, nat_le, ◌&&◌, ◌==◌, if◌then◌else◌}
 use Rattle.std.proofs.lemmas.Bool.{leb-true, leb-false, le-leb, eqb-true, eqb-false}
 use Rattle.std.proofs.lemmas.List.{drop_at, take_at, length-replicate, take_all}
-use Rattle.myi_base.specs.Numbers.{num_at, pointer_of, pointer_number}
-use Rattle.myi_base.specs.Items.{numbers, spelling, Fit, total_width}
+use Rattle.myi_base.specs.Numbers.{num_at, num_bytes, pointer_of, pointer_number, AreBytes}
+use Rattle.myi_base.specs.Items.{numbers, spelling, Fit}
 use Rattle.myi_base.specs.Holding.{overwritten}
+use Rattle.myi_base.proofs.NumberLaws.{bytes-num_bytes}
 use Rattle.myi_base.proofs.ItemLaws.{numbers-spelling, length-spelling}
 use Rattle.myi_frames.specs.declared.form.FrameKind.{FrameKind}
 use Rattle.myi_frames.specs.declared.form.FrameKind.TheVariants.{Deleted, Whole, Start, Middle, End}
@@ -13,10 +14,9 @@ use Rattle.myi_frames.specs.declared.form.Form.{Form}
 use Rattle.myi_frames.specs.declared.head.Header.{Header}
 use Rattle.myi_frames.specs.declared.write.FrameSpec.{FrameSpec}
 use Rattle.myi_frames.specs.Form.{row, form_of, len_at, unused_at, next_at, prev_at, header_len, data_len, block_size}
-use Rattle.myi_frames.specs.Block.{Block, link_of, read_header, header_of, block_by, block_of, IsPlace, IsPointer}
-use Rattle.myi_frames.specs.Sizes.{row_header, start_header, middle_header}
+use Rattle.myi_frames.specs.Block.{link_of, read_header, header_of, block_of, IsPlace, IsPointer}
 use Rattle.myi_frames.specs.Writing.{type_for, type_of, len_of, unused_of, link_number, widths, numbers_of, header_as, header_bytes, block_bytes, written_block, deleted_spec, deleted_head, HasRoom, Allows, IsWritable}
-use Rattle.myi_frames.proofs.FormLemmas.{both_true}
+use Rattle.myi_frames.proofs.FormLemmas.{both_true, form-known}
 use Rattle.myi_frames.proofs.BlockLemmas.{header-found, found-block}
 use Rattle.myi_frames.proofs.FileLemmas.{length-overwritten, drop-overwritten}
 
@@ -388,3 +388,41 @@ unfolding deleted_head
 length-deleted_head size next prev least most px py =
     let w = deleted-fits size next prev least most px py in
     length-header (deleted_spec next prev) 0 size w ∙ deleted-form w.form w.is
+
+-- ---- what is written is bytes
+
+bytes-cons : (t : ℕ) (x : List ℕ) → t < 256 → AreBytes x → AreBytes (t ∷ x)
+bytes-cons t x small are zero = small
+bytes-cons t x small are (suc i) = are i
+
+bytes-append : (x y : List ℕ) → AreBytes x → AreBytes y → AreBytes (x ++ y)
+bytes-append [] y left right i = right i
+bytes-append (b ∷ x) y left right zero = left zero
+bytes-append (b ∷ x) y left right (suc i) = bytes-append x y (λ j. left (suc j)) right i
+
+bytes-zeros : (n : ℕ) → AreBytes (replicate n 0)
+bytes-zeros zero i = lit< tt
+bytes-zeros (suc n) zero = lit< tt
+bytes-zeros (suc n) (suc i) = bytes-zeros n i
+
+bytes-spelling : (ws vs : List ℕ) → AreBytes (spelling ws vs)
+bytes-spelling [] vs i = lit< tt
+bytes-spelling (w ∷ ws) [] i = lit< tt
+bytes-spelling (w ∷ ws) (v ∷ vs) i =
+    bytes-append (num_bytes w v) (spelling ws vs) (bytes-num_bytes w v) (bytes-spelling ws vs) i
+
+bytes-header : (f : FrameSpec) (n size : ℕ) (w : FitsType (type_of f n size) f n size) → AreBytes (header_bytes f n size)
+bytes-header f n size w =
+    subst AreBytes (sym (header-is f n size w.form w.is)) (bytes-cons (type_of f n size) (spelling (widths w.form) (numbers_of w.form f n size)) (omega (arith, form-known (type_of f n size) w.form w.is)) (bytes-spelling (widths w.form) (numbers_of w.form f n size)))
+
+pub bytes-block : (f : FrameSpec) (content : List ℕ) (size : ℕ) → IsWritable f (length content) size → AreBytes content → AreBytes (block_bytes f content size)
+unfolding block_bytes
+bytes-block f content size w are =
+    let n = length content in
+    let unused = size - (length (header_bytes f n size) + n) in
+    bytes-append (header_bytes f n size) (content ++ replicate unused 0) (bytes-header f n size (type-fits f n size w)) (bytes-append content (replicate unused 0) are (bytes-zeros unused))
+
+pub bytes-deleted_head : (size : ℕ) (next prev : Option ℕ) → 20 ≤ size → size < 2 ^ 24 → IsPointer next → IsPointer prev → AreBytes (deleted_head size next prev)
+unfolding deleted_head
+bytes-deleted_head size next prev least most px py =
+    bytes-header (deleted_spec next prev) 0 size (deleted-fits size next prev least most px py)

@@ -1,6 +1,6 @@
 -- The rules by which a writer chooses among the types of the format (this project's own), said of any
 -- type, and not of how one is found.
-use Rattle.std.specs.Prelude.{◌≡◌, ◌≢◌, ℕ, ◌+◌, ◌^◌, ◌≤◌, Option, Some}
+use Rattle.std.specs.Prelude.{◌≡◌, ◌≢◌, ℕ, ◌+◌, ◌^◌, ◌≤◌, Some}
 use Rattle.myi_base.specs.Items.{Fit}
 use Rattle.myi_frames.specs.declared.form.FrameKind.TheVariants.{Deleted}
 use Rattle.myi_frames.specs.declared.form.Form.{Form}

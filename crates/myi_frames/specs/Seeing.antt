@@ -1,5 +1,5 @@
 -- What a reader of some bytes of a file can answer of the block at their place.
-use Rattle.std.specs.Prelude.{◌≡◌, ℕ, ◌+◌, ◌<◌, ◌≤◌, List, length, take, drop, Option, Some, None, IsSomeAnd}
+use Rattle.std.specs.Prelude.{◌≡◌, ℕ, ◌<◌, ◌≤◌, List, length, take, drop, Option, Some, None, IsSomeAnd}
 use Rattle.myi_frames.specs.declared.frame.Frame.{Frame}
 use Rattle.myi_frames.specs.declared.frame.Seen.{Seen}
 use Rattle.myi_frames.specs.declared.frame.Seen.TheVariants as seen

@@ -1,6 +1,6 @@
 -- How large a block is for its row bytes, and how many row bytes a block of a size holds (this project's
 -- own choice among the sizes and forms that MySQL reads).
-use Rattle.std.specs.Prelude.{◌≡◌, ℕ, ◌+◌, ◌-◌, ◌%◌, ◌^◌, ◌≤◌, Bool, ◌&&◌, nat_le, if◌then◌else◌, max, List, sum_by, length}
+use Rattle.std.specs.Prelude.{◌≡◌, ℕ, ◌+◌, ◌-◌, ◌%◌, ◌^◌, ◌≤◌, ◌&&◌, nat_le, if◌then◌else◌, max, List, sum_by, length}
 use Rattle.std.specs.Int.{next_multiple_of}
 use Rattle.myi_frames.specs.Block.{Block}
 

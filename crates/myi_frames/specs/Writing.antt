@@ -1,6 +1,6 @@
 -- How a block is written (MySQL Internals Manual, "MyISAM Dynamic Data File Layout"; the choice of the
 -- type is this project's own).
-use Rattle.std.specs.Prelude.{◌≡◌, ℕ, ◌+◌, ◌-◌, ◌^◌, ◌%◌, ◌<◌, ◌≤◌, ◌==◌, ◌&&◌, nat_le, if◌then◌else◌, List, [], ◌∷◌, ◌++◌, length, replicate, Option, Some, None}
+use Rattle.std.specs.Prelude.{◌≡◌, ℕ, ◌+◌, ◌-◌, ◌^◌, ◌%◌, ◌<◌, ◌≤◌, ◌==◌, ◌&&◌, nat_le, if◌then◌else◌, List, [], ◌∷◌, ◌++◌, length, replicate, Option, None}
 use Rattle.std.specs.Option.{option_map_or}
 use Rattle.myi_base.specs.Numbers.{pointer_number}
 use Rattle.myi_base.specs.Items.{spelling}

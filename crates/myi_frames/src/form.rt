@@ -4,7 +4,7 @@
 //! `Form`: the numbers stand one after the other behind the type, in one order for all types, and a
 //! number that a type does not have has no bytes. So one reader and one writer serve all fourteen.
 ghost use Rattle.std.specs.Prelude.{◌≡◌, ℕ, ◌^◌, ◌<◌, ◌≤◌, IfSome};
-ghost use Rattle.myi_frames.specs.Form.{form_of, IsNarrow, data_len, block_size};
+ghost use Rattle.myi_frames.specs.Form.{row, form_of, IsNarrow, data_len, block_size};
 
 /// What a block is for.
 #[derive(Clone, Copy, Debug, PartialEq, Eq)]
@@ -82,7 +82,7 @@ impl Form {
 }
 
 fn row(kind: FrameKind, rec_len: usize, len: usize, unused: usize, next: usize, prev: usize) -> Form
-    ensures { result ≡ record { kind = kind; rec_len = rec_len; len = len; unused = unused; next = next; prev = prev } }
+    ensures { result ≡ row kind rec_len len unused next prev }
 {
     Form {
         kind,

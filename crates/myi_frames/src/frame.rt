@@ -66,7 +66,8 @@ fn seen_at<'a>(bytes: &'a [u8], at: u64, file_len: u64) -> Seen<'a>
 /// least 20 of them, or all up to the file's end. It takes no memory.
 pub fn frame_at<'a>(bytes: &'a [u8], at: u64, file_len: u64) -> Seen<'a>
     requires window { (20 ≤ length bytes.now) ⊎ (file_len ≤ at + length bytes.now) }
-    ensures block { (d : List ℕ) → length d ≡ file_len → IsPartAt at bytes.now d → SeesBlock result (length bytes.now) (block_of d at) }
+    ensures block { (d : List ℕ) → length d ≡ file_len → IsPartAt at bytes.now d
+        → SeesBlock result (length bytes.now) (block_of d at) }
     ensures place { SeesPlace result at file_len }
 {
     seen_at(bytes, at, file_len)

@@ -62,7 +62,8 @@ pub fn header_at(bytes: &[u8], at: u64, file_len: u64) -> Option<Header>
     requires window { (20 ≤ length bytes.now) ⊎ (file_len ≤ at + length bytes.now) }
     ensures header { result ≡ header_of bytes.now at file_len }
     ensures inside { IfSome result (λ h. h.start + h.data_len ≤ h.head.size) }
-    ensures place { IfSome result (λ h. (h.head.at ≡ at) × IsPlace at h.head.size file_len × IsSized h.data_len h.head.size) }
+    ensures place { IfSome result (λ h. (h.head.at ≡ at) × IsPlace at h.head.size file_len
+        × IsSized h.data_len h.head.size) }
 {
     if bytes.len() < LEAST_SIZE {
         return None;
@@ -99,7 +100,8 @@ pub fn header_at(bytes: &[u8], at: u64, file_len: u64) -> Option<Header>
 /// takes no memory.
 pub fn head_at(bytes: &[u8], at: u64, file_len: u64) -> Option<Head>
     requires window { (20 ≤ length bytes.now) ⊎ (file_len ≤ at + length bytes.now) }
-    ensures head { (d : List ℕ) → length d ≡ file_len → IsPartAt at bytes.now d → result ≡ option_map head_of (block_of d at) }
+    ensures head { (d : List ℕ) → length d ≡ file_len → IsPartAt at bytes.now d
+        → result ≡ option_map head_of (block_of d at) }
     ensures place { IfSome result (λ head. (head.at ≡ at) × IsPlace at head.size file_len) }
 {
     let Some(header) = header_at(bytes, at, file_len) else {

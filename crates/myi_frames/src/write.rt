@@ -122,7 +122,9 @@ fn put_zeros(into: &mut [u8], at: usize)
 pub fn write_frame(into: &mut [u8], spec: &FrameSpec, bytes: &[u8])
     requires { IsWritable spec.now (length bytes.now) (length into.old) }
     ensures written { into.new ≡ block_bytes spec.now bytes.now (length into.old) }
-    ensures block { (front back : List ℕ) → length front % 4 ≡ 0 → block_of (front ++ (into.new ++ back)) (length front) ≡ Some (written_block spec.now (length front) (length into.old) bytes.now) }
+    ensures block { (front back : List ℕ) → length front % 4 ≡ 0
+        → block_of (front ++ (into.new ++ back)) (length front)
+        ≡ Some (written_block spec.now (length front) (length into.old) bytes.now) }
 {
     let size = into.len();
     let number = type_for(spec.kind, spec.rec_len, bytes.len(), size);
@@ -143,7 +145,9 @@ pub fn deleted_head(size: u32, next: Option<u64>, prev: Option<u64>) -> [u8; 20]
     requires next { IsPointer next }
     requires prev { IsPointer prev }
     ensures written { result ≡ deleted_head size next prev }
-    ensures block { (d : List ℕ) (at : ℕ) → IsPlace at size (length d) → block_of (overwritten at result d) at ≡ Some (written_block (deleted_spec next prev) at size []) }
+    ensures block { (d : List ℕ) (at : ℕ) → IsPlace at size (length d)
+        → block_of (overwritten at result d) at
+        ≡ Some (written_block (deleted_spec next prev) at size []) }
 {
     let spec = FrameSpec {
         kind: FrameKind::Deleted,

@@ -1,4 +1,4 @@
-use Rattle.std.proofs.Common.{ℕ, ◌≡◌, ◌+◌, ◌≤◌, ◌⊎◌, subst, sym, length}
+use Rattle.std.proofs.Common.{ℕ, ◌+◌, ◌≤◌, ◌⊎◌, subst, sym, length}
 use Rattle.myi_frames.proofs.BlockLemmas.{seen-block}
 use Rattle.myi_frames.specs.Block.{header_of}
 use Rattle.myi_frames.specs.Seeing.{Sees}

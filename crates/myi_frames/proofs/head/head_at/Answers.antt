@@ -2,7 +2,6 @@ use Rattle.std.proofs.Common.{◌≡◌, ◌+◌, ◌≤◌, ◌⊎◌, ℕ, Lis
 use Rattle.std.specs.Option.{option_map}
 use Rattle.myi_frames.specs.Block.{header_of, head_of, block_of}
 use Rattle.myi_frames.specs.Seeing.{IsPartAt}
-use Rattle.myi_frames.specs.declared.head.Head.{Head}
 use Rattle.myi_frames.specs.declared.head.Header.{Header}
 use Rattle.myi_frames.proofs.BlockLemmas.{head-block}
 use Rattle.myi_frames.proofs.head.head_at.Goals as goal

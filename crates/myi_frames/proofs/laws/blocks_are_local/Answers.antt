@@ -1,4 +1,4 @@
-use Rattle.myi_frames.proofs.BlockLemmas.{block-own}
+use Rattle.myi_frames.proofs.BlockLemmas.{block-own, block-none}
 use Rattle.myi_frames.proofs.FileLemmas.{block-grown, block-resized, block-elsewhere}
 use Rattle.myi_frames.proofs.laws.blocks_are_local.Goals as goal
 
@@ -8,4 +8,5 @@ returns c = record {
   grown = block-grown;
   resized = block-resized;
   elsewhere = block-elsewhere;
+  none = block-none;
 }

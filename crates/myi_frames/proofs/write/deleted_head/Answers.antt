@@ -1,9 +1,9 @@
-use Rattle.std.proofs.Common.{◌≡◌, ℕ, List, length, Option, Some, sym, ap, ◌∙◌, arith}
+use Rattle.std.proofs.Common.{◌≡◌, ℕ, List, Some, ap, ◌∙◌, arith}
 use Rattle.myi_base.specs.Holding.{overwritten}
 use Rattle.myi_frames.specs.Form.{form_of}
 use Rattle.myi_frames.specs.Block.{block_of}
 use Rattle.myi_frames.specs.Writing.{deleted_spec}
-use Rattle.myi_frames.proofs.WriteLemmas.{deleted-fits, form-fits, deleted-is, deleted-form, deleted-overwritten}
+use Rattle.myi_frames.proofs.WriteLemmas.{deleted-fits, form-fits, deleted-is, deleted-overwritten}
 use Rattle.myi_frames.proofs.write.deleted_head.Goals as goal
 
 pub unreachable-requires : goal.unreachable-requires

@@ -1,9 +1,8 @@
-use Rattle.std.proofs.Common.{◌≡◌, ◌+◌, ◌≤◌, ℕ, List, length, ◌++◌, Option, Some, sym, subst, ap, ◌∙◌, arith}
+use Rattle.std.proofs.Common.{◌≡◌, ℕ, List, length, ◌++◌, Some, ap, ◌∙◌, arith}
 use Rattle.std.proofs.lemmas.Grind.{common_steps}
-use Rattle.myi_frames.specs.declared.form.Form.{Form}
-use Rattle.myi_frames.specs.Form.{form_of, header_len}
+use Rattle.myi_frames.specs.Form.{form_of}
 use Rattle.myi_frames.specs.Block.{block_of}
-use Rattle.myi_frames.specs.Writing.{header_bytes, block_bytes, written_block, type_of}
+use Rattle.myi_frames.specs.Writing.{header_bytes, block_bytes, type_of}
 use Rattle.myi_frames.proofs.WriteLemmas.{type-fits, form-fits, block-joined}
 use Rattle.myi_frames.proofs.write.write_frame.Goals as goal
 
