@@ -12,7 +12,7 @@ use Rattle.myi_frames.specs.declared.form.Form.{Form}
 use Rattle.myi_frames.specs.declared.head.Header.{Header}
 use Rattle.myi_frames.specs.declared.frame.Seen.{Seen}
 use Rattle.myi_frames.specs.declared.frame.Seen.TheVariants as seen
-use Rattle.myi_frames.specs.Seeing.{IsPartAt, SeesBlock, Sees}
+use Rattle.myi_frames.specs.Seeing.{IsPartAt, shown, SeesBlock, ShowsBlock, Sees}
 use Rattle.myi_frames.specs.Form.{form_of, len_at, unused_at, next_at, prev_at, header_len, data_len, block_size}
 use Rattle.myi_frames.specs.Block.{Block, link_of, read_header, is_place, if_placed, header_of, block_by, block_of, head_of, IsPlace, OfKind, Stands, IsPointer, IsBounded}
 use Rattle.myi_frames.proofs.FormLemmas.{both_true, below_width, OfWidths, form-widths, form-narrow, form-known, data-inside, data-short}
@@ -348,3 +348,23 @@ head-block bytes d at window part =
     mapped : (x : List ℕ) (o : Option Header) → option_map (λ h. h.head) o ≡ option_map head_of (option_map (block_by x) o)
     mapped x None = refl
     mapped x (Some h) = refl
+
+-- ---- what is seen is decided
+
+pub seen-nothing : (r : Seen) (n : ℕ) → SeesBlock r n None → r ≡ seen.Nothing
+seen-nothing seen.Nothing n s = refl
+seen-nothing (seen.Longer size) n s = absurd s
+seen-nothing (seen.Frame f) n s = absurd cc
+
+pub seen-longer : (r : Seen) (n : ℕ) (b : Block) → SeesBlock r n (Some b) → n < b.size → r ≡ seen.Longer b.size
+seen-longer seen.Nothing n b s less = absurd cc
+seen-longer (seen.Longer size) n b s less = ap seen.Longer (sym s.0)
+seen-longer (seen.Frame f) n b s less =
+    let same : b ≡ shown f = cc in
+    let size : b.size ≡ f.size = ap (λ (x : Block). x.size) same in
+    absurd (omega (arith, s.1))
+
+pub seen-whole : (r : Seen) (n : ℕ) (b : Block) → SeesBlock r n (Some b) → b.size ≤ n → ShowsBlock r b
+seen-whole seen.Nothing n b s all = absurd cc
+seen-whole (seen.Longer size) n b s all = absurd (omega (arith, s.0, s.1))
+seen-whole (seen.Frame f) n b s all = let same : b ≡ shown f = cc in sym same

@@ -17,7 +17,9 @@ use Rattle.myi_frames.specs.Form.{row, form_of, len_at, unused_at, next_at, prev
 use Rattle.myi_frames.specs.Block.{link_of, read_header, header_of, block_of, IsPlace, IsPointer}
 use Rattle.myi_frames.specs.Writing.{type_for, type_of, len_of, unused_of, link_number, widths, numbers_of, header_as, header_bytes, block_bytes, written_block, deleted_spec, deleted_head, HasRoom, Allows, IsWritable}
 use Rattle.myi_frames.proofs.FormLemmas.{both_true, form-known}
-use Rattle.myi_frames.proofs.BlockLemmas.{header-found, found-block}
+use Rattle.myi_frames.specs.declared.frame.Seen.{Seen}
+use Rattle.myi_frames.specs.Seeing.{SeesBlock, ShowsBlock}
+use Rattle.myi_frames.proofs.BlockLemmas.{seen-whole, header-found, found-block}
 use Rattle.myi_frames.proofs.FileLemmas.{length-overwritten, drop-overwritten}
 
 -- ---- the type that a writer chooses
@@ -426,3 +428,11 @@ pub bytes-deleted_head : (size : ℕ) (next prev : Option ℕ) → 20 ≤ size �
 unfolding deleted_head
 bytes-deleted_head size next prev least most px py =
     bytes-header (deleted_spec next prev) 0 size (deleted-fits size next prev least most px py)
+
+-- ---- what is written is seen
+
+pub block-seen : (f : FrameSpec) (content front back : List ℕ) (size n : ℕ) (r : Seen) → IsWritable f (length content) size → length front % 4 ≡ 0 → size ≤ n → SeesBlock r n (block_of (front ++ (block_bytes f content size ++ back)) (length front)) → ShowsBlock r (written_block f (length front) size content)
+block-seen f content front back size n r w aligned all s =
+    let b = written_block f (length front) size content in
+    let here : SeesBlock r n (Some b) = subst (SeesBlock r n) (block-joined f content front back size w aligned) s in
+    seen-whole r n b here all

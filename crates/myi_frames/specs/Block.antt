@@ -44,6 +44,7 @@ read_header bytes at f = record {
 abbrev pub is_place : ℕ → ℕ → ℕ → Bool
 is_place at size len = (at % 4 == 0) && (size % 4 == 0) && nat_le 20 size && nat_le (at + size) len
 
+-- the header, where a block may stand so
 abbrev pub if_placed : ℕ → Header → Option Header
 if_placed len h = if is_place h.head.at h.head.size len then Some h else None
 

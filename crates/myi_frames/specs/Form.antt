@@ -6,8 +6,8 @@ use Rattle.myi_frames.specs.declared.form.FrameKind.{FrameKind}
 use Rattle.myi_frames.specs.declared.form.FrameKind.TheVariants.{Deleted, Whole, Start, Middle, End}
 use Rattle.myi_frames.specs.declared.form.Form.{Form}
 
--- the bytes of rec_len, of block_len (a deleted block) or data_len (all others), of the number of unused
--- bytes, of the place of the next block and of that of the previous one
+-- a row of the table: the widths of rec_len, of block_len (a deleted block) or data_len (all others), of
+-- the number of unused bytes, of the place of the next block and of that of the previous one
 abbrev pub row : FrameKind → ℕ → ℕ → ℕ → ℕ → ℕ → Form
 row k r l u n p = record { kind = k; rec_len = r; len = l; unused = u; next = n; prev = p }
 

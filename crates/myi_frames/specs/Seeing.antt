@@ -21,6 +21,12 @@ SeesBlock seen.Nothing n b = b ≡ None
 SeesBlock (seen.Longer size) n b = IsSomeAnd b (λ b. (b.size ≡ size) × (n < size))
 SeesBlock (seen.Frame f) n b = (b ≡ Some (shown f)) × (f.size ≤ n)
 
+-- the whole block is shown
+abbrev pub ShowsBlock : Seen → Block → Type 0
+ShowsBlock seen.Nothing b = ⊥
+ShowsBlock (seen.Longer size) b = ⊥
+ShowsBlock (seen.Frame f) b = shown f ≡ b
+
 -- the block that is seen lies in the file, and has room for what is lent of it
 abbrev pub SeesPlace : Seen → ℕ → ℕ → Type 0
 SeesPlace seen.Nothing at len = Unit {0}

@@ -34,10 +34,10 @@ pub record IsSized (n size : ℕ) : Type 0 where
   pub least : 20 ≤ size
   pub room : row_header n + n ≤ size
 
--- what these blocks hold and take together
-
+-- how many row bytes these blocks hold together
 abbrev pub held_bytes : List Block → ℕ
 held_bytes bs = sum_by (λ b. length b.bytes) bs
 
+-- how many bytes these blocks take together
 abbrev pub total_size : List Block → ℕ
 total_size bs = sum_by (λ b. b.size) bs

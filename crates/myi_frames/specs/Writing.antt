@@ -24,11 +24,11 @@ type_for Middle rec_len n size = if nat_le n 65535 then 11 else 12
 type_for End rec_len n size =
     if nat_le n 65535 then (if size == 3 + n then 7 else 9) else (if size == 4 + n then 8 else 10)
 
+-- the type that a block is written in
 abbrev pub type_of : FrameSpec → ℕ → ℕ → ℕ
 type_of f n size = type_for f.kind f.rec_len n size
 
--- the numbers of a header, in their order
-
+-- the number behind rec_len: the size of a deleted block, and the number of row bytes of a part of a row
 abbrev pub len_of : FrameKind → ℕ → ℕ → ℕ
 len_of Deleted n size = size
 len_of Whole n size = 0
@@ -36,6 +36,7 @@ len_of Start n size = n
 len_of Middle n size = n
 len_of End n size = n
 
+-- the number of unused bytes, behind a header and row bytes of so many bytes
 abbrev pub unused_of : FrameKind → ℕ → ℕ → ℕ
 unused_of Deleted used size = 0
 unused_of Whole used size = size - used
@@ -43,8 +44,11 @@ unused_of Start used size = size - used
 unused_of Middle used size = size - used
 unused_of End used size = size - used
 
+-- the number that names a place, and 0 where the header has no such number
 abbrev pub link_number : ℕ → Option ℕ → ℕ
 link_number w place = if w == 0 then 0 else pointer_number place
+
+-- the widths of the numbers of a header, and the numbers, in their order
 
 abbrev pub widths : Form → List ℕ
 widths form = form.rec_len ∷ form.len ∷ form.unused ∷ form.next ∷ form.prev ∷ []
@@ -52,6 +56,7 @@ widths form = form.rec_len ∷ form.len ∷ form.unused ∷ form.next ∷ form.p
 abbrev pub numbers_of : Form → FrameSpec → ℕ → ℕ → List ℕ
 numbers_of form f n size = f.rec_len ∷ len_of f.kind n size ∷ unused_of f.kind (header_len form + n) size ∷ link_number form.next f.next ∷ link_number form.prev f.prev ∷ []
 
+-- the header in a type and its form
 abbrev pub header_as : ℕ → Form → FrameSpec → ℕ → ℕ → List ℕ
 header_as t form f n size = t ∷ spelling (widths form) (numbers_of form f n size)
 
@@ -67,6 +72,8 @@ block_bytes f content size =
 -- the block that is written
 abbrev pub written_block : FrameSpec → ℕ → ℕ → List ℕ → Block
 written_block f at size content = record { kind = f.kind; at = at; size = size; rec_len = f.rec_len; next = f.next; prev = f.prev; bytes = content }
+
+-- what the blocks of each kind say
 
 abbrev pub deleted_spec : Option ℕ → Option ℕ → FrameSpec
 deleted_spec next prev = record { kind = Deleted; rec_len = 0; next = next; prev = prev }

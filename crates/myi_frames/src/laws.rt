@@ -6,9 +6,12 @@ ghost use Rattle.myi_base.specs.Numbers.{AreBytes};
 ghost use Rattle.myi_base.specs.Ranges.{are_apart};
 ghost use Rattle.myi_base.specs.Holding.{resized, overwritten};
 ghost use Rattle.myi_frames.specs.declared.form.FrameKind.TheVariants.{Start, Middle};
+ghost use Rattle.myi_frames.specs.declared.frame.Seen.{Seen};
+ghost use Rattle.myi_frames.specs.declared.frame.Seen.TheVariants.{Nothing, Longer};
 ghost use Rattle.myi_frames.specs.declared.write.FrameSpec.{FrameSpec};
 ghost use Rattle.myi_frames.specs.Block.{Block, block_of, Stands, IsPlace, IsPointer, IsBounded};
 ghost use Rattle.myi_frames.specs.Rules.{IsChosen};
+ghost use Rattle.myi_frames.specs.Seeing.{SeesBlock, ShowsBlock};
 ghost use Rattle.myi_frames.specs.Sizes.{least_size, start_room, middle_room, IsSized, held_bytes, total_size};
 ghost use Rattle.myi_frames.specs.Writing.{type_of, header_as, header_bytes, block_bytes, deleted_head, written_block, deleted_spec, whole_spec, start_spec, middle_spec, end_spec, IsWritable};
 
@@ -45,8 +48,18 @@ pub fn blocks_are_local()
         → take 20 (drop p e) ≡ take 20 (drop p d) → length e ≤ length d → block_of e p ≡ None }
 {}
 
+/// What the block at a place is and how many of its bytes are at hand decide what is seen there.
+pub fn answers_are_decided()
+    ensures nothing { (seen : Seen) (n : ℕ) → SeesBlock seen n None → seen ≡ Nothing }
+    ensures longer { (seen : Seen) (n : ℕ) (b : Block) → SeesBlock seen n (Some b) → n < b.size
+        → seen ≡ Longer b.size }
+    ensures whole { (seen : Seen) (n : ℕ) (b : Block) → SeesBlock seen n (Some b) → b.size ≤ n
+        → ShowsBlock seen b }
+{}
+
 /// A block that is written has its size, and is read back whole between any other bytes, and where it
-/// is written into a file. The header of a deleted block alone makes its place a deleted block.
+/// is written into a file; where all its bytes are at hand it is what is seen. The header of a deleted
+/// block alone makes its place a deleted block.
 pub fn written_blocks_read_back()
     ensures length { (f : FrameSpec) (content : List ℕ) (size : ℕ) → IsWritable f (length content) size
         → length (block_bytes f content size) ≡ size }
@@ -56,6 +69,10 @@ pub fn written_blocks_read_back()
         → IsWritable f (length content) size → length front % 4 ≡ 0
         → block_of (front ++ (block_bytes f content size ++ back)) (length front)
         ≡ Some (written_block f (length front) size content) }
+    ensures seen { (f : FrameSpec) (content front back : List ℕ) (size n : ℕ) (seen : Seen)
+        → IsWritable f (length content) size → length front % 4 ≡ 0 → size ≤ n
+        → SeesBlock seen n (block_of (front ++ (block_bytes f content size ++ back)) (length front))
+        → ShowsBlock seen (written_block f (length front) size content) }
     ensures overwritten { (f : FrameSpec) (content d : List ℕ) (at size : ℕ)
         → IsWritable f (length content) size → at % 4 ≡ 0
         → block_of (overwritten at (block_bytes f content size) d) at

@@ -116,8 +116,12 @@ fn put_zeros(into: &mut [u8], at: usize)
     into[at..].fill(0);
 }
 
-/// Writes a block whose size is the length of `into`, with zeros in its unused part. `into` has a size
-/// that the format allows for these row bytes, of which a deleted block has none.
+/// Writes a block whose size is the length of `into`, with zeros in its unused part.
+///
+/// `into` has a size that the format allows for these row bytes, fewer than 2^24, of which a deleted
+/// block has none: a whole row and an end may leave up to 255 bytes unused, and a start and a middle
+/// are filled. `rec_len` is the number of row bytes of a whole row, that of the whole chain in a start,
+/// and else 0. A place is None where the kind has no such number, and is never `u64::MAX`.
 #[tactic(auto, unfolding(crate::specs::Writing::block_bytes, crate::specs::Writing::header_bytes))]
 pub fn write_frame(into: &mut [u8], spec: &FrameSpec, bytes: &[u8])
     requires { IsWritable spec.now (length bytes.now) (length into.old) }
