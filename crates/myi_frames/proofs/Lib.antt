@@ -1,0 +1,6 @@
+pub mod FormLemmas
+pub mod BlockLemmas
+pub mod FileLemmas
+pub mod WriteLemmas
+pub mod SizeLemmas
+pub mod RuleLemmas

@@ -1,0 +1,14 @@
+use Rattle.myi_frames.proofs.BlockLemmas.{block-stands, block-short, block-unaligned, block-unknown, block-bounded, block-bytes}
+use Rattle.myi_frames.proofs.SizeLemmas.{block-sized}
+use Rattle.myi_frames.proofs.laws.blocks_stand.Goals as goal
+
+pub returns : goal.returns
+returns c = record {
+  stands = block-stands;
+  short = block-short;
+  unaligned = block-unaligned;
+  unknown = block-unknown;
+  bounded = block-bounded;
+  bytes = block-bytes;
+  sized = block-sized;
+}
