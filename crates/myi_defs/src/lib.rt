@@ -12,6 +12,8 @@ mod outline;
 mod places;
 mod print;
 mod read;
+#[cfg(test)]
+mod tests;
 mod types;
 
 pub use laws::definitions_are_sound;
