@@ -4,3 +4,5 @@ pub mod PlaceLemmas
 pub mod ReadLemmas
 pub mod SoundLaws
 pub mod SoundSegments
+pub mod PrintLemmas
+pub mod SameLemmas

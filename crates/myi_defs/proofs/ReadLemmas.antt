@@ -1,5 +1,5 @@
 -- What the definitions of a header give back.
-use Rattle.std.proofs.Common.{◌≡◌, ℕ, zero, suc, ◌+◌, ◌≤◌, Bool, true, false, List, [], ◌∷◌, length, take, Option, Some, None, Result, Ok, Err, if◌then◌else◌, refl, sym, ap, subst, arith}
+use Rattle.std.proofs.Common.{◌≡◌, ℕ, zero, suc, ◌+◌, ◌≤◌, Bool, true, false, List, [], ◌∷◌, length, take, Option, Some, None, Result, Ok, Err, if◌then◌else◌, refl, sym, ◌∙◌, ap, subst, arith}
 use Rattle.std.proofs.lemmas.List.{length-take-le}
 use Rattle.std.proofs.lemmas.Bool.Decides.{nat_tests}
 use Rattle.myi_base.specs.Numbers.{num_at}
@@ -88,7 +88,7 @@ accepted x d same =
     let both = unless-ok (refusal (outline (front x) (header x))) _ d b.1 in
     record { short = a.0; magic = b.0; rest = b.1; none = both.0; value = both.1 }
 
-read_accepted : (x : List ℕ) (d : Defs) → is_short x ≡ false → has_other_magic (front x) ≡ false → judged (outline (front x) (header x)) (header x) ≡ Ok d → read_defs x ≡ Ok d
+pub read_accepted : (x : List ℕ) (d : Defs) → is_short x ≡ false → has_other_magic (front x) ≡ false → judged (outline (front x) (header x)) (header x) ≡ Ok d → read_defs x ≡ Ok d
 unfolding read_defs
 read_accepted x d short magic rest = rw (short, magic) rest
 
@@ -131,7 +131,7 @@ pub is_short-false : (x : List ℕ) → is_short x ≡ false → (24 ≤ length 
 unfolding is_short
 is_short-false x long = (grind (arith, nat_tests), grind (arith, nat_tests))
 
-not_short : (x : List ℕ) → 24 ≤ length x → (front x).header_length ≤ length x → is_short x ≡ false
+pub not_short : (x : List ℕ) → 24 ≤ length x → (front x).header_length ≤ length x → is_short x ≡ false
 unfolding is_short
 not_short x many whole = grind (arith, nat_tests)
 
@@ -161,3 +161,19 @@ are_defs x d same =
 pub raw-header : (x : List ℕ) (d : Defs) → read_defs x ≡ Ok d → d.raw ≡ take (num_at 6 2 x) x
 unfolding front
 raw-header x d same = raw-is x d same
+
+-- a file whose header has the same items gives the same definitions
+pub printed-judged : (d : Defs) (x y z : List ℕ) → read_defs x ≡ Ok d → d.raw ≡ header x → front y ≡ front x → header y ≡ z → outline (front x) z ≡ outline (front x) (header x) → length x ≤ length y → 24 ≤ length x → length x ≡ (front x).header_length → read_defs y ≡ Ok (record d { raw = z })
+printed-judged d x y z same whole first head out long many size =
+    let all = accepted x d same in
+    let o = outline (front x) (header x) in
+    let short = not_short y (omega (arith, long, many)) (omega (arith, long, size, ap (λ (f : Front). f.header_length) first)) in
+    let magic : has_other_magic (front y) ≡ false = ap has_other_magic first ∙ all.magic in
+    let made : definitions o z ≡ record d { raw = z } = ap (λ (e : Defs). record e { raw = z }) all.value in
+    let judge : judged (outline (front y) (header y)) (header y) ≡ Ok (record d { raw = z }) =
+    ap (λ (f : Front). judged (outline f (header y)) (header y)) first
+    ∙ ap (λ h. judged (outline (front x) h) h) head
+    ∙ ap (λ (e : Outline). judged e z) out
+    ∙ ap (λ (r : Option DefFault). unless r (definitions o z)) all.none
+    ∙ ap Ok made in
+    read_accepted y (record d { raw = z }) short magic judge

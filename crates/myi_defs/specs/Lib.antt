@@ -1,5 +1,6 @@
 pub mod Addressable
 pub mod Conditions
+pub mod EmptyTable
 pub mod Header
 pub mod Kinds
 pub mod ReadDefs

@@ -15,7 +15,7 @@ use myi_base::{Sequence, u8_at, u16_at, u32_at};
 use std::alloc::{AllocError, Global};
 
 /// How many bytes of the header every index file has.
-const FRONT_LENGTH: usize = 24;
+pub(crate) const FRONT_LENGTH: usize = 24;
 /// The length of the base section, in bytes.
 pub(crate) const BASE_LENGTH: usize = 100;
 /// The length of a key without its segments, in bytes.
@@ -91,9 +91,10 @@ pub struct Outline {
 
 impl Front {
     #[tactic(auto, unfolding(crate::specs::Header::front))]
-    fn read(bytes: &[u8]) -> Front
+    pub(crate) fn read(bytes: &[u8]) -> Front
         requires { 24 ≤ length bytes.now }
-        ensures { result ≡ spec.front bytes.now }
+        ensures value { result ≡ spec.front bytes.now }
+        ensures short { result.header_length ≤ 65535 }
     {
         Front {
             magic: u32_at(bytes, 0),

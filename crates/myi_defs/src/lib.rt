@@ -10,9 +10,13 @@ mod header;
 mod laws;
 mod outline;
 mod places;
+mod print;
 mod read;
+#[cfg(test)]
+mod tests;
 mod types;
 
 pub use laws::definitions_are_sound;
+pub use print::{MARK, print_defs};
 pub use read::read_defs;
 pub use types::{DefFault, Defs, Field, FieldKind, Key, RowFormat, SegType, Segment};
