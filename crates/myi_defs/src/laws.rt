@@ -1,9 +1,10 @@
 //! Laws over read definitions. Each is the contract of a function that does nothing, so that it is
 //! proved with the crate and stands for the crates above.
-ghost use Rattle.std.specs.Prelude.{◌≡◌, List, ℕ, take};
-ghost use Rattle.myi_base.specs.Numbers.{num_at};
+ghost use Rattle.std.specs.Prelude.{◌≡◌, ◌≤◌, List, ℕ, take, Ok};
+ghost use Rattle.myi_base.specs.Numbers.{num_at, AreBytes};
 ghost use Rattle.myi_defs.specs.declared.types.Defs.{Defs};
 ghost use Rattle.myi_defs.specs.ReadDefs.{read_defs, AreDefs};
+ghost use Rattle.myi_defs.specs.Elsewhere.{AgreeOutsideState};
 ghost use Rattle.myi_defs.specs.Sound.{IsSound};
 
 /// Definitions that are read are sound, they are those of their own header, and that header is the
@@ -12,4 +13,11 @@ pub fn definitions_are_sound()
     ensures sound { (d : Defs) → AreDefs d → IsSound d }
     ensures itself { (x : List ℕ) (d : Defs) → read_defs x ≡ Ok d → AreDefs d }
     ensures raw { (x : List ℕ) (d : Defs) → read_defs x ≡ Ok d → d.raw ≡ take (num_at 6 2 x) x }
+{}
+
+/// Definitions rest on the header alone, and of it neither on the state nor on the mark. No header is
+/// longer than 65,535 bytes, so that much of an index file is enough to read them.
+pub fn definitions_rest_on_the_header()
+    ensures front { (n : ℕ) (x : List ℕ) → 65535 ≤ n → AreBytes (take n x) → read_defs (take n x) ≡ read_defs x }
+    ensures elsewhere { (d : Defs) (y : List ℕ) → AreDefs d → AgreeOutsideState d.raw y → read_defs y ≡ Ok (record d { raw = take (num_at 6 2 d.raw) y }) }
 {}

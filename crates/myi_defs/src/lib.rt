@@ -16,7 +16,7 @@ mod read;
 mod tests;
 mod types;
 
-pub use laws::definitions_are_sound;
+pub use laws::{definitions_are_sound, definitions_rest_on_the_header};
 pub use print::{MARK, print_defs};
 pub use read::read_defs;
 pub use types::{DefFault, Defs, Field, FieldKind, Key, RowFormat, SegType, Segment};

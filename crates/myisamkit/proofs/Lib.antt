@@ -1,3 +1,4 @@
 pub mod GatherLaws
 pub mod FinishLaws
 pub mod RebuildLaws
+pub mod OpenLaws
