@@ -1,7 +1,7 @@
 -- What is found of a table, from what its files were seen to be.
-use Rattle.std.proofs.Common.{◌≡◌, ℕ, ◌^◌, ◌≤◌, Bool, true, List, length, take, Option, Some, None, unwrap_or, Result, Ok, Err, refl, sym, ap, subst, ◌∙◌, arith}
+use Rattle.std.proofs.Common.{◌≡◌, ℕ, ◌^◌, ◌≤◌, Bool, true, false, List, length, take, Option, Some, None, unwrap_or, Result, Ok, Err, refl, sym, ap, subst, ◌∙◌, arith}
 use Rattle.std.proofs.lemmas.Bool.{and_parts, leb-true}
-use Rattle.std.specs.Prelude.{nat_le, nat_lt}
+use Rattle.std.specs.Prelude.{is_some, not}
 use Rattle.myi_base.specs.Holding.{Holding, bytes_of, Measures}
 use Rattle.myi_defs.specs.declared.types.Defs.{Defs}
 use Rattle.myi_defs.specs.declared.types.DefFault.{DefFault}
@@ -44,3 +44,12 @@ pub opens : (name d : List ℕ) (o : Opening) (f : Found) (m : Holding) → m (r
 opens name d (opening.Missing file) f m rows is judged = is ∙ judged
 opens name d (opening.Refused reason) f m rows is judged = is ∙ judged
 opens name d (opening.Ready r) f m rows is judged = (d, rows, is ∙ judged.0, judged.1)
+
+-- a file that has no length is not there
+pub not_there : (o : Option (List ℕ)) (size : Option ℕ) (b : Bool) → is_some size ≡ not b → b ≡ true → Measures o size → o ≡ None
+not_there o None b same none measured = measured
+not_there o (Some n) b same none measured = absurd cc
+
+pub is_there_else : (o : Option (List ℕ)) (size : Option ℕ) (b : Bool) → is_some size ≡ not b → b ≡ false → Measures o size → (bytes : List ℕ) × (o ≡ Some bytes)
+is_there_else o None b same some measured = absurd cc
+is_there_else o (Some n) b same some measured = (measured.0, measured.1)

@@ -1,10 +1,11 @@
 //! Opening a table that is to be repaired: whether its files are there, and whether it is refused.
-ghost use Rattle.std.specs.Prelude.{◌≡◌, ℕ, List, take, Some, IfOk, IfErr};
+ghost use Rattle.std.specs.Prelude.{◌≡◌, ◌≢◌, ℕ, List, take, Some, IfOk, IfErr};
 ghost use Rattle.myi_base.specs.Holding.{Holding};
 ghost use Rattle.myi_base.specs.Causes.{HasCause};
 ghost use Rattle.myi_defs.specs.ReadDefs.{read_defs, AreDefs};
 ghost use Rattle.myisamkit.specs.Finished.{names_of, names_for, byte_count};
-ghost use Rattle.myisamkit.specs.Runs.{found, found_read, found_defs};
+ghost use Rattle.myisamkit.specs.Runs.{refused, found, found_read, found_defs};
+ghost use Rattle.myisamkit.specs.Lines as spec;
 ghost use Rattle.myisamkit.specs.Opened.{Opens, Judges, IsReady};
 
 use crate::files::TableFiles;
@@ -67,9 +68,20 @@ fn judge(alloc: Global, header: &[u8], length: u64) -> Result<Opening, Stop>
 {
     match read_defs(alloc, header) {
         Ok(defs) => Ok(judge_defs(defs, length)),
-        Err(DefFault::Memory) => Err(Stop::Memory),
-        Err(fault) => Ok(Opening::Refused(reason_of(fault))),
+        Err(fault) => Ok(refusal(fault)?),
     }
+}
+
+fn refusal(fault: DefFault) -> Result<Opening, Stop>
+    ensures judged { IfOk result (λ o. (d : List ℕ) → Judges o (refused (spec.reason_of fault)) d) }
+    ensures other { IfOk result (λ o. fault ≢ DefFault.Memory) }
+    ensures ready { IfOk result IsReady }
+    ensures memory { IfErr result (λ s. s ≡ Stop.Memory) }
+{
+    if fault == DefFault::Memory {
+        return Err(Stop::Memory);
+    }
+    Ok(Opening::Refused(reason_of(fault)))
 }
 
 fn judge_defs(defs: Defs, length: u64) -> Opening

@@ -1,6 +1,7 @@
-use Rattle.std.proofs.Common.{◌≡◌, true, sym, ◌∙◌}
+use Rattle.std.proofs.Common.{sym, ◌∙◌}
 use Rattle.myisamkit.proofs.OpenLaws.{short_enough}
 use Rattle.myisamkit.proofs.open.judge_defs.Goals as goal
 
 pub returns-clause-ready : goal.returns-clause-ready
-returns-clause-ready c = (c.requires, ?, short_enough c.args.defs c.args.length ?)
+returns-clause-ready c =
+    (c.requires, sym c.is_built.ensures ∙ c.if-not-is_built.false, short_enough c.args.defs c.args.length (sym c.addressable.ensures ∙ c.if-not-addressable.false))
