@@ -1,0 +1,6 @@
+pub mod Orders
+pub mod Codings
+pub mod Readings
+pub mod Breaks
+pub mod Decoded
+pub mod IntegerOrders

@@ -1,0 +1,24 @@
+//! Keys of a MyISAM table: what a row is sorted and found by.
+//!
+//! A key value has a segment for each part of the key, which is absent or a list of weights. Its model
+//! is the list of its segments: keys are compared by their weights, and each key has one code, the
+//! bytes that stand for it in an index page. The definitions are in `specs/`: the weights of a
+//! segment's content (`Weights`, with the collations of `Collations`), the order (`Order`), the codes
+//! (`Codes`) and what is wrong with other bytes (`Faults`).
+//!
+//! - `weigh` gives the weights of a segment's content.
+//! - `KeyVal` is a key value; `KeyVal::compare` is the order.
+//! - `encode` gives a key's code, and `decode` the key of a code.
+//! - The rest are laws over the definitions.
+#![tactic(auto)]
+
+mod codes;
+mod collations;
+mod laws;
+mod values;
+mod weights;
+
+pub use codes::{KeyFault, decode, encode};
+pub use collations::Collation;
+pub use values::{KeySeg, KeyVal, WeightList};
+pub use weights::weigh;
