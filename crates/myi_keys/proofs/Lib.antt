@@ -4,3 +4,7 @@ pub mod Readings
 pub mod Breaks
 pub mod Decoded
 pub mod IntegerOrders
+pub mod ByteLists
+pub mod TextCuts
+pub mod Tables
+pub mod WeightSizes
