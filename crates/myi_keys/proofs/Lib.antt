@@ -1,4 +1,3 @@
-pub mod Orders
 pub mod Codings
 pub mod Readings
 pub mod Breaks

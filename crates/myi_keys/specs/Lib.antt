@@ -1,5 +1,6 @@
 pub mod Limits
 pub mod Order
+pub mod OrderLaws
 pub mod Codes
 pub mod Reading
 pub mod Faults

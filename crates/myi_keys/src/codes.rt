@@ -4,7 +4,7 @@
 //! segment is the number 0 where it is absent, or the number of its weights plus 1 and the weights; a
 //! key is its segments one after the other. `encode` writes this form and `decode` takes no other, so
 //! that keys and codes are in step one to one.
-ghost use Rattle.std.specs.Prelude.{◌≡◌, ◌≢◌, ◌<◌, ◌++◌, List, length, All, IfOk, OnOk, IfErr};
+ghost use Rattle.std.specs.Prelude.{◌≡◌, ◌≢◌, ◌<◌, ◌≤◌, ◌++◌, List, length, IfOk, OnOk, IfErr};
 ghost use Rattle.myi_keys.specs.Limits.{IsSeg, IsKey};
 ghost use Rattle.myi_keys.specs.Codes.{number_code, seg_code, key_code};
 ghost use Rattle.myi_keys.specs.Reading.{Gives, number_at, weights_at, seg_at, key_at};
@@ -62,14 +62,43 @@ pub fn encode(alloc: Global, key: &KeyVal) -> Result<Vec<u8>, AllocError>
 }
 
 fn encode_segments(alloc: Global, segs: &[KeySeg]) -> Result<Vec<u8>, AllocError>
-    requires { All IsSeg segs.now }
+    requires { IsKey segs.now }
     ensures { IfOk result (λ code. code.items ≡ key_code segs.now) }
 {
-    let mut code = Vec::new(alloc);
+    let mut code = Vec::with_capacity(alloc, code_length(segs))?;
     for seg in segs {
         append_segment(&mut code, seg)?;
     }
     Ok(code)
+}
+
+fn code_length(segs: &[KeySeg]) -> usize
+    requires { IsKey segs.now }
+    ensures { result ≡ length (key_code segs.now) }
+{
+    let mut length = 0;
+    for seg in segs {
+        length += segment_length(seg);
+    }
+    length
+}
+
+fn segment_length(seg: &KeySeg) -> usize
+    requires { IsSeg seg.now }
+    ensures value { result ≡ length (seg_code seg.now) }
+    ensures bound { result ≤ 1003 }
+{
+    match seg {
+        KeySeg::Absent => 1,
+        KeySeg::Weights(weights) => {
+            let count = weights.as_slice().len();
+            if count + 1 < LEAST_WIDE {
+                count + 1
+            } else {
+                count + 3
+            }
+        }
+    }
 }
 
 fn append_segment(code: &mut Vec<u8>, seg: &KeySeg) -> Result<(), AllocError>

@@ -4,10 +4,8 @@
 //! a `WeightList`. Contracts see a key value as the list of its segments and a list of weights as the
 //! list of its bytes, so that keys are equal where their segments and weights are.
 ghost use Rattle.std.specs.Prelude.{◌≡◌, ◌≤◌, List, length, IsTrue, All};
-ghost use Rattle.std.specs.Ordering.{nat_cmp, eq_by_cmp, as_partial_cmp};
-ghost use Rattle.std.specs.Cmp.{partial_order_from_total};
 ghost use Rattle.myi_keys.specs.Limits.{IsKey, is_present, is_complete};
-ghost use Rattle.myi_keys.specs.Order.{seg_cmp, key_cmp};
+ghost use Rattle.myi_keys.specs.Order.{key_cmp};
 
 use std::cmp::Ordering;
 use std::marker::Model;
@@ -70,16 +68,67 @@ impl KeySeg {
     {
         matches!(self, KeySeg::Weights(_))
     }
+}
 
-    fn compare(&self, other: &KeySeg) -> Ordering
-        ensures { result ≡ seg_cmp self.now other.now }
-    {
+impl PartialEq for KeySeg {
+    ghost use Rattle.std.specs.Ordering.{eq_by_cmp};
+    ghost use Rattle.std.specs.Cmp.{partial_equiv_from_equiv};
+    ghost use Rattle.std.proofs.lemmas.Cmp.{eq_by_cmp_equiv};
+    ghost use Rattle.myi_keys.specs.Order.{seg_cmp};
+    ghost use Rattle.myi_keys.specs.OrderLaws.{seg_total};
+
+    ghost eq = { eq_by_cmp seg_cmp };
+
+    ghost laws = { partial_equiv_from_equiv (eq_by_cmp_equiv seg_total) };
+
+    fn eq(&self, other: &Self) -> bool {
+        self.cmp(other).is_eq()
+    }
+}
+
+impl Eq for KeySeg {
+    ghost use Rattle.std.proofs.lemmas.Cmp.{eq_by_cmp_equiv};
+    ghost use Rattle.myi_keys.specs.OrderLaws.{seg_total};
+
+    ghost laws = { eq_by_cmp_equiv seg_total };
+}
+
+impl PartialOrd for KeySeg {
+    ghost use Rattle.std.specs.Ordering.{as_partial_cmp};
+    ghost use Rattle.std.specs.Cmp.{partial_order_from_total};
+    ghost use Rattle.myi_keys.specs.Order.{seg_cmp};
+    ghost use Rattle.myi_keys.specs.OrderLaws.{seg_total};
+
+    ghost partial_cmp = { as_partial_cmp seg_cmp };
+
+    ghost laws = { partial_order_from_total seg_total };
+
+    fn partial_cmp(&self, other: &Self) -> Option<Ordering> {
+        Some(self.cmp(other))
+    }
+}
+
+impl Ord for KeySeg {
+    ghost use Rattle.std.specs.Prelude.{refl};
+    ghost use Rattle.myi_keys.specs.Order.{seg_cmp};
+    ghost use Rattle.myi_keys.specs.OrderLaws.{seg_total};
+
+    ghost cmp = { seg_cmp };
+
+    ghost total = { seg_total };
+
+    ghost matches_partial_cmp = { λ x y. refl };
+
+    ghost matches_eq = { λ x y. refl };
+
+    /// Absent is before all weights, and weights are compared byte by byte.
+    fn cmp(&self, other: &Self) -> Ordering {
         match (self, other) {
             (KeySeg::Absent, KeySeg::Absent) => Ordering::Equal,
             (KeySeg::Absent, KeySeg::Weights(_)) => Ordering::Less,
             (KeySeg::Weights(_), KeySeg::Absent) => Ordering::Greater,
             (KeySeg::Weights(weights), KeySeg::Weights(others)) => {
-                weights.as_slice().cmp(others.as_slice())
+                weights.as_slice().cmp(&others.as_slice())
             }
         }
     }
@@ -125,7 +174,7 @@ impl KeyVal {
     pub fn is_complete(&self) -> bool
         ensures { result ≡ is_complete self.now }
     {
-        all_present(&self.segs)
+        self.segments().iter().all(KeySeg::is_present)
     }
 
     /// Which of two keys is first. An absent segment is before all weights, weights are compared byte
@@ -133,26 +182,62 @@ impl KeyVal {
     pub fn compare(&self, other: &KeyVal) -> Ordering
         ensures { result ≡ key_cmp self.now other.now }
     {
-        compare_segments(&self.segs, &other.segs)
+        self.segments().cmp(&other.segments())
     }
 }
 
-fn all_present(segs: &[KeySeg]) -> bool
-    ensures { result ≡ is_complete segs.now }
-{
-    segs.iter().all(|seg| seg.is_present())
+impl PartialEq for KeyVal {
+    ghost use Rattle.std.specs.Ordering.{eq_by_cmp};
+    ghost use Rattle.std.specs.Cmp.{partial_equiv_from_equiv};
+    ghost use Rattle.std.proofs.lemmas.Cmp.{eq_by_cmp_equiv};
+    ghost use Rattle.myi_keys.specs.Order.{key_cmp};
+    ghost use Rattle.myi_keys.specs.OrderLaws.{key_total};
+
+    ghost eq = { eq_by_cmp key_cmp };
+
+    ghost laws = { partial_equiv_from_equiv (eq_by_cmp_equiv key_total) };
+
+    fn eq(&self, other: &Self) -> bool {
+        self.compare(other).is_eq()
+    }
 }
 
-#[tactic(auto, using(crate::proofs::Orders::left_longer, crate::proofs::Orders::right_longer, crate::proofs::Orders::same_length))]
-fn compare_segments(one: &[KeySeg], other: &[KeySeg]) -> Ordering
-    ensures { result ≡ key_cmp one.now other.now }
-{
-    let mut i = 0;
-    while i < one.len() && i < other.len() {
-        match one[i].compare(&other[i]) {
-            Ordering::Equal => i += 1,
-            unequal => return unequal,
-        }
+impl Eq for KeyVal {
+    ghost use Rattle.std.proofs.lemmas.Cmp.{eq_by_cmp_equiv};
+    ghost use Rattle.myi_keys.specs.OrderLaws.{key_total};
+
+    ghost laws = { eq_by_cmp_equiv key_total };
+}
+
+impl PartialOrd for KeyVal {
+    ghost use Rattle.std.specs.Ordering.{as_partial_cmp};
+    ghost use Rattle.std.specs.Cmp.{partial_order_from_total};
+    ghost use Rattle.myi_keys.specs.Order.{key_cmp};
+    ghost use Rattle.myi_keys.specs.OrderLaws.{key_total};
+
+    ghost partial_cmp = { as_partial_cmp key_cmp };
+
+    ghost laws = { partial_order_from_total key_total };
+
+    fn partial_cmp(&self, other: &Self) -> Option<Ordering> {
+        Some(self.compare(other))
     }
-    one.len().cmp(&other.len())
+}
+
+impl Ord for KeyVal {
+    ghost use Rattle.std.specs.Prelude.{refl};
+    ghost use Rattle.myi_keys.specs.Order.{key_cmp};
+    ghost use Rattle.myi_keys.specs.OrderLaws.{key_total};
+
+    ghost cmp = { key_cmp };
+
+    ghost total = { key_total };
+
+    ghost matches_partial_cmp = { λ x y. refl };
+
+    ghost matches_eq = { λ x y. refl };
+
+    fn cmp(&self, other: &Self) -> Ordering {
+        self.compare(other)
+    }
 }

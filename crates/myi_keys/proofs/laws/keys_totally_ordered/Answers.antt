@@ -1,4 +1,4 @@
-use Rattle.myi_keys.proofs.Orders.{key_total, key_exact, key_equal}
+use Rattle.myi_keys.specs.OrderLaws.{key_total, key_exact, key_equal}
 use Rattle.myi_keys.proofs.laws.keys_totally_ordered.Goals as goal
 
 pub returns : goal.returns

@@ -1,4 +1,4 @@
--- The order of keys, where one of two keys has ended.
+-- The order of keys is total and agrees with equality, as the comparisons of the key types claim.
 use Rattle.std.proofs.Common.{◌≡◌, ℕ, ◌<◌, ◌≤◌, List, [], ◌∷◌, length, drop, refl, ap, subst, ◌∙◌}
 use Rattle.std.proofs.lemmas.List.{drop_all, drop_more}
 use Rattle.std.proofs.lemmas.Cmp.{nat_list_cmp_total, lists_total, tied_itself}
@@ -10,15 +10,6 @@ use Rattle.std.specs.declared.cmp.Ordering.TheVariants.{Less, Equal, Greater}
 use Rattle.myi_keys.specs.declared.values.KeySeg.{KeySeg}
 use Rattle.myi_keys.specs.declared.values.KeySeg.TheVariants.{Absent, Weights}
 use Rattle.myi_keys.specs.Order.{seg_cmp, key_cmp}
-
-pub left_longer : (one other : List KeySeg) (i : ℕ) → i < length one → length other ≤ i → key_cmp (drop i one) (drop i other) ≡ Greater
-left_longer one other i l r = rw (drop_all i other r, drop_more one i Absent l) refl
-
-pub right_longer : (one other : List KeySeg) (i : ℕ) → length one ≤ i → i < length other → key_cmp (drop i one) (drop i other) ≡ Less
-right_longer one other i l r = rw (drop_all i one l, drop_more other i Absent r) refl
-
-pub same_length : (one other : List KeySeg) (i : ℕ) → length one ≤ i → length other ≤ i → key_cmp (drop i one) (drop i other) ≡ Equal
-same_length one other i l r = rw (drop_all i one l, drop_all i other r) refl
 
 -- ---- the order is total
 
@@ -43,7 +34,7 @@ seg_congr (Weights v) Absent z same = absurd cc
 seg_congr (Weights v) (Weights w) Absent same = refl
 seg_congr (Weights v) (Weights w) (Weights u) same = nat_list_cmp_total.congr v w u same
 
-seg_total : IsTotalOrder seg_cmp
+pub seg_total : IsTotalOrder seg_cmp
 seg_total = record { antisymm = seg_antisymm; trans = seg_trans; congr = seg_congr }
 
 pub key_total : IsTotalOrder key_cmp
