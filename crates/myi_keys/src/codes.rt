@@ -17,6 +17,7 @@ use thiserror::Error;
 
 /// The first byte of a number of three bytes, and the least such number.
 const WIDE: u8 = 255;
+
 const LEAST_WIDE: usize = 255;
 
 /// Why bytes are no key's code: what stands at the first bad place from the left.

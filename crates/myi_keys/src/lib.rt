@@ -15,6 +15,8 @@
 mod codes;
 mod collations;
 mod laws;
+#[cfg(test)]
+mod tests;
 mod values;
 mod weights;
 

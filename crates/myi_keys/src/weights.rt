@@ -27,11 +27,8 @@ pub fn weigh(alloc: Global, seg: &Segment, content: &[u8]) -> Result<Vec<u8>, Al
     ensures { IfOk result (λ v. v.items ≡ weights seg.now content.now) }
 {
     match seg.seg {
-        SegType::ShortInt
-        | SegType::LongInt
-        | SegType::Longlong
-        | SegType::Int24
-        | SegType::Int8 => signed_weights(alloc, content),
+        SegType::ShortInt | SegType::LongInt | SegType::Longlong | SegType::Int24 | SegType::Int8 =>
+            signed_weights(alloc, content),
         SegType::UshortInt | SegType::UlongInt | SegType::Ulonglong | SegType::Uint24 => {
             unsigned_weights(alloc, content)
         }
