@@ -1,17 +1,16 @@
 -- The fault that is read is the one of the first bad place.
-use Rattle.std.proofs.Common.{◌≡◌, ◌≢◌, ◌⊎◌, ℕ, zero, suc, ◌+◌, ◌-◌, ◌*◌, ◌<◌, ◌≤◌, Bool, true, false, cond, ltb, Result, Ok, Err, List, [], ◌∷◌, ◌++◌, length, take, drop, refl, sym, ap, subst, ◌∙◌, append_assoc, arith, inl, inr}
-use Rattle.std.specs.Prelude.{All}
+use Rattle.std.proofs.Common.{◌≡◌, ◌⊎◌, ℕ, zero, suc, ◌+◌, ◌-◌, ◌*◌, ◌<◌, ◌≤◌, Bool, true, false, cond, ltb, Result, Ok, Err, List, [], ◌∷◌, ◌++◌, length, take, drop, refl, sym, ap, subst, ◌∙◌, append_assoc, arith, inl, inr}
 use Rattle.std.specs.List.{AllByRecursion}
-use Rattle.std.proofs.lemmas.Bool.{cases_lt, cases_Bool, ltb-true, ltb-false, le-ltb, lt-ltb}
-use Rattle.std.proofs.lemmas.List.{length-append, append-nil}
+use Rattle.std.proofs.lemmas.Bool.{cases_lt, ltb-true, ltb-false, le-ltb, lt-ltb}
+use Rattle.std.proofs.lemmas.List.{length-append}
 use Rattle.std.proofs.lemmas.List.Elements.{All-from_recursion, recursion_from_All}
 use Rattle.myi_base.specs.Numbers.{AreBytes}
 use Rattle.myi_keys.specs.declared.values.KeySeg.{KeySeg}
-use Rattle.myi_keys.specs.declared.values.KeySeg.TheVariants.{Absent, Weights}
+use Rattle.myi_keys.specs.declared.values.KeySeg.TheVariants.{Weights}
 use Rattle.myi_keys.specs.declared.codes.KeyFault.{KeyFault}
 use Rattle.myi_keys.specs.declared.codes.KeyFault.TheVariants.{Short, Spelling, TooLong, Memory}
 use Rattle.myi_keys.specs.Codes.{number_code, seg_code, key_code}
-use Rattle.myi_keys.specs.Limits.{IsSeg, IsKey}
+use Rattle.myi_keys.specs.Limits.{IsSeg}
 use Rattle.myi_keys.specs.Reading.{◌>>=◌, number_at, wide_number_at, weights_at, seg_by, seg_at, segs_at}
 use Rattle.myi_keys.specs.Faults.{EndsInNumber, EndsInWeights, HasLongSpelling, BeginsLongSeg, IsBadAt, BreaksOff}
 use Rattle.myi_keys.proofs.Readings.{with_front, number_takes, number_again, seg_takes, segs_before}

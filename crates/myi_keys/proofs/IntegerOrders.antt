@@ -1,6 +1,6 @@
 -- Integers stand by their weights in the order of their numbers.
-use Rattle.std.proofs.Common.{◌≡◌, ℕ, zero, suc, ◌+◌, ◌-◌, ◌*◌, ◌^◌, ◌%◌, ◌/◌, ◌<◌, ◌≤◌, List, [], ◌∷◌, ◌++◌, length, take, reverse, refl, sym, ap, subst, ◌∙◌, arith, lit<, inl, inr}
-use Rattle.std.proofs.Math.Nat.{mul-le-mul_right, pow-suc, pow-succ'}
+use Rattle.std.proofs.Common.{◌≡◌, ℕ, zero, suc, ◌+◌, ◌*◌, ◌^◌, ◌%◌, ◌/◌, ◌<◌, ◌≤◌, List, [], ◌∷◌, ◌++◌, length, reverse, refl, sym, ap, subst, ◌∙◌, arith, lit<, inl, inr}
+use Rattle.std.proofs.Math.Nat.{mul-le-mul_right, pow-succ'}
 use Rattle.std.proofs.lemmas.Bool.{cases_lt, lt-ltb, le-ltb}
 use Rattle.std.proofs.lemmas.Int.{ints}
 use Rattle.std.proofs.lemmas.List.{length-append, length-reverse}
@@ -8,7 +8,7 @@ use Rattle.std.proofs.lemmas.Grind.{reverse_onto}
 use Rattle.std.proofs.lemmas.Nat.Bits.{and_pow}
 use Rattle.std.specs.Int.Bits.{xor_add_and}
 use Rattle.std.proofs.lemmas.Nat.{xor_of_8}
-use Rattle.std.specs.Prelude.{bit_xor, bit_and, ℤ, pos, ◌+ℤ◌, ◌-ℤ◌, ◌<ℤ◌}
+use Rattle.std.specs.Prelude.{bit_xor, ℤ, pos, ◌+ℤ◌, ◌<ℤ◌}
 use Rattle.std.specs.Ordering.{nat_cmp, int_cmp, ordering_then, MatchOrdering}
 use Rattle.std.specs.Cmp.{ranks, nat_cmp_is, int_cmp_is}
 use Rattle.std.specs.Cmp.Lexicographic.{slice_cmp}
@@ -16,7 +16,7 @@ use Rattle.std.specs.declared.cmp.Ordering.{Ordering}
 use Rattle.std.specs.declared.cmp.Ordering.TheVariants.{Less, Equal, Greater}
 use Rattle.byteorder.specs.Endian.{big_from, little_from}
 use Rattle.byteorder.specs.Numbers.{big_from-cons, little_from-cons, big_from-lt}
-use Rattle.myi_base.specs.Numbers.{num, low_num, AreBytes}
+use Rattle.myi_base.specs.Numbers.{low_num, AreBytes}
 use Rattle.myi_defs.specs.declared.types.SegType.{SegType}
 use Rattle.myi_defs.specs.declared.types.SegType.TheVariants.{Text, Binary, ShortInt, LongInt, UshortInt, UlongInt, Longlong, Ulonglong, Int24, Uint24, Int8, VarText, VarBinary}
 use Rattle.myi_keys.specs.Weights.{sign_inverted, weights_by, CanWeighBy}

@@ -7,3 +7,4 @@ pub mod ByteLists
 pub mod TextCuts
 pub mod Tables
 pub mod WeightSizes
+pub mod CodeSizes

@@ -1,6 +1,6 @@
 -- Weights are bytes, and there are not too many of them.
-use Rattle.std.proofs.Common.{◌≡◌, ℕ, zero, suc, ◌+◌, ◌-◌, ◌^◌, ◌/◌, ◌<◌, ◌≤◌, Bool, true, false, cond, max, List, [], ◌∷◌, length, take, map, reverse, get_or, refl, sym, ap, subst, ◌∙◌, arith, lit<, inl, inr}
-use Rattle.std.specs.Prelude.{nat_lt, Option, Some, None, IsSome}
+use Rattle.std.proofs.Common.{◌≡◌, ℕ, zero, suc, ◌/◌, ◌<◌, ◌≤◌, true, max, List, [], ◌∷◌, length, take, reverse, get_or, refl, sym, subst, ◌∙◌, arith, lit<, inl, inr}
+use Rattle.std.specs.Prelude.{nat_lt, Option, Some, None}
 use Rattle.std.specs.List.{list_all}
 use Rattle.std.specs.Char.{to_ascii_uppercase}
 use Rattle.std.proofs.lemmas.Bool.{cases_lt, lt-ltb, le-ltb, ltb-true, and_parts}
@@ -14,7 +14,7 @@ use Rattle.myi_keys.specs.declared.collations.Collation.{Collation}
 use Rattle.myi_keys.specs.declared.collations.Collation.TheVariants.{Latin1SwedishCi, AsciiGeneralCi, Utf8mb4Bin, Latin1Bin, Binary, AsciiBin, Utf8mb3Bin}
 use Rattle.myi_keys.specs.declared.collations.TheConstants.{LATIN1_SWEDISH_CI}
 use Rattle.myi_keys.specs.Collations.{collation_of, character_width, weight}
-use Rattle.myi_keys.specs.Weights.{sign_inverted, first_characters, character_prefix, without_blanks, blanks_stripped, weights_in, text_weights, weights_by, CanWeighBy}
+use Rattle.myi_keys.specs.Weights.{sign_inverted, first_characters, character_prefix, blanks_stripped, weights_in, text_weights, weights_by, CanWeighBy}
 use Rattle.myi_keys.proofs.ByteLists.{bytes-reverse, bytes-map}
 use Rattle.myi_keys.proofs.TextCuts.{characters_front, characters_short, blanks_short}
 

@@ -1,7 +1,7 @@
 -- The collations that keys are taken in, by the numbers that segments name them by, and the weight of a byte in each
--- (MySQL Reference Manual, "Character Sets, Collations, Unicode"; the table of collation 8 is this project's own).
-use Rattle.std.specs.Prelude.{ℕ, ◌==◌, Bool, List, [], ◌∷◌, ◌++◌, map, slice_index, Option, Some, None, if◌then◌else◌}
-use Rattle.std.specs.List.{range_with_len}
+-- (MySQL Reference Manual, "Supported Character Sets and Collations", "The utf8mb3 Character Set", "The utf8mb4
+-- Character Set"; the table of collation 8 is this project's own).
+use Rattle.std.specs.Prelude.{ℕ, ◌==◌, List, [], ◌∷◌, ◌++◌, slice_index, Option, Some, None, if◌then◌else◌}
 use Rattle.std.specs.Char.{to_ascii_uppercase}
 use Rattle.myi_keys.specs.declared.collations.Collation.{Collation}
 use Rattle.myi_keys.specs.declared.collations.Collation.TheVariants.{Latin1SwedishCi, AsciiGeneralCi, Utf8mb4Bin, Latin1Bin, Binary, AsciiBin, Utf8mb3Bin}
@@ -21,23 +21,15 @@ collation_of n =
 
 -- how many bytes of a segment's length stand for one character, where the length counts characters
 abbrev pub character_width : Collation → Option ℕ
-character_width Latin1SwedishCi = None
-character_width AsciiGeneralCi = None
 character_width Utf8mb4Bin = Some 4
-character_width Latin1Bin = None
-character_width Binary = None
-character_width AsciiBin = None
 character_width Utf8mb3Bin = Some 3
+character_width _ = None
 
 -- the weight of a byte: from the table, or that of the capital letter, or the byte itself
 abbrev pub weight : Collation → ℕ → ℕ
 weight Latin1SwedishCi b = slice_index LATIN1_SWEDISH_CI b
 weight AsciiGeneralCi b = to_ascii_uppercase b
-weight Utf8mb4Bin b = b
-weight Latin1Bin b = b
-weight Binary b = b
-weight AsciiBin b = b
-weight Utf8mb3Bin b = b
+weight _ b = b
 
 -- the weights of C0 to FF in collation 8: accents fall away, but for those of Swedish
 abbrev pub letters_with_accents : List ℕ

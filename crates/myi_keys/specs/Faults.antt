@@ -1,5 +1,5 @@
 -- The first bad place of bytes that are no key's code, in the words of the codes.
-use Rattle.std.specs.Prelude.{◌≡◌, ◌≢◌, ◌⊎◌, ◌<◌, ◌≤◌, ◌+◌, ◌*◌, ℕ, List, [], ◌∷◌, ◌++◌, length, Result, Err, Ok}
+use Rattle.std.specs.Prelude.{◌≡◌, ◌⊎◌, ◌<◌, ◌≤◌, ◌+◌, ◌*◌, ℕ, List, [], ◌∷◌, ◌++◌, length}
 use Rattle.myi_keys.specs.declared.values.KeySeg.{KeySeg}
 use Rattle.myi_keys.specs.declared.codes.KeyFault.{KeyFault}
 use Rattle.myi_keys.specs.declared.codes.KeyFault.TheVariants.{Short, Spelling, TooLong, Memory}

@@ -1,8 +1,8 @@
--- The number that the content of an integer segment is (MySQL Internals Manual, "MyISAM Key Segments").
-use Rattle.std.specs.Prelude.{ℕ, ◌*◌, ◌^◌, ◌<◌, List, length, nat_lt, ℤ, pos, ◌-ℤ◌, if◌then◌else◌}
+-- The number that the content of an integer segment is (MySQL Internals Manual, "MyISAM Record Structure").
+use Rattle.std.specs.Prelude.{ℕ, ◌*◌, ◌^◌, List, length, nat_lt, ℤ, pos, ◌-ℤ◌, if◌then◌else◌}
 use Rattle.myi_base.specs.Numbers.{low_num}
 use Rattle.myi_defs.specs.declared.types.SegType.{SegType}
-use Rattle.myi_defs.specs.declared.types.SegType.TheVariants.{Text, Binary, ShortInt, LongInt, UshortInt, UlongInt, Longlong, Ulonglong, Int24, Uint24, Int8, VarText, VarBinary}
+use Rattle.myi_defs.specs.declared.types.SegType.TheVariants.{ShortInt, LongInt, UshortInt, UlongInt, Longlong, Ulonglong, Int24, Uint24, Int8}
 
 abbrev pub IsSigned : SegType → Type 0
 IsSigned ShortInt = Unit {0}

@@ -1,5 +1,5 @@
--- What a key value may be, and when it is complete (MySQL Reference Manual, "MyISAM Storage Engine", on the limits of
--- keys; the limit of 16 segments and 1000 weights is this project's own).
+-- What a key value may be, and when it is complete (MySQL Reference Manual, "The MyISAM Storage Engine": an index has
+-- at most 16 columns and a key at most 1000 bytes; that each segment may have 1000 weights is this project's own).
 use Rattle.std.specs.Prelude.{◌≤◌, Bool, true, false, List, length, All}
 use Rattle.std.specs.List.{list_all}
 use Rattle.myi_keys.specs.declared.values.KeySeg.{KeySeg}

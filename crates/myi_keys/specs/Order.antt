@@ -1,5 +1,5 @@
--- The order of keys (this project's own): segment by segment, absent first, then weight by weight. Of two lists of
--- which one begins the other, the shorter one is first.
+-- The order of keys: segment by segment, absent first (MySQL Reference Manual, "Working with NULL Values"), then weight
+-- by weight. Of two lists of which one begins the other, the shorter one is first, which is this project's own.
 use Rattle.std.specs.Prelude.{List}
 use Rattle.std.specs.Ordering.{nat_cmp}
 use Rattle.std.specs.declared.cmp.Ordering.{Ordering}

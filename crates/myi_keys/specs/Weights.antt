@@ -1,5 +1,7 @@
--- The weights of a segment's content (MySQL Internals Manual, "MyISAM Key Segments"; the order by weights, a proper
--- prefix first, is this project's own).
+-- The weights of a segment's content. Integers stand low byte first in a row (MySQL Internals Manual, "MyISAM Record
+-- Structure"); trailing blanks do not count in a text but in the collation binary (MySQL Reference Manual, "The binary
+-- Collation Compared to _bin Collations"); a prefix of a text counts characters (MySQL Reference Manual, "Column
+-- Indexes"), which is measured here by the bytes that begin one.
 use Rattle.std.specs.Prelude.{◌≡◌, ℕ, zero, suc, ◌-◌, ◌/◌, ◌==◌, ◌||◌, Bool, List, [], ◌∷◌, length, take, map, reverse, nat_lt, bit_xor, Option, Some, None, IsSome, if◌then◌else◌}
 use Rattle.std.specs.List.{suffix_len}
 use Rattle.myi_defs.specs.declared.types.Segment.{Segment}
@@ -28,10 +30,10 @@ first_characters n [] = []
 first_characters zero (b ∷ bs) = if begins_character b then [] else b ∷ first_characters zero bs
 first_characters (suc n) (b ∷ bs) = b ∷ first_characters (if begins_character b then n else suc n) bs
 
--- where the segment's length counts characters, no more of them than the length has room for
+-- where a segment's length counts characters, no more of them than the length has room for
 abbrev pub character_prefix : Option ℕ → ℕ → List ℕ → List ℕ
-character_prefix None length content = content
-character_prefix (Some width) length content = first_characters (length / width) content
+character_prefix None limit content = content
+character_prefix (Some width) limit content = first_characters (limit / width) content
 
 abbrev pub is_blank : ℕ → Bool
 is_blank b = b == 0x20
@@ -43,39 +45,34 @@ without_blanks bytes = take (length bytes - suffix_len is_blank bytes) bytes
 -- collation 63 alone keeps trailing blanks
 abbrev pub blanks_stripped : Collation → List ℕ → List ℕ
 blanks_stripped collations.Binary bytes = bytes
-blanks_stripped collations.Latin1SwedishCi bytes = without_blanks bytes
-blanks_stripped collations.AsciiGeneralCi bytes = without_blanks bytes
-blanks_stripped collations.Utf8mb4Bin bytes = without_blanks bytes
-blanks_stripped collations.Latin1Bin bytes = without_blanks bytes
-blanks_stripped collations.AsciiBin bytes = without_blanks bytes
-blanks_stripped collations.Utf8mb3Bin bytes = without_blanks bytes
+blanks_stripped _ bytes = without_blanks bytes
 
 -- the first bytes of the content, cut at a character, without trailing blanks, each by its weight
 abbrev pub weights_in : Collation → ℕ → List ℕ → List ℕ
-weights_in collation length content = map (weight collation) (blanks_stripped collation (character_prefix (character_width collation) length (take length content)))
+weights_in collation limit content = map (weight collation) (blanks_stripped collation (character_prefix (character_width collation) limit (take limit content)))
 
 -- a text has weights in the seven collations only
 abbrev pub text_weights : Option Collation → ℕ → List ℕ → List ℕ
-text_weights None length content = []
-text_weights (Some collation) length content = weights_in collation length content
+text_weights None limit content = []
+text_weights (Some collation) limit content = weights_in collation limit content
 
 -- segments
 
--- the weights of a segment's content, by the segment's type
+-- the weights of content by a segment's type, language and length
 abbrev pub weights_by : SegType → ℕ → ℕ → List ℕ → List ℕ
-weights_by types.ShortInt language length content = sign_inverted (reverse content)
-weights_by types.LongInt language length content = sign_inverted (reverse content)
-weights_by types.Longlong language length content = sign_inverted (reverse content)
-weights_by types.Int24 language length content = sign_inverted (reverse content)
-weights_by types.Int8 language length content = sign_inverted (reverse content)
-weights_by types.UshortInt language length content = reverse content
-weights_by types.UlongInt language length content = reverse content
-weights_by types.Ulonglong language length content = reverse content
-weights_by types.Uint24 language length content = reverse content
-weights_by types.Binary language length content = content
-weights_by types.VarBinary language length content = take length content
-weights_by types.Text language length content = text_weights (collation_of language) length content
-weights_by types.VarText language length content = text_weights (collation_of language) length content
+weights_by types.ShortInt language limit content = sign_inverted (reverse content)
+weights_by types.LongInt language limit content = sign_inverted (reverse content)
+weights_by types.Longlong language limit content = sign_inverted (reverse content)
+weights_by types.Int24 language limit content = sign_inverted (reverse content)
+weights_by types.Int8 language limit content = sign_inverted (reverse content)
+weights_by types.UshortInt language limit content = reverse content
+weights_by types.UlongInt language limit content = reverse content
+weights_by types.Ulonglong language limit content = reverse content
+weights_by types.Uint24 language limit content = reverse content
+weights_by types.Binary language limit content = content
+weights_by types.VarBinary language limit content = take limit content
+weights_by types.Text language limit content = text_weights (collation_of language) limit content
+weights_by types.VarText language limit content = text_weights (collation_of language) limit content
 
 unfoldable pub weights : Segment → List ℕ → List ℕ
 weights seg content = weights_by seg.seg seg.language seg.length content
@@ -83,19 +80,19 @@ weights seg content = weights_by seg.seg seg.language seg.length content
 -- what a segment can be the content of: an integer has its type's size, a binary has the segment's length, and the
 -- collation of a text is one of the seven
 abbrev pub CanWeighBy : SegType → ℕ → ℕ → List ℕ → Type 0
-CanWeighBy types.ShortInt language length' content = length content ≡ 2
-CanWeighBy types.LongInt language length' content = length content ≡ 4
-CanWeighBy types.Longlong language length' content = length content ≡ 8
-CanWeighBy types.Int24 language length' content = length content ≡ 3
-CanWeighBy types.Int8 language length' content = length content ≡ 1
-CanWeighBy types.UshortInt language length' content = length content ≡ 2
-CanWeighBy types.UlongInt language length' content = length content ≡ 4
-CanWeighBy types.Ulonglong language length' content = length content ≡ 8
-CanWeighBy types.Uint24 language length' content = length content ≡ 3
-CanWeighBy types.Binary language length' content = length content ≡ length'
-CanWeighBy types.VarBinary language length' content = Unit {0}
-CanWeighBy types.Text language length' content = IsSome (collation_of language)
-CanWeighBy types.VarText language length' content = IsSome (collation_of language)
+CanWeighBy types.ShortInt language limit content = length content ≡ 2
+CanWeighBy types.LongInt language limit content = length content ≡ 4
+CanWeighBy types.Longlong language limit content = length content ≡ 8
+CanWeighBy types.Int24 language limit content = length content ≡ 3
+CanWeighBy types.Int8 language limit content = length content ≡ 1
+CanWeighBy types.UshortInt language limit content = length content ≡ 2
+CanWeighBy types.UlongInt language limit content = length content ≡ 4
+CanWeighBy types.Ulonglong language limit content = length content ≡ 8
+CanWeighBy types.Uint24 language limit content = length content ≡ 3
+CanWeighBy types.Binary language limit content = length content ≡ limit
+CanWeighBy types.VarBinary language limit content = Unit {0}
+CanWeighBy types.Text language limit content = IsSome (collation_of language)
+CanWeighBy types.VarText language limit content = IsSome (collation_of language)
 
 abbrev pub CanWeigh : Segment → List ℕ → Type 0
 CanWeigh seg content = CanWeighBy seg.seg seg.language seg.length content

@@ -1,6 +1,6 @@
 //! Laws over the definitions of this crate. Each is the contract of a function that does nothing, so
 //! that it is proved with the crate and stands for the crates above.
-ghost use Rattle.std.specs.Prelude.{◌≡◌, ◌≢◌, ◌≤◌, ◌<◌, ◌-◌, ◌↔◌, ◌++◌, ℕ, List, length, take, drop, map, max, replicate, slice_index, count_by, Ok, Err};
+ghost use Rattle.std.specs.Prelude.{All, nat_lt, if◌then◌else◌, ◌≡◌, ◌≢◌, ◌≤◌, ◌<◌, ◌+◌, ◌-◌, ◌↔◌, ◌++◌, ℕ, List, length, take, drop, map, max, replicate, slice_index, count_by, Ok, Err};
 ghost use Rattle.std.specs.List.{range_with_len};
 ghost use Rattle.std.specs.Char.{to_ascii_uppercase};
 ghost use Rattle.std.specs.Ordering.{nat_cmp, int_cmp};
@@ -15,7 +15,7 @@ ghost use Rattle.myi_keys.specs.declared.codes.KeyFault.{KeyFault};
 ghost use Rattle.myi_keys.specs.declared.collations.Collation.TheVariants.{Latin1SwedishCi};
 ghost use Rattle.myi_keys.specs.Limits.{IsKey};
 ghost use Rattle.myi_keys.specs.Order.{key_cmp};
-ghost use Rattle.myi_keys.specs.Codes.{key_code};
+ghost use Rattle.myi_keys.specs.Codes.{seg_code, key_code, HasBytes};
 ghost use Rattle.myi_keys.specs.Reading.{key_at};
 ghost use Rattle.myi_keys.specs.Faults.{BreaksOff};
 ghost use Rattle.myi_keys.specs.Collations.{weight, letters_with_accents};
@@ -42,6 +42,13 @@ pub fn codes_read_back()
     ensures read { (key : List KeySeg) → IsKey key → key_at (key_code key) ≡ Ok key }
     ensures written { (bytes : List ℕ) (key : List KeySeg) → AreBytes bytes → key_at bytes ≡ Ok key → bytes ≡ key_code key }
     ensures limits { (bytes : List ℕ) (key : List KeySeg) → AreBytes bytes → key_at bytes ≡ Ok key → IsKey key }
+{}
+
+/// The code of a key whose weights are bytes is bytes, and a segment's code is longer than its weights
+/// by one byte, or by three where 254 weights or more may be there.
+pub fn codes_fit()
+    ensures bytes { (key : List KeySeg) → IsKey key → All HasBytes key → AreBytes (key_code key) }
+    ensures length { (most : ℕ) (weights : List ℕ) → length weights ≤ most → length (seg_code (KeySeg.Weights weights)) ≤ (if nat_lt most 254 then most + 1 else most + 3) }
 {}
 
 /// Bytes are read with a fault exactly where their first bad place is bad in this way.

@@ -23,8 +23,8 @@ mod weights;
 pub use codes::{KeyFault, decode, encode};
 pub use collations::{Collation, LATIN1_SWEDISH_CI};
 pub use laws::{
-    blanks_taken_off, characters_cut, codes_read_back, faults_at_first_place, integers_in_order,
-    keys_totally_ordered, swedish_table, weights_fit,
+    blanks_taken_off, characters_cut, codes_fit, codes_read_back, faults_at_first_place,
+    integers_in_order, keys_totally_ordered, swedish_table, weights_fit,
 };
 pub use values::{KeySeg, KeyVal, MOST_SEGMENTS, MOST_WEIGHTS, WeightList};
 pub use weights::weigh;
