@@ -3,7 +3,7 @@
 //! A number in a code is one byte below 255, or 255 and two bytes, high byte first, from 255 on. A
 //! segment is the number 0 where it is absent, or the number of its weights plus 1 and the weights; a
 //! key is its segments one after the other. `encode` writes this form and `decode` takes no other, so
-//! that keys and codes are in step one to one.
+//! that a key has one code and a code one key.
 ghost use Rattle.std.specs.Prelude.{◌≡◌, ◌≢◌, ◌<◌, ◌≤◌, ◌++◌, List, length, IfOk, OnOk, IfErr};
 ghost use Rattle.myi_keys.specs.Limits.{IsSeg, IsKey};
 ghost use Rattle.myi_keys.specs.Codes.{number_code, seg_code, key_code};
@@ -15,9 +15,10 @@ use crate::values::{KeySeg, KeyVal, MOST_SEGMENTS, MOST_WEIGHTS, WeightList};
 use std::alloc::{AllocError, AllocFailed, Global};
 use thiserror::Error;
 
-/// The first byte of a number of three bytes, and the least such number.
+/// The first byte of a number of three bytes.
 const WIDE: u8 = 255;
 
+/// The least number that takes three bytes.
 const LEAST_WIDE: usize = 255;
 
 /// Why bytes are no key's code: what stands at the first bad place from the left.
@@ -123,7 +124,8 @@ fn append_number(code: &mut Vec<u8>, number: usize) -> Result<(), AllocError>
     if number < LEAST_WIDE {
         code.push(number as u8)?;
     } else {
-        code.extend_from_slice(&[WIDE, (number / 256) as u8, (number % 256) as u8])?;
+        code.push(WIDE)?;
+        code.extend_from_slice(&(number as u16).to_be_bytes())?;
     }
     Ok(())
 }
@@ -199,7 +201,7 @@ fn number_of(bytes: &[u8]) -> Result<(usize, &[u8]), KeyFault>
         [] => Err(KeyFault::Short),
         [first, rest @ ..] if *first < WIDE => Ok((*first as usize, rest)),
         [_, high, low, rest @ ..] => {
-            let number = *high as usize * 256 + *low as usize;
+            let number = u16::from_be_bytes([*high, *low]) as usize;
             if number < LEAST_WIDE {
                 Err(KeyFault::Spelling)
             } else {

@@ -3,7 +3,7 @@
 //! A `KeyVal` is a list of `KeySeg`, one for each segment of the key, and a `KeySeg` that is there has
 //! a `WeightList`. Contracts see a key value as the list of its segments and a list of weights as the
 //! list of its bytes, so that keys are equal where their segments and weights are.
-ghost use Rattle.std.specs.Prelude.{◌≡◌, ◌≤◌, List, length, IsTrue, All};
+ghost use Rattle.std.specs.Prelude.{◌≡◌};
 ghost use Rattle.myi_keys.specs.Limits.{IsKey, is_present, is_complete};
 ghost use Rattle.myi_keys.specs.Order.{key_cmp};
 
@@ -168,6 +168,14 @@ impl KeyVal {
         ensures key { IsKey self.now }
     {
         &self.segs
+    }
+
+    /// Gives the segments back. It takes no memory.
+    pub fn into_vec(self) -> Vec<KeySeg>
+        ensures value { result.items ≡ self }
+        ensures key { IsKey self }
+    {
+        self.segs
     }
 
     /// Whether each segment is there. Only complete keys can repeat in a unique key.

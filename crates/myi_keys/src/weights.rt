@@ -2,9 +2,9 @@
 //!
 //! Content is what a row holds for a segment: the field's bytes, or their content without a length.
 //! Keys are sorted by weights, byte by byte, so each type's weights put its values in their order.
-ghost use Rattle.std.specs.Prelude.{◌≡◌, ◌<◌, ◌≤◌, length, take, map, reverse, IfOk};
+ghost use Rattle.std.specs.Prelude.{◌≡◌, take, map, reverse, IfOk};
 ghost use Rattle.myi_keys.specs.Collations.{weight};
-ghost use Rattle.myi_keys.specs.Weights.{weights, CanWeigh, sign_inverted, begins_character, first_characters, character_prefix, without_blanks, blanks_stripped, weights_in};
+ghost use Rattle.myi_keys.specs.Weights.{weights, CanWeigh, sign_inverted, begins_character, first_characters, without_blanks, blanks_stripped, weights_in};
 
 use crate::collations::Collation;
 use myi_defs::{SegType, Segment};
@@ -16,11 +16,15 @@ const BLANK: u8 = 0x20;
 /// The topmost bit of a byte, the sign of a number whose bytes stand high byte first.
 const SIGN: u8 = 0x80;
 
-/// The weights of a segment's content. The content of an integer segment has its type's size, low byte
-/// first, and its weights are high byte first, with the sign inverted for a signed type. That of a
-/// binary segment has the segment's length. Of a text or a variable content the first bytes count, as
-/// many as the segment's length. Of a text in a collation of UTF-8 only the characters that the length
-/// has room for count, and trailing blanks of a text count in collation 63 alone.
+/// The weights of a segment's content, by the segment's type:
+///
+/// - of an integer, its bytes high byte first, with the topmost bit inverted where the type is signed;
+///   its content has its type's size, low byte first;
+/// - of a binary, its bytes; its content has the segment's length;
+/// - of a variable binary, its first bytes, as many as the segment's length;
+/// - of a text, its first bytes too, but in a UTF-8 collation no more characters than the length has
+///   room for; then without trailing blanks, unless the collation is 63; and each byte by its weight.
+///   Its collation is one of the seven of `Collation`.
 #[tactic(auto, unfolding(crate::specs::Weights::weights))]
 pub fn weigh(alloc: Global, seg: &Segment, content: &[u8]) -> Result<Vec<u8>, AllocError>
     requires { CanWeigh seg.now content.now }
