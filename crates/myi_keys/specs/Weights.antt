@@ -49,7 +49,8 @@ blanks_stripped _ bytes = without_blanks bytes
 
 -- the first bytes of the content, cut at a character, without trailing blanks, each by its weight
 abbrev pub weights_in : Collation → ℕ → List ℕ → List ℕ
-weights_in collation limit content = map (weight collation) (blanks_stripped collation (character_prefix (character_width collation) limit (take limit content)))
+weights_in collation limit content =
+    map (weight collation) (blanks_stripped collation (character_prefix (character_width collation) limit (take limit content)))
 
 -- a text has weights in the seven collations only
 abbrev pub text_weights : Option Collation → ℕ → List ℕ → List ℕ

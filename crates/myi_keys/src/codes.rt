@@ -139,11 +139,13 @@ pub fn decode(alloc: Global, bytes: &[u8]) -> Result<KeyVal, KeyFault>
     ensures found { IfOk result (λ key. bytes.now ≡ key_code key) }
 
     // The code of a key gives the key, unless memory runs out.
-    ensures read { (key : List KeySeg) → IsKey key → bytes.now ≡ key_code key → result ≢ Err KeyFault.Memory → result ≡ Ok key }
+    ensures read { (key : List KeySeg)
+        → IsKey key → bytes.now ≡ key_code key → result ≢ Err KeyFault.Memory → result ≡ Ok key }
 
     // A fault says what stands at the first bad place, and what stands there gives its fault.
     ensures broken { IfErr result (λ fault. fault ≢ KeyFault.Memory → BreaksOff fault bytes.now) }
-    ensures breaks { (fault : KeyFault) → BreaksOff fault bytes.now → result ≢ Err KeyFault.Memory → result ≡ Err fault }
+    ensures breaks { (fault : KeyFault)
+        → BreaksOff fault bytes.now → result ≢ Err KeyFault.Memory → result ≡ Err fault }
 
     // The answer is that of reading from left to right.
     ensures exact { result ≢ Err KeyFault.Memory → result ≡ key_at bytes.now }

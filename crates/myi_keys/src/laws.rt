@@ -32,15 +32,22 @@ pub fn keys_totally_ordered()
 
 /// The weights of integers stand in the order of the numbers that their contents are.
 pub fn integers_in_order()
-    ensures signed { (seg : Segment) (x y : List ℕ) → IsSigned seg.seg → CanWeigh seg x → CanWeigh seg y → AreBytes x → AreBytes y → slice_cmp nat_cmp (weights seg x) (weights seg y) ≡ int_cmp (signed_number x) (signed_number y) }
-    ensures unsigned { (seg : Segment) (x y : List ℕ) → IsUnsigned seg.seg → CanWeigh seg x → CanWeigh seg y → AreBytes x → AreBytes y → slice_cmp nat_cmp (weights seg x) (weights seg y) ≡ nat_cmp (unsigned_number x) (unsigned_number y) }
+    ensures signed { (seg : Segment) (x y : List ℕ)
+        → IsSigned seg.seg → CanWeigh seg x → CanWeigh seg y → AreBytes x → AreBytes y
+        → slice_cmp nat_cmp (weights seg x) (weights seg y)
+        ≡ int_cmp (signed_number x) (signed_number y) }
+    ensures unsigned { (seg : Segment) (x y : List ℕ)
+        → IsUnsigned seg.seg → CanWeigh seg x → CanWeigh seg y → AreBytes x → AreBytes y
+        → slice_cmp nat_cmp (weights seg x) (weights seg y)
+        ≡ nat_cmp (unsigned_number x) (unsigned_number y) }
 {}
 
 /// A code is read back to its key, no two keys have one code, and what is read is coded so.
 pub fn codes_read_back()
     ensures once { (one other : List KeySeg) → key_code one ≡ key_code other → one ≡ other }
     ensures read { (key : List KeySeg) → IsKey key → key_at (key_code key) ≡ Ok key }
-    ensures written { (bytes : List ℕ) (key : List KeySeg) → AreBytes bytes → key_at bytes ≡ Ok key → bytes ≡ key_code key }
+    ensures written { (bytes : List ℕ) (key : List KeySeg)
+        → AreBytes bytes → key_at bytes ≡ Ok key → bytes ≡ key_code key }
     ensures limits { (bytes : List ℕ) (key : List KeySeg) → AreBytes bytes → key_at bytes ≡ Ok key → IsKey key }
 {}
 
@@ -48,12 +55,14 @@ pub fn codes_read_back()
 /// by one byte, or by three where 254 weights or more may be there.
 pub fn codes_fit()
     ensures bytes { (key : List KeySeg) → IsKey key → All HasBytes key → AreBytes (key_code key) }
-    ensures length { (most : ℕ) (weights : List ℕ) → length weights ≤ most → length (seg_code (KeySeg.Weights weights)) ≤ (if nat_lt most 254 then most + 1 else most + 3) }
+    ensures length { (most : ℕ) (weights : List ℕ) → length weights ≤ most
+        → length (seg_code (KeySeg.Weights weights)) ≤ (if nat_lt most 254 then most + 1 else most + 3) }
 {}
 
 /// Bytes are read with a fault exactly where their first bad place is bad in this way.
 pub fn faults_at_first_place()
-    ensures { (bytes : List ℕ) (fault : KeyFault) → AreBytes bytes → (key_at bytes ≡ Err fault) ↔ BreaksOff fault bytes }
+    ensures { (bytes : List ℕ) (fault : KeyFault)
+        → AreBytes bytes → (key_at bytes ≡ Err fault) ↔ BreaksOff fault bytes }
 {}
 
 /// The table of collation 8: below C0 the weights are those of collation 11, so that 61 to 7A weigh 20
@@ -70,21 +79,26 @@ pub fn swedish_table()
 /// The characters that a length has room for are the longest prefix with at most so many bytes that
 /// begin one.
 pub fn characters_cut()
-    ensures prefix { (n : ℕ) (bytes : List ℕ) → first_characters n bytes ≡ take (length (first_characters n bytes)) bytes }
+    ensures prefix { (n : ℕ) (bytes : List ℕ)
+        → first_characters n bytes ≡ take (length (first_characters n bytes)) bytes }
     ensures few { (n : ℕ) (bytes : List ℕ) → count_by begins_character (first_characters n bytes) ≤ n }
-    ensures longest { (n k : ℕ) (bytes : List ℕ) → k ≤ length bytes → count_by begins_character (take k bytes) ≤ n → k ≤ length (first_characters n bytes) }
+    ensures longest { (n k : ℕ) (bytes : List ℕ) → k ≤ length bytes
+        → count_by begins_character (take k bytes) ≤ n → k ≤ length (first_characters n bytes) }
 {}
 
 /// What is taken off the end of a text is blanks, and no blank is left there.
 pub fn blanks_taken_off()
-    ensures blanks { (bytes : List ℕ) → bytes ≡ without_blanks bytes ++ replicate (length bytes - length (without_blanks bytes)) 0x20 }
-    ensures last { (bytes : List ℕ) → 0 < length (without_blanks bytes) → slice_index (without_blanks bytes) (length (without_blanks bytes) - 1) ≢ 0x20 }
+    ensures blanks { (bytes : List ℕ)
+        → bytes ≡ without_blanks bytes ++ replicate (length bytes - length (without_blanks bytes)) 0x20 }
+    ensures last { (bytes : List ℕ) → 0 < length (without_blanks bytes)
+        → slice_index (without_blanks bytes) (length (without_blanks bytes) - 1) ≢ 0x20 }
 {}
 
-/// Weights are bytes, and no more of them than bytes of the content; for a segment that is no integer
-/// also no more than the segment's length.
+/// Weights are bytes. They are no more than the bytes of the content, and no more than the segment's
+/// length or the eight bytes of the widest integer.
 pub fn weights_fit()
     ensures bytes { (seg : Segment) (content : List ℕ) → AreBytes content → AreBytes (weights seg content) }
     ensures content { (seg : Segment) (content : List ℕ) → length (weights seg content) ≤ length content }
-    ensures segment { (seg : Segment) (content : List ℕ) → CanWeigh seg content → length (weights seg content) ≤ max seg.length 8 }
+    ensures segment { (seg : Segment) (content : List ℕ)
+        → CanWeigh seg content → length (weights seg content) ≤ max seg.length 8 }
 {}
