@@ -154,11 +154,33 @@ fn every_byte(rt: HostRuntime) -> Result<(), Fail> {
 }
 
 #[test]
+fn collations(rt: HostRuntime) {
+    for (number, width, weight) in [
+        (8, None, 0x5C),
+        (11, None, 0xE4),
+        (46, Some(4), 0xE4),
+        (63, None, 0xE4),
+        (83, Some(3), 0xE4),
+    ] {
+        let collation = Collation::of_number(number);
+        assert_eq!(rt; collation.map(Collation::character_width), Some(width));
+        assert_eq!(rt; collation.map(|c| c.weight(0xE4)), Some(weight));
+    }
+    for number in [0, 33, 1032, 1035, 1070, 1071, 1089, 1107] {
+        assert!(rt; Collation::of_number(number).is_none());
+    }
+}
+
+#[test]
 fn binaries(rt: HostRuntime) -> Result<(), Fail> {
     let whole = weigh(rt.alloc(), &segment(SegType::Binary, 63, 3), b"a  ")?;
     assert_eq!(rt; whole.as_slice(), b"a  ".as_slice());
     let front = weigh(rt.alloc(), &segment(SegType::VarBinary, 63, 2), b"a  b")?;
     assert_eq!(rt; front.as_slice(), b"a ".as_slice());
+    assert_eq!(rt;
+        WeightList::new(front).into_vec().as_slice(),
+        b"a ".as_slice()
+    );
     let short = weigh(rt.alloc(), &segment(SegType::VarBinary, 63, 9), b"a \xFF")?;
     assert_eq!(rt; short.as_slice(), b"a \xFF".as_slice());
     Ok(())
@@ -314,6 +336,7 @@ fn keys_of_codes(rt: HostRuntime) -> Result<(), Fail> {
     );
     assert!(rt; !segs[1].is_present());
     assert!(rt; !key.is_complete());
+    assert_eq!(rt; key.into_vec().len(), 2);
     assert_eq!(rt; decode(alloc, &[0; 16])?.segments().len(), 16);
     assert!(rt; decode(alloc, b"")?.is_complete());
     for (bytes, fault) in [
