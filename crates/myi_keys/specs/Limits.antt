@@ -14,6 +14,7 @@ IsSeg (Weights w) = length w ≤ 1000
 abbrev pub IsKey : List KeySeg → Type 0
 IsKey segs = (length segs ≤ 16) × All IsSeg segs
 
+-- whether the row has a value here
 abbrev pub is_present : KeySeg → Bool
 is_present Absent = false
 is_present (Weights w) = true

@@ -15,5 +15,6 @@ seg_cmp Absent (Weights w) = Less
 seg_cmp (Weights v) Absent = Greater
 seg_cmp (Weights v) (Weights w) = slice_cmp nat_cmp v w
 
+-- segment by segment, and a key that begins a longer one before it
 abbrev pub key_cmp : List KeySeg → List KeySeg → Ordering
 key_cmp = slice_cmp seg_cmp

@@ -6,6 +6,7 @@ use Rattle.myi_keys.specs.declared.values.KeySeg.TheVariants.{Absent, Weights}
 use Rattle.myi_keys.specs.declared.codes.KeyFault.{KeyFault}
 use Rattle.myi_keys.specs.declared.codes.KeyFault.TheVariants.{Short, Spelling, TooLong, Memory}
 
+-- the first fault ends the reading
 infixl 10 ◌>>=◌
 abbrev pub ◌>>=◌ : {A B : Type 0} → Result A KeyFault → (A → Result B KeyFault) → Result B KeyFault
 (Ok x) >>= f = f x

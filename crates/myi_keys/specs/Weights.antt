@@ -35,6 +35,7 @@ abbrev pub character_prefix : Option ℕ → ℕ → List ℕ → List ℕ
 character_prefix None limit content = content
 character_prefix (Some width) limit content = first_characters (limit / width) content
 
+-- the byte that texts are filled up with
 abbrev pub is_blank : ℕ → Bool
 is_blank b = b == 0x20
 
@@ -75,10 +76,11 @@ weights_by types.VarBinary language limit content = take limit content
 weights_by types.Text language limit content = text_weights (collation_of language) limit content
 weights_by types.VarText language limit content = text_weights (collation_of language) limit content
 
+-- the weights of a segment's content
 unfoldable pub weights : Segment → List ℕ → List ℕ
 weights seg content = weights_by seg.seg seg.language seg.length content
 
--- what a segment can be the content of: an integer has its type's size, a binary has the segment's length, and the
+-- what content a segment of a type, language and length can have: an integer has its type's size, a binary has the segment's length, and the
 -- collation of a text is one of the seven
 abbrev pub CanWeighBy : SegType → ℕ → ℕ → List ℕ → Type 0
 CanWeighBy types.ShortInt language limit content = length content ≡ 2
@@ -95,5 +97,6 @@ CanWeighBy types.VarBinary language limit content = Unit {0}
 CanWeighBy types.Text language limit content = IsSome (collation_of language)
 CanWeighBy types.VarText language limit content = IsSome (collation_of language)
 
+-- whether content can be that of a segment
 abbrev pub CanWeigh : Segment → List ℕ → Type 0
 CanWeigh seg content = CanWeighBy seg.seg seg.language seg.length content
