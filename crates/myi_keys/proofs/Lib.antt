@@ -1,0 +1,10 @@
+pub mod Codings
+pub mod Readings
+pub mod Breaks
+pub mod Decoded
+pub mod IntegerOrders
+pub mod ByteLists
+pub mod TextCuts
+pub mod Tables
+pub mod WeightSizes
+pub mod CodeSizes
