@@ -43,7 +43,7 @@ both_there name x d m index rows = ap (λ o. found_index name o (m (rows_file na
 pub opens : (name d : List ℕ) (o : Opening) (f : Found) (m : Holding) → m (rows_file name) ≡ Some d → found name m ≡ f → Judges o f d → Opens name o (found name m) m
 opens name d (opening.Missing file) f m rows is judged = is ∙ judged
 opens name d (opening.Refused reason) f m rows is judged = is ∙ judged
-opens name d (opening.Ready r) f m rows is judged = (d, rows, is ∙ judged.0, judged.1)
+opens name d (opening.Ready r) f m rows is judged = record { rows = d; there = rows; is = is ∙ judged.0; long = judged.1 }
 
 -- a file that has no length is not there
 pub not_there : (o : Option (List ℕ)) (size : Option ℕ) (b : Bool) → is_some size ≡ not b → b ≡ true → Measures o size → o ≡ None

@@ -12,8 +12,11 @@ mod gather;
 mod lines;
 mod open;
 mod rebuild;
+mod recover;
 mod status;
+mod top;
 mod words;
 
 pub use status::{Status, Stop};
+pub use top::kit;
 pub use words::{Plan, read_words};

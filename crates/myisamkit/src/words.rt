@@ -62,12 +62,6 @@ fn table_name(word: &str) -> &str
 {
     match word.strip_suffix(".MYI") {
         None => word,
-        Some(name) => {
-            if name.is_empty() {
-                word
-            } else {
-                name
-            }
-        }
+        Some(name) => { if name.is_empty() { word } else { name } }
     }
 }

@@ -4,4 +4,8 @@ use Rattle.myisamkit.proofs.open.judge_defs.Goals as goal
 
 pub returns-clause-ready : goal.returns-clause-ready
 returns-clause-ready c =
-    (c.requires, sym c.is_built.ensures ∙ c.if-not-is_built.false, short_enough c.args.defs c.args.length (sym c.addressable.ensures ∙ c.if-not-addressable.false))
+    record {
+      defs = c.requires;
+      built = sym c.is_built.ensures ∙ c.if-not-is_built.false;
+      short = short_enough c.args.defs c.args.length (sym c.addressable.ensures ∙ c.if-not-addressable.false);
+    }

@@ -16,11 +16,14 @@ returns-in_err-finish-clause-whole g c m told =
     let gathered = c.in_ok-rows.ensures.kept m told in
     let others = c.in_ok-rows.ensures.others m told in
     let keeps = subst (λ n. KeepsOthers t.new_rows m n) (same_holding _ _ _ others.1 gathered.1) others.2 in
-    let finished = c.finish.ensures.whole gathered.0 gathered.1 in
-    (finished.0, finished.1, λ d there.
-      let rows = gathered.2 d there in
-      let index = index_is c.args.defs.now d _ _ _ _ c.args.length _ _ c.deref.ensures.value c.in_ok-index.ensures.bytes c.new_state-state.ensures c.in_ok-stored.ensures.value rows.1 in
-      subst (λ x. IsWhole t (new_rows c.args.defs.now d) x m finished.0) index (whole_before t c.requires.apart _ _ m gathered.0 finished.0 keeps (finished.2 (new_rows c.args.defs.now d) rows.0)))
+    let finished = c.finish.ensures.whole gathered.0 gathered.1 in (
+      finished.0,
+      finished.1,
+      λ d there.
+          let rows = gathered.2 d there in
+          let index = index_is c.args.defs.now d _ _ _ _ c.args.length _ _ c.deref.ensures.value c.in_ok-index.ensures.bytes c.new_state-state.ensures c.in_ok-stored.ensures.value rows.1 in
+          subst (λ x. IsWhole t (new_rows c.args.defs.now d) x m finished.0) index (whole_before t c.requires.apart _ _ m gathered.0 finished.0 keeps (finished.2 (new_rows c.args.defs.now d) rows.0)),
+    )
 
 pub returns-clause-whole : goal.returns-clause-whole
 returns-clause-whole g c m told =
@@ -28,17 +31,23 @@ returns-clause-whole g c m told =
     let gathered = c.in_ok-rows.ensures.kept m told in
     let others = c.in_ok-rows.ensures.others m told in
     let keeps = subst (λ n. KeepsOthers t.new_rows m n) (same_holding _ _ _ others.1 gathered.1) others.2 in
-    let finished = c.finish.ensures.whole gathered.0 gathered.1 in
-    (finished.0, finished.1, λ d there.
-      let rows = gathered.2 d there in
-      let index = index_is c.args.defs.now d _ _ _ _ c.args.length _ _ c.deref.ensures.value c.in_ok-index.ensures.bytes c.new_state-state.ensures c.in_ok-stored.ensures.value rows.1 in
-      subst (λ x. IsWhole t (new_rows c.args.defs.now d) x m finished.0) index (whole_before t c.requires.apart _ _ m gathered.0 finished.0 keeps (finished.2 (new_rows c.args.defs.now d) rows.0)))
+    let finished = c.finish.ensures.whole gathered.0 gathered.1 in (
+      finished.0,
+      finished.1,
+      λ d there.
+          let rows = gathered.2 d there in
+          let index = index_is c.args.defs.now d _ _ _ _ c.args.length _ _ c.deref.ensures.value c.in_ok-index.ensures.bytes c.new_state-state.ensures c.in_ok-stored.ensures.value rows.1 in
+          subst (λ x. IsWhole t (new_rows c.args.defs.now d) x m finished.0) index (whole_before t c.requires.apart _ _ m gathered.0 finished.0 keeps (finished.2 (new_rows c.args.defs.now d) rows.0)),
+    )
 
 pub returns-clause-done : goal.returns-clause-done
 returns-clause-done g c m told =
     let gathered = c.in_ok-rows.ensures.kept m told in
-    let finished = c.in_ok-finish.ensures.done gathered.0 gathered.1 in
-    (finished.0, finished.1, λ d there.
-      let rows = gathered.2 d there in
-      let index = index_is c.args.defs.now d _ _ _ _ c.args.length _ _ c.deref.ensures.value c.in_ok-index.ensures.bytes c.new_state-state.ensures c.in_ok-stored.ensures.value rows.1 in
-      (subst (λ x. Holds (names_of c.args.table.now) (new_rows c.args.defs.now d) x finished.0) index (finished.2 (new_rows c.args.defs.now d) rows.0), rows.1))
+    let finished = c.in_ok-finish.ensures.done gathered.0 gathered.1 in (
+      finished.0,
+      finished.1,
+      λ d there.
+          let rows = gathered.2 d there in
+          let index = index_is c.args.defs.now d _ _ _ _ c.args.length _ _ c.deref.ensures.value c.in_ok-index.ensures.bytes c.new_state-state.ensures c.in_ok-stored.ensures.value rows.1 in
+          (subst (λ x. Holds (names_of c.args.table.now) (new_rows c.args.defs.now d) x finished.0) index (finished.2 (new_rows c.args.defs.now d) rows.0), rows.1),
+    )

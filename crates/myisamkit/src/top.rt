@@ -1,0 +1,72 @@
+//! The top call.
+ghost use Rattle.std.specs.Prelude.{◌≡◌, ◌≢◌, ◌⊎◌, ◌↔◌, Some, map, string_bytes, IfOk, OnOk, IsTrue};
+ghost use Rattle.myi_base.specs.Holding.{Holding, Told};
+ghost use Rattle.myi_base.specs.Causes.{Rose, HasCause};
+ghost use Rattle.myisamkit.specs.Words.{plan, usage};
+ghost use Rattle.myisamkit.specs.Runs.{text, status_of, IsFault, Says, LeavesWhole, Does};
+
+use crate::lines::usage_line;
+use crate::recover::recover_table;
+use crate::status::{Status, Stop};
+use crate::words::{Plan, read_words};
+use myi_io::{Files, Sink};
+use std::alloc::Global;
+
+/// Does what the words ask for, prints what it did, and answers how it went. `words` are the words
+/// after the program's name; `now` is the moment, in seconds since 1970.
+pub fn kit<F: Files, O: Sink>(
+    alloc: Global,
+    words: &[String],
+    files: &mut F,
+    out: &mut O,
+    now: u64,
+) -> Status
+    requires { IsTrue F.writable }
+
+    // What is written is the text that the words have on these files; a fault may cut it off.
+    ensures text { Says (plan (map (λ w. string_bytes w) words.now)) (F.holds files.old) (O.written out.old) (O.written out.new) result }
+
+    // Where no fault cuts the run off, the status is the defined one.
+    ensures status { (m : Holding) → F.holds files.old ≡ Some m → IsFault result ⊎ (result ≡ status_of (plan (map (λ w. string_bytes w) words.now)) m) }
+    ensures usage { IsFault result ⊎ ((plan (map (λ w. string_bytes w) words.now) ≡ usage) ↔ (result ≡ Status.Usage)) }
+
+    // At each status a table's files are the old ones or whole new ones, and other files stay.
+    ensures files { Told (F.holds files.old) (F.holds files.new) (LeavesWhole (plan (map (λ w. string_bytes w) words.now)) now) }
+
+    // Where no fault cuts the work off, the work is done. A fault of the output comes after it.
+    ensures done { (result ≡ Status.FileFault) ⊎ ((result ≡ Status.Memory) ⊎ Told (F.holds files.old) (F.holds files.new) (Does (plan (map (λ w. string_bytes w) words.now)) now)) }
+
+    // A fault has its cause.
+    ensures file { result ≡ Status.FileFault → Rose (F.faults files.old) (F.faults files.new) }
+    ensures sink { result ≡ Status.SinkFault → Rose (O.faults out.old) (O.faults out.new) }
+{
+    match work(alloc, words, files, now) {
+        Ok((status, line)) => match out.write(line.as_bytes()) {
+            Ok(()) => status,
+            Err(error) => error.into(),
+        },
+        Err(stop) => stop.into(),
+    }
+}
+
+// Does the work, and answers the status and the text.
+fn work<F: Files>(
+    alloc: Global,
+    words: &[String],
+    files: &mut F,
+    now: u64,
+) -> Result<(Status, String), Stop>
+    requires { IsTrue F.writable }
+    ensures said { IfOk result (λ r. (m : Holding) → F.holds files.old ≡ Some m → string_bytes r.1 ≡ text (plan (map (λ w. string_bytes w) words.now)) m) }
+    ensures status { IfOk result (λ r. (m : Holding) → F.holds files.old ≡ Some m → r.0 ≡ status_of (plan (map (λ w. string_bytes w) words.now)) m) }
+    ensures plain { IfOk result (λ r. IsFault r.0 → ⊥) }
+    ensures usage { IfOk result (λ r. (plan (map (λ w. string_bytes w) words.now) ≡ usage) ↔ (r.0 ≡ Status.Usage)) }
+    ensures files { Told (F.holds files.old) (F.holds files.new) (LeavesWhole (plan (map (λ w. string_bytes w) words.now)) now) }
+    ensures done { OnOk result (Told (F.holds files.old) (F.holds files.new) (Does (plan (map (λ w. string_bytes w) words.now)) now)) }
+    ensures cause { HasCause Stop.File (F.faults files.old) (F.faults files.new) result }
+{
+    match read_words(words) {
+        Plan::Usage => Ok((Status::Usage, String::from_str(alloc, usage_line())?)),
+        Plan::Recover(name) => Ok(recover_table(alloc, files, name, now)?),
+    }
+}
