@@ -2,3 +2,4 @@ pub mod GatherLaws
 pub mod FinishLaws
 pub mod RebuildLaws
 pub mod OpenLaws
+pub mod RecoverLaws
