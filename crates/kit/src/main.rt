@@ -1,0 +1,49 @@
+//! The program `kit`: the top call on real files and standard output.
+#![tactic(auto)]
+
+use myi_io::{RealFiles, RealSink};
+use myisamkit::{Status, kit};
+use std::process::ExitCode;
+use std::rt::{Clock, Env};
+use std::{env, io};
+
+fn code(status: Status) -> u8 {
+    match status {
+        Status::Ok => 0,
+        Status::Findings => 1,
+        Status::Usage => 2,
+        Status::Refused => 3,
+        Status::Absent => 4,
+        Status::FileFault => 5,
+        Status::SinkFault => 6,
+        Status::Memory => 7,
+    }
+}
+
+// The words after the program's name; none where they are no text, which is no command either.
+fn words<R: Env + AllocGlobal>(rt: &R) -> io::Result<Vec<String>> {
+    Ok(env::args(rt)?.skip(1).collect(rt.alloc())?)
+}
+
+// The seconds since 1970, or 0 where there is no clock.
+fn now(rt: &impl Clock) -> u64 {
+    match rt.since_1970() {
+        Ok(since) => since.as_secs(),
+        Err(_) => 0,
+    }
+}
+
+fn main(rt: HostRuntime) -> ExitCode {
+    let alloc = rt.alloc();
+    let words = match words(&rt) {
+        Ok(words) => words,
+        Err(_) => Vec::new(alloc),
+    };
+    let mut files = RealFiles::new(&rt);
+    let mut out = RealSink::new(&rt);
+    let status = kit(alloc, &words, &mut files, &mut out, now(&rt));
+    match files.flush() {
+        Ok(()) => ExitCode::from(code(status)),
+        Err(_) => ExitCode::from(code(Status::FileFault)),
+    }
+}
