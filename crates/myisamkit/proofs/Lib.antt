@@ -3,3 +3,4 @@ pub mod FinishLaws
 pub mod RebuildLaws
 pub mod OpenLaws
 pub mod RecoverLaws
+pub mod RecoveredLaws

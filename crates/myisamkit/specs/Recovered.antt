@@ -27,15 +27,16 @@ pub record IsClean (defs : Defs) (d x : List ℕ) : Type 0 where
   pub empty : (state_of defs x).empty ≡ 0
   pub key_empty : (state_of defs x).key_empty ≡ 0
 
--- The files (e, y) that a repair at a moment leaves of (d, x).
-pub record Recovered (defs : Defs) (d x : List ℕ) (now : ℕ) (e y : List ℕ) : Type 0 where
+-- The files (e, y) that a repair at a moment leaves of a data file d under these definitions.
+pub record Recovered (defs : Defs) (d : List ℕ) (now : ℕ) (e y : List ℕ) : Type 0 where
   -- exactly the kept rows, in their order
   pub rows : map (row_of defs) (kept defs e) ≡ map (row_of defs) (kept defs d)
   -- one slot a row, directly one after the other
   pub slots : e ≡ slots_of (fields_length defs.fields) defs.slot_length (kept defs d)
   pub shorter : length e ≤ length d
-  -- the same definitions, and no byte changed that is neither state nor mark
-  pub definitions : read_defs y ≡ Ok (record defs { raw = take (num_at 6 2 x) y })
-  pub elsewhere : AgreeOutsideState x y
+  -- the same definitions, and no byte of the header changed that is neither state nor mark
+  pub definitions : read_defs y ≡ Ok (record defs { raw = take (num_at 6 2 defs.raw) y })
+  pub elsewhere : AgreeOutsideState defs.raw y
+  -- clean, with the state that a repair sets
   pub clean : IsClean defs e y
-  pub state : state_of defs y ≡ new_state defs (state_of defs x) (length (kept defs d)) now
+  pub state : state_of defs y ≡ new_state defs (state_of defs defs.raw) (length (kept defs d)) now
