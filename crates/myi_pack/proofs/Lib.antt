@@ -1,0 +1,5 @@
+pub mod ViewLemmas
+pub mod SpellingLemmas
+pub mod FlagLemmas
+pub mod FieldLaws
+pub mod RowLaws

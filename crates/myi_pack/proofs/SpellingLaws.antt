@@ -1,0 +1,184 @@
+-- The spelling packs its row, no packing is shorter, and what is packed fits.
+use Rattle.std.proofs.Common.{◌≡◌, ◌≢◌, ℕ, zero, suc, ◌+◌, ◌-◌, ◌*◌, ◌/◌, ◌%◌, ◌^◌, ◌<◌, ◌≤◌, Bool, true, false, not, cond, List, [], ◌∷◌, ◌++◌, length, get_or, take, drop, replicate, refl, sym, ap, subst, ◌∙◌, arith, inl, inr, ◌⊎◌, length-append, append-nil, append_assoc}
+use Rattle.std.specs.Prelude.{◌&&◌, ◌||◌, ◌==◌, nat_lt, nat_le, slice_index, All}
+use Rattle.std.proofs.lemmas.Bool.{leb-true, leb-false, le-leb, ltb-true, ltb-false, lt-ltb, le-ltb, lt-leb, eqb-true, eq-eqb, eqb-false, ne_eqb, cases_lt}
+use Rattle.std.proofs.lemmas.List.{length-replicate}
+use Rattle.myi_base.specs.Numbers.{num_bytes, low_num_bytes}
+use Rattle.myi_base.proofs.NumberLaws.{length-num_bytes, length-low_num_bytes}
+use Rattle.myi_defs.specs.declared.types.RowFormat.{RowFormat}
+use Rattle.myi_defs.specs.declared.types.RowFormat.TheVariants.{Static, Dynamic}
+use Rattle.myi_defs.specs.declared.types.FieldKind.{FieldKind}
+use Rattle.myi_defs.specs.declared.types.FieldKind.TheVariants.{Normal, SkipEndspace, SkipPrespace, SkipZero, Blob, Varchar}
+use Rattle.myi_defs.specs.declared.types.Field.{Field}
+use Rattle.myi_defs.specs.declared.types.Defs.{Defs}
+use Rattle.myi_defs.specs.Sound.{IsLengthOf}
+use Rattle.myi_pack.specs.Lengths.{IsSkipLength, IsVarcharLength, IsLowLength, length_bytes}
+use Rattle.myi_pack.specs.Flags.{has_flag, flag_at, next_flag}
+use Rattle.myi_pack.specs.Packed.{Values, spaces, IsPlain, IsPadded, IsLed, PacksField, FillsField, HoldsField, HoldsFields}
+use Rattle.myi_pack.specs.Spelling.{is_all, trimmed_end, trimmed_start, skip_length, is_shorter, skipped_bytes, varchar_length, field_flag, field_bytes, slot_bytes, spelled_field, spelled_fields, flags_of, fits_field, fits_fields}
+
+both : (a b : Bool) → (a && b) ≡ true → (a ≡ true) × (b ≡ true)
+both true b e = (refl, e)
+both false b e = absurd cc
+
+-- ---- spaces and zeros
+
+all-one : (byte : ℕ) (v : List ℕ) → is_all byte v ≡ true → v ≡ replicate (length v) byte
+all-one byte [] e = refl
+all-one byte (x ∷ v) e =
+    let b = both (x == byte) (is_all byte v) e in
+    let z : x ≡ byte = eqb-true _ _ b.0 in
+    rw z (ap (λ (t : List ℕ). byte ∷ t) (all-one byte v b.1))
+
+all-replicate : (byte m : ℕ) → is_all byte (replicate m byte) ≡ true
+all-replicate byte zero = refl
+all-replicate byte (suc m) = let e : (byte == byte) ≡ true = eq-eqb byte byte refl in rw (e, all-replicate byte m) refl
+
+end-short : (v : List ℕ) → length (trimmed_end v) ≤ length v
+end-short [] = omega arith
+end-short (x ∷ v) = by (is_all 32 (x ∷ v)) (end-short v)
+  where
+    by : (b : Bool) → length (trimmed_end v) ≤ length v → length (cond b [] (x ∷ trimmed_end v)) ≤ suc (length v)
+    by true h = omega arith
+    by false h = omega arith
+
+end-again : (v : List ℕ) → v ≡ trimmed_end v ++ spaces (length v - length (trimmed_end v))
+end-again [] = refl
+end-again (x ∷ v) = by (is_all 32 (x ∷ v)) refl (end-again v)
+  where
+    by : (b : Bool) → is_all 32 (x ∷ v) ≡ b → v ≡ trimmed_end v ++ spaces (length v - length (trimmed_end v)) → x ∷ v ≡ cond b [] (x ∷ trimmed_end v) ++ spaces (length (x ∷ v) - length (cond b [] (x ∷ trimmed_end v)))
+    by true e h = let n : length (x ∷ v) - 0 ≡ length (x ∷ v) = omega arith in all-one 32 (x ∷ v) e ∙ ap (λ (k : ℕ). replicate k 32) (sym n)
+    by false e h =
+        let n : length v - length (trimmed_end v) ≡ length (x ∷ v) - length (x ∷ trimmed_end v) = omega arith in
+        ap (λ (t : List ℕ). x ∷ t) (h ∙ ap (λ (k : ℕ). trimmed_end v ++ spaces k) n)
+
+end-least : (c : List ℕ) (m : ℕ) → length (trimmed_end (c ++ spaces m)) ≤ length c
+end-least [] zero = omega arith
+end-least [] (suc m) = let e : is_all 32 (replicate (suc m) 32) ≡ true = all-replicate 32 (suc m) in rw e (omega arith)
+end-least (x ∷ c) m = by (is_all 32 (x ∷ (c ++ spaces m))) (end-least c m)
+  where
+    by : (b : Bool) → length (trimmed_end (c ++ spaces m)) ≤ length c → length (cond b [] (x ∷ trimmed_end (c ++ spaces m))) ≤ suc (length c)
+    by true h = omega arith
+    by false h = omega arith
+
+start-short : (v : List ℕ) → length (trimmed_start v) ≤ length v
+start-short [] = omega arith
+start-short (x ∷ v) = by (x == 32) (start-short v)
+  where
+    by : (b : Bool) → length (trimmed_start v) ≤ length v → length (cond b (trimmed_start v) (x ∷ v)) ≤ suc (length v)
+    by true h = omega arith
+    by false h = omega arith
+
+start-again : (v : List ℕ) → v ≡ spaces (length v - length (trimmed_start v)) ++ trimmed_start v
+start-again [] = refl
+start-again (x ∷ v) = by (x == 32) refl (start-short v) (start-again v)
+  where
+    by : (b : Bool) → (x == 32) ≡ b → length (trimmed_start v) ≤ length v → v ≡ spaces (length v - length (trimmed_start v)) ++ trimmed_start v → x ∷ v ≡ spaces (length (x ∷ v) - length (cond b (trimmed_start v) (x ∷ v))) ++ cond b (trimmed_start v) (x ∷ v)
+    by true e s h =
+        let n : suc (length v - length (trimmed_start v)) ≡ length (x ∷ v) - length (trimmed_start v) = omega arith in
+        ap (λ (y : ℕ). y ∷ v) (eqb-true _ _ e) ∙ ap (λ (t : List ℕ). 32 ∷ t) h ∙ ap (λ (k : ℕ). spaces k ++ trimmed_start v) n
+    by false e s h = let n : 0 ≡ length (x ∷ v) - length (x ∷ v) = omega arith in ap (λ (k : ℕ). spaces k ++ (x ∷ v)) n
+
+start-least : (m : ℕ) (c : List ℕ) → length (trimmed_start (spaces m ++ c)) ≤ length c
+start-least zero c = start-short c
+start-least (suc m) c = start-least m c
+
+-- ---- lengths
+
+skip-one : (n k : ℕ) → n ≤ 255 ⊎ (k < 128) → skip_length n k ≡ k ∷ []
+skip-one n k (inl h) = let t : nat_le n 255 ≡ true = le-leb _ _ h in rw t refl
+skip-one n k (inr h) = by (nat_le n 255) (lt-ltb _ _ h)
+  where
+    by : (b : Bool) → nat_lt k 128 ≡ true → cond (b || nat_lt k 128) (k ∷ []) ((k % 128 + 128) ∷ (k / 128) ∷ []) ≡ k ∷ []
+    by true t = refl
+    by false t = rw t refl
+
+skip-two : (n k : ℕ) → 255 < n → 128 ≤ k → skip_length n k ≡ (k % 128 + 128) ∷ (k / 128) ∷ []
+skip-two n k h g = let t : nat_le n 255 ≡ false = lt-leb _ _ h in let s : nat_lt k 128 ≡ false = le-ltb _ _ g in rw (t, s) refl
+
+sizes : (n k : ℕ) → (n ≤ 255 ⊎ (k < 128)) ⊎ ((255 < n) × (128 ≤ k))
+sizes n k = elim (cases_lt 255 n) [ inr a ↦ inl (inl a) | inl a ↦ elim (cases_lt k 128) [ inl b ↦ inl (inr b) | inr b ↦ inr (a, b) ] ]
+
+skip-is : (n k : ℕ) → n ≤ 255 ⊎ (k < 32768) → IsSkipLength n k (skip_length n k)
+skip-is n k h = elim (sizes n k) [ inl a ↦ inl (a, skip-one n k a) | inr a ↦ inr (a.0, few h a.0, skip-two n k a.0 a.1) ]
+  where
+    few : n ≤ 255 ⊎ (k < 32768) → 255 < n → k < 32768
+    few (inl a) b = absurd (omega arith)
+    few (inr a) b = a
+
+skip-most : (n k : ℕ) → length (skip_length n k) ≤ 2
+skip-most n k = elim (sizes n k) [ inl a ↦ one a | inr a ↦ two a.0 a.1 ]
+  where
+    one : n ≤ 255 ⊎ (k < 128) → length (skip_length n k) ≤ 2
+    one a = omega (arith, ap length (skip-one n k a))
+    two : 255 < n → 128 ≤ k → length (skip_length n k) ≤ 2
+    two a b = omega (arith, ap length (skip-two n k a b))
+
+skip-grows : (n j k : ℕ) → j ≤ k → length (skip_length n j) ≤ length (skip_length n k)
+skip-grows n j k h = elim (sizes n k) [ inl a ↦ omega (arith, ap length (skip-one n k a), ap length (skip-one n j (less a))) | inr a ↦ omega (arith, skip-most n j, ap length (skip-two n k a.0 a.1)) ]
+  where
+    less : n ≤ 255 ⊎ (k < 128) → n ≤ 255 ⊎ (j < 128)
+    less (inl a) = inl a
+    less (inr a) = inr (omega arith)
+
+skip-least : (n k : ℕ) (p : List ℕ) → IsSkipLength n k p → length (skip_length n k) ≤ length p
+skip-least n k p (inl h) = omega (arith, ap length h.1, ap length (skip-one n k h.0))
+skip-least n k p (inr h) = omega (arith, ap length h.2, skip-most n k)
+
+shorter-has : (n k : ℕ) → is_shorter n k ≡ true → (n ≤ 255 ⊎ (k < 32768)) × (length (skip_length n k) + k < n)
+shorter-has n k e =
+    let b = both (nat_le n 255 || nat_lt k 32768) (nat_lt (length (skip_length n k) + k) n) e in
+    (by (nat_le n 255) refl b.0, ltb-true _ _ b.1)
+  where
+    by : (b : Bool) → nat_le n 255 ≡ b → (b || nat_lt k 32768) ≡ true → n ≤ 255 ⊎ (k < 32768)
+    by true h t = inl (leb-true _ _ h)
+    by false h t = inr (ltb-true _ _ t)
+
+shorter-not : (n k : ℕ) → is_shorter n k ≡ false → ((255 < n) × (32768 ≤ k)) ⊎ (n ≤ length (skip_length n k) + k)
+shorter-not n k e = by (nat_le n 255) refl (nat_lt k 32768) refl (nat_lt (length (skip_length n k) + k) n) refl e
+  where
+    by : (a : Bool) → nat_le n 255 ≡ a → (b : Bool) → nat_lt k 32768 ≡ b → (c : Bool) → nat_lt (length (skip_length n k) + k) n ≡ c → ((a || b) && c) ≡ false → ((255 < n) × (32768 ≤ k)) ⊎ (n ≤ length (skip_length n k) + k)
+    by a h b g false t e = inr (ltb-false _ _ t)
+    by true h b g true t e = absurd cc
+    by false h true g true t e = absurd cc
+    by false h false g true t e = inl (leb-false _ _ h, ltb-false _ _ g)
+
+-- the bytes of a value without its spaces are not longer than those with any fewer spaces taken off
+skipped-least : (n : ℕ) (t c p v : List ℕ) → length v ≡ n → length t ≤ length c → IsSkipLength n (length c) p → length (skipped_bytes n t v) ≤ length (p ++ c)
+skipped-least n t c p v l less is = by (is_shorter n (length t)) refl
+  where
+    by : (b : Bool) → is_shorter n (length t) ≡ b → length (cond b (skip_length n (length t) ++ t) v) ≤ length (p ++ c)
+    by true e = omega (arith, length-append (skip_length n (length t)) t, length-append p c, skip-grows n (length t) (length c) less, skip-least n (length c) p is)
+    by false e = elim (shorter-not n (length t) e) [ inl h ↦ absurd (never h.0 h.1 is) | inr h ↦ omega (arith, length-append p c, skip-grows n (length t) (length c) less, skip-least n (length c) p is) ]
+      where
+        never : 255 < n → 32768 ≤ length t → IsSkipLength n (length c) p → ⊥
+        never a b (inr h) = let few : length c < 32768 = h.1 in omega arith
+        never a b (inl h) = elim h.0 [ inl g ↦ omega arith | inr g ↦ omega arith ]
+
+plain-least : (n : ℕ) (t v : List ℕ) → length v ≡ n → length (skipped_bytes n t v) ≤ length v
+plain-least n t v l = by (is_shorter n (length t)) refl
+  where
+    by : (b : Bool) → is_shorter n (length t) ≡ b → length (cond b (skip_length n (length t) ++ t) v) ≤ length v
+    by true e = omega (arith, length-append (skip_length n (length t)) t, (shorter-has n (length t) e).1)
+    by false e = omega arith
+
+varchar-one : (n k : ℕ) → n ≤ 256 ⊎ (k < 255) → varchar_length n k ≡ k ∷ []
+varchar-one n k (inl h) = let t : nat_le n 256 ≡ true = le-leb _ _ h in rw t refl
+varchar-one n k (inr h) = by (nat_le n 256) (lt-ltb _ _ h)
+  where
+    by : (b : Bool) → nat_lt k 255 ≡ true → cond (b || nat_lt k 255) (k ∷ []) (255 ∷ num_bytes 2 k) ≡ k ∷ []
+    by true t = refl
+    by false t = rw t refl
+
+varchar-two : (n k : ℕ) → 256 < n → 255 ≤ k → varchar_length n k ≡ 255 ∷ num_bytes 2 k
+varchar-two n k h g = let t : nat_le n 256 ≡ false = lt-leb _ _ h in let s : nat_lt k 255 ≡ false = le-ltb _ _ g in rw (t, s) refl
+
+contents : (n k : ℕ) → (n ≤ 256 ⊎ (k < 255)) ⊎ ((256 < n) × (255 ≤ k))
+contents n k = elim (cases_lt 256 n) [ inr a ↦ inl (inl a) | inl a ↦ elim (cases_lt k 255) [ inl b ↦ inl (inr b) | inr b ↦ inr (a, b) ] ]
+
+varchar-is : (n k : ℕ) → k < 65536 → IsVarcharLength n k (varchar_length n k)
+varchar-is n k h = elim (contents n k) [ inl a ↦ inl (a, varchar-one n k a) | inr a ↦ inr (a.0, h, varchar-two n k a.0 a.1) ]
+
+varchar-least : (n k : ℕ) (p : List ℕ) → IsVarcharLength n k p → length (varchar_length n k) ≤ length p
+varchar-least n k p (inl h) = omega (arith, ap length h.1, ap length (varchar-one n k h.0))
+varchar-least n k p (inr h) = elim (contents n k) [ inl a ↦ omega (arith, ap length h.2, length-num_bytes 2 k, ap length (varchar-one n k a)) | inr a ↦ omega (arith, ap length h.2, ap length (varchar-two n k a.0 a.1)) ]
