@@ -3,9 +3,12 @@ use Rattle.std.proofs.Common.{◌≡◌, ◌≢◌, ℕ, zero, suc, ◌+◌, ◌
 use Rattle.std.specs.Prelude.{◌&&◌, ◌==◌, nat_lt, nat_le, bit_or, slice_set, slice_index, if◌then◌else◌}
 use Rattle.std.specs.Int.Bits.{or_shifted_r}
 use Rattle.std.proofs.lemmas.List.{length-drop}
-use Rattle.std.proofs.Math.Nat.{pow-suc}
+use Rattle.std.proofs.Math.Nat.{pow-suc, pow-le-pow_right}
+use Rattle.std.proofs.lemmas.Nat.{shr-shr, shr_le}
+use Rattle.std.proofs.lemmas.Bool.{eq-eqb, cases_lt}
+use Rattle.myi_base.specs.Numbers.{AreBytes}
 use Rattle.std.proofs.Math.ListN.{set, length-set}
-use Rattle.std.proofs.lemmas.List.{set-append_left, get_or_append_left, take-append-drop, take_at, drop_at, take_all, length-take}
+use Rattle.std.proofs.lemmas.List.{set-append_left, get_or_append_left, take-append-drop, take_at, drop_at, take_all, get_or-take, get_or-drop, length-take}
 use Rattle.std.proofs.lemmas.List.Sums.{sum_by-cons}
 use Rattle.std.proofs.Math.Seq.{drop-cons}
 use Rattle.myi_defs.specs.declared.types.RowFormat.TheVariants.{Dynamic}
@@ -14,7 +17,7 @@ use Rattle.myi_defs.specs.declared.types.FieldKind.TheVariants.{Normal, SkipEnds
 use Rattle.myi_defs.specs.declared.types.Field.{Field}
 use Rattle.myi_pack.specs.Packed.{Values}
 use Rattle.myi_pack.specs.Spelling.{field_flag, field_bytes, flags_of, fits_fields, fits_field, spelled_fields}
-use Rattle.myi_pack.specs.Flags.{byte_of, packed_bits, with_flag, with_flags, has_flag, next_flag, flag_count, flag_bytes}
+use Rattle.myi_pack.specs.Flags.{byte_of, packed_bits, with_flag, with_flags, has_flag, next_flag, flag_count, flag_bytes, flag_at}
 
 -- a flag in the first byte
 flag-head : (x : ℕ) (fl : List ℕ) (j : ℕ) (bit : Bool) → j < 8 → x < 2 ^ j → with_flag (x ∷ fl) j bit ≡ (x + 2 ^ j * (if bit then 1 else 0)) ∷ fl
@@ -180,3 +183,73 @@ few-flags (f ∷ fs) (v ∷ vs) = by (has_flag f.kind) refl (few-flags fs vs)
     by : (b : Bool) → has_flag f.kind ≡ b → length (flags_of fs vs) ≤ flag_count fs → length (if b then field_flag f.kind f.length v ∷ flags_of fs vs else flags_of fs vs) ≤ flag_count (f ∷ fs)
     by true h few = let c = counted f fs true h in omega arith
     by false h few = let c = counted f fs false h in omega arith
+
+-- ---- flags in their bytes
+
+halved : (c m k : ℕ) → c ≤ 1 → (c + 2 * m) / 2 ^ suc k ≡ m / 2 ^ k
+halved c m k h =
+    let half : (c + 2 * m) / 2 ≡ m = omega arith in
+    let s : (c + 2 * m) / 2 ^ 1 / 2 ^ k ≡ (c + 2 * m) / 2 ^ (1 + k) = shr-shr (c + 2 * m) 1 k in
+    let n : suc k ≡ 1 + k = omega arith in
+    rw n (sym s ∙ ap (λ x. x / 2 ^ k) half)
+
+bit-clear : (k : ℕ) → (0 / 2 ^ k % 2 == 1) ≡ false
+bit-clear k = let z : 0 / 2 ^ k ≡ 0 = omega (arith, shr_le 0 k) in rw z refl
+
+bit-of-byte : (bs : List Bool) (k : ℕ) → (byte_of bs / 2 ^ k % 2 == 1) ≡ get_or bs k false
+bit-of-byte [] k = bit-clear k
+bit-of-byte (true ∷ bs) zero = eq-eqb _ _ (omega arith)
+bit-of-byte (false ∷ bs) zero = let z : (0 + 2 * byte_of bs) / 1 % 2 ≡ 0 = omega arith in rw z refl
+bit-of-byte (true ∷ bs) (suc k) = let e = halved 1 (byte_of bs) k (omega arith) in rw e (bit-of-byte bs k)
+bit-of-byte (false ∷ bs) (suc k) = let e = halved 0 (byte_of bs) k (omega arith) in rw e (bit-of-byte bs k)
+
+pub flag-packed : (n : ℕ) (bs : List Bool) (k : ℕ) → k < 8 * n → flag_at (packed_bits n bs) k ≡ get_or bs k false
+unfolding flag_at
+flag-packed zero bs k h = absurd (omega arith)
+flag-packed (suc n) bs k h = elim (cases_lt k 8) [
+  | inl lt ↦
+    let q : k / 8 ≡ 0 = omega arith in
+    let r : k % 8 ≡ k = omega arith in
+    rw (q, r) (bit-of-byte (take 8 bs) k ∙ get_or-take 8 bs k false lt)
+  | inr le ↦
+    let q : k / 8 ≡ suc ((k - 8) / 8) = omega arith in
+    let r : k % 8 ≡ (k - 8) % 8 = omega arith in
+    let at : 8 + (k - 8) ≡ k = omega arith in
+    rw (q, r) (flag-packed n (drop 8 bs) (k - 8) (omega arith) ∙ get_or-drop 8 bs (k - 8) false ∙ ap (λ i. get_or bs i false) at)
+  ]
+
+pub length-packed : (n : ℕ) (bs : List Bool) → length (packed_bits n bs) ≡ n
+length-packed zero bs = refl
+length-packed (suc n) bs = ap suc (length-packed n (drop 8 bs))
+
+byte-below : (bs : List Bool) → byte_of bs < 2 ^ length bs
+byte-below [] = omega arith
+byte-below (true ∷ bs) = let p : 2 ^ suc (length bs) ≡ 2 * 2 ^ length bs = rw pow-suc (omega arith) in omega (arith, byte-below bs)
+byte-below (false ∷ bs) = let p : 2 ^ suc (length bs) ≡ 2 * 2 ^ length bs = rw pow-suc (omega arith) in omega (arith, byte-below bs)
+
+pub bytes-packed : (n : ℕ) (bs : List Bool) → AreBytes (packed_bits n bs)
+bytes-packed zero bs i = omega arith
+bytes-packed (suc n) bs zero =
+    let l : length (take 8 bs) ≤ 8 = omega (arith, length-take 8 bs) in
+    let p : 2 ^ length (take 8 bs) ≤ 2 ^ 8 = pow-le-pow_right (omega arith) l in
+    omega (arith, byte-below (take 8 bs))
+bytes-packed (suc n) bs (suc i) = bytes-packed n (drop 8 bs) i
+
+past : (bs : List Bool) (k : ℕ) → length bs ≤ k → get_or bs k false ≡ false
+past [] k h = refl
+past (b ∷ bs) zero h = absurd (omega arith)
+past (b ∷ bs) (suc k) h = past bs k (omega arith)
+
+no-byte : (xs : List ℕ) (i : ℕ) → length xs ≤ i → get_or xs i 0 ≡ 0
+no-byte [] i h = refl
+no-byte (x ∷ xs) zero h = absurd (omega arith)
+no-byte (x ∷ xs) (suc i) h = no-byte xs i (omega arith)
+
+pub spare-packed : (n : ℕ) (bs : List Bool) (k : ℕ) → length bs ≤ k → flag_at (packed_bits n bs) k ≡ false
+unfolding flag_at
+spare-packed n bs k h = elim (cases_lt k (8 * n)) [
+  | inl lt ↦ flag-packed n bs k lt ∙ past bs k h
+  | inr le ↦
+    let z : get_or (packed_bits n bs) (k / 8) 0 ≡ 0 = no-byte (packed_bits n bs) (k / 8) (omega (arith, length-packed n bs)) in
+    rw z (bit-clear (k % 8))
+  ]

@@ -198,14 +198,14 @@ row-takes d row b l bytes e = by d.format l e
     by Static l e = static-takes d row b l bytes e
     by Dynamic l e = dynamic-takes d row b l bytes e
 
-dynamic-again : (d : Defs) (row : Values) (b : List ℕ) → (h : IsDynamicRow d.fields row b) → AreBytes h.flags → option_and_then (λ p. ended Dynamic (fields_of Dynamic d.fields 0 p.0 p.1)) (parts_of Dynamic d b) ≡ Some row
+pub dynamic-again : (d : Defs) (row : Values) (b : List ℕ) → (h : IsDynamicRow d.fields row b) → AreBytes h.flags → option_and_then (λ p. ended Dynamic (fields_of Dynamic d.fields 0 p.0 p.1)) (parts_of Dynamic d b) ≡ Some row
 dynamic-again d row b h bytes =
     let c : cut (flag_bytes (flag_count d.fields)) b ≡ Some (h.flags, h.content) = ap (cut (flag_bytes (flag_count d.fields))) h.whole ∙ cut-again (flag_bytes (flag_count d.fields)) h.flags h.content h.count in
     let s : is_spare_clear (flag_count d.fields) h.flags ≡ true = spare-clear (flag_count d.fields) h.flags h.count bytes h.spare in
     let f : fields_of Dynamic d.fields 0 h.flags h.content ≡ Some (row, []) = ap (fields_of Dynamic d.fields 0 h.flags) (sym (append-nil h.content)) ∙ fields-again Dynamic d.fields 0 h.flags row h.content [] h.fields in
     rw (c, s, f) refl
 
-static-again : (d : Defs) (row : Values) (b : List ℕ) → IsStaticRow d.fields d.slot_length row b → option_and_then (λ p. ended Static (fields_of Static d.fields 0 p.0 p.1)) (parts_of Static d b) ≡ Some row
+pub static-again : (d : Defs) (row : Values) (b : List ℕ) → IsStaticRow d.fields d.slot_length row b → option_and_then (λ p. ended Static (fields_of Static d.fields 0 p.0 p.1)) (parts_of Static d b) ≡ Some row
 static-again d row b h =
     let n : (length b == d.slot_length) ≡ true = eq-eqb _ _ h.slot in
     let t : (slice_index b 0 == 0) ≡ false = ne_eqb _ _ h.read in

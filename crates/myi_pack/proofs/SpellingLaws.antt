@@ -3,6 +3,8 @@ use Rattle.std.proofs.Common.{◌≡◌, ◌≢◌, ℕ, zero, suc, ◌+◌, ◌
 use Rattle.std.specs.Prelude.{◌&&◌, ◌||◌, ◌==◌, nat_lt, nat_le, slice_index, All}
 use Rattle.std.proofs.lemmas.Bool.{leb-true, leb-false, le-leb, ltb-true, ltb-false, lt-ltb, le-ltb, lt-leb, eqb-true, eq-eqb, eqb-false, ne_eqb, cases_lt}
 use Rattle.std.proofs.lemmas.List.{length-replicate}
+use Rattle.std.proofs.Math.Nat.{one-le-pow}
+use Rattle.myi_pack.proofs.SpellingLemmas.{length-slot_bytes}
 use Rattle.myi_base.specs.Numbers.{num_bytes, low_num_bytes}
 use Rattle.myi_base.proofs.NumberLaws.{length-num_bytes, length-low_num_bytes}
 use Rattle.myi_defs.specs.declared.types.RowFormat.{RowFormat}
@@ -182,3 +184,142 @@ varchar-is n k h = elim (contents n k) [ inl a ↦ inl (a, varchar-one n k a) | 
 varchar-least : (n k : ℕ) (p : List ℕ) → IsVarcharLength n k p → length (varchar_length n k) ≤ length p
 varchar-least n k p (inl h) = omega (arith, ap length h.1, ap length (varchar-one n k h.0))
 varchar-least n k p (inr h) = elim (contents n k) [ inl a ↦ omega (arith, ap length h.2, length-num_bytes 2 k, ap length (varchar-one n k a)) | inr a ↦ omega (arith, ap length h.2, ap length (varchar-two n k a.0 a.1)) ]
+
+-- ---- a field of a dynamic row
+
+padded-field : (n : ℕ) (v : List ℕ) → length v ≡ n → (b : Bool) → is_shorter n (length (trimmed_end v)) ≡ b → PacksField SkipEndspace n b v (cond b (skip_length n (length (trimmed_end v)) ++ trimmed_end v) v)
+padded-field n v l true e =
+    let s = shorter-has n (length (trimmed_end v)) e in
+    let few : length (skip_length n (length (trimmed_end v))) + length (trimmed_end v) < n = s.1 in
+    (skip_length n (length (trimmed_end v)), trimmed_end v, omega arith, skip-is n (length (trimmed_end v)) s.0, end-again v ∙ ap (λ (k : ℕ). trimmed_end v ++ spaces (k - length (trimmed_end v))) l, refl)
+padded-field n v l false e = (l, refl)
+
+led-field : (n : ℕ) (v : List ℕ) → length v ≡ n → (b : Bool) → is_shorter n (length (trimmed_start v)) ≡ b → PacksField SkipPrespace n b v (cond b (skip_length n (length (trimmed_start v)) ++ trimmed_start v) v)
+led-field n v l true e =
+    let s = shorter-has n (length (trimmed_start v)) e in
+    let few : length (skip_length n (length (trimmed_start v))) + length (trimmed_start v) < n = s.1 in
+    (skip_length n (length (trimmed_start v)), trimmed_start v, omega arith, skip-is n (length (trimmed_start v)) s.0, start-again v ∙ ap (λ (k : ℕ). spaces (k - length (trimmed_start v)) ++ trimmed_start v) l, refl)
+led-field n v l false e = (l, refl)
+
+zero-field : (n : ℕ) (v : List ℕ) → length v ≡ n → (b : Bool) → is_all 0 v ≡ b → PacksField SkipZero n b v (cond b [] v)
+zero-field n v l true e = (all-one 0 v e ∙ ap (λ (k : ℕ). replicate k 0) l, refl)
+zero-field n v l false e = (l, refl)
+
+empty : (v : List ℕ) → length v ≡ 0 → v ≡ []
+empty [] e = refl
+empty (x ∷ v) e = absurd (omega arith)
+
+blob-field : (n : ℕ) (v : List ℕ) → length v < 256 ^ (n - 8) → (b : Bool) → (length v == 0) ≡ b → PacksField Blob n b v (cond b [] (low_num_bytes (n - 8) (length v) ++ v))
+blob-field n v l true e = (empty v (eqb-true _ _ e), refl)
+blob-field n v l false e = (low_num_bytes (n - 8) (length v), (l, refl), refl)
+
+pub field-spelled : (kind : FieldKind) (n : ℕ) (v : List ℕ) → fits_field Dynamic kind n v ≡ true → PacksField kind n (field_flag kind n v) v (field_bytes kind n v)
+field-spelled Normal n v h = (eqb-true _ _ h, refl)
+field-spelled SkipEndspace n v h = padded-field n v (eqb-true _ _ h) (is_shorter n (length (trimmed_end v))) refl
+field-spelled SkipPrespace n v h = led-field n v (eqb-true _ _ h) (is_shorter n (length (trimmed_start v))) refl
+field-spelled SkipZero n v h = zero-field n v (eqb-true _ _ h) (is_all 0 v) refl
+field-spelled Blob n v h = blob-field n v (ltb-true _ _ h) (length v == 0) refl
+field-spelled Varchar n v h = let b = both _ _ h in (varchar_length n (length v), leb-true _ _ b.0, varchar-is n (length v) (ltb-true _ _ b.1), refl)
+
+padded-least : (n : ℕ) (v x : List ℕ) → IsPadded n v x → length (skipped_bytes n (trimmed_end v) v) ≤ length x
+padded-least n v x h =
+    let p = h.0 in let c = h.1 in
+    let few : length c < n = h.2 in
+    let m = n - length c in
+    let l : length v ≡ n = omega (arith, ap length h.4, length-append h.1 (spaces (n - length h.1)), length-replicate {A = ℕ}) in
+    let less : length (trimmed_end v) ≤ length c = omega (arith, ap (λ (y : List ℕ). length (trimmed_end y)) h.4, end-least c (n - length c)) in
+    omega (arith, ap length h.5, skipped-least n (trimmed_end v) c p v l less h.3)
+
+led-least : (n : ℕ) (v x : List ℕ) → IsLed n v x → length (skipped_bytes n (trimmed_start v) v) ≤ length x
+led-least n v x h =
+    let p = h.0 in let c = h.1 in
+    let few : length c < n = h.2 in
+    let l : length v ≡ n = omega (arith, ap length h.4, length-append (spaces (n - length h.1)) h.1, length-replicate {A = ℕ}) in
+    let less : length (trimmed_start v) ≤ length c = omega (arith, ap (λ (y : List ℕ). length (trimmed_start y)) h.4, start-least (n - length c) c) in
+    omega (arith, ap length h.5, skipped-least n (trimmed_start v) c p v l less h.3)
+
+zero-least : (n : ℕ) (v : List ℕ) → length (cond (is_all 0 v) [] v) ≤ length v
+zero-least n v = by (is_all 0 v)
+  where
+    by : (b : Bool) → length (cond b [] v) ≤ length v
+    by true = omega arith
+    by false = omega arith
+
+blob-least : (n : ℕ) (v : List ℕ) → length (cond (length v == 0) [] (low_num_bytes (n - 8) (length v) ++ v)) ≤ length (low_num_bytes (n - 8) (length v) ++ v)
+blob-least n v = by (length v == 0)
+  where
+    by : (b : Bool) → length (cond b [] (low_num_bytes (n - 8) (length v) ++ v)) ≤ length (low_num_bytes (n - 8) (length v) ++ v)
+    by true = omega arith
+    by false = omega arith
+
+pub field-least : (kind : FieldKind) (n : ℕ) (bit : Bool) (v x : List ℕ) → PacksField kind n bit v x → length (field_bytes kind n v) ≤ length x
+field-least Normal n bit v x h = omega (arith, ap length h.1)
+field-least SkipEndspace n true v x h = padded-least n v x h
+field-least SkipEndspace n false v x h = omega (arith, ap length h.1, plain-least n (trimmed_end v) v h.0)
+field-least SkipPrespace n true v x h = led-least n v x h
+field-least SkipPrespace n false v x h = omega (arith, ap length h.1, plain-least n (trimmed_start v) v h.0)
+field-least SkipZero n true v x h = let e : is_all 0 v ≡ true = ap (is_all 0) h.0 ∙ all-replicate 0 n in rw e (omega arith)
+field-least SkipZero n false v x h = omega (arith, ap length h.1, zero-least n v)
+field-least Blob n true v x h = rw (h.0) (omega arith)
+field-least Blob n false v x h = omega (arith, ap length h.2, ap length h.1.1, length-append h.0 v, length-append (low_num_bytes (n - 8) (length v)) v, blob-least n v)
+field-least Varchar n bit v x h = omega (arith, ap length h.3, length-append h.0 v, length-append (varchar_length n (length v)) v, varchar-least n (length v) h.0 h.2)
+
+padded-length : (n : ℕ) (v x : List ℕ) → IsPadded n v x → length v ≡ n
+padded-length n v x h = let few : length h.1 < n = h.2 in omega (arith, ap length h.4, length-append h.1 (spaces (n - length h.1)), length-replicate {A = ℕ})
+
+led-length : (n : ℕ) (v x : List ℕ) → IsLed n v x → length v ≡ n
+led-length n v x h = let few : length h.1 < n = h.2 in omega (arith, ap length h.4, length-append (spaces (n - length h.1)) h.1, length-replicate {A = ℕ})
+
+pub and : (a b : Bool) → a ≡ true → b ≡ true → (a && b) ≡ true
+and a b h g = rw (h, g) refl
+
+pub field-fits : (kind : FieldKind) (n : ℕ) (bit : Bool) (v x : List ℕ) → PacksField kind n bit v x → fits_field Dynamic kind n v ≡ true
+field-fits Normal n bit v x h = eq-eqb _ _ h.0
+field-fits SkipEndspace n true v x h = eq-eqb _ _ (padded-length n v x h)
+field-fits SkipEndspace n false v x h = eq-eqb _ _ h.0
+field-fits SkipPrespace n true v x h = eq-eqb _ _ (led-length n v x h)
+field-fits SkipPrespace n false v x h = eq-eqb _ _ h.0
+field-fits SkipZero n true v x h = eq-eqb _ _ (ap length h.0 ∙ length-replicate n 0)
+field-fits SkipZero n false v x h = eq-eqb _ _ h.0
+field-fits Blob n true v x h = let some : 0 < 256 ^ (n - 8) = pow-some (n - 8) in rw (h.0) (lt-ltb _ _ some)
+  where
+    pow-some : (k : ℕ) → 0 < 256 ^ k
+    pow-some k = one-le-pow k 256 (omega arith)
+field-fits Blob n false v x h = lt-ltb _ _ h.1.0
+field-fits Varchar n bit v x h =
+    let few : length v + length_bytes n ≤ n = h.1 in
+    and _ _ (le-leb _ _ few) (lt-ltb _ _ (below h.2))
+  where
+    below : IsVarcharLength n (length v) h.0 → length v < 65536
+    below (inr g) = g.1
+    below (inl g) = elim g.0 [ inl a ↦ omega (arith, h.1) | inr a ↦ omega arith ]
+
+-- ---- a field of a static row
+
+pub slot-spelled : (kind : FieldKind) (n : ℕ) (v : List ℕ) → fits_field Static kind n v ≡ true → FillsField kind n v (slot_bytes kind n v)
+slot-spelled Normal n v h = (eqb-true _ _ h, refl)
+slot-spelled SkipEndspace n v h = (eqb-true _ _ h, refl)
+slot-spelled SkipPrespace n v h = (eqb-true _ _ h, refl)
+slot-spelled SkipZero n v h = (eqb-true _ _ h, refl)
+slot-spelled Blob n v h = absurd cc
+slot-spelled Varchar n v h =
+    let b = both _ _ h in
+    let few : length v + length_bytes n ≤ n = leb-true _ _ b.0 in
+    let short : length v < 65536 = ltb-true _ _ b.1 in
+    (low_num_bytes (length_bytes n) (length v), replicate (n - (length_bytes n + length v)) 0, few, (below (nat_le n 256) refl few short, refl), length-slot_bytes Varchar n v h, refl)
+  where
+    below : (b : Bool) → nat_le n 256 ≡ b → length v + cond b 1 2 ≤ n → length v < 65536 → length v < 256 ^ cond b 1 2
+    below true e few short = let le = leb-true n 256 e in omega arith
+    below false e few short = short
+
+pub slot-fits : (kind : FieldKind) (n : ℕ) (v x : List ℕ) → FillsField kind n v x → fits_field Static kind n v ≡ true
+slot-fits Normal n v x h = eq-eqb _ _ h.0
+slot-fits SkipEndspace n v x h = eq-eqb _ _ h.0
+slot-fits SkipPrespace n v x h = eq-eqb _ _ h.0
+slot-fits SkipZero n v x h = eq-eqb _ _ h.0
+slot-fits Blob n v x h = absurd h
+slot-fits Varchar n v x h = let few : length v + length_bytes n ≤ n = h.2 in and _ _ (le-leb _ _ few) (lt-ltb _ _ (below (nat_le n 256) h.3.0))
+  where
+    below : (b : Bool) → length v < 256 ^ cond b 1 2 → length v < 65536
+    below true l = omega arith
+    below false l = l

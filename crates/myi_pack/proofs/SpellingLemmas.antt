@@ -82,7 +82,7 @@ kept_at v n inside (inr ne) same = by (nat_le 1 n) refl
 
 -- ---- a slot
 
-both : (a b : Bool) → (a && b) ≡ true → (a ≡ true) × (b ≡ true)
+pub both : (a b : Bool) → (a && b) ≡ true → (a ≡ true) × (b ≡ true)
 both true b e = (refl, e)
 both false b e = absurd cc
 
@@ -120,7 +120,7 @@ first-varchar n v = first-low (length_bytes n) (length v) _ (some (nat_le n 256)
     some true = omega arith
     some false = omega arith
 
-first-append : (x y : List ℕ) → 0 < length x → get_or (x ++ y) 0 0 ≡ get_or x 0 0
+pub first-append : (x y : List ℕ) → 0 < length x → get_or (x ++ y) 0 0 ≡ get_or x 0 0
 first-append [] y h = absurd (omega arith)
 first-append (a ∷ x) y h = refl
 

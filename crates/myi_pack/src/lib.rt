@@ -11,11 +11,13 @@
 #![tactic(auto)]
 
 mod fields;
+mod laws;
 mod packing;
 mod row;
 mod values;
 
 pub use fields::FieldView;
+pub use laws::{packings_are_read, spellings_are_shortest};
 pub use packing::{fits, pack};
 pub use row::{RowFields, RowView, view};
 pub use values::{Row, Value, unpack};
