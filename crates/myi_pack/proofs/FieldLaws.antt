@@ -80,8 +80,10 @@ skip-takes n (x ∷ b) k r bytes e = by (nat_le n 255 || nat_lt x 128) refl e
   where
     told : ℕ × List ℕ
     told = (k, r)
+
     read : List ℕ × List ℕ → ℕ × List ℕ
     read q = (x - 128 + slice_index q.0 0 * 128, q.1)
+
     by : (t : Bool) → (nat_le n 255 || nat_lt x 128) ≡ t → cond t (Some (x, b)) (option_map read (cut 1 b)) ≡ Some told → (p : List ℕ) × (x ∷ b ≡ p ++ r) × IsSkipLength n k p
     by true h e =
         let here : ℕ × List ℕ = (x, b) in
@@ -111,6 +113,7 @@ skip-again n k p r (inl h) = rw h.1 (first-way (nat_le n 255) (nat_lt k 128) (So
   where
     here : ℕ × List ℕ
     here = (k, r)
+
     more : Told
     more = option_map (λ q. (k - 128 + slice_index q.0 0 * 128, q.1)) (cut 1 r)
 skip-again n k p r (inr h) =
@@ -129,8 +132,10 @@ varchar-takes n (x ∷ b) k r bytes e = by (nat_le n 256 || nat_lt x 255) refl e
   where
     told : ℕ × List ℕ
     told = (k, r)
+
     read : List ℕ × List ℕ → ℕ × List ℕ
     read q = (num 2 q.0, q.1)
+
     by : (t : Bool) → (nat_le n 256 || nat_lt x 255) ≡ t → cond t (Some (x, b)) (option_map read (cut 2 b)) ≡ Some told → (p : List ℕ) × (x ∷ b ≡ p ++ r) × IsVarcharLength n k p
     by true h e =
         let here : ℕ × List ℕ = (x, b) in
@@ -159,6 +164,7 @@ varchar-again n k p r (inl h) = rw h.1 (first-way (nat_le n 256) (nat_lt k 255) 
   where
     here : ℕ × List ℕ
     here = (k, r)
+
     more : Told
     more = option_map (λ q. (num 2 q.0, q.1)) (cut 2 r)
 varchar-again n k p r (inr h) =

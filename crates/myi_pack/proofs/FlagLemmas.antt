@@ -208,15 +208,15 @@ unfolding flag_at
 flag-packed zero bs k h = absurd (omega arith)
 flag-packed (suc n) bs k h = elim (cases_lt k 8) [
   | inl lt ↦
-    let q : k / 8 ≡ 0 = omega arith in
-    let r : k % 8 ≡ k = omega arith in
-    rw (q, r) (bit-of-byte (take 8 bs) k ∙ get_or-take 8 bs k false lt)
+      let q : k / 8 ≡ 0 = omega arith in
+      let r : k % 8 ≡ k = omega arith in
+      rw (q, r) (bit-of-byte (take 8 bs) k ∙ get_or-take 8 bs k false lt)
   | inr le ↦
-    let q : k / 8 ≡ suc ((k - 8) / 8) = omega arith in
-    let r : k % 8 ≡ (k - 8) % 8 = omega arith in
-    let at : 8 + (k - 8) ≡ k = omega arith in
-    rw (q, r) (flag-packed n (drop 8 bs) (k - 8) (omega arith) ∙ get_or-drop 8 bs (k - 8) false ∙ ap (λ i. get_or bs i false) at)
-  ]
+      let q : k / 8 ≡ suc ((k - 8) / 8) = omega arith in
+      let r : k % 8 ≡ (k - 8) % 8 = omega arith in
+      let at : 8 + (k - 8) ≡ k = omega arith in
+      rw (q, r) (flag-packed n (drop 8 bs) (k - 8) (omega arith) ∙ get_or-drop 8 bs (k - 8) false ∙ ap (λ i. get_or bs i false) at)
+]
 
 pub length-packed : (n : ℕ) (bs : List Bool) → length (packed_bits n bs) ≡ n
 length-packed zero bs = refl
@@ -250,6 +250,6 @@ unfolding flag_at
 spare-packed n bs k h = elim (cases_lt k (8 * n)) [
   | inl lt ↦ flag-packed n bs k lt ∙ past bs k h
   | inr le ↦
-    let z : get_or (packed_bits n bs) (k / 8) 0 ≡ 0 = no-byte (packed_bits n bs) (k / 8) (omega (arith, length-packed n bs)) in
-    rw z (bit-clear (k % 8))
-  ]
+      let z : get_or (packed_bits n bs) (k / 8) 0 ≡ 0 = no-byte (packed_bits n bs) (k / 8) (omega (arith, length-packed n bs)) in
+      rw z (bit-clear (k % 8))
+]

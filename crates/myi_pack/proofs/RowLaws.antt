@@ -96,11 +96,11 @@ spare-clear count flags n bytes h = by (count % 8 == 0) refl
     by false e =
         let i = count % 8 in
         let far : (j : ℕ) → i ≤ j → j < 8 → (slice_index flags (count / 8) / 2 ^ j % 2 == 1) ≡ false = λ j l lt.
-          let k = 8 * (count / 8) + j in
-          let q : (8 * (count / 8) + j) / 8 ≡ count / 8 = omega arith in
-          let r : (8 * (count / 8) + j) % 8 ≡ j = omega arith in
-          let c = h (8 * (count / 8) + j) (omega arith) in
-          rw (q, r) at c in
+        let k = 8 * (count / 8) + j in
+        let q : (8 * (count / 8) + j) / 8 ≡ count / 8 = omega arith in
+        let r : (8 * (count / 8) + j) % 8 ≡ j = omega arith in
+        let c = h (8 * (count / 8) + j) (omega arith) in
+        rw (q, r) at c in
         lt-ltb _ _ (above (8 - count % 8) (count % 8) (slice_index flags (count / 8)) (omega arith) (bytes (count / 8)) far)
 
 clear-above : (x i j : ℕ) → x < 2 ^ i → i ≤ j → (x / 2 ^ j % 2 == 1) ≡ false

@@ -92,12 +92,20 @@ spelled-dynamic fs vs fit =
       whole = refl;
       count = length-packed n bits;
       spare = λ k le. spare-packed n bits k (omega arith);
-      fields = fields-spelled fs 0 (packed_bits n bits) vs fit (λ i lt. ap (flag_at (packed_bits n bits)) (omega arith) ∙ flag-packed n bits i (omega arith)) }
+      fields = fields-spelled fs 0 (packed_bits n bits) vs fit (λ i lt. ap (flag_at (packed_bits n bits)) (omega arith) ∙ flag-packed n bits i (omega arith));
+    }
 
 dynamic-least : (fs : List Field) (vs : Values) (b : List ℕ) → IsDynamicRow fs vs b → length (packed_bits (flag_bytes (flag_count fs)) (flags_of fs vs) ++ spelled_fields Dynamic fs vs) ≤ length b
 dynamic-least fs vs b h =
-    omega (arith, ap length h.whole, length-append h.flags h.content, h.count, length-append (packed_bits (flag_bytes (flag_count fs)) (flags_of fs vs)) (spelled_fields Dynamic fs vs),
-      length-packed (flag_bytes (flag_count fs)) (flags_of fs vs), fields-least fs 0 h.flags vs h.content h.fields)
+    omega (
+      arith,
+      ap length h.whole,
+      length-append h.flags h.content,
+      h.count,
+      length-append (packed_bits (flag_bytes (flag_count fs)) (flags_of fs vs)) (spelled_fields Dynamic fs vs),
+      length-packed (flag_bytes (flag_count fs)) (flags_of fs vs),
+      fields-least fs 0 h.flags vs h.content h.fields,
+    )
 
 -- ---- a static row
 
@@ -146,7 +154,8 @@ spelled-static d row e sound fit told =
       whole = refl;
       slot = length-filled d.slot_length (spelled_fields Static d.fields row) (omega (arith, sound.total));
       read = told;
-      fields = slots-spelled d.fields 0 [] row fit }
+      fields = slots-spelled d.fields 0 [] row fit;
+    }
 
 -- ---- the row
 
@@ -202,8 +211,8 @@ row-fits d row b sound h = by d.format refl h
         let l = subst L e sound.lengths in
         let some = first-slots d.fields row sound.some_fields l fit in
         let spelled : slice_index (spelled_row Static d row) 0 ≡ slice_index b 0 =
-          first-append (spelled_fields Static d.fields row) (replicate (d.slot_length - length (spelled_fields Static d.fields row)) 0) some
-          ∙ sym (first-held d.fields 0 [] row t.content t.rest sound.some_fields l t.fields) ∙ ap (λ (y : List ℕ). get_or y 0 0) (sym t.whole) in
+        first-append (spelled_fields Static d.fields row) (replicate (d.slot_length - length (spelled_fields Static d.fields row)) 0) some
+        ∙ sym (first-held d.fields 0 [] row t.content t.rest sound.some_fields l t.fields) ∙ ap (λ (y : List ℕ). get_or y 0 0) (sym t.whole) in
         let told : slice_index (spelled_row Static d row) 0 ≢ 0 = λ z. t.read (sym spelled ∙ z) in
         let P : RowFormat → Type 0 = λ format. slice_index (spelled_row format d row) 0 ≢ 0 in
         and _ _ fit (told-zero _ (subst P (sym e) told))

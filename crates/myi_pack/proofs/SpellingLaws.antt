@@ -113,6 +113,7 @@ skip-most n k = elim (sizes n k) [ inl a ↦ one a | inr a ↦ two a.0 a.1 ]
   where
     one : n ≤ 255 ⊎ (k < 128) → length (skip_length n k) ≤ 2
     one a = omega (arith, ap length (skip-one n k a))
+
     two : 255 < n → 128 ≤ k → length (skip_length n k) ≤ 2
     two a b = omega (arith, ap length (skip-two n k a b))
 

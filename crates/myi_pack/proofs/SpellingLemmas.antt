@@ -76,7 +76,7 @@ kept_at v n inside (inr ne) same = by (nat_le 1 n) refl
         let e = last_at v n some inside in
         let f : (get_or v (n - 1) 0 == 32) ≡ false = ne_eqb _ _ ne in
         e ∙ sym (ap trimmed_end e ∙ trim-kept (take (n - 1) v) (get_or v (n - 1) 0) f) ∙ same
-    by false h = 
+    by false h =
         let z : n ≡ 0 = omega (arith, leb-false 1 n h) in
         let P : ℕ → Type 0 = λ k. trimmed_end (take k v) ≡ trimmed_end v in let e : [] ≡ trimmed_end v = subst P z same in ap (λ (k : ℕ). take k v) z ∙ e
 

@@ -15,7 +15,7 @@ set_flag-requires c =
     let f = get_or c.args.fields.now c.loop-field.field-index _ in
     let g = first-field c.args.fields.now c.loop-field.field-index _ f c.loop-field-test.true refl in
     λ t. let k : c.loop-field.k / 8 < m = room f _ _ c.as_slice.result.now c.loop-field.k _ m c.in_ok-bit.bit g c.loop-field.invariant.count c.requires.room c.in_ok-bit.ensures.flag t in
-      omega (arith, ap length c.in_ok-bit.ensures.bytes, length-append {A = ℕ})
+    omega (arith, ap length c.in_ok-bit.ensures.bytes, length-append {A = ℕ})
 
 pub loop-field-preserved : goal.loop-field-preserved
 loop-field-preserved c =
@@ -31,4 +31,5 @@ loop-field-preserved c =
       long = omega (arith, c.loop-field.invariant.long);
       same = step m c.loop-field.k c.next_flag-k.result c.in_ok-bit.bit f _ _ c.as_slice.result.now c.loop-field.rest.now _ c.loop-field.out.items c.push_field.new.out.items c.set_flag.new.out.items g u c.loop-field.invariant.long
           (room f _ _ c.as_slice.result.now c.loop-field.k _ m c.in_ok-bit.bit g c.loop-field.invariant.count c.requires.room c.in_ok-bit.ensures.flag)
-          c.in_ok-bit.ensures.bytes c.in_ok-bit.ensures.flag c.set_flag.ensures c.next_flag-k.ensures.value ∙ c.loop-field.invariant.same }
+          c.in_ok-bit.ensures.bytes c.in_ok-bit.ensures.flag c.set_flag.ensures c.next_flag-k.ensures.value ∙ c.loop-field.invariant.same;
+    }
