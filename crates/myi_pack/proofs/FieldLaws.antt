@@ -1,9 +1,9 @@
 -- One field: what is read stands there by the relation, and what stands there is read.
-use Rattle.std.proofs.Common.{◌≡◌, ◌≢◌, ℕ, zero, suc, ◌+◌, ◌-◌, ◌*◌, ◌/◌, ◌%◌, ◌^◌, ◌<◌, ◌≤◌, Bool, true, false, cond, List, [], ◌∷◌, ◌++◌, length, get_or, take, drop, replicate, Option, Some, None, refl, sym, ap, subst, ◌∙◌, arith, inl, inr, ◌⊎◌, length-append, append-nil, append_assoc}
-use Rattle.std.specs.Prelude.{◌&&◌, ◌||◌, ◌==◌, nat_lt, nat_le, slice_index, option_and_then}
+use Rattle.std.proofs.Common.{◌≡◌, ℕ, ◌+◌, ◌-◌, ◌*◌, ◌/◌, ◌%◌, ◌^◌, ◌<◌, ◌≤◌, Bool, true, false, cond, List, [], ◌∷◌, ◌++◌, length, get_or, take, drop, replicate, Option, Some, None, refl, sym, ap, subst, ◌∙◌, arith, inl, inr, ◌⊎◌, length-append, append-nil, append_assoc}
+use Rattle.std.specs.Prelude.{◌||◌, nat_lt, nat_le, slice_index, option_and_then}
 use Rattle.std.specs.Option.{option_map}
-use Rattle.std.proofs.lemmas.Bool.{leb-true, leb-false, le-leb, ltb-true, ltb-false, lt-ltb, le-ltb, lt-leb, eqb-true, eq-eqb}
-use Rattle.std.proofs.lemmas.List.{take_at, drop_at, take_all, take-append-drop, length-take, length-drop, length-replicate}
+use Rattle.std.proofs.lemmas.Bool.{leb-true, leb-false, le-leb, ltb-true, ltb-false, lt-ltb, le-ltb, lt-leb}
+use Rattle.std.proofs.lemmas.List.{take_at, drop_at, take_all, take-append-drop, length-take}
 use Rattle.myi_base.specs.Numbers.{AreBytes, num, num_bytes, low_num, low_num_bytes}
 use Rattle.myi_base.proofs.NumberLaws.{length-num_bytes, length-low_num_bytes, num-num_bytes, low_num-low_num_bytes, num-below, low_num-below, num_bytes-num, low_num_bytes-low_num, bytes-take, bytes-drop}
 use Rattle.myi_defs.specs.declared.types.RowFormat.{RowFormat}
@@ -12,8 +12,8 @@ use Rattle.myi_defs.specs.declared.types.FieldKind.{FieldKind}
 use Rattle.myi_defs.specs.declared.types.FieldKind.TheVariants.{Normal, SkipEndspace, SkipPrespace, SkipZero, Blob, Varchar}
 use Rattle.myi_defs.specs.Sound.{IsLengthOf}
 use Rattle.myi_pack.specs.Lengths.{IsSkipLength, IsVarcharLength, IsLowLength, length_bytes}
-use Rattle.myi_pack.specs.Packed.{spaces, IsPlain, PacksField, FillsField, HoldsField}
-use Rattle.myi_pack.specs.Reading.{Cut, Told, cut, cut_told, cut_few, skip_told, varchar_told, low_told, padded, led, with_value, packed_field, filled_varchar, value_before, filled_field, held_field}
+use Rattle.myi_pack.specs.Packed.{IsPlain, PacksField, FillsField, HoldsField}
+use Rattle.myi_pack.specs.Reading.{Cut, Told, cut, cut_few, skip_told, varchar_told, low_told, padded, led, with_value, packed_field, filled_varchar, value_before, filled_field, held_field}
 
 -- ---- options and tests
 

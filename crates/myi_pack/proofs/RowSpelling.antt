@@ -1,24 +1,24 @@
 -- The spelling of a whole row packs it, no packing is shorter, and what is packed fits.
-use Rattle.std.proofs.Common.{◌≡◌, ◌≢◌, ℕ, zero, suc, ◌+◌, ◌-◌, ◌*◌, ◌/◌, ◌%◌, ◌^◌, ◌<◌, ◌≤◌, Bool, true, false, not, cond, List, [], ◌∷◌, ◌++◌, length, get_or, take, drop, replicate, Some, refl, sym, ap, subst, ◌∙◌, arith, inl, inr, ◌⊎◌, length-append, append-nil, append_assoc}
-use Rattle.std.specs.Prelude.{◌&&◌, ◌||◌, ◌==◌, nat_le, slice_index, All, option_and_then}
-use Rattle.std.proofs.lemmas.Bool.{eqb-true, eq-eqb, eqb-false, ne_eqb}
+use Rattle.std.proofs.Common.{◌≡◌, ◌≢◌, ℕ, zero, suc, ◌+◌, ◌-◌, ◌<◌, ◌≤◌, Bool, true, false, not, cond, List, [], ◌∷◌, ◌++◌, length, get_or, replicate, Some, refl, sym, ap, subst, ◌∙◌, arith, length-append, append_assoc}
+use Rattle.std.specs.Prelude.{◌&&◌, ◌==◌, nat_le, slice_index, All, option_and_then}
+use Rattle.std.proofs.lemmas.Bool.{ne_eqb}
 use Rattle.std.proofs.lemmas.List.{length-replicate}
 use Rattle.std.proofs.lemmas.List.Elements.{All-head}
-use Rattle.myi_base.specs.Numbers.{AreBytes, low_num_bytes}
+use Rattle.myi_base.specs.Numbers.{low_num_bytes}
 use Rattle.myi_defs.specs.declared.types.RowFormat.{RowFormat}
 use Rattle.myi_defs.specs.declared.types.RowFormat.TheVariants.{Static, Dynamic}
 use Rattle.myi_defs.specs.declared.types.FieldKind.{FieldKind}
 use Rattle.myi_defs.specs.declared.types.FieldKind.TheVariants.{Normal, SkipEndspace, SkipPrespace, SkipZero, Blob, Varchar}
 use Rattle.myi_defs.specs.declared.types.Field.{Field}
 use Rattle.myi_defs.specs.declared.types.Defs.{Defs}
-use Rattle.myi_defs.specs.Sound.{IsLengthOf, IsSound, fields_length}
+use Rattle.myi_defs.specs.Sound.{IsLengthOf, IsSound}
 use Rattle.myi_pack.specs.Lengths.{length_bytes}
 use Rattle.myi_pack.specs.Flags.{has_flag, flag_at, next_flag, flag_count, flag_bytes, packed_bits}
 use Rattle.myi_pack.specs.Packed.{Values, PacksField, FillsField, HoldsField, HoldsFields, IsDynamicRow, IsStaticRow, IsRow, Packs}
 use Rattle.myi_pack.specs.Reading.{row_of, ended, fields_of, parts_of}
-use Rattle.myi_pack.specs.Spelling.{field_flag, field_bytes, slot_bytes, spelled_field, spelled_fields, flags_of, filled, spelled_row, spelling, fits_field, fits_fields, is_told, fits}
+use Rattle.myi_pack.specs.Spelling.{field_flag, field_bytes, slot_bytes, spelled_fields, flags_of, filled, spelled_row, spelling, fits_field, fits_fields, is_told, fits}
 use Rattle.myi_pack.proofs.FlagLemmas.{few-flags, flag-packed, length-packed, bytes-packed, spare-packed}
-use Rattle.myi_pack.proofs.SpellingLemmas.{both, length-slot_bytes, length-slots, first-low, first-varchar, first-append, first-slots, fits-static}
+use Rattle.myi_pack.proofs.SpellingLemmas.{both, length-slot_bytes, length-slots, first-low, first-varchar, first-append, first-slots}
 use Rattle.myi_pack.proofs.SpellingLaws.{field-spelled, field-least, field-fits, slot-spelled, slot-fits, and}
 use Rattle.myi_pack.proofs.RowLaws.{dynamic-again, static-again}
 

@@ -1,23 +1,18 @@
 -- The spelling packs its row, no packing is shorter, and what is packed fits.
-use Rattle.std.proofs.Common.{◌≡◌, ◌≢◌, ℕ, zero, suc, ◌+◌, ◌-◌, ◌*◌, ◌/◌, ◌%◌, ◌^◌, ◌<◌, ◌≤◌, Bool, true, false, not, cond, List, [], ◌∷◌, ◌++◌, length, get_or, take, drop, replicate, refl, sym, ap, subst, ◌∙◌, arith, inl, inr, ◌⊎◌, length-append, append-nil, append_assoc}
-use Rattle.std.specs.Prelude.{◌&&◌, ◌||◌, ◌==◌, nat_lt, nat_le, slice_index, All}
-use Rattle.std.proofs.lemmas.Bool.{leb-true, leb-false, le-leb, ltb-true, ltb-false, lt-ltb, le-ltb, lt-leb, eqb-true, eq-eqb, eqb-false, ne_eqb, cases_lt}
+use Rattle.std.proofs.Common.{◌≡◌, ℕ, zero, suc, ◌+◌, ◌-◌, ◌/◌, ◌%◌, ◌^◌, ◌<◌, ◌≤◌, Bool, true, false, cond, List, [], ◌∷◌, ◌++◌, length, replicate, refl, sym, ap, ◌∙◌, arith, inl, inr, ◌⊎◌, length-append}
+use Rattle.std.specs.Prelude.{◌&&◌, ◌||◌, ◌==◌, nat_lt, nat_le}
+use Rattle.std.proofs.lemmas.Bool.{leb-true, leb-false, le-leb, ltb-true, ltb-false, lt-ltb, le-ltb, lt-leb, eqb-true, eq-eqb, cases_lt}
 use Rattle.std.proofs.lemmas.List.{length-replicate}
 use Rattle.std.proofs.Math.Nat.{one-le-pow}
 use Rattle.myi_pack.proofs.SpellingLemmas.{length-slot_bytes}
 use Rattle.myi_base.specs.Numbers.{num_bytes, low_num_bytes}
-use Rattle.myi_base.proofs.NumberLaws.{length-num_bytes, length-low_num_bytes}
-use Rattle.myi_defs.specs.declared.types.RowFormat.{RowFormat}
+use Rattle.myi_base.proofs.NumberLaws.{length-num_bytes}
 use Rattle.myi_defs.specs.declared.types.RowFormat.TheVariants.{Static, Dynamic}
 use Rattle.myi_defs.specs.declared.types.FieldKind.{FieldKind}
 use Rattle.myi_defs.specs.declared.types.FieldKind.TheVariants.{Normal, SkipEndspace, SkipPrespace, SkipZero, Blob, Varchar}
-use Rattle.myi_defs.specs.declared.types.Field.{Field}
-use Rattle.myi_defs.specs.declared.types.Defs.{Defs}
-use Rattle.myi_defs.specs.Sound.{IsLengthOf}
-use Rattle.myi_pack.specs.Lengths.{IsSkipLength, IsVarcharLength, IsLowLength, length_bytes}
-use Rattle.myi_pack.specs.Flags.{has_flag, flag_at, next_flag}
-use Rattle.myi_pack.specs.Packed.{Values, spaces, IsPlain, IsPadded, IsLed, PacksField, FillsField, HoldsField, HoldsFields}
-use Rattle.myi_pack.specs.Spelling.{is_all, trimmed_end, trimmed_start, skip_length, is_shorter, skipped_bytes, varchar_length, field_flag, field_bytes, slot_bytes, spelled_field, spelled_fields, flags_of, fits_field, fits_fields}
+use Rattle.myi_pack.specs.Lengths.{IsSkipLength, IsVarcharLength, length_bytes}
+use Rattle.myi_pack.specs.Packed.{spaces, IsPadded, IsLed, PacksField, FillsField}
+use Rattle.myi_pack.specs.Spelling.{is_all, trimmed_end, trimmed_start, skip_length, is_shorter, skipped_bytes, varchar_length, field_flag, field_bytes, slot_bytes, fits_field}
 
 both : (a b : Bool) → (a && b) ≡ true → (a ≡ true) × (b ≡ true)
 both true b e = (refl, e)

@@ -1,8 +1,7 @@
 -- What a walk over the values of a row has before it.
-use Rattle.std.proofs.Common.{◌≡◌, ℕ, zero, suc, ◌+◌, ◌-◌, ◌<◌, ◌≤◌, List, [], ◌∷◌, ◌++◌, length, get_or, drop, replicate, Option, Some, None, refl, sym, ap, subst, ◌∙◌, arith, add-one, rules, length-append}
+use Rattle.std.proofs.Common.{◌≡◌, ℕ, suc, ◌+◌, ◌-◌, ◌<◌, List, [], ◌∷◌, ◌++◌, length, get_or, drop, replicate, Option, Some, None, refl, sym, ap, subst, ◌∙◌, arith, rules, length-append}
 use Rattle.std.specs.Prelude.{IsSome}
 use Rattle.std.proofs.lemmas.List.{length-replicate, length-drop, drop-drop, get_or-drop}
-use Rattle.std.proofs.Math.Seq.{drop-cons}
 use Rattle.myi_pack.specs.declared.fields.FieldView.{FieldView}
 use Rattle.myi_pack.specs.declared.fields.FieldView.TheVariants as views
 use Rattle.myi_pack.specs.Packed.{Values, spaces}
@@ -11,7 +10,7 @@ use Rattle.myi_defs.specs.declared.types.Field.{Field}
 use Rattle.myi_pack.specs.Flags.{flag_at, next_flag}
 use Rattle.myi_pack.specs.Reading.{Cut, put_front, then_fields, field_of, fields_of}
 use Rattle.myi_pack.specs.Left.{values_of, values_left}
-use Rattle.myi_pack.specs.Views.{shown, Shows, IsNext, IsNextShown}
+use Rattle.myi_pack.specs.Views.{shown, Shows, IsNext}
 
 pub next_some : (old : Values) (r : Option FieldView) (new : Values) → IsNext old r new → 0 < length old → IsSome r
 next_some [] r new h lt = absurd (omega arith)

@@ -1,6 +1,6 @@
 -- The lengths that stand before the content of a field (MySQL Internals Manual, "MyISAM Dynamic Data
 -- File Layout"), as relations: a field has n bytes in the definitions, and the bytes p give the length k.
-use Rattle.std.specs.Prelude.{◌≡◌, ◌≤◌, ◌<◌, ◌+◌, ◌-◌, ◌/◌, ◌%◌, ◌^◌, ℕ, nat_le, if◌then◌else◌, List, [], ◌∷◌, ◌⊎◌}
+use Rattle.std.specs.Prelude.{◌≡◌, ◌≤◌, ◌<◌, ◌+◌, ◌/◌, ◌%◌, ◌^◌, ℕ, nat_le, if◌then◌else◌, List, [], ◌∷◌, ◌⊎◌}
 use Rattle.myi_base.specs.Numbers.{num_bytes, low_num_bytes}
 
 -- of the content of a SKIP_ENDSPACE or SKIP_PRESPACE field: one byte, or, in a field of more than 255

@@ -9,7 +9,7 @@ use Rattle.myi_defs.specs.declared.types.FieldKind.TheVariants.{Normal, SkipEnds
 use Rattle.myi_defs.specs.declared.types.Field.{Field}
 use Rattle.myi_defs.specs.declared.types.Defs.{Defs}
 use Rattle.myi_pack.specs.Lengths.{IsSkipLength, IsVarcharLength, IsLowLength, length_bytes}
-use Rattle.myi_pack.specs.Flags.{has_flag, flag_count, flag_bytes, flag_at, next_flag}
+use Rattle.myi_pack.specs.Flags.{flag_count, flag_bytes, flag_at, next_flag}
 
 -- the values of a row, in the order of the fields
 abbrev pub Values : Type 0

@@ -1,6 +1,6 @@
 -- The one spelling that a writer gives a row: a flag is set exactly where that makes the row shorter, each
 -- length is the shortest, and what a static row does not need is zeros. And which rows have one.
-use Rattle.std.specs.Prelude.{◌≡◌, ◌≤◌, ◌+◌, ◌-◌, ◌/◌, ◌%◌, ◌^◌, ℕ, Bool, true, false, not, ◌&&◌, ◌||◌, ◌==◌, nat_le, nat_lt, if◌then◌else◌, List, [], ◌∷◌, ◌++◌, length, replicate, slice_index}
+use Rattle.std.specs.Prelude.{◌+◌, ◌-◌, ◌/◌, ◌%◌, ◌^◌, ℕ, Bool, true, false, not, ◌&&◌, ◌||◌, ◌==◌, nat_le, nat_lt, if◌then◌else◌, List, [], ◌∷◌, ◌++◌, length, replicate, slice_index}
 use Rattle.std.specs.List.{list_all}
 use Rattle.myi_base.specs.Numbers.{num_bytes, low_num_bytes}
 use Rattle.myi_defs.specs.declared.types.RowFormat.{RowFormat}

@@ -1,6 +1,5 @@
 -- What the views of fields show.
-use Rattle.std.specs.Prelude.{◌≡◌, ◌-◌, ℕ, List, [], ◌∷◌, ◌++◌, length, replicate, Option, Some, None, IsSome}
-use Rattle.std.specs.Option.{option_map}
+use Rattle.std.specs.Prelude.{◌≡◌, ◌-◌, ℕ, List, [], ◌∷◌, ◌++◌, length, replicate, Option, Some, None}
 use Rattle.myi_pack.specs.declared.fields.FieldView.{FieldView}
 use Rattle.myi_pack.specs.declared.fields.FieldView.TheVariants as views
 use Rattle.myi_pack.specs.Packed.{Values, spaces}

@@ -1,4 +1,4 @@
-use Rattle.std.proofs.Common.{sym, ◌∙◌, arith}
+use Rattle.std.proofs.Common.{sym, ◌∙◌}
 use Rattle.myi_pack.proofs.SpellingLemmas.{no_value}
 use Rattle.myi_pack.proofs.packing.fits_fields.Goals as goal
 

@@ -1,4 +1,3 @@
-use Rattle.std.proofs.Common.{arith}
 use Rattle.myi_defs.specs.declared.types.RowFormat.TheVariants.{Static}
 use Rattle.myi_pack.proofs.SpellingLemmas.{no_value}
 use Rattle.myi_pack.proofs.packing.is_told.Goals as goal

@@ -1,4 +1,4 @@
-use Rattle.std.proofs.Common.{arith, ◌≡◌, sym, subst, ℕ, List, drop}
+use Rattle.std.proofs.Common.{arith, ◌≡◌, subst, ℕ, drop}
 use Rattle.myi_pack.proofs.ViewLemmas.{goes_on, has_next, shows_here}
 use Rattle.myi_pack.proofs.row.RowView.field.Goals as goal
 
