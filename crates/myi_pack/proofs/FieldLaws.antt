@@ -13,7 +13,7 @@ use Rattle.myi_defs.specs.declared.types.FieldKind.TheVariants.{Normal, SkipEnds
 use Rattle.myi_defs.specs.Sound.{IsLengthOf}
 use Rattle.myi_pack.specs.Lengths.{IsSkipLength, IsVarcharLength, IsLowLength, length_bytes}
 use Rattle.myi_pack.specs.Packed.{IsPlain, PacksField, FillsField, HoldsField}
-use Rattle.myi_pack.specs.Reading.{Cut, Told, cut, cut_few, skip_told, varchar_told, low_told, padded, led, with_value, packed_field, filled_varchar, value_before, filled_field, held_field}
+use Rattle.myi_pack.specs.Reading.{Cut, Prefix, cut, cut_few, skip_prefix, varchar_prefix, low_prefix, padded, led, with_value, packed_field, filled_varchar, value_before, filled_field, held_field}
 
 -- ---- options and tests
 
@@ -74,7 +74,7 @@ one-cell [] e = absurd (omega arith)
 one-cell (a ∷ []) e = refl
 one-cell (a ∷ b ∷ y) e = absurd (omega arith)
 
-pub skip-takes : (n : ℕ) (b : List ℕ) (k : ℕ) (r : List ℕ) → AreBytes b → skip_told n b ≡ Some (k, r) → (p : List ℕ) × (b ≡ p ++ r) × IsSkipLength n k p
+pub skip-takes : (n : ℕ) (b : List ℕ) (k : ℕ) (r : List ℕ) → AreBytes b → skip_prefix n b ≡ Some (k, r) → (p : List ℕ) × (b ≡ p ++ r) × IsSkipLength n k p
 skip-takes n [] k r bytes e = absurd cc
 skip-takes n (x ∷ b) k r bytes e = by (nat_le n 255 || nat_lt x 128) refl e
   where
@@ -108,13 +108,13 @@ skip-takes n (x ∷ b) k r bytes e = by (nat_le n 255 || nat_lt x 128) refl e
             (x ∷ y ∷ [], rw (e, w) refl, inr (big, omega arith, rw (← low, ← top) refl))
         two (y ∷ z ∷ ys) s e l v w big high = absurd (omega arith)
 
-pub skip-again : (n k : ℕ) (p r : List ℕ) → IsSkipLength n k p → skip_told n (p ++ r) ≡ Some (k, r)
+pub skip-again : (n k : ℕ) (p r : List ℕ) → IsSkipLength n k p → skip_prefix n (p ++ r) ≡ Some (k, r)
 skip-again n k p r (inl h) = rw h.1 (first-way (nat_le n 255) (nat_lt k 128) (Some here) more (elim h.0 [ inl a ↦ inl (le-leb _ _ a) | inr a ↦ inr (lt-ltb _ _ a) ]))
   where
     here : ℕ × List ℕ
     here = (k, r)
 
-    more : Told
+    more : Prefix
     more = option_map (λ q. (k - 128 + slice_index q.0 0 * 128, q.1)) (cut 1 r)
 skip-again n k p r (inr h) =
     let a : nat_le n 255 ≡ false = lt-leb _ _ h.0 in
@@ -126,7 +126,7 @@ skip-again n k p r (inr h) =
 varchar-two : (n x k : ℕ) (y s r b : List ℕ) → x ≡ 255 → b ≡ y ++ s → s ≡ r → num_bytes 2 (num 2 y) ≡ y → num 2 y < 65536 → num 2 y ≡ k → 256 < n → (p : List ℕ) × (x ∷ b ≡ p ++ r) × IsVarcharLength n k p
 varchar-two n x k y s r b first e w whole few is big = (255 ∷ y, rw (first, e, w) refl, rw (← is) (inr (big, few, ap (λ (z : List ℕ). 255 ∷ z) (sym whole))))
 
-pub varchar-takes : (n : ℕ) (b : List ℕ) (k : ℕ) (r : List ℕ) → AreBytes b → varchar_told n b ≡ Some (k, r) → (p : List ℕ) × (b ≡ p ++ r) × IsVarcharLength n k p
+pub varchar-takes : (n : ℕ) (b : List ℕ) (k : ℕ) (r : List ℕ) → AreBytes b → varchar_prefix n b ≡ Some (k, r) → (p : List ℕ) × (b ≡ p ++ r) × IsVarcharLength n k p
 varchar-takes n [] k r bytes e = absurd cc
 varchar-takes n (x ∷ b) k r bytes e = by (nat_le n 256 || nat_lt x 255) refl e
   where
@@ -159,13 +159,13 @@ varchar-takes n (x ∷ b) k r bytes e = by (nat_le n 256 || nat_lt x 255) refl e
         let few : num 2 y < 65536 = num-below 2 y number in
         varchar-two n x k y m.0.1 r b first c.0 q.1 whole few q.0 (leb-false _ _ f.0)
 
-pub varchar-again : (n k : ℕ) (p r : List ℕ) → IsVarcharLength n k p → varchar_told n (p ++ r) ≡ Some (k, r)
+pub varchar-again : (n k : ℕ) (p r : List ℕ) → IsVarcharLength n k p → varchar_prefix n (p ++ r) ≡ Some (k, r)
 varchar-again n k p r (inl h) = rw h.1 (first-way (nat_le n 256) (nat_lt k 255) (Some here) more (elim h.0 [ inl a ↦ inl (le-leb _ _ a) | inr a ↦ inr (lt-ltb _ _ a) ]))
   where
     here : ℕ × List ℕ
     here = (k, r)
 
-    more : Told
+    more : Prefix
     more = option_map (λ q. (num 2 q.0, q.1)) (cut 2 r)
 varchar-again n k p r (inr h) =
     let a : nat_le n 256 ≡ false = lt-leb _ _ h.0 in
@@ -173,7 +173,7 @@ varchar-again n k p r (inr h) =
     let v : num 2 (num_bytes 2 k) ≡ k = ap (num 2) (sym (append-nil (num_bytes 2 k))) ∙ num-num_bytes 2 k [] h.1 in
     rw (h.2, a, c, v) refl
 
-pub low-takes : (w : ℕ) (b : List ℕ) (k : ℕ) (r : List ℕ) → AreBytes b → low_told w b ≡ Some (k, r) → (p : List ℕ) × (b ≡ p ++ r) × IsLowLength w k p
+pub low-takes : (w : ℕ) (b : List ℕ) (k : ℕ) (r : List ℕ) → AreBytes b → low_prefix w b ≡ Some (k, r) → (p : List ℕ) × (b ≡ p ++ r) × IsLowLength w k p
 low-takes w b k r bytes e =
     let told : ℕ × List ℕ = (k, r) in
     let read : List ℕ × List ℕ → ℕ × List ℕ = λ q. (low_num w q.0, q.1) in
@@ -187,7 +187,7 @@ low-takes w b k r bytes e =
     let P : ℕ → Type 0 = λ z. z < 256 ^ w in
     (y, c.0 ∙ ap (λ (z : List ℕ). y ++ z) q.1, (subst P q.0 (low_num-below w y number), sym whole ∙ ap (low_num_bytes w) q.0))
 
-pub low-again : (w k : ℕ) (p r : List ℕ) → IsLowLength w k p → low_told w (p ++ r) ≡ Some (k, r)
+pub low-again : (w k : ℕ) (p r : List ℕ) → IsLowLength w k p → low_prefix w (p ++ r) ≡ Some (k, r)
 low-again w k p r h =
     let c : cut w (low_num_bytes w k ++ r) ≡ Some (low_num_bytes w k, r) = cut-again w (low_num_bytes w k) r (length-low_num_bytes w k) in
     let v : low_num w (low_num_bytes w k) ≡ k = ap (low_num w) (sym (append-nil (low_num_bytes w k))) ∙ low_num-low_num_bytes w k [] h.0 in
@@ -195,7 +195,7 @@ low-again w k p r h =
 
 -- ---- contents
 
-few-takes : (most : ℕ) (told : Told) (c r : List ℕ) → cut_few most told ≡ Some (c, r) → (q : ℕ × List ℕ) × (told ≡ Some q) × (q.0 ≤ most) × (q.1 ≡ c ++ r) × (length c ≡ q.0)
+few-takes : (most : ℕ) (told : Prefix) (c r : List ℕ) → cut_few most told ≡ Some (c, r) → (q : ℕ × List ℕ) × (told ≡ Some q) × (q.0 ≤ most) × (q.1 ≡ c ++ r) × (length c ≡ q.0)
 few-takes most told c r e =
     let m = chained (λ (q : ℕ × List ℕ). cond (nat_le q.0 most) (cut q.0 q.1) None) told (c, r) e in
     inner m.0 m.1 (nat_le m.0.0 most) refl m.2
@@ -204,7 +204,7 @@ few-takes most told c r e =
     inner q t true l e = let k = cut-takes q.0 q.1 c r e in (q, t, leb-true _ _ l, k.0, k.1)
     inner q t false l e = absurd cc
 
-few-again : (most : ℕ) (told : Told) (c r : List ℕ) → length c ≤ most → told ≡ Some (length c, c ++ r) → cut_few most told ≡ Some (c, r)
+few-again : (most : ℕ) (told : Prefix) (c r : List ℕ) → length c ≤ most → told ≡ Some (length c, c ++ r) → cut_few most told ≡ Some (c, r)
 few-again most told c r l e =
     let t : nat_le (length c) most ≡ true = le-leb _ _ l in
     rw (e, t) (cut-again (length c) c r refl)
@@ -232,21 +232,21 @@ plain-takes n b v r e = let c = cut-takes n b v r e in (v, c.0, (c.1, refl))
 plain-again : (n : ℕ) (v x r : List ℕ) → IsPlain n v x → cut n (x ++ r) ≡ Some (v, r)
 plain-again n v x r h = rw h.1 (cut-again n v r h.0)
 
-skipped-takes : (n : ℕ) (value : List ℕ → List ℕ) (b v r : List ℕ) → 0 < n → AreBytes b → with_value value (cut_few (n - 1) (skip_told n b)) ≡ Some (v, r)
+skipped-takes : (n : ℕ) (value : List ℕ → List ℕ) (b v r : List ℕ) → 0 < n → AreBytes b → with_value value (cut_few (n - 1) (skip_prefix n b)) ≡ Some (v, r)
     → (p : List ℕ) × (c : List ℕ) × (length c < n) × IsSkipLength n (length c) p × (v ≡ value c) × (b ≡ (p ++ c) ++ r)
 skipped-takes n value b v r some bytes e =
-    let t = value-takes value (cut_few (n - 1) (skip_told n b)) v r e in
-    let f = few-takes (n - 1) (skip_told n b) t.0 r t.1 in
+    let t = value-takes value (cut_few (n - 1) (skip_prefix n b)) v r e in
+    let f = few-takes (n - 1) (skip_prefix n b) t.0 r t.1 in
     let s = skip-takes n b f.0.0 f.0.1 bytes f.1 in
     let P : ℕ → Type 0 = λ k. IsSkipLength n k s.0 in
     let few : f.0.0 ≤ n - 1 = f.2 in
     let long : length t.0 ≡ f.0.0 = f.4 in
     (s.0, t.0, omega arith, subst P (sym long) s.2, t.2, s.1 ∙ ap (λ (y : List ℕ). s.0 ++ y) f.3 ∙ sym (append_assoc s.0 t.0 r))
 
-skipped-again : (n : ℕ) (value : List ℕ → List ℕ) (p c r v : List ℕ) → length c < n → IsSkipLength n (length c) p → v ≡ value c → with_value value (cut_few (n - 1) (skip_told n ((p ++ c) ++ r))) ≡ Some (v, r)
+skipped-again : (n : ℕ) (value : List ℕ → List ℕ) (p c r v : List ℕ) → length c < n → IsSkipLength n (length c) p → v ≡ value c → with_value value (cut_few (n - 1) (skip_prefix n ((p ++ c) ++ r))) ≡ Some (v, r)
 skipped-again n value p c r v few is e =
-    let t : skip_told n ((p ++ c) ++ r) ≡ Some (length c, c ++ r) = ap (skip_told n) (append_assoc p c r) ∙ skip-again n (length c) p (c ++ r) is in
-    let f : cut_few (n - 1) (skip_told n ((p ++ c) ++ r)) ≡ Some (c, r) = few-again (n - 1) (skip_told n ((p ++ c) ++ r)) c r (omega arith) t in
+    let t : skip_prefix n ((p ++ c) ++ r) ≡ Some (length c, c ++ r) = ap (skip_prefix n) (append_assoc p c r) ∙ skip-again n (length c) p (c ++ r) is in
+    let f : cut_few (n - 1) (skip_prefix n ((p ++ c) ++ r)) ≡ Some (c, r) = few-again (n - 1) (skip_prefix n ((p ++ c) ++ r)) c r (omega arith) t in
     ap (with_value value) f ∙ ap (λ (y : List ℕ). Some (y, r)) (sym e)
 
 pub packed-takes : (kind : FieldKind) (n : ℕ) (bit : Bool) (b v r : List ℕ) → IsLengthOf Dynamic kind n → AreBytes b → packed_field kind n bit b ≡ Some (v, r) → (x : List ℕ) × (b ≡ x ++ r) × PacksField kind n bit v x
@@ -269,13 +269,13 @@ packed-takes Blob n true b v r l bytes e =
     let q = pair none whole same in
     ([], q.1, (sym q.0, refl))
 packed-takes Blob n false b v r l bytes e =
-    let m = chained (λ (q : ℕ × List ℕ). cut q.0 q.1) (low_told (n - 8) b) (v, r) e in
+    let m = chained (λ (q : ℕ × List ℕ). cut q.0 q.1) (low_prefix (n - 8) b) (v, r) e in
     let s = low-takes (n - 8) b m.0.0 m.0.1 bytes m.1 in
     let c = cut-takes m.0.0 m.0.1 v r m.2 in
     let P : ℕ → Type 0 = λ k. IsLowLength (n - 8) k s.0 in
     (s.0 ++ v, s.1 ∙ ap (λ (y : List ℕ). s.0 ++ y) c.0 ∙ sym (append_assoc s.0 v r), (s.0, subst P (sym c.1) s.2, refl))
 packed-takes Varchar n bit b v r l bytes e =
-    let f = few-takes (n - length_bytes n) (varchar_told n b) v r e in
+    let f = few-takes (n - length_bytes n) (varchar_prefix n b) v r e in
     let s = varchar-takes n b f.0.0 f.0.1 bytes f.1 in
     let P : ℕ → Type 0 = λ k. IsVarcharLength n k s.0 in
     let few : f.0.0 ≤ n - length_bytes n = f.2 in
@@ -285,20 +285,20 @@ packed-takes Varchar n bit b v r l bytes e =
 
 pub packed-again : (kind : FieldKind) (n : ℕ) (bit : Bool) (v x r : List ℕ) → PacksField kind n bit v x → packed_field kind n bit (x ++ r) ≡ Some (v, r)
 packed-again Normal n bit v x r h = plain-again n v x r h
-packed-again SkipEndspace n true v x r h = ap (λ (y : List ℕ). with_value (padded n) (cut_few (n - 1) (skip_told n (y ++ r)))) h.5 ∙ skipped-again n (padded n) h.0 h.1 r v h.2 h.3 h.4
+packed-again SkipEndspace n true v x r h = ap (λ (y : List ℕ). with_value (padded n) (cut_few (n - 1) (skip_prefix n (y ++ r)))) h.5 ∙ skipped-again n (padded n) h.0 h.1 r v h.2 h.3 h.4
 packed-again SkipEndspace n false v x r h = plain-again n v x r h
-packed-again SkipPrespace n true v x r h = ap (λ (y : List ℕ). with_value (led n) (cut_few (n - 1) (skip_told n (y ++ r)))) h.5 ∙ skipped-again n (led n) h.0 h.1 r v h.2 h.3 h.4
+packed-again SkipPrespace n true v x r h = ap (λ (y : List ℕ). with_value (led n) (cut_few (n - 1) (skip_prefix n (y ++ r)))) h.5 ∙ skipped-again n (led n) h.0 h.1 r v h.2 h.3 h.4
 packed-again SkipPrespace n false v x r h = plain-again n v x r h
 packed-again SkipZero n true v x r h = rw (h.0, h.1) refl
 packed-again SkipZero n false v x r h = plain-again n v x r h
 packed-again Blob n true v x r h = rw (h.0, h.1) refl
 packed-again Blob n false v x r h =
-    let t : low_told (n - 8) (x ++ r) ≡ Some (length v, v ++ r) = ap (λ (y : List ℕ). low_told (n - 8) (y ++ r)) h.2 ∙ ap (low_told (n - 8)) (append_assoc h.0 v r) ∙ low-again (n - 8) (length v) h.0 (v ++ r) h.1 in
+    let t : low_prefix (n - 8) (x ++ r) ≡ Some (length v, v ++ r) = ap (λ (y : List ℕ). low_prefix (n - 8) (y ++ r)) h.2 ∙ ap (low_prefix (n - 8)) (append_assoc h.0 v r) ∙ low-again (n - 8) (length v) h.0 (v ++ r) h.1 in
     rw t (cut-again (length v) v r refl)
 packed-again Varchar n bit v x r h =
-    let t : varchar_told n (x ++ r) ≡ Some (length v, v ++ r) = ap (λ (y : List ℕ). varchar_told n (y ++ r)) h.3 ∙ ap (varchar_told n) (append_assoc h.0 v r) ∙ varchar-again n (length v) h.0 (v ++ r) h.2 in
+    let t : varchar_prefix n (x ++ r) ≡ Some (length v, v ++ r) = ap (λ (y : List ℕ). varchar_prefix n (y ++ r)) h.3 ∙ ap (varchar_prefix n) (append_assoc h.0 v r) ∙ varchar-again n (length v) h.0 (v ++ r) h.2 in
     let few : length v + length_bytes n ≤ n = h.1 in
-    few-again (n - length_bytes n) (varchar_told n (x ++ r)) v r (omega arith) t
+    few-again (n - length_bytes n) (varchar_prefix n (x ++ r)) v r (omega arith) t
 
 -- ---- a field of a static row
 
@@ -323,7 +323,7 @@ filled-takes Varchar n b v r l bytes e =
     let put : List ℕ × List ℕ → List ℕ × List ℕ = λ q. (q.0, m.0.1) in
     let w = mapped put (filled_varchar n m.0.0) whole m.2 in
     let q = pair (put w.0) whole w.2 in
-    let f = few-takes (n - length_bytes n) (low_told (length_bytes n) m.0.0) w.0.0 w.0.1 w.1 in
+    let f = few-takes (n - length_bytes n) (low_prefix (length_bytes n) m.0.0) w.0.0 w.0.1 w.1 in
     let B : List ℕ → Type 0 = λ z. AreBytes z in
     let s = low-takes (length_bytes n) m.0.0 f.0.0 f.0.1 (bytes-front m.0.0 m.0.1 (subst B c.0 bytes)) f.1 in
     filled-parts n (m.0.0) v r s.0 w.0.0 w.0.1 f.0.0 f.0.1 m.0.1 b l.0 c.0 q.1 q.0 c.1 f.2 f.3 f.4 s.1 s.2
@@ -336,9 +336,9 @@ filled-again SkipZero n v x r h = plain-again n v x r h
 filled-again Blob n v x r h = absurd h
 filled-again Varchar n v x r h =
     let c : cut n (x ++ r) ≡ Some (x, r) = cut-again n x r h.4 in
-    let t : low_told (length_bytes n) x ≡ Some (length v, v ++ h.1) = ap (low_told (length_bytes n)) h.5 ∙ low-again (length_bytes n) (length v) h.0 (v ++ h.1) h.3 in
+    let t : low_prefix (length_bytes n) x ≡ Some (length v, v ++ h.1) = ap (low_prefix (length_bytes n)) h.5 ∙ low-again (length_bytes n) (length v) h.0 (v ++ h.1) h.3 in
     let few : length v + length_bytes n ≤ n = h.2 in
-    let f : filled_varchar n x ≡ Some (v, h.1) = few-again (n - length_bytes n) (low_told (length_bytes n) x) v h.1 (omega arith) t in
+    let f : filled_varchar n x ≡ Some (v, h.1) = few-again (n - length_bytes n) (low_prefix (length_bytes n) x) v h.1 (omega arith) t in
     rw (c, f) refl
 
 pub held-takes : (format : RowFormat) (kind : FieldKind) (n : ℕ) (bit : Bool) (b v r : List ℕ) → IsLengthOf format kind n → AreBytes b → held_field format kind n bit b ≡ Some (v, r) → (x : List ℕ) × (b ≡ x ++ r) × HoldsField format kind n bit v x

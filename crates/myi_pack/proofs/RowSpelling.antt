@@ -16,7 +16,7 @@ use Rattle.myi_pack.specs.Lengths.{length_bytes}
 use Rattle.myi_pack.specs.Flags.{has_flag, flag_at, next_flag, flag_count, flag_bytes, packed_bits}
 use Rattle.myi_pack.specs.Packed.{Values, PacksField, FillsField, HoldsField, HoldsFields, IsDynamicRow, IsStaticRow, IsRow, Packs}
 use Rattle.myi_pack.specs.Reading.{row_of, ended, fields_of, parts_of}
-use Rattle.myi_pack.specs.Spelling.{field_flag, field_bytes, slot_bytes, spelled_fields, flags_of, filled, spelled_row, spelling, fits_field, fits_fields, is_told, fits}
+use Rattle.myi_pack.specs.Spelling.{field_flag, field_bytes, slot_bytes, spelled_fields, flags_of, filled, spelled_row, spelling, fits_field, fits_fields, is_live, fits}
 use Rattle.myi_pack.proofs.FlagLemmas.{few-flags, flag-packed, length-packed, bytes-packed, spare-packed}
 use Rattle.myi_pack.proofs.SpellingLemmas.{both, length-slot_bytes, length-slots, first-low, first-varchar, first-append, first-slots}
 use Rattle.myi_pack.proofs.SpellingLaws.{field-spelled, field-least, field-fits, slot-spelled, slot-fits, and}
@@ -170,7 +170,7 @@ pub row-spelled : (d : Defs) (row : Values) → IsSound d → fits d row ≡ tru
 unfolding fits spelling
 row-spelled d row sound h = by d.format refl h
   where
-    by : (format : RowFormat) → d.format ≡ format → (fits_fields format d.fields row && is_told format d row) ≡ true → IsRow format d row (spelled_row format d row)
+    by : (format : RowFormat) → d.format ≡ format → (fits_fields format d.fields row && is_live format d row) ≡ true → IsRow format d row (spelled_row format d row)
     by Static e t =
         let b = both (fits_fields Static d.fields row) (not (slice_index (spelled_row d.format d row) 0 == 0)) t in
         let P : RowFormat → Type 0 = λ format. slice_index (spelled_row format d row) 0 ≢ 0 in
@@ -181,7 +181,7 @@ pub row-reads : (d : Defs) (row : Values) → IsSound d → fits d row ≡ true 
 unfolding fits spelling row_of spelled-dynamic
 row-reads d row sound h = by d.format refl h
   where
-    by : (format : RowFormat) → d.format ≡ format → (fits_fields format d.fields row && is_told format d row) ≡ true → option_and_then (λ p. ended format (fields_of format d.fields 0 p.0 p.1)) (parts_of format d (spelled_row format d row)) ≡ Some row
+    by : (format : RowFormat) → d.format ≡ format → (fits_fields format d.fields row && is_live format d row) ≡ true → option_and_then (λ p. ended format (fields_of format d.fields 0 p.0 p.1)) (parts_of format d (spelled_row format d row)) ≡ Some row
     by Static e t =
         let b = both (fits_fields Static d.fields row) (not (slice_index (spelled_row d.format d row) 0 == 0)) t in
         let P : RowFormat → Type 0 = λ format. slice_index (spelled_row format d row) 0 ≢ 0 in
@@ -204,7 +204,7 @@ pub row-fits : (d : Defs) (row : Values) (b : List ℕ) → IsSound d → Packs 
 unfolding fits spelling
 row-fits d row b sound h = by d.format refl h
   where
-    by : (format : RowFormat) → d.format ≡ format → IsRow format d row b → (fits_fields format d.fields row && is_told format d row) ≡ true
+    by : (format : RowFormat) → d.format ≡ format → IsRow format d row b → (fits_fields format d.fields row && is_live format d row) ≡ true
     by Static e t =
         let fit = fields-fit Static d.fields 0 [] row t.content t.fields in
         let L : RowFormat → Type 0 = λ format. All (λ (f : Field). IsLengthOf format f.kind f.length) d.fields in

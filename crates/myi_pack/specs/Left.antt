@@ -1,4 +1,4 @@
--- The values of the fields that a walk over a row has still before it.
+-- The values of the fields that a walk over a row has still before it (this project's own).
 use Rattle.std.specs.Prelude.{◌≤◌, ◌+◌, ℕ, List, [], length, All, Option, Some, None, IsSome}
 use Rattle.myi_defs.specs.declared.types.RowFormat.{RowFormat}
 use Rattle.myi_defs.specs.declared.types.Field.{Field}

@@ -1,4 +1,5 @@
--- The row that bytes pack, found from the left: the function that `Packs` describes.
+-- The row that bytes pack, found from the left: the function that answers what the relation `Packs` says.
+-- The form of a parser is this project's own.
 use Rattle.std.specs.Prelude.{◌+◌, ◌-◌, ◌*◌, ◌/◌, ◌%◌, ◌^◌, ℕ, Bool, not, ◌&&◌, ◌||◌, ◌==◌, nat_le, nat_lt, if◌then◌else◌, List, [], ◌∷◌, ◌++◌, length, take, drop, replicate, slice_index, Option, Some, None, option_and_then}
 use Rattle.std.specs.Option.{option_map}
 use Rattle.myi_base.specs.Numbers.{num, low_num}
@@ -17,34 +18,34 @@ abbrev pub Cut : Type 0
 Cut = Option (List ℕ × List ℕ)
 
 -- a length, and the bytes behind it
-abbrev pub Told : Type 0
-Told = Option (ℕ × List ℕ)
+abbrev pub Prefix : Type 0
+Prefix = Option (ℕ × List ℕ)
 
 -- n bytes
 abbrev pub cut : ℕ → List ℕ → Cut
 cut n b = if nat_le n (length b) then Some (take n b, drop n b) else None
 
--- so many bytes as were told
-abbrev pub cut_told : Told → Cut
-cut_told told = option_and_then (λ r. cut r.0 r.1) told
+-- so many bytes as a length in front says
+abbrev pub cut_prefixed : Prefix → Cut
+cut_prefixed told = option_and_then (λ r. cut r.0 r.1) told
 
--- so many bytes as were told, if these are few enough
-abbrev pub cut_few : ℕ → Told → Cut
+-- the same, where these are few enough
+abbrev pub cut_few : ℕ → Prefix → Cut
 cut_few most told = option_and_then (λ r. if nat_le r.0 most then cut r.0 r.1 else None) told
 
 -- the length of a SKIP_ENDSPACE or SKIP_PRESPACE field
-abbrev pub skip_told : ℕ → List ℕ → Told
-skip_told n [] = None
-skip_told n (x ∷ b) = if nat_le n 255 || nat_lt x 128 then Some (x, b) else option_map (λ r. (x - 128 + slice_index r.0 0 * 128, r.1)) (cut 1 b)
+abbrev pub skip_prefix : ℕ → List ℕ → Prefix
+skip_prefix n [] = None
+skip_prefix n (x ∷ b) = if nat_le n 255 || nat_lt x 128 then Some (x, b) else option_map (λ r. (x - 128 + slice_index r.0 0 * 128, r.1)) (cut 1 b)
 
 -- the length of a VARCHAR field in a dynamic row
-abbrev pub varchar_told : ℕ → List ℕ → Told
-varchar_told n [] = None
-varchar_told n (x ∷ b) = if nat_le n 256 || nat_lt x 255 then Some (x, b) else option_map (λ r. (num 2 r.0, r.1)) (cut 2 b)
+abbrev pub varchar_prefix : ℕ → List ℕ → Prefix
+varchar_prefix n [] = None
+varchar_prefix n (x ∷ b) = if nat_le n 256 || nat_lt x 255 then Some (x, b) else option_map (λ r. (num 2 r.0, r.1)) (cut 2 b)
 
 -- a length of w bytes, low byte first
-abbrev pub low_told : ℕ → List ℕ → Told
-low_told w b = option_map (λ r. (low_num w r.0, r.1)) (cut w b)
+abbrev pub low_prefix : ℕ → List ℕ → Prefix
+low_prefix w b = option_map (λ r. (low_num w r.0, r.1)) (cut w b)
 
 abbrev pub padded : ℕ → List ℕ → List ℕ
 padded n c = c ++ spaces (n - length c)
@@ -58,15 +59,15 @@ with_value value c = option_map (λ r. (value r.0, r.1)) c
 -- a field of a dynamic row
 abbrev pub packed_field : FieldKind → ℕ → Bool → List ℕ → Cut
 packed_field Normal n bit b = cut n b
-packed_field SkipEndspace n bit b = if bit then with_value (padded n) (cut_few (n - 1) (skip_told n b)) else cut n b
-packed_field SkipPrespace n bit b = if bit then with_value (led n) (cut_few (n - 1) (skip_told n b)) else cut n b
+packed_field SkipEndspace n bit b = if bit then with_value (padded n) (cut_few (n - 1) (skip_prefix n b)) else cut n b
+packed_field SkipPrespace n bit b = if bit then with_value (led n) (cut_few (n - 1) (skip_prefix n b)) else cut n b
 packed_field SkipZero n bit b = if bit then Some (replicate n 0, b) else cut n b
-packed_field Blob n bit b = if bit then Some ([], b) else cut_told (low_told (n - 8) b)
-packed_field Varchar n bit b = cut_few (n - length_bytes n) (varchar_told n b)
+packed_field Blob n bit b = if bit then Some ([], b) else cut_prefixed (low_prefix (n - 8) b)
+packed_field Varchar n bit b = cut_few (n - length_bytes n) (varchar_prefix n b)
 
 -- a VARCHAR field of a static row from its n bytes
 abbrev pub filled_varchar : ℕ → List ℕ → Cut
-filled_varchar n x = cut_few (n - length_bytes n) (low_told (length_bytes n) x)
+filled_varchar n x = cut_few (n - length_bytes n) (low_prefix (length_bytes n) x)
 
 -- the value of a field, and the bytes behind the field
 abbrev pub value_before : Cut → List ℕ → Cut

@@ -1,5 +1,6 @@
 -- The one spelling that a writer gives a row: a flag is set exactly where that makes the row shorter, each
--- length is the shortest, and what a static row does not need is zeros. And which rows have one.
+-- length is the shortest, and what a static row does not need is zeros. And which rows have one. (A server
+-- writes rows so: MySQL Internals Manual, "MyISAM Dynamic Data File Layout"; the words are this project's own.)
 use Rattle.std.specs.Prelude.{◌+◌, ◌-◌, ◌/◌, ◌%◌, ◌^◌, ℕ, Bool, true, false, not, ◌&&◌, ◌||◌, ◌==◌, nat_le, nat_lt, if◌then◌else◌, List, [], ◌∷◌, ◌++◌, length, replicate, slice_index}
 use Rattle.std.specs.List.{list_all}
 use Rattle.myi_base.specs.Numbers.{num_bytes, low_num_bytes}
@@ -112,10 +113,10 @@ fits_fields format [] (v ∷ vs) = false
 fits_fields format (f ∷ fs) [] = false
 fits_fields format (f ∷ fs) (v ∷ vs) = fits_field format f.kind f.length v && fits_fields format fs vs
 
--- a slot whose first byte is 0 holds no row
-abbrev pub is_told : RowFormat → Defs → Values → Bool
-is_told Static d row = not (slice_index (spelling d row) 0 == 0)
-is_told Dynamic d row = true
+-- a slot whose first byte is 0 is a deleted one
+abbrev pub is_live : RowFormat → Defs → Values → Bool
+is_live Static d row = not (slice_index (spelling d row) 0 == 0)
+is_live Dynamic d row = true
 
 unfoldable pub fits : Defs → Values → Bool
-fits d row = fits_fields d.format d.fields row && is_told d.format d row
+fits d row = fits_fields d.format d.fields row && is_live d.format d row

@@ -1,4 +1,4 @@
--- What the views of fields show.
+-- What the views of fields show (this project's own).
 use Rattle.std.specs.Prelude.{◌≡◌, ◌-◌, ℕ, List, [], ◌∷◌, ◌++◌, length, replicate, Option, Some, None}
 use Rattle.myi_pack.specs.declared.fields.FieldView.{FieldView}
 use Rattle.myi_pack.specs.declared.fields.FieldView.TheVariants as views

@@ -8,7 +8,7 @@ ghost use Rattle.std.specs.Option.{option_map};
 ghost use Rattle.myi_defs.specs.Sound.{IsLengthOf};
 ghost use Rattle.myi_pack.specs.Lengths.{length_bytes};
 ghost use Rattle.myi_pack.specs.Flags.{has_flag, flag_at, next_flag, flag_count};
-ghost use Rattle.myi_pack.specs.Reading.{cut, cut_told, cut_few, skip_told, varchar_told, low_told, filled_varchar, value_before, packed_field, filled_field, field_of};
+ghost use Rattle.myi_pack.specs.Reading.{cut, cut_prefixed, cut_few, skip_prefix, varchar_prefix, low_prefix, filled_varchar, value_before, packed_field, filled_field, field_of};
 ghost use Rattle.myi_pack.specs.Views.{shown};
 
 use myi_base::{be, le};
@@ -37,15 +37,15 @@ pub(crate) fn cut(bytes: &[u8], len: usize) -> Option<(&[u8], &[u8])>
     }
 }
 
-fn cut_few(most: usize, len: usize, bytes: &[u8]) -> Option<(&[u8], &[u8])>
+fn cut_few(bytes: &[u8], len: usize, most: usize) -> Option<(&[u8], &[u8])>
     ensures { option_map (λ r. (r.0.now, r.1.now)) result ≡ cut_few most (Some (len, bytes.now)) }
 {
     if len <= most { cut(bytes, len) } else { None }
 }
 
-// The length in a SKIP_ENDSPACE or SKIP_PRESPACE field of `field` bytes.
-fn skip_told(field: usize, bytes: &[u8]) -> Option<(usize, &[u8])>
-    ensures { option_map (λ r. (r.0, r.1.now)) result ≡ skip_told field bytes.now }
+// The length in front of the content of a SKIP_ENDSPACE or SKIP_PRESPACE field of `field` bytes.
+fn skip_prefix(field: usize, bytes: &[u8]) -> Option<(usize, &[u8])>
+    ensures { option_map (λ r. (r.0, r.1.now)) result ≡ skip_prefix field bytes.now }
 {
     match bytes {
         [] => None,
@@ -60,9 +60,9 @@ fn skip_told(field: usize, bytes: &[u8]) -> Option<(usize, &[u8])>
     }
 }
 
-// The length in a VARCHAR field of `field` bytes of a dynamic table.
-fn varchar_told(field: usize, bytes: &[u8]) -> Option<(usize, &[u8])>
-    ensures { option_map (λ r. (r.0, r.1.now)) result ≡ varchar_told field bytes.now }
+// The length in front of the content of a VARCHAR field of `field` bytes in a dynamic row.
+fn varchar_prefix(field: usize, bytes: &[u8]) -> Option<(usize, &[u8])>
+    ensures { option_map (λ r. (r.0, r.1.now)) result ≡ varchar_prefix field bytes.now }
 {
     match bytes {
         [] => None,
@@ -76,15 +76,17 @@ fn varchar_told(field: usize, bytes: &[u8]) -> Option<(usize, &[u8])>
     }
 }
 
-fn low_told(width: usize, bytes: &[u8]) -> Option<(usize, &[u8])>
+// A length of `width` bytes, low byte first.
+fn low_prefix(width: usize, bytes: &[u8]) -> Option<(usize, &[u8])>
     requires some { 0 < width }
     requires few { width ≤ 4 }
-    ensures { option_map (λ r. (r.0, r.1.now)) result ≡ low_told width bytes.now }
+    ensures { option_map (λ r. (r.0, r.1.now)) result ≡ low_prefix width bytes.now }
 {
     let (number, rest) = cut(bytes, width)?;
     Some((le(number) as usize, rest))
 }
 
+// How many bytes of a VARCHAR field's length are those of its content's length.
 pub(crate) fn length_bytes(field: usize) -> usize
     ensures { result ≡ length_bytes field }
 {
@@ -94,38 +96,40 @@ pub(crate) fn length_bytes(field: usize) -> usize
 // The value of a SKIP_ENDSPACE or SKIP_PRESPACE field whose flag is set, without its spaces.
 fn cut_skipped(field: usize, bytes: &[u8]) -> Option<(&[u8], &[u8])>
     requires { 0 < field }
-    ensures { option_map (λ r. (r.0.now, r.1.now)) result ≡ cut_few (field - 1) (skip_told field bytes.now) }
+    ensures { option_map (λ r. (r.0.now, r.1.now)) result ≡ cut_few (field - 1) (skip_prefix field bytes.now) }
 {
-    let (len, rest) = skip_told(field, bytes)?;
-    cut_few(field - 1, len, rest)
+    let (len, rest) = skip_prefix(field, bytes)?;
+    cut_few(rest, len, field - 1)
 }
 
 fn cut_varchar(field: usize, bytes: &[u8]) -> Option<(&[u8], &[u8])>
     requires { 2 ≤ field }
-    ensures { option_map (λ r. (r.0.now, r.1.now)) result ≡ cut_few (field - length_bytes field) (varchar_told field bytes.now) }
+    ensures { option_map (λ r. (r.0.now, r.1.now)) result ≡ cut_few (field - length_bytes field) (varchar_prefix field bytes.now) }
 {
-    let (len, rest) = varchar_told(field, bytes)?;
-    cut_few(field - length_bytes(field), len, rest)
+    let (len, rest) = varchar_prefix(field, bytes)?;
+    cut_few(rest, len, field - length_bytes(field))
 }
 
 fn cut_blob(width: usize, bytes: &[u8]) -> Option<(&[u8], &[u8])>
     requires some { 0 < width }
     requires few { width ≤ 4 }
-    ensures { option_map (λ r. (r.0.now, r.1.now)) result ≡ cut_told (low_told width bytes.now) }
+    ensures { option_map (λ r. (r.0.now, r.1.now)) result ≡ cut_prefixed (low_prefix width bytes.now) }
 {
-    let (len, rest) = low_told(width, bytes)?;
+    let (len, rest) = low_prefix(width, bytes)?;
     cut(rest, len)
 }
 
+// The content of a VARCHAR field of a static row, from the field's bytes.
 fn filled_varchar(field: usize, bytes: &[u8]) -> Option<(&[u8], &[u8])>
     requires { 2 ≤ field }
     ensures { option_map (λ r. (r.0.now, r.1.now)) result ≡ filled_varchar field bytes.now }
 {
     let width = length_bytes(field);
-    let (len, rest) = low_told(width, bytes)?;
-    cut_few(field - width, len, rest)
+    let (len, rest) = low_prefix(width, bytes)?;
+    cut_few(rest, len, field - width)
 }
 
+// A field of a dynamic row.
 fn packed_field<'a>(field: &Field, bit: bool, bytes: &'a [u8]) -> Option<(FieldView<'a>, &'a [u8])>
     requires { IsLengthOf RowFormat.Dynamic field.now.kind field.now.length }
     ensures { option_map (λ r. (shown field.now.length r.0, r.1.now)) result ≡ packed_field field.now.kind field.now.length bit bytes.now }
@@ -149,6 +153,7 @@ fn packed_field<'a>(field: &Field, bit: bool, bytes: &'a [u8]) -> Option<(FieldV
     Some((FieldView::Plain(value), rest))
 }
 
+// A field of a static row.
 fn filled_field<'a>(field: &Field, bytes: &'a [u8]) -> Option<(&'a [u8], &'a [u8])>
     requires { IsLengthOf RowFormat.Static field.now.kind field.now.length }
     ensures { option_map (λ r. (r.0.now, r.1.now)) result ≡ filled_field field.now.kind field.now.length bytes.now }
@@ -209,6 +214,7 @@ pub(crate) fn flag_at(flags: &[u8], k: usize) -> bool
     k / 8 < flags.len() && (flags[k / 8] >> (k % 8)) % 2 == 1
 }
 
+// The number of the next field's flag, where flag `k` is this field's if it has one.
 pub(crate) fn next_flag(kind: FieldKind, k: usize) -> usize
     requires { k < 2 ^ 32 }
     ensures value { result ≡ next_flag kind k }

@@ -31,11 +31,12 @@ pub fn fits(defs: &Defs, row: &Row) -> bool
         return false;
     }
     match defs.format {
-        RowFormat::Static => is_told(fields, values),
+        RowFormat::Static => is_live(fields, values),
         RowFormat::Dynamic => true,
     }
 }
 
+// Whether there is one value for each field, of its form.
 fn fits_fields(format: RowFormat, fields: &[Field], values: &[Value]) -> bool
     requires { All (λ f. IsLengthOf format f.kind f.length) fields.now }
     ensures { result ≡ fits_fields format fields.now values.now }
@@ -73,8 +74,8 @@ fn blob_end(width: usize) -> usize
     256usize.pow(width as u32)
 }
 
-// Whether the slot of a static row begins with a byte that is not 0.
-fn is_told(fields: &[Field], values: &[Value]) -> bool
+// Whether the slot of a static row begins with a byte that is not 0, as that of a deleted one does.
+fn is_live(fields: &[Field], values: &[Value]) -> bool
     requires some { 0 < length fields.now }
     requires lengths { All (λ f. IsLengthOf RowFormat.Static f.kind f.length) fields.now }
     requires fits { fits_fields RowFormat.Static fields.now values.now ≡ true }
@@ -83,11 +84,11 @@ fn is_told(fields: &[Field], values: &[Value]) -> bool
     let [value, ..] = values else {
         return false;
     };
-    is_field_told(&fields[0], value.as_slice())
+    is_field_live(&fields[0], value.as_slice())
 }
 
 // Whether the bytes of this field in a static row begin with one that is not 0.
-fn is_field_told(field: &Field, value: &[u8]) -> bool
+fn is_field_live(field: &Field, value: &[u8]) -> bool
     requires length { IsLengthOf RowFormat.Static field.now.kind field.now.length }
     requires fits { fits_field RowFormat.Static field.now.kind field.now.length value.now ≡ true }
     ensures { result ≡ not (slice_index (slot_bytes field.now.kind field.now.length value.now) 0 == 0) }
@@ -126,6 +127,7 @@ fn pack_slot(alloc: Global, defs: &Defs, row: &Row) -> Result<Vec<u8>, AllocErro
     Ok(out)
 }
 
+// Writes the fields of a static row.
 fn push_slots(out: &mut Vec<u8>, fields: &[Field], values: &[Value]) -> Result<(), AllocError>
     requires lengths { All (λ f. IsLengthOf RowFormat.Static f.kind f.length) fields.now }
     requires fits { fits_fields RowFormat.Static fields.now values.now ≡ true }
@@ -149,10 +151,20 @@ fn pack_fields(alloc: Global, fields: &[Field], values: &[Value]) -> Result<Vec<
     requires fits { fits_fields RowFormat.Dynamic fields.now values.now ≡ true }
     ensures { IfOk result (λ bytes. bytes.items ≡ packed_bits (flag_bytes (flag_count fields.now)) (flags_of fields.now values.now) ++ spelled_fields RowFormat.Dynamic fields.now values.now) }
 {
-    let mut out = Vec::new(alloc);
+    let mut out = Vec::with_capacity(alloc, most_bytes(values))?;
     push_repeated(&mut out, 0, flag_count(fields).div_ceil(8))?;
     push_fields(&mut out, fields, values)?;
     Ok(out)
+}
+
+// As many bytes as a packed row of these values has at most: a flag and a length take five bytes of a
+// field at most. It bounds no result, and only saves `pack` further allocations.
+fn most_bytes(values: &[Value]) -> usize {
+    values.iter().fold(0, |bytes: usize, value| {
+        bytes
+            .saturating_add(value.as_slice().len())
+            .saturating_add(5)
+    })
 }
 
 // Writes the fields behind their flags, and sets the flags.
@@ -186,6 +198,7 @@ fn set_flag(out: &mut Vec<u8>, k: usize, bit: bool)
     }
 }
 
+// Writes a field of a static row, with zeros behind a VARCHAR's content.
 fn push_slot(out: &mut Vec<u8>, field: &Field, value: &[u8]) -> Result<(), AllocError>
     requires length { IsLengthOf RowFormat.Static field.now.kind field.now.length }
     requires fits { fits_field RowFormat.Static field.now.kind field.now.length value.now ≡ true }
@@ -251,6 +264,7 @@ fn push_skipped(
     Ok(true)
 }
 
+// Whether so many bytes of content and their length are shorter than the field.
 fn is_shorter(field: usize, len: usize) -> bool
     requires { len < 2 ^ 63 }
     ensures { result ≡ is_shorter field len }

@@ -1,6 +1,6 @@
 use Rattle.myi_defs.specs.declared.types.RowFormat.TheVariants.{Static}
 use Rattle.myi_pack.proofs.SpellingLemmas.{no_value}
-use Rattle.myi_pack.proofs.packing.is_told.Goals as goal
+use Rattle.myi_pack.proofs.packing.is_live.Goals as goal
 
 pub returns-in_default : goal.returns-in_default
 returns-in_default c =
