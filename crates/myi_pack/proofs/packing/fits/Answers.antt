@@ -1,0 +1,5 @@
+use Rattle.myi_pack.proofs.SpellingLemmas.{decides}
+use Rattle.myi_pack.proofs.packing.fits.Goals as goal
+
+pub returns-in-Static : goal.returns-in-Static
+returns-in-Static c = decides c.args.defs.now c.args.row.now c.as_slice-fields.result.now c.as_slice-values.result.now _ c.as_slice-fields.ensures c.as_slice-values.ensures c.in-Static.is c.requires.some_fields c.requires.lengths (cc) c.is_live.ensures

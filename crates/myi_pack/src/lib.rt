@@ -1,0 +1,26 @@
+//! The bytes of a row: packed, as in the blocks of a dynamic table, or in a slot of a static one.
+//!
+//! A row is one value for each field. The model of a row's bytes is the relation `Packs` of
+//! `specs/Packed`: field by field, which bytes stand for which value. No bytes pack two rows, but a row
+//! may have several packings; the one that is written is its `spelling`, and none is shorter.
+//!
+//! `view` finds the row in its bytes and takes no memory: a `RowView` lends each field as a slice of
+//! the bytes, one by one (`fields`) or by its number (`field`). `unpack` copies the row that is viewed.
+//! `fits` decides whether a row has the form that the definitions of the table ask for, and `pack`
+//! writes the spelling of such a row. The laws over the definitions are in `laws`.
+#![tactic(auto)]
+
+mod fields;
+mod laws;
+mod packing;
+mod row;
+mod values;
+
+pub use fields::FieldView;
+pub use laws::{packings_are_read, spellings_are_shortest};
+pub use packing::{fits, pack};
+pub use row::{RowFields, RowView, view};
+pub use values::{Row, Value, unpack};
+
+#[cfg(test)]
+mod tests;
