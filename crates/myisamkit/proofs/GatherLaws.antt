@@ -30,7 +30,7 @@ appended w bytes =
     let past : length w ≤ length w + length bytes = omega arith in
     rw (none, take_all (length w) w (omega arith), drop_all (length w + length bytes) w past) (append-nil _ ∙ ap (λ xs. xs ++ bytes) (append-nil w))
 
-length-slot_of : (row size : ℕ) (bytes : List ℕ) → row ≤ length bytes → row ≤ size → length (slot_of row size bytes) ≡ size
+pub length-slot_of : (row size : ℕ) (bytes : List ℕ) → row ≤ length bytes → row ≤ size → length (slot_of row size bytes) ≡ size
 length-slot_of row size bytes long short =
     length-append (take row bytes) (replicate (size - row) 0) ∙ omega (arith, length-take-le row bytes long, length-replicate {A = ℕ} (size - row) 0)
 

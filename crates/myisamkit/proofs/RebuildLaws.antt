@@ -1,17 +1,23 @@
 -- How the steps of a rebuild compose, over plain values.
-use Rattle.std.proofs.Common.{◌≡◌, ◌≢◌, ◌⊎◌, ℕ, ◌+◌, ◌-◌, ◌*◌, ◌≤◌, List, [], ◌++◌, length, take, drop, Option, Some, None, unwrap_or, refl, sym, ap, subst, ◌∙◌, arith, inl, inr, length-append}
+use Rattle.std.proofs.Common.{◌≡◌, ◌≢◌, ◌⊎◌, ℕ, ◌+◌, ◌-◌, ◌*◌, ◌≤◌, List, [], ◌++◌, true, length, take, drop, Option, Some, None, unwrap_or, refl, sym, ap, subst, ◌∙◌, arith, inl, inr, length-append}
 use Rattle.std.specs.Prelude.{replicate}
 use Rattle.std.proofs.lemmas.List.{take_all, length-take-le, length-drop, length-replicate}
 use Rattle.myi_base.specs.Holding.{Holding, bytes_of}
 use Rattle.myi_defs.specs.declared.types.Defs.{Defs}
+use Rattle.myi_defs.specs.Addressable.{is_addressable}
+use Rattle.myi_defs.specs.ReadDefs.{AreDefs}
+use Rattle.myi_defs.specs.Elsewhere.{AgreeOutsideState}
 use Rattle.myi_defs.specs.Sound.{fields_length}
 use Rattle.myi_header.specs.declared.state.State.{State}
-use Rattle.myi_header.specs.StateOf.{state_of}
+use Rattle.myi_header.specs.Layout.{first_page_of}
+use Rattle.myi_header.specs.StateOf.{state_of, has_mark}
 use Rattle.myi_header.specs.HeaderOf.{header_of}
 use Rattle.myi_data.specs.Readable.{Slot, readable}
 use Rattle.myi_data.specs.Scanning.{Scanning, rows_left}
 use Rattle.myisamkit.specs.Gathered.{KeepsOthers, Gathers}
-use Rattle.myisamkit.specs.Rebuilt.{slots_of, kept, new_rows, new_state, new_index, without_free_pages}
+use Rattle.myisamkit.specs.Rebuilt.{slots_of, kept, new_rows, new_state, new_index, without_free_pages, is_built}
+use Rattle.myisamkit.specs.Recovered.{Recovered}
+use Rattle.myisamkit.proofs.RecoveredLaws.{recovered}
 use Rattle.myisamkit.specs.Finished.{FourNames, AreApart, Holds, KeepsBoth, Replaces, IsWhole, Finishes, FinishesPart}
 
 -- a scan of which nothing was read yet
@@ -63,3 +69,10 @@ module _ (t : FourNames) (apart : AreApart t) (d x : List ℕ) (m n p : Holding)
 -- files hold one thing
 pub same_holding : (h : Option Holding) (n o : Holding) → h ≡ Some n → h ≡ Some o → n ≡ o
 same_holding h n o one other = ap (λ b. unwrap_or b n) (sym one ∙ other)
+
+-- what is printed for the rows that were gathered is recovered
+pub recovered_index : (defs : Defs) (d index : List ℕ) (s stored : State) (length_read rows now : ℕ) → AreDefs defs → is_built defs ≡ true → is_addressable defs (length d) ≡ true → state_of defs index ≡ s → s ≡ new_state defs (record stored { data_file_length = length_read }) rows now → stored ≡ state_of defs defs.raw → rows ≡ length (kept defs d)
+    → has_mark defs index ≡ true → AgreeOutsideState defs.raw index → length index ≡ first_page_of defs → index ≡ new_index defs d now → Recovered defs d now (new_rows defs d) (new_index defs d now)
+recovered_index defs d index s stored length_read rows now are built reached read state was count marked agree long is =
+    let all : state_of defs index ≡ new_state defs (state_of defs defs.raw) (length (kept defs d)) now = read ∙ state ∙ ap (λ b. new_state defs b rows now) was ∙ ap (λ r. new_state defs (state_of defs defs.raw) r now) count in
+    subst (λ y. Recovered defs d now (new_rows defs d) y) is (recovered defs d index now are built reached all marked agree long)

@@ -71,8 +71,9 @@ others_after t m n p second first q a b c d = second q a b c d ∙ first q a b c
 pub does : (t : FourNames) (name : List ℕ) (r : Ready) (now rows : ℕ) (m n : Holding) → t ≡ names_for name → IsFound name r m → Rebuilds t r.defs now rows m n → Does (recover name) now m n
 does t name r now rows m n is f rebuilt =
     let named : Rebuilds (names_for name) r.defs now rows m n = subst (λ u. Rebuilds u r.defs now rows m n) is rebuilt in
-    let holds = (named f.rows f.there).0 in
-    subst (λ g. Repairs name g now m n) (sym f.is) (record { rows = holds.rows; index = holds.index; no_new_rows = holds.no_new_rows; no_new_index = holds.no_new_index })
+    let all = named f.rows f.there in
+    let holds = all.0 in
+    subst (λ g. Repairs name g now m n) (sym f.is) (record { rows = holds.rows; index = holds.index; no_new_rows = holds.no_new_rows; no_new_index = holds.no_new_index; recovered = all.2 })
 
 pub says : (t : FourNames) (name line : List ℕ) (r : Ready) (now rows : ℕ) (m n : Holding) → t ≡ names_for name → IsFound name r m → Rebuilds t r.defs now rows m n → line ≡ recovered_line name rows r.length (rows * r.defs.slot_length) → line ≡ found_line name (found name m)
 says t name line r now rows m n is f rebuilt printed =

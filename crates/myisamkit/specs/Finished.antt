@@ -6,6 +6,7 @@ use Rattle.myi_defs.specs.declared.types.Defs.{Defs}
 use Rattle.myisamkit.specs.declared.files.TableFiles.{TableFiles}
 use Rattle.myisamkit.specs.Names.{rows_file, index_file, new_rows_file, new_index_file}
 use Rattle.myisamkit.specs.Rebuilt.{kept, new_rows, new_index}
+use Rattle.myisamkit.specs.Recovered.{Recovered}
 
 -- the names of four files, no two of which are one
 pub record FourNames : Type 0 where
@@ -68,9 +69,9 @@ byte_count d = length d
 abbrev pub GathersRows : FourNames → Defs → ℕ → Holding → Holding → Type 0
 GathersRows t defs count m n = (d : List ℕ) → m t.rows ≡ Some d → (n t.new_rows ≡ Some (new_rows defs d)) × (count ≡ length (kept defs d))
 
--- the table is rebuilt, and so many rows are kept
+-- the table is rebuilt and so recovered, and so many rows are kept
 abbrev pub Rebuilds : FourNames → Defs → ℕ → ℕ → Holding → Holding → Type 0
-Rebuilds t defs now count m n = (d : List ℕ) → m t.rows ≡ Some d → Holds t (new_rows defs d) (new_index defs d now) n × (count ≡ length (kept defs d))
+Rebuilds t defs now count m n = (d : List ℕ) → m t.rows ≡ Some d → Holds t (new_rows defs d) (new_index defs d now) n × (count ≡ length (kept defs d)) × Recovered defs d now (new_rows defs d) (new_index defs d now)
 
 abbrev pub RebuildsPart : FourNames → Defs → ℕ → Holding → Holding → Type 0
 RebuildsPart t defs now m n = (d : List ℕ) → m t.rows ≡ Some d → IsWhole t (new_rows defs d) (new_index defs d now) m n

@@ -1,6 +1,7 @@
 -- What an opening says of a table.
 use Rattle.std.specs.Prelude.{◌≡◌, ◌≤◌, ◌^◌, ℕ, true, List, length, Some, string_bytes}
 use Rattle.myi_base.specs.Holding.{Holding}
+use Rattle.myi_defs.specs.Addressable.{is_addressable}
 use Rattle.myi_defs.specs.ReadDefs.{AreDefs}
 use Rattle.myisamkit.specs.declared.open.Opening.{Opening}
 use Rattle.myisamkit.specs.declared.open.Opening.TheVariants as opening
@@ -13,6 +14,7 @@ use Rattle.myisamkit.specs.Runs.{Found, missing, refused, ready, found}
 pub record IsReadyTable (r : Ready) : Type 0 where
   pub defs : AreDefs r.defs
   pub built : is_built r.defs ≡ true
+  pub reached : is_addressable r.defs r.length ≡ true
   pub short : r.length ≤ 2 ^ 40
 
 -- they are what was found, beside a data file of that length

@@ -94,12 +94,13 @@ abbrev pub LeavesWhole : Request → ℕ → Holding → Holding → Type 0
 LeavesWhole usage now m n = n ≡ m
 LeavesWhole (recover name) now m n = Others name m n × OldOrNew name (found name m) now m n
 
--- the table is repaired, and the working files are gone
+-- the table is repaired: its files are the new ones, they are recovered, and the working files are gone
 pub record IsRepaired (name : List ℕ) (defs : Defs) (d : List ℕ) (now : ℕ) (m n : Holding) : Type 0 where
   pub rows : n (rows_file name) ≡ Some (new_rows defs d)
   pub index : n (index_file name) ≡ Some (new_index defs d now)
   pub no_new_rows : n (new_rows_file name) ≡ None
   pub no_new_index : n (new_index_file name) ≡ None
+  pub recovered : Recovered defs d now (new_rows defs d) (new_index defs d now)
 
 -- what a run does that nothing cuts off; a table that is not ready keeps all that it has
 abbrev pub Repairs : List ℕ → Found → ℕ → Holding → Holding → Type 0

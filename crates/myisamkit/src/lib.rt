@@ -9,6 +9,7 @@
 
 mod files;
 mod gather;
+mod laws;
 mod lines;
 mod open;
 mod rebuild;
@@ -18,5 +19,6 @@ mod top;
 mod words;
 
 pub use status::{Status, Stop};
+pub use laws::repairs_settle;
 pub use top::kit;
 pub use words::{Plan, read_words};

@@ -4,6 +4,8 @@ ghost use Rattle.std.specs.Prelude.{◌≡◌, ◌≤◌, ◌*◌, ◌+◌, ◌^
 ghost use Rattle.std.specs.List.{list_all};
 ghost use Rattle.myi_base.specs.Holding.{Holding, Told};
 ghost use Rattle.myi_base.specs.Causes.{HasCause};
+ghost use Rattle.myi_defs.specs.Addressable.{is_addressable};
+ghost use Rattle.myi_defs.specs.ReadDefs.{AreDefs};
 ghost use Rattle.myi_defs.specs.Sound.{IsSound, fields_length};
 ghost use Rattle.myi_header.specs.StateOf.{rest_length};
 ghost use Rattle.myisamkit.specs.Gathered.{KeepsOthers};
@@ -121,8 +123,10 @@ pub(crate) fn rebuild<F: Files>(
 ) -> Result<u64, Stop>
     requires writable { IsTrue F.writable }
     requires apart { AreApart (names_of table.now) }
+    requires defs { AreDefs defs.now }
     requires sound { IsSound defs.now }
     requires built { spec.is_built defs.now ≡ true }
+    requires reached { is_addressable defs.now length ≡ true }
     requires short { length ≤ 2 ^ 40 }
     requires length { (m : Holding) (d : List ℕ) → F.holds files.old ≡ Some m → m (names_of table.now).rows ≡ Some d → length ≡ byte_count d }
     ensures done { IfOk result (λ rows. Told (F.holds files.old) (F.holds files.new) (Rebuilds (names_of table.now) defs.now now rows)) }

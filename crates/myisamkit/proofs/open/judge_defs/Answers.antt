@@ -7,5 +7,6 @@ returns-clause-ready c =
     record {
       defs = c.requires;
       built = sym c.is_built.ensures ∙ c.if-not-is_built.false;
+      reached = sym c.addressable.ensures ∙ c.if-not-addressable.false;
       short = short_enough c.args.defs c.args.length (sym c.addressable.ensures ∙ c.if-not-addressable.false);
     }
