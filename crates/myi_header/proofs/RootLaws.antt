@@ -18,8 +18,3 @@ roots_left_more keys done x more =
 pub roots_step : (roots : List (Option ℕ)) (keys done : ℕ) (x : List ℕ) (whole : List (Option ℕ)) → done < keys → roots ++ roots_left keys done x ≡ whole → (roots ++ pointer_of (num_at (124 + 8 * done) 8 x) ∷ []) ++ roots_left keys (done + 1) x ≡ whole
 roots_step roots keys done x whole more so_far =
     append_assoc roots (pointer_of (num_at (124 + 8 * done) 8 x) ∷ []) (roots_left keys (done + 1) x) ∙ ap (λ ys. roots ++ ys) (sym (roots_left_more keys done x more)) ∙ so_far
-
-pub roots_all : (roots : List (Option ℕ)) (keys done : ℕ) (x : List ℕ) (whole : List (Option ℕ)) → done ≡ keys → roots ++ roots_left keys done x ≡ whole → roots ≡ whole
-roots_all roots keys done x whole all so_far =
-    let none : keys - done ≡ 0 = omega arith in
-    sym (append-nil roots) ∙ ap (λ n. roots ++ map pointer_of (numbers (124 + 8 * done) (replicate n 8) x)) (sym none) ∙ so_far

@@ -1,15 +1,14 @@
 -- What the loop that gathers rows keeps.
-use Rattle.std.proofs.Common.{◌≡◌, ◌≢◌, ℕ, suc, ◌+◌, ◌-◌, ◌*◌, ◌/◌, ◌<◌, ◌≤◌, List, [], ◌∷◌, ◌++◌, length, take, drop, Option, Some, None, Result, Ok, unwrap_or, refl, sym, ap, subst, ◌∙◌, arith, append_assoc, length-append, zero-add}
+use Rattle.std.proofs.Common.{◌≡◌, ℕ, ◌+◌, ◌-◌, ◌*◌, ◌≤◌, List, [], ◌∷◌, ◌++◌, length, take, drop, Option, Some, Result, Ok, unwrap_or, refl, sym, ap, subst, ◌∙◌, arith, append_assoc, length-append}
 use Rattle.std.specs.Prelude.{replicate}
-use Rattle.std.proofs.Math.Nat.{div-mul-le_self, mul-le-mul_right}
 use Rattle.std.proofs.lemmas.List.{append-nil, take_all, drop_all, length-take-le, length-replicate}
-use Rattle.myi_base.specs.Holding.{Holding, bytes_of, resized, overwritten, Sets, Writes, Cuts}
+use Rattle.myi_base.specs.Holding.{Holding, bytes_of, overwritten, Writes}
 use Rattle.myi_data.specs.declared.scan.Piece.{Piece}
 use Rattle.myi_data.specs.declared.scan.ScanFault.{ScanFault}
 use Rattle.myi_data.specs.Readable.{Slot, readable}
-use Rattle.myi_data.specs.Scanning.{Scanning, rows_left, most_left, left_or, shown, IsHead, IsSameScan, IsSlotOf, IsAnswered, Leaves}
+use Rattle.myi_data.specs.Scanning.{Scanning, rows_left, left_or, shown, IsHead, IsSameScan, IsSlotOf, IsAnswered, Leaves}
 use Rattle.myisamkit.specs.Rebuilt.{slot_of, slots_of}
-use Rattle.myisamkit.specs.Gathered.{KeepsOthers, Gathers}
+use Rattle.myisamkit.specs.Gathered.{KeepsOthers}
 
 -- So far: what is written, and the rows that are left, make the rows that were left at the start.
 pub record Gathering (start now : Scanning) (file : List ℕ) (row count : ℕ) (m n : Holding) : Type 0 where

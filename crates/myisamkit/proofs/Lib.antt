@@ -1,5 +1,5 @@
 pub mod GatherLaws
-pub mod FinishLaws
+pub mod PutLaws
 pub mod RebuildLaws
 pub mod OpenLaws
 pub mod RecoverLaws

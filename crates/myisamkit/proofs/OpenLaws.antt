@@ -1,16 +1,15 @@
 -- What is found of a table, from what its files were seen to be.
-use Rattle.std.proofs.Common.{◌≡◌, ℕ, ◌^◌, ◌≤◌, Bool, true, false, List, length, take, Option, Some, None, unwrap_or, Result, Ok, Err, refl, sym, ap, subst, ◌∙◌, arith}
+use Rattle.std.proofs.Common.{◌≡◌, ℕ, ◌^◌, ◌≤◌, Bool, true, false, List, length, Option, Some, None, unwrap_or, sym, ap, ◌∙◌}
 use Rattle.std.proofs.lemmas.Bool.{and_parts, leb-true}
 use Rattle.std.specs.Prelude.{is_some, not}
-use Rattle.myi_base.specs.Holding.{Holding, bytes_of, Measures}
+use Rattle.myi_base.specs.Holding.{Holding, Measures}
 use Rattle.myi_defs.specs.declared.types.Defs.{Defs}
-use Rattle.myi_defs.specs.declared.types.DefFault.{DefFault}
 use Rattle.myi_defs.specs.Addressable.{is_addressable}
 use Rattle.myi_defs.specs.ReadDefs.{read_defs}
 use Rattle.myisamkit.specs.declared.open.Opening.{Opening}
 use Rattle.myisamkit.specs.declared.open.Opening.TheVariants as opening
 use Rattle.myisamkit.specs.Names.{rows_file, index_file}
-use Rattle.myisamkit.specs.Runs.{Found, missing, refused, ready, found, found_index, found_rows, found_read}
+use Rattle.myisamkit.specs.Runs.{Found, missing, found, found_index, found_rows, found_read}
 use Rattle.myisamkit.specs.Opened.{Judges, Opens}
 
 -- a data file that is within reach is short

@@ -1,5 +1,5 @@
 -- How the steps of a rebuild compose, over plain values.
-use Rattle.std.proofs.Common.{◌≡◌, ◌≢◌, ◌⊎◌, ℕ, ◌+◌, ◌-◌, ◌*◌, ◌≤◌, List, [], ◌++◌, true, length, take, drop, Option, Some, None, unwrap_or, refl, sym, ap, subst, ◌∙◌, arith, inl, inr, length-append}
+use Rattle.std.proofs.Common.{◌≡◌, ◌⊎◌, ℕ, ◌+◌, ◌≤◌, List, [], ◌++◌, true, length, take, drop, Option, Some, None, unwrap_or, sym, ap, subst, ◌∙◌, arith, inl, inr, length-append}
 use Rattle.std.specs.Prelude.{replicate}
 use Rattle.std.proofs.lemmas.List.{take_all, length-take-le, length-drop, length-replicate}
 use Rattle.myi_base.specs.Holding.{Holding, bytes_of}
@@ -15,10 +15,10 @@ use Rattle.myi_header.specs.HeaderOf.{header_of}
 use Rattle.myi_data.specs.Readable.{Slot, readable}
 use Rattle.myi_data.specs.Scanning.{Scanning, rows_left}
 use Rattle.myisamkit.specs.Gathered.{KeepsOthers, Gathers}
-use Rattle.myisamkit.specs.Rebuilt.{slots_of, kept, new_rows, new_state, new_index, without_free_pages, is_built}
+use Rattle.myisamkit.specs.Rebuilt.{slots_of, kept, new_rows, new_state, new_index, is_built}
 use Rattle.myisamkit.specs.Recovered.{Recovered}
 use Rattle.myisamkit.proofs.RecoveredLaws.{recovered}
-use Rattle.myisamkit.specs.Finished.{FourNames, AreApart, Holds, KeepsBoth, Replaces, IsWhole, Finishes, FinishesPart}
+use Rattle.myisamkit.specs.Finished.{FourNames, AreApart, IsWhole}
 
 -- a scan of which nothing was read yet
 abbrev pub fresh_scan : List ℕ → ℕ → ℕ → Scanning

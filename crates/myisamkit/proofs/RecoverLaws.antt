@@ -1,18 +1,17 @@
 -- What a repair of one table says and leaves, over plain values.
-use Rattle.std.proofs.Common.{◌≡◌, ◌≢◌, ◌⊎◌, ℕ, ◌*◌, List, ◌++◌, length, get_or, Option, Some, None, unwrap_or, refl, sym, ap, subst, ◌∙◌, arith, inl, inr}
+use Rattle.std.proofs.Common.{◌≡◌, ◌≢◌, ◌⊎◌, ℕ, ◌*◌, List, ◌++◌, length, get_or, Some, unwrap_or, refl, sym, ap, subst, ◌∙◌, arith, inl, inr}
 use Rattle.std.specs.Prelude.{codes}
 use Rattle.std.proofs.lemmas.List.{append_cancel_left}
 use Rattle.myi_base.specs.Holding.{Holding}
 use Rattle.myi_defs.specs.declared.types.Defs.{Defs}
 use Rattle.myisamkit.specs.declared.open.Ready.{Ready}
 use Rattle.myisamkit.specs.declared.status.Status.TheVariants as status
-use Rattle.myisamkit.specs.Names.{rows_file, index_file, new_rows_file, new_index_file}
 use Rattle.myisamkit.specs.Rebuilt.{kept, new_rows, new_index}
-use Rattle.myisamkit.specs.Finished.{FourNames, names_for, AreApart, KeepsBut, Holds, KeepsBoth, Replaces, IsWhole, Rebuilds, RebuildsPart}
+use Rattle.myisamkit.specs.Finished.{FourNames, names_for, AreApart, KeepsBut, KeepsBoth, IsWhole, Rebuilds, RebuildsPart}
 use Rattle.myisamkit.specs.Words.{recover}
 use Rattle.myisamkit.specs.Lines.{recovered_line}
 use Rattle.myisamkit.specs.Opened.{IsFound}
-use Rattle.myisamkit.specs.Runs.{Found, ready, found, found_line, found_status, OldOrNew, Repairs, LeavesWhole, Does}
+use Rattle.myisamkit.specs.Runs.{ready, found, found_line, found_status, OldOrNew, Repairs, LeavesWhole, Does}
 
 -- two ends of a name that differ in a byte
 cell : (name a b : List ℕ) (i : ℕ) → name ++ a ≡ name ++ b → get_or a i 0 ≡ get_or b i 0

@@ -1,6 +1,6 @@
 -- What was rebuilt is recovered.
-use Rattle.std.proofs.Common.{◌≡◌, ℕ, zero, suc, ◌+◌, ◌-◌, ◌*◌, ◌/◌, ◌^◌, ◌<◌, ◌≤◌, Bool, true, false, List, [], ◌∷◌, ◌++◌, length, take, drop, get_or, refl, sym, ap, subst, ◌∙◌, arith, append_assoc, length-append, eqb}
-use Rattle.std.specs.Prelude.{slice_index, filter, map, replicate, not, nat_le, nat_lt, All}
+use Rattle.std.proofs.Common.{◌≡◌, ℕ, zero, suc, ◌+◌, ◌-◌, ◌*◌, ◌/◌, ◌^◌, ◌<◌, ◌≤◌, true, false, List, [], ◌∷◌, ◌++◌, length, take, drop, refl, sym, ap, subst, ◌∙◌, arith, length-append, eqb}
+use Rattle.std.specs.Prelude.{slice_index, map, replicate, nat_le, nat_lt}
 use Rattle.std.specs.List.{AllByRecursion, flat_map, list_all}
 use Rattle.std.proofs.Math.Nat.{div-mul-le_self, mul-le-mul_right, le-div_iff_mul-le}
 use Rattle.std.proofs.lemmas.List.{take_at, drop_at, length-take-le, length-drop, length-map}
@@ -22,9 +22,9 @@ use Rattle.myi_defs.proofs.SoundLaws.{sound}
 use Rattle.myi_defs.proofs.ElsewhereLaws.{elsewhere}
 use Rattle.myi_header.specs.Layout.{first_page_of}
 use Rattle.myi_header.specs.StateOf.{state_of, has_mark}
-use Rattle.myi_data.specs.Readable.{Slot, slots, is_row, rows_in, readable}
+use Rattle.myi_data.specs.Readable.{Slot, slots, is_row, rows_in}
 use Rattle.myi_data.proofs.RowLaws.{rows_none, rows_row, few_rows}
-use Rattle.myisamkit.specs.Rebuilt.{is_static, is_normal, is_built, row_of, slot_of, slots_of, kept, new_rows, new_state}
+use Rattle.myisamkit.specs.Rebuilt.{is_static, is_normal, is_built, slot_of, slots_of, kept, new_rows, new_state}
 use Rattle.myisamkit.specs.Recovered.{Recovered}
 use Rattle.myisamkit.proofs.GatherLaws.{length-slot_of}
 

@@ -1,6 +1,6 @@
 -- How the new files of a table take the place of the old ones, by the names of the four files: the data file r, the
 -- index file x, and their working files nr and nx.
-use Rattle.std.specs.Prelude.{◌≡◌, ◌≢◌, ◌⊎◌, ℕ, List, length, Option, Some, None, string_bytes}
+use Rattle.std.specs.Prelude.{◌≡◌, ◌≢◌, ◌⊎◌, ℕ, List, length, Some, None, string_bytes}
 use Rattle.myi_base.specs.Holding.{Holding}
 use Rattle.myi_defs.specs.declared.types.Defs.{Defs}
 use Rattle.myisamkit.specs.declared.files.TableFiles.{TableFiles}

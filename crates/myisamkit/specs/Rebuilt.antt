@@ -1,6 +1,6 @@
 -- The two files of a table after a repair, as bytes, for a static table without keys whose fields are NORMAL.
 -- Each readable row is written anew into a slot; the header keeps what is neither state nor mark.
-use Rattle.std.specs.Prelude.{◌==◌, ◌&&◌, ◌+◌, ◌-◌, ◌*◌, ℕ, Bool, true, false, List, [], ◌∷◌, ◌++◌, length, take, drop, replicate, None}
+use Rattle.std.specs.Prelude.{◌==◌, ◌&&◌, ◌+◌, ◌-◌, ◌*◌, ℕ, Bool, true, false, List, [], ◌++◌, length, take, drop, replicate, None}
 use Rattle.std.specs.List.{flat_map, list_all}
 use Rattle.myi_defs.specs.declared.types.RowFormat.{RowFormat}
 use Rattle.myi_defs.specs.declared.types.RowFormat.TheVariants.{Static, Dynamic}

@@ -7,7 +7,6 @@ use Rattle.myi_defs.specs.ReadDefs.{read_defs}
 use Rattle.myi_defs.specs.Addressable.{is_addressable}
 use Rattle.myi_defs.specs.Elsewhere.{AgreeOutsideState}
 use Rattle.myi_defs.specs.Sound.{fields_length}
-use Rattle.myi_header.specs.declared.state.State.{State}
 use Rattle.myi_header.specs.Layout.{first_page_of}
 use Rattle.myi_header.specs.StateOf.{state_of, has_mark}
 use Rattle.myisamkit.specs.Rebuilt.{row_of, slots_of, kept, new_state}

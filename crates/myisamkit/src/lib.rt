@@ -15,10 +15,12 @@ mod open;
 mod rebuild;
 mod recover;
 mod status;
+#[cfg(test)]
+mod tests;
 mod top;
 mod words;
 
-pub use status::{Status, Stop};
 pub use laws::repairs_settle;
+pub use status::{Status, Stop};
 pub use top::kit;
 pub use words::{Plan, read_words};

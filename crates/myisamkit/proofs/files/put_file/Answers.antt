@@ -1,4 +1,4 @@
-use Rattle.myisamkit.proofs.FinishLaws.{put_whole}
+use Rattle.myisamkit.proofs.PutLaws.{put_whole}
 use Rattle.myisamkit.proofs.files.put_file.Goals as goal
 
 pub returns-clause-ok : goal.returns-clause-ok

@@ -1,4 +1,4 @@
-use Rattle.std.proofs.Common.{◌≡◌, ◌∙◌, ◌+◌, ◌*◌, ◌≤◌, Some, sym, ap, subst, arith}
+use Rattle.std.proofs.Common.{◌∙◌, ◌*◌, Some, sym, ap, subst, arith}
 use Rattle.std.specs.Prelude.{IfSome}
 use Rattle.myi_data.specs.Scanning.{rows_left, IsHead, IsSlotOf}
 use Rattle.myisamkit.proofs.GatherLaws.{answered_of, gathered_one, written_as}

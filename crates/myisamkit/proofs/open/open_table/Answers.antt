@@ -1,7 +1,7 @@
-use Rattle.std.proofs.Common.{◌≡◌, ◌∙◌, List, [], ℕ, None, Some, length, unwrap_or, sym, ap, subst, take}
+use Rattle.std.proofs.Common.{◌≡◌, ◌∙◌, [], None, unwrap_or, sym, ap, subst, take}
 use Rattle.myi_base.specs.Holding.{Measures, bytes_of}
 use Rattle.myisamkit.specs.Names.{rows_file, index_file}
-use Rattle.myisamkit.specs.Runs.{missing, found}
+use Rattle.myisamkit.specs.Runs.{missing}
 use Rattle.myisamkit.proofs.OpenLaws.{no_index, no_rows, both_there, opens, not_there, is_there, is_there_else}
 use Rattle.myisamkit.proofs.open.open_table.Goals as goal
 

@@ -1,8 +1,8 @@
-use Rattle.std.proofs.Common.{◌≡◌, ◌∙◌, ◌*◌, ◌+◌, sym, ap, subst, length, Some, true, arith}
+use Rattle.std.proofs.Common.{◌≡◌, ◌∙◌, ◌*◌, sym, ap, subst, length, true, arith}
 use Rattle.myi_defs.specs.Addressable.{is_addressable}
 use Rattle.myi_header.specs.Layout.{page_sizes}
 use Rattle.myisamkit.specs.Gathered.{KeepsOthers}
-use Rattle.myisamkit.specs.Rebuilt.{new_rows, new_index}
+use Rattle.myisamkit.specs.Rebuilt.{new_rows}
 use Rattle.myisamkit.specs.Finished.{names_of, Holds, IsWhole}
 use Rattle.myisamkit.proofs.RebuildLaws.{length-without_free_pages, index_is, recovered_index, whole_before, same_holding}
 use Rattle.myisamkit.proofs.rebuild.rebuild.Goals as goal
@@ -45,12 +45,15 @@ pub returns-clause-done : goal.returns-clause-done
 returns-clause-done g c m told =
     let t = names_of c.args.table.now in
     let gathered = c.in_ok-rows.ensures.kept m told in
-    let finished = c.in_ok-finish.ensures.done gathered.0 gathered.1 in
-    (finished.0, finished.1, λ d there.
-      let rows = gathered.2 d there in
-      let index = index_is c.args.defs.now d _ _ _ _ c.args.length _ _ c.deref.ensures.value c.in_ok-index.ensures.bytes c.new_state-state.ensures c.in_ok-stored.ensures.value rows.1 in
-      let reached = subst (λ n. is_addressable c.args.defs.now n ≡ true) (c.requires.length m d told there) c.requires.reached in (
-        subst (λ x. Holds t (new_rows c.args.defs.now d) x finished.0) index (finished.2 (new_rows c.args.defs.now d) rows.0),
-        rows.1,
-        recovered_index c.args.defs.now d c.in_ok-index.index.items _ _ c.args.length _ _ c.requires.defs c.requires.built reached c.in_ok-index.ensures.read c.new_state-state.ensures c.in_ok-stored.ensures.value rows.1 c.in_ok-index.ensures.marked c.in_ok-index.ensures.elsewhere c.in_ok-index.ensures.long (sym c.deref.ensures.value ∙ index),
-      ))
+    let finished = c.in_ok-finish.ensures.done gathered.0 gathered.1 in (
+      finished.0,
+      finished.1,
+      λ d there.
+          let rows = gathered.2 d there in
+          let index = index_is c.args.defs.now d _ _ _ _ c.args.length _ _ c.deref.ensures.value c.in_ok-index.ensures.bytes c.new_state-state.ensures c.in_ok-stored.ensures.value rows.1 in
+          let reached = subst (λ n. is_addressable c.args.defs.now n ≡ true) (c.requires.length m d told there) c.requires.reached in (
+            subst (λ x. Holds t (new_rows c.args.defs.now d) x finished.0) index (finished.2 (new_rows c.args.defs.now d) rows.0),
+            rows.1,
+            recovered_index c.args.defs.now d c.in_ok-index.index.items _ _ c.args.length _ _ c.requires.defs c.requires.built reached c.in_ok-index.ensures.read c.new_state-state.ensures c.in_ok-stored.ensures.value rows.1 c.in_ok-index.ensures.marked c.in_ok-index.ensures.elsewhere c.in_ok-index.ensures.long (sym c.deref.ensures.value ∙ index),
+          ),
+    )

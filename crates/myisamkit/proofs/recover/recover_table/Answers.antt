@@ -1,4 +1,4 @@
-use Rattle.std.proofs.Common.{◌≡◌, ◌∙◌, sym, subst}
+use Rattle.std.proofs.Common.{◌∙◌, sym, subst}
 use Rattle.myisamkit.specs.Opened.{Opens}
 use Rattle.myisamkit.specs.Runs.{found}
 use Rattle.myisamkit.proofs.recover.recover_table.Goals as goal

@@ -1,4 +1,4 @@
-use Rattle.std.proofs.Common.{◌≡◌, ◌∙◌, sym, subst}
+use Rattle.std.proofs.Common.{subst}
 use Rattle.myi_defs.proofs.SoundLaws.{sound}
 use Rattle.myisamkit.specs.Finished.{names_of, KeepsBut}
 use Rattle.myisamkit.proofs.RebuildLaws.{same_holding}

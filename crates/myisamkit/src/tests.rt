@@ -1,0 +1,153 @@
+//! A whole run, over files in memory. The bytes and lines were worked out outside this program.
+use crate::{Status, kit};
+use myi_io::{Files, MemFiles, MemSink};
+use std::alloc::{AllocError, Global};
+use std::test::Fail;
+
+const MOMENT: u64 = 1_700_000_000;
+
+// The header of a static table with fields of 1, 4 and 3 bytes, before and after the repair at that moment. Zeros
+// follow it up to byte 1024.
+const BEFORE: &str =
+    "fefe07010000012900b0006400b0000000000000080000000000000000000000000000000000000000000000\
+    0000000000000000ffffffffffffffff00000000000004000000000000000000000000000000000000000000\
+    0000000000000000000000000000000000000000000000000000000000000000000000000000000000000000\
+    0000000000000000000000000000000000000000000000000000000000000000000000000000000000000000\
+    0000000000000400000000000000000000000000000000000000000000000000000000000000000000000000\
+    0000000800000008000000000000000000000000000000030000000006060000000000000000000000000000\
+    000000000000524b02000000000000010000000000000400000000000003000000";
+
+const AFTER: &str =
+    "fefe07010000012900b0006400b0000000000000080000000000280000000000000000020000000000000000\
+    0000000000000002ffffffffffffffff00000000000004000000000000000010000000000000000000000000\
+    0000000000000000000000000000000000000000000000000000000000000000000000000000000000000000\
+    0000000000000000000000000000000000000000000000006553f10000000000000000000000000000000000\
+    0000000000000400000000000000000000000000000000000000000000000000000000000000000000000000\
+    0000000800000008000000000000000000000000000000030000000006060000000000000000000000000000\
+    000000000000524b02000000000000010000000000000400000000000003000000";
+
+const ROWS: &[u8] = b"\xFF\x01\0\0\0abc\0\xFF\xFF\xFF\xFF\xFF\xFFc\xFF\x02\0\0\0def\xAA\xBB\xCC";
+
+const KEPT: &[u8] = b"\xFF\x01\0\0\0abc\xFF\x02\0\0\0def";
+
+const LINE: &[u8] = b"a: recovered 2 rows, dropped 0 repeats, data 27 to 16 bytes\n";
+
+fn index(alloc: Global, header: &str) -> Result<Vec<u8>, Fail> {
+    let mut bytes = hex::decode(alloc, header)?;
+    bytes.resize(1024, 0)?;
+    Ok(bytes)
+}
+
+fn text(alloc: Global, text: &str) -> Result<String, AllocError> {
+    String::from_str(alloc, text)
+}
+
+fn words(alloc: Global, words: &[&str]) -> Result<Vec<String>, AllocError> {
+    let mut all = Vec::new(alloc);
+    for word in words {
+        all.push(text(alloc, word)?)?;
+    }
+    Ok(all)
+}
+
+fn table(alloc: Global, fail: &[u64]) -> Result<MemFiles, Fail> {
+    let files = vec![in alloc;
+        (text(alloc, "a.MYI")?, index(alloc, BEFORE)?),
+        (text(alloc, "a.MYD")?, Vec::from_slice(alloc, ROWS)?),
+        (text(alloc, "b.MYD")?, Vec::new(alloc)),
+    ]?;
+    Ok(MemFiles::new(alloc, files, Vec::from_slice(alloc, fail)?)?)
+}
+
+#[test]
+fn recovers_a_table(rt: HostRuntime) -> Result<(), Fail> {
+    let alloc = rt.alloc();
+    let mut files = table(alloc, &[])?;
+    let mut out = MemSink::new(alloc, Vec::new(alloc))?;
+    let asked = words(alloc, &["chk", "--recover", "a.MYI"])?;
+    assert_eq!(rt;
+        kit(alloc, &asked, &mut files, &mut out, MOMENT),
+        Status::Ok
+    );
+    assert_eq!(rt; out.written(), LINE);
+    assert_eq!(rt; files.get("a.MYD"), Some(KEPT));
+    let after = index(alloc, AFTER)?;
+    assert_eq!(rt; files.get("a.MYI"), Some(after.as_slice()));
+    assert_eq!(rt; files.get("a.TMD"), None);
+    assert_eq!(rt; files.get("a.TMI"), None);
+    assert_eq!(rt; files.fault_count(), 0);
+    Ok(())
+}
+
+// Each file call fails in turn, until there are no more.
+#[test]
+fn a_fault_leaves_the_old_rows_or_the_new_ones(rt: HostRuntime) -> Result<(), Fail> {
+    let alloc = rt.alloc();
+    let asked = words(alloc, &["chk", "--recover", "a"])?;
+    let mut done = false;
+    for call in 1..40 {
+        let mut files = table(alloc, &[call])?;
+        let mut out = MemSink::new(alloc, Vec::new(alloc))?;
+        let status = kit(alloc, &asked, &mut files, &mut out, MOMENT);
+        if files.fault_count() == 0 {
+            done = true;
+            assert_eq!(rt; status, Status::Ok);
+            break;
+        }
+        assert_eq!(rt; status, Status::FileFault);
+        assert_eq!(rt; out.written(), b"".as_slice());
+        let rows = files.get("a.MYD");
+        assert!(rt; rows == Some(ROWS) || rows == Some(KEPT));
+        let again = kit(alloc, &asked, &mut files, &mut out, MOMENT);
+        assert_eq!(rt; again, Status::Ok);
+        assert_eq!(rt; files.get("a.MYD"), Some(KEPT));
+    }
+    assert!(rt; done);
+    Ok(())
+}
+
+#[test]
+fn a_fault_of_the_output_comes_after_the_work(rt: HostRuntime) -> Result<(), Fail> {
+    let alloc = rt.alloc();
+    let mut files = table(alloc, &[])?;
+    let mut out = MemSink::new(alloc, vec![in alloc; 1]?)?;
+    let asked = words(alloc, &["chk", "--recover", "a"])?;
+    assert_eq!(rt;
+        kit(alloc, &asked, &mut files, &mut out, MOMENT),
+        Status::SinkFault
+    );
+    assert_eq!(rt; files.get("a.MYD"), Some(KEPT));
+    Ok(())
+}
+
+#[test]
+fn what_cannot_be_done_is_said(rt: HostRuntime) -> Result<(), Fail> {
+    let alloc = rt.alloc();
+    let cases = [
+        (["chk", "--recover", "b"], Status::Absent, "b.MYI: absent\n"),
+        (
+            ["chk", "--check", "a"],
+            Status::Usage,
+            "usage: kit chk|create|shell|dump|make\n",
+        ),
+        (
+            ["chk", "--recover", "-x"],
+            Status::Usage,
+            "usage: kit chk|create|shell|dump|make\n",
+        ),
+        (
+            ["chk", "--recover", ""],
+            Status::Usage,
+            "usage: kit chk|create|shell|dump|make\n",
+        ),
+    ];
+    for (asked, status, line) in cases {
+        let mut files = table(alloc, &[])?;
+        let mut out = MemSink::new(alloc, Vec::new(alloc))?;
+        let asked = words(alloc, &asked)?;
+        assert_eq!(rt; kit(alloc, &asked, &mut files, &mut out, MOMENT), status);
+        assert_eq!(rt; out.written(), line.as_bytes());
+        assert_eq!(rt; files.get("a.MYD"), Some(ROWS));
+    }
+    Ok(())
+}
