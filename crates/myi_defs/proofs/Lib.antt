@@ -6,3 +6,4 @@ pub mod SoundLaws
 pub mod SoundSegments
 pub mod PrintLemmas
 pub mod SameLemmas
+pub mod TextLemmas

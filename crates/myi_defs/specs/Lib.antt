@@ -3,5 +3,8 @@ pub mod Conditions
 pub mod EmptyTable
 pub mod Header
 pub mod Kinds
+pub mod ParseText
 pub mod ReadDefs
 pub mod Sound
+pub mod Text
+pub mod TextHeader

@@ -2,6 +2,7 @@
 //!
 //! `STATIC_HEADER` and `DYNAMIC_HEADER` begin index files that MySQL wrote; `SMALL_HEADER` was printed by an
 //! independent reference program, which also gave each number below.
+use super::parse::{TextFault, parse_text};
 use super::print::print_defs;
 use super::read::read_defs;
 use super::types::{DefFault, Field, FieldKind, RowFormat, SegType, Segment};
@@ -844,4 +845,209 @@ fn printed(rt: HostRuntime) -> Result<(), Fail> {
     assert!(rt; bytes.starts_with(&SMALL_HEADER));
     assert_eq!(rt; number(rt.alloc(), &bytes), 0);
     Ok(())
+}
+
+// The headers that the reference program prints for the two texts of `created`.
+const PRINTED_1: [u8; 297] = [
+    254, 254, 7, 1, 0, 0, 1, 41, 0, 176, 0, 100, 0, 176, 0, 0, 0, 0, 0, 0, 8, 0, 0, 0, 0, 0, 0, 0,
+    0, 0, 0, 0, 0, 0, 0, 0, 0, 0, 0, 0, 0, 0, 0, 0, 0, 0, 0, 0, 0, 0, 0, 0, 255, 255, 255, 255,
+    255, 255, 255, 255, 0, 0, 0, 0, 0, 0, 4, 0, 0, 0, 0, 0, 0, 0, 0, 0, 0, 0, 0, 0, 0, 0, 0, 0, 0,
+    0, 0, 0, 0, 0, 0, 0, 0, 0, 0, 0, 0, 0, 0, 0, 0, 0, 0, 0, 0, 0, 0, 0, 0, 0, 0, 0, 0, 0, 0, 0, 0,
+    0, 0, 0, 0, 0, 0, 0, 0, 0, 0, 0, 0, 0, 0, 0, 0, 0, 0, 0, 0, 0, 0, 0, 0, 0, 0, 0, 0, 0, 0, 0, 0,
+    0, 0, 0, 0, 0, 0, 0, 0, 0, 0, 0, 0, 0, 0, 0, 0, 0, 0, 0, 0, 0, 0, 0, 0, 0, 0, 0, 0, 0, 0, 0, 0,
+    0, 4, 0, 0, 0, 0, 0, 0, 0, 0, 0, 0, 0, 0, 0, 0, 0, 0, 0, 0, 0, 0, 0, 0, 0, 0, 0, 0, 0, 0, 0, 0,
+    0, 0, 0, 0, 0, 0, 0, 0, 0, 0, 8, 0, 0, 0, 8, 0, 0, 0, 0, 0, 0, 0, 0, 0, 0, 0, 0, 0, 0, 0, 3, 0,
+    0, 0, 0, 6, 6, 0, 0, 0, 0, 0, 0, 0, 0, 0, 0, 0, 0, 0, 0, 0, 0, 0, 0, 0, 0, 82, 75, 2, 0, 0, 0,
+    0, 0, 0, 1, 0, 0, 0, 0, 0, 0, 4, 0, 0, 0, 0, 0, 0, 3, 0, 0, 0,
+];
+
+const PRINTED_2: [u8; 462] = [
+    254, 254, 7, 1, 0, 1, 1, 206, 0, 176, 0, 100, 0, 224, 0, 4, 0, 0, 2, 0, 8, 2, 0, 0, 0, 0, 0, 0,
+    0, 0, 0, 0, 0, 0, 0, 0, 0, 0, 0, 0, 0, 0, 0, 0, 0, 0, 0, 0, 0, 0, 0, 0, 255, 255, 255, 255,
+    255, 255, 255, 255, 0, 0, 0, 0, 0, 0, 4, 0, 0, 0, 0, 0, 0, 0, 0, 0, 0, 0, 0, 0, 0, 0, 0, 0, 0,
+    0, 0, 0, 0, 0, 0, 0, 0, 0, 0, 0, 0, 0, 0, 0, 0, 0, 0, 0, 0, 0, 0, 0, 0, 0, 0, 0, 0, 0, 0, 0, 0,
+    0, 0, 0, 0, 0, 0, 0, 255, 255, 255, 255, 255, 255, 255, 255, 255, 255, 255, 255, 255, 255, 255,
+    255, 255, 255, 255, 255, 255, 255, 255, 255, 255, 255, 255, 255, 255, 255, 255, 255, 0, 0, 0,
+    0, 0, 0, 0, 0, 0, 0, 0, 0, 0, 0, 0, 0, 0, 0, 0, 3, 0, 0, 0, 0, 0, 0, 0, 0, 0, 0, 0, 0, 0, 0, 0,
+    0, 0, 0, 0, 0, 0, 0, 0, 0, 0, 0, 0, 0, 0, 0, 0, 0, 0, 0, 0, 0, 0, 0, 0, 0, 0, 0, 0, 0, 0, 0, 0,
+    0, 0, 0, 0, 0, 0, 0, 4, 0, 0, 0, 0, 0, 0, 0, 0, 0, 0, 0, 0, 0, 0, 0, 0, 0, 0, 0, 0, 0, 0, 0, 0,
+    0, 0, 0, 0, 0, 0, 0, 0, 0, 0, 0, 0, 0, 0, 0, 1, 54, 0, 0, 1, 54, 0, 0, 0, 0, 0, 0, 0, 0, 0, 0,
+    0, 0, 0, 0, 0, 6, 0, 0, 0, 0, 4, 6, 2, 0, 0, 1, 0, 0, 0, 0, 0, 0, 0, 0, 0, 0, 0, 0, 0, 0, 0, 0,
+    82, 75, 2, 0, 0, 0, 1, 0, 0, 1, 4, 0, 0, 5, 0, 5, 0, 5, 4, 63, 0, 0, 0, 0, 0, 0, 0, 4, 0, 0, 0,
+    1, 0, 0, 0, 0, 3, 0, 0, 0, 8, 0, 1, 133, 1, 133, 1, 133, 15, 8, 1, 0, 0, 0, 0, 0, 0, 100, 0, 0,
+    0, 42, 0, 0, 0, 0, 1, 83, 0, 0, 0, 0, 0, 0, 0, 30, 0, 0, 0, 5, 0, 0, 0, 0, 16, 0, 0, 0, 0, 0,
+    0, 0, 0, 254, 0, 0, 1, 44, 0, 0, 0, 0, 0, 0, 0, 1, 0, 0, 0, 0, 3, 0, 4, 0, 0, 0, 0, 1, 0, 30,
+    0, 0, 0, 0, 2, 0, 7, 0, 0, 0, 0, 8, 1, 2, 0, 0, 0, 0, 4, 0, 10, 0, 0, 0,
+];
+
+#[test]
+fn created(rt: HostRuntime) -> Result<(), Fail> {
+    let text = b"rows static\nfield normal 1\nfield normal 4\nfield normal 3\n";
+    let bytes = print_defs(rt.alloc(), &parse_text(rt.alloc(), text)?)?;
+    assert_eq!(rt; bytes.len(), 1024);
+    assert!(rt; bytes.starts_with(&PRINTED_1));
+    let text =
+        b"rows dynamic\npointer 4\nfield normal 1\nfield skip_zero 4\nfield skip_endspace 30\nfield skip_prespace 7\nfield varchar 258\nfield blob 10\nkey unique\nseg long_int 1 4 63 0 0\nkey plain\nseg vartext 42 100 8 1 0\nseg text 5 30 83 0 0\nseg varbinary 300 254 0 0 0";
+    let defs = parse_text(rt.alloc(), text)?;
+    assert_eq!(rt; defs.raw.as_slice(), PRINTED_2.as_slice());
+    let bytes = print_defs(rt.alloc(), &defs)?;
+    assert_eq!(rt; bytes.len(), 1024);
+    assert!(rt; bytes.starts_with(&PRINTED_2));
+    Ok(())
+}
+
+// The number of the line, or 0 where the text is taken; above 100 the condition that refuses the header.
+fn text_number(alloc: Global, text: &[u8]) -> u32 {
+    match parse_text(alloc, text) {
+        Ok(_) => 0,
+        Err(TextFault::Line(line)) => line,
+        Err(TextFault::Def(DefFault::Lengths)) => 103,
+        Err(TextFault::Def(DefFault::SegPlace)) => 111,
+        Err(TextFault::Def(_)) => 200,
+        Err(TextFault::Memory) => 300,
+    }
+}
+
+#[test]
+fn texts(rt: HostRuntime) {
+    let alloc = rt.alloc();
+    assert_eq!(rt; text_number(alloc, b""), 1);
+    assert_eq!(rt; text_number(alloc, b"\n"), 1);
+    assert_eq!(rt; text_number(alloc, b"rows static"), 2);
+    assert_eq!(rt; text_number(alloc, b"rows static\n"), 2);
+    assert_eq!(rt; text_number(alloc, b"rows static\n\n"), 2);
+    assert_eq!(rt; text_number(alloc, b"rows static\nfield normal 1\n"), 0);
+    assert_eq!(rt; text_number(alloc, b"rows static\nfield normal 1"), 0);
+    assert_eq!(rt; text_number(alloc, b"rows static\nfield normal 1\n\n"), 3);
+    assert_eq!(rt; text_number(alloc, b"rows  static\nfield normal 1"), 1);
+    assert_eq!(rt; text_number(alloc, b"rows static\nfield normal  1"), 2);
+    assert_eq!(rt; text_number(alloc, b"rows static\nfield normal 01"), 2);
+    assert_eq!(rt; text_number(alloc, b"rows static\nfield normal 1 "), 2);
+    assert_eq!(rt; text_number(alloc, b" rows static\nfield normal 1"), 1);
+}
+
+#[test]
+fn texts_2(rt: HostRuntime) {
+    let alloc = rt.alloc();
+    assert_eq!(rt; text_number(alloc, b"rows static\nfield normal +1"), 2);
+    assert_eq!(rt; text_number(alloc, b"rows static\nfield normal 65536"), 2);
+    assert_eq!(rt; text_number(alloc, b"rows static\nfield normal 65535\n"), 0);
+    assert_eq!(rt; text_number(alloc, b"rows static\nfield normal 0\n"), 103);
+    assert_eq!(rt;
+        text_number(alloc, b"rows static\npointer 1\nfield normal 1"),
+        2
+    );
+    assert_eq!(rt;
+        text_number(alloc, b"rows static\npointer 8\nfield normal 1"),
+        0
+    );
+    assert_eq!(rt;
+        text_number(alloc, b"rows static\npointer 9\nfield normal 1"),
+        2
+    );
+    assert_eq!(rt;
+        text_number(alloc, b"rows static\nfield normal 1\npointer 4"),
+        3
+    );
+    assert_eq!(rt;
+        text_number(alloc, b"rows static\nrows static\nfield normal 1"),
+        2
+    );
+    assert_eq!(rt; text_number(alloc, b"field normal 1"), 1);
+    assert_eq!(rt;
+        text_number(alloc, b"rows static\nfield normal 1\nkey unique"),
+        4
+    );
+    assert_eq!(rt;
+        text_number(alloc, b"rows static\nfield normal 1\nkey unique\n"),
+        4
+    );
+    assert_eq!(rt;
+        text_number(alloc, b"rows static\nfield normal 1\nkey both\n"),
+        3
+    );
+}
+
+#[test]
+fn texts_3(rt: HostRuntime) {
+    let alloc = rt.alloc();
+    assert_eq!(rt;
+        text_number(alloc, b"rows static\nfield normal 1\nseg binary 0 1 63 0 0"),
+        3
+    );
+    assert_eq!(rt;
+        text_number(
+            alloc,
+            b"rows static\nfield normal 1\nkey unique\nseg binary 0 1 63 0 0"
+        ),
+        0
+    );
+    assert_eq!(rt;
+        text_number(
+            alloc,
+            b"rows static\nfield normal 1\nkey unique\nseg binary 0 1 63 0 0\nfield normal 1"
+        ),
+        5
+    );
+    assert_eq!(rt;
+        text_number(
+            alloc,
+            b"rows static\nfield normal 1\nkey unique\nkey plain\nseg binary 0 1 63 0 0"
+        ),
+        4
+    );
+    assert_eq!(rt;
+        text_number(
+            alloc,
+            b"rows static\nfield normal 1\nkey unique\nseg binary 0 2 63 0 0"
+        ),
+        111
+    );
+    assert_eq!(rt;
+        text_number(
+            alloc,
+            b"rows static\nfield normal 1\nkey unique\nseg binary 0 1 63 256 0"
+        ),
+        4
+    );
+    assert_eq!(rt;
+        text_number(
+            alloc,
+            b"rows static\nfield normal 1\nkey unique\nseg binary 4294967295 1 63 0 0"
+        ),
+        111
+    );
+    assert_eq!(rt;
+        text_number(
+            alloc,
+            b"rows static\nfield normal 1\nkey unique\nseg binary 4294967296 1 63 0 0"
+        ),
+        4
+    );
+    assert_eq!(rt;
+        text_number(
+            alloc,
+            b"rows static\nfield normal 1\nkey unique\nseg float 0 1 63 0 0"
+        ),
+        4
+    );
+    assert_eq!(rt;
+        text_number(
+            alloc,
+            b"rows static\nfield normal 1\nkey unique\nseg binary 0 1 63 0"
+        ),
+        4
+    );
+    assert_eq!(rt;
+        text_number(
+            alloc,
+            b"rows static\nfield normal 1\nkey unique\nseg binary 0 1 63 0 0 0"
+        ),
+        4
+    );
+    assert_eq!(rt;
+        text_number(alloc, b"rows static\nfield normal \xc3\xa9\n"),
+        2
+    );
+    assert_eq!(rt; text_number(alloc, b"rows static\r\nfield normal 1\n"), 1);
 }
