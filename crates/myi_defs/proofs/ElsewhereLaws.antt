@@ -41,8 +41,8 @@ rest_same x y short first head = rw (head, short, first) refl
 pub read_defs-take : (n : ℕ) (x : List ℕ) → 65535 ≤ n → AreBytes (take n x) → read_defs (take n x) ≡ read_defs x
 unfolding front
 read_defs-take n x many bytes = elim (cases_lt n (length x)) [
-    | inr all ↦ ap read_defs (take_all n x all)
-    | inl more ↦
+  | inr all ↦ ap read_defs (take_all n x all)
+  | inl more ↦
       let first : front (take n x) ≡ front x = front-take n x (omega arith) in
       let size : num_at 6 2 (take n x) ≡ num_at 6 2 x = ap (λ (f : Front). f.header_length) first in
       let below : num_at 6 2 (take n x) < 256 ^ 2 = num-below 2 (drop 6 (take n x)) (bytes-drop 6 (take n x) bytes) in
@@ -50,4 +50,4 @@ read_defs-take n x many bytes = elim (cases_lt n (length x)) [
       let short : is_short (take n x) ≡ is_short x = not_short (take n x) (omega (arith, long)) (omega (arith, long, below)) ∙ sym (not_short x (omega arith) (omega (arith, size, below))) in
       let head : header (take n x) ≡ header x = ap (λ k. take k (take n x)) size ∙ take-take (num_at 6 2 x) n x (omega (arith, size, below)) in
       rest_same (take n x) x short first head
-  ]
+]

@@ -7,3 +7,4 @@ pub mod SoundSegments
 pub mod PrintLemmas
 pub mod SameLemmas
 pub mod ElsewhereLaws
+pub mod TextLemmas

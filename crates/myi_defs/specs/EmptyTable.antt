@@ -2,7 +2,7 @@
 -- a table without rows in the place of its own, with this project's mark, and with zeros up to the place of
 -- the first index page (MySQL Internals Manual, "The .MYI file", for what a state is; the mark is this
 -- project's own).
-use Rattle.std.specs.Prelude.{ℕ, ◌+◌, ◌-◌, ◌*◌, ◌/◌, ◌^◌, List, [], ◌∷◌, ◌++◌, length, take, drop, replicate}
+use Rattle.std.specs.Prelude.{ℕ, ◌+◌, ◌-◌, ◌*◌, ◌/◌, ◌^◌, min, List, [], ◌∷◌, ◌++◌, length, take, drop, replicate}
 use Rattle.myi_base.specs.Numbers.{num_bytes}
 use Rattle.myi_defs.specs.declared.header.Front.{Front}
 use Rattle.myi_defs.specs.Header.{front}
@@ -22,6 +22,10 @@ nulls n = replicate (8 * n) 255
 unfoldable pub first_page : ℕ → ℕ
 first_page header_length = (header_length + 1023) / 1024 * 1024
 
+-- one bit for each key, of at most 64
+unfoldable pub key_map : ℕ → ℕ
+key_map keys = min (2 ^ 64 - 1) (2 ^ keys - 1)
+
 -- the state from byte 24 to the base section. There are no rows and no pages, so each number is 0 but for: the
 -- first deleted row, which is none; the length of the index file; for each key its root, and for each page size
 -- its first unused page, which are none; and the map of the keys in use, which are all
@@ -34,7 +38,7 @@ empty_state f index_length =
     -- process, unique, status and update_count 4 each
     ++ (nulls (f.keys + f.page_sizes)  -- key_root 8 a key; key_del 8 a page size
     ++ (zeros 12  -- sec_index_changed, sec_index_used and version 4 each
-    ++ (num_bytes 8 (2 ^ f.keys - 1)  -- key_map 8
+    ++ (num_bytes 8 (key_map f.keys)  -- key_map 8
     ++ zeros (32 + 4 * f.key_parts)  -- create_time, recover_time, check_time and rec_per_key_rows 8 each;
     ))))))  -- 4 a key part
 

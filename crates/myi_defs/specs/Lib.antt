@@ -3,6 +3,9 @@ pub mod Conditions
 pub mod EmptyTable
 pub mod Header
 pub mod Kinds
+pub mod ParseText
 pub mod ReadDefs
 pub mod Sound
 pub mod Elsewhere
+pub mod Text
+pub mod TextHeader

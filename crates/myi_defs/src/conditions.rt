@@ -158,7 +158,7 @@ fn flag_bytes(fields: &[FieldItem]) -> usize
     flags.div_ceil(8)
 }
 
-fn is_flagged(kind: Option<FieldKind>) -> bool
+pub(crate) fn is_flagged(kind: Option<FieldKind>) -> bool
     ensures { result ≡ spec.is_flagged kind }
 {
     match kind {
@@ -316,7 +316,7 @@ fn lacks_room(block_length: u16, rec_ref: u8, segments: &[SegItem]) -> bool
     needed > block_length as u32
 }
 
-fn seg_cost(length: u16) -> u32
+pub(crate) fn seg_cost(length: u16) -> u32
     ensures { result ≡ kinds.seg_cost length }
 {
     if length < 254 {

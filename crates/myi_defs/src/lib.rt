@@ -3,20 +3,30 @@
 //! `Defs` says how the rows of a table stand in its data file and which keys the table has: the row
 //! format, the fields, the keys with their segments, and the sizes. Nothing else of the index file is
 //! looked at. The layout of the header is that of the MySQL Internals Manual, "The .MYI file".
+//!
+//! The model is the definition "read definitions" (`specs/ReadDefs`) over the bytes of an index file: the
+//! first of sixteen numbered conditions that holds, or the definitions. `read_defs` answers it. `print_defs`
+//! gives the header of an empty table with given definitions, and `parse_text` the definitions that a
+//! creating text stands for. `Defs::addressable` says which data files row pointers reach, and
+//! `definitions_are_sound` is the law on which the crates above rest.
 #![tactic(auto)]
 
 mod conditions;
 mod header;
 mod laws;
 mod outline;
+mod parse;
 mod places;
 mod print;
 mod read;
 #[cfg(test)]
 mod tests;
+mod text;
+mod text_header;
 mod types;
 
 pub use laws::{definitions_are_sound, definitions_rest_on_the_header};
+pub use parse::{TextFault, parse_text};
 pub use print::{MARK, print_defs};
 pub use read::read_defs;
 pub use types::{DefFault, Defs, Field, FieldKind, Key, RowFormat, SegType, Segment};

@@ -34,7 +34,6 @@ pub fn print_defs(alloc: Global, defs: &Defs) -> Result<Vec<u8>, AllocError>
 #[tactic(auto, unfolding(crate::specs::EmptyTable::empty_header))]
 fn empty_header(alloc: Global, front: &Front, raw: &[u8]) -> Result<Vec<u8>, AllocError>
     requires front { front.now ≡ layout.front raw.now }
-    requires keys { front.now.keys ≤ 64 }
     requires base { front.now.base_pos + 100 ≤ length raw.now }
     requires front_length { 24 ≤ length raw.now }
     requires short { length raw.now ≤ 65535 }
@@ -54,11 +53,10 @@ fn empty_header(alloc: Global, front: &Front, raw: &[u8]) -> Result<Vec<u8>, All
 }
 
 #[tactic(auto, unfolding(crate::specs::EmptyTable::first_page))]
-fn first_page(header_length: usize) -> usize
-    requires { header_length ≤ 65535 }
+pub(crate) fn first_page(header_length: usize) -> usize
+    requires { header_length ≤ 2 ^ 40 }
     ensures value { result ≡ spec.first_page header_length }
     ensures past { header_length ≤ result }
-    ensures near { result ≤ 66560 }
 {
     header_length.div_ceil(PAGE_UNIT) * PAGE_UNIT
 }
@@ -86,7 +84,6 @@ pub(crate) fn append_state(
     front: &Front,
     index_length: u64,
 ) -> Result<(), AllocError>
-    requires { front.now.keys ≤ 64 }
     ensures { OnOk result (out.new.items ≡ out.old.items ++ spec.empty_state front.now index_length) }
 {
     append_zeros(out, 28)?;
@@ -122,12 +119,12 @@ fn append_nulls(out: &mut Vec<u8>, count: usize) -> Result<(), AllocError>
 }
 
 // One bit for each key.
+#[tactic(auto, unfolding(crate::specs::EmptyTable::key_map))]
 fn key_map(keys: u8) -> u64
-    requires { keys ≤ 64 }
-    ensures { result ≡ 2 ^ keys - 1 }
+    ensures { result ≡ spec.key_map keys }
 {
     match 2u64.checked_pow(keys as u32) {
-        Some(bit) => bit - 1,
+        Some(all) => all - 1,
         None => u64::MAX,
     }
 }

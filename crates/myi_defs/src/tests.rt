@@ -2,10 +2,12 @@
 //!
 //! `STATIC_HEADER` and `DYNAMIC_HEADER` begin index files that MySQL wrote; `SMALL_HEADER` was printed by an
 //! independent reference program, which also gave each number below.
+use super::parse::{TextFault, parse_text};
 use super::print::print_defs;
 use super::read::read_defs;
 use super::types::{DefFault, Field, FieldKind, RowFormat, SegType, Segment};
 use std::alloc::Global;
+use std::process::Abort;
 use std::test::Fail;
 
 const STATIC_HEADER: [u8; 445] = [
@@ -505,200 +507,206 @@ const SMALL_HEADER: [u8; 283] = [
     0, 0, 0, 1, 0, 0, 0,
 ];
 
-// Bytes of `DYNAMIC_HEADER` changed, and the number of the condition that then holds.
-const DYNAMIC_CHANGED: [(&[(usize, u8)], u8); 93] = [
+/// Fills up a row of changes: no header has so many bytes.
+const X: u16 = 65535;
+
+// In each row the number of the condition that holds, and behind it the bytes that are changed in
+// `DYNAMIC_HEADER`, each with its place.
+const DYNAMIC_CHANGED: [[u16; 9]; 93] = [
     // as they are
-    (&[], 0),
+    [0, X, X, X, X, X, X, X, X],
     // another magic number
-    (&[(3, 2)], 2),
+    [2, 3, 2, X, X, X, X, X, X],
     // the header longer than the file
-    (&[(7, 141)], 1),
+    [1, 7, 141, X, X, X, X, X, X],
     // cut short, and another magic number
-    (&[(7, 141), (0, 0)], 1),
+    [1, 7, 141, 0, 0, X, X, X, X],
     // the header shorter than its first bytes
-    (&[(6, 0), (7, 23)], 3),
+    [3, 6, 0, 7, 23, X, X, X, X],
     // the same, and another magic number
-    (&[(6, 0), (7, 23), (0, 0)], 2),
+    [2, 6, 0, 7, 23, 0, 0, X, X],
     // another length of the state
-    (&[(9, 177)], 3),
+    [3, 9, 177, X, X, X, X, X, X],
     // of the base section
-    (&[(11, 99)], 3),
+    [3, 11, 99, X, X, X, X, X, X],
     // another place of it
-    (&[(13, 209)], 3),
+    [3, 13, 209, X, X, X, X, X, X],
     // more keys than the place allows
-    (&[(18, 3)], 3),
+    [3, 18, 3, X, X, X, X, X, X],
     // a key without segments
-    (&[(338, 0)], 3),
+    [3, 338, 0, X, X, X, X, X, X],
     // more segments than the header says
-    (&[(338, 2)], 3),
+    [3, 338, 2, X, X, X, X, X, X],
     // no fields
-    (&[(275, 0)], 3),
+    [3, 275, 0, X, X, X, X, X, X],
     // more fields than fit
-    (&[(275, 5)], 3),
-    (&[(272, 255), (273, 255), (274, 255), (275, 255)], 3),
+    [3, 275, 5, X, X, X, X, X, X],
+    [3, 272, 255, 273, 255, 274, 255, 275, 255],
     // fewer fields, the keys on them
-    (&[(275, 3)], 0),
+    [0, 275, 3, X, X, X, X, X, X],
     // no row
-    (&[(255, 0)], 3),
+    [3, 255, 0, X, X, X, X, X, X],
     // the longest row
-    (&[(253, 16), (255, 0)], 0),
+    [0, 253, 16, 255, 0, X, X, X, X],
     // longer
-    (&[(253, 16), (255, 1)], 3),
+    [3, 253, 16, 255, 1, X, X, X, X],
     // a dynamic table has no slot
-    (&[(256, 255), (257, 255), (258, 255), (259, 255)], 0),
+    [0, 256, 255, 257, 255, 258, 255, 259, 255],
     // compressed
-    (&[(5, 7)], 4),
+    [4, 5, 7, X, X, X, X, X, X],
     // row checksums
-    (&[(5, 35)], 5),
+    [5, 5, 35, X, X, X, X, X, X],
     // both
-    (&[(5, 39)], 4),
+    [4, 5, 39, X, X, X, X, X, X],
     // compressed, and no fields
-    (&[(5, 7), (275, 0)], 3),
+    [3, 5, 7, 275, 0, X, X, X, X],
     // full-text keys
-    (&[(22, 1)], 6),
+    [6, 22, 1, X, X, X, X, X, X],
     // a full-text key
-    (&[(341, 128)], 6),
+    [6, 341, 128, X, X, X, X, X, X],
     // and a spatial one
-    (&[(340, 4), (341, 128)], 6),
+    [6, 340, 4, 341, 128, X, X, X, X],
     // a spatial key
-    (&[(310, 4)], 7),
+    [7, 310, 4, X, X, X, X, X, X],
     // unique constraints
-    (&[(19, 1)], 8),
+    [8, 19, 1, X, X, X, X, X, X],
     // and a spatial key
-    (&[(19, 1), (310, 4), (311, 0)], 7),
+    [7, 19, 1, 310, 4, 311, 0, X, X],
     // a type that is not taken
-    (&[(369, 5)], 9),
-    (&[(375, 1), (376, 0)], 9),
+    [9, 369, 5, X, X, X, X, X, X],
+    [9, 375, 1, 376, 0, X, X, X, X],
     // and unique constraints
-    (&[(369, 5), (19, 1)], 8),
+    [8, 369, 5, 19, 1, X, X, X, X],
     // no bytes
-    (&[(371, 0)], 9),
+    [9, 371, 0, X, X, X, X, X, X],
     // a VARCHAR of one byte
-    (&[(385, 1)], 9),
+    [9, 385, 1, X, X, X, X, X, X],
     // of two
-    (&[(385, 2)], 0),
+    [0, 385, 2, X, X, X, X, X, X],
     // of 256
-    (&[(384, 1), (385, 0), (254, 3), (255, 232)], 0),
+    [0, 384, 1, 385, 0, 254, 3, 255, 232],
     // of 257
-    (&[(384, 1), (385, 1), (254, 3), (255, 232)], 9),
+    [9, 384, 1, 385, 1, 254, 3, 255, 232],
     // of 258
-    (&[(384, 1), (385, 2), (254, 3), (255, 232)], 0),
+    [0, 384, 1, 385, 2, 254, 3, 255, 232],
     // a BLOB of 8
-    (&[(392, 8)], 9),
+    [9, 392, 8, X, X, X, X, X, X],
     // of 9
-    (&[(392, 9)], 0),
+    [0, 392, 9, X, X, X, X, X, X],
     // of 11
-    (&[(392, 11), (254, 3), (255, 232)], 15),
+    [15, 392, 11, 254, 3, 255, 232, X, X],
     // of 12
-    (&[(392, 12), (254, 3), (255, 232)], 15),
+    [15, 392, 12, 254, 3, 255, 232, X, X],
     // of 13
-    (&[(392, 13), (254, 3), (255, 232)], 9),
+    [9, 392, 13, 254, 3, 255, 232, X, X],
     // a BLOB in a static table
-    (&[(5, 2)], 9),
+    [9, 5, 2, X, X, X, X, X, X],
     // the fields as long as the row
-    (&[], 0),
+    [0, X, X, X, X, X, X, X, X],
     // longer than the row
-    (&[(255, 115)], 9),
+    [9, 255, 115, X, X, X, X, X, X],
     // too few flag bytes
-    (&[(285, 0)], 9),
+    [9, 285, 0, X, X, X, X, X, X],
     // too many
-    (&[(285, 2)], 9),
+    [9, 285, 2, X, X, X, X, X, X],
     // a segment type that is not taken
-    (&[(320, 5)], 10),
-    (&[(320, 0)], 10),
-    (&[(350, 19)], 10),
+    [10, 320, 5, X, X, X, X, X, X],
+    [10, 320, 0, X, X, X, X, X, X],
+    [10, 350, 19, X, X, X, X, X, X],
     // the second number of a variable text
-    (&[(350, 17)], 0),
+    [0, 350, 17, X, X, X, X, X, X],
     // a variable binary
-    (&[(350, 18), (351, 99)], 0),
+    [0, 350, 18, 351, 99, X, X, X, X],
     // a segment type and a field type
-    (&[(320, 5), (369, 5)], 9),
+    [9, 320, 5, 369, 5, X, X, X, X],
     // an integer of a wrong size
-    (&[(329, 3)], 11),
+    [11, 329, 3, X, X, X, X, X, X],
     // past its field
-    (&[(333, 2)], 11),
+    [11, 333, 2, X, X, X, X, X, X],
     // in a VARCHAR
-    (&[(333, 5)], 11),
+    [11, 333, 5, X, X, X, X, X, X],
     // past all fields
-    (&[(333, 116)], 11),
-    (&[(330, 255), (331, 255), (332, 255), (333, 255)], 11),
+    [11, 333, 116, X, X, X, X, X, X],
+    [11, 330, 255, 331, 255, 332, 255, 333, 255],
     // a binary segment of no bytes between two fields
-    (&[(320, 2), (329, 0), (333, 5)], 0),
+    [0, 320, 2, 329, 0, 333, 5, X, X],
     // inside a VARCHAR
-    (&[(320, 2), (329, 0), (333, 6)], 11),
+    [11, 320, 2, 329, 0, 333, 6, X, X],
     // a whole field
-    (&[(320, 2)], 0),
+    [0, 320, 2, X, X, X, X, X, X],
     // one byte more
-    (&[(320, 2), (329, 5)], 11),
+    [11, 320, 2, 329, 5, X, X, X, X],
     // a variable text that is not at the start
-    (&[(363, 6)], 11),
+    [11, 363, 6, X, X, X, X, X, X],
     // in a field of fixed bytes
-    (&[(363, 1)], 11),
+    [11, 363, 1, X, X, X, X, X, X],
     // in a BLOB
-    (&[(363, 106)], 0),
+    [0, 363, 106, X, X, X, X, X, X],
     // the byte of no value in a field of another kind
-    (&[(367, 1)], 11),
-    (&[(364, 255), (365, 255), (366, 255), (367, 255)], 11),
+    [11, 367, 1, X, X, X, X, X, X],
+    [11, 364, 255, 365, 255, 366, 255, 367, 255],
     // without a bit it is not looked at
-    (&[(352, 0), (367, 1)], 0),
+    [0, 352, 0, 367, 1, X, X, X, X],
     // a collation that is not taken
-    (&[(351, 9)], 12),
+    [12, 351, 9, X, X, X, X, X, X],
     // one whose low byte is that of another
-    (&[(354, 4)], 12),
+    [12, 354, 4, X, X, X, X, X, X],
     // an integer has none
-    (&[(321, 9)], 0),
+    [0, 321, 9, X, X, X, X, X, X],
     // a collation and a place
-    (&[(351, 9), (333, 2)], 11),
+    [11, 351, 9, 333, 2, X, X, X, X],
     // pages not of whole 1024 bytes
-    (&[(313, 1)], 13),
+    [13, 313, 1, X, X, X, X, X, X],
     // no pages
-    (&[(312, 0)], 13),
+    [13, 312, 0, X, X, X, X, X, X],
     // the longest pages
-    (&[(312, 64)], 0),
+    [0, 312, 64, X, X, X, X, X, X],
     // longer
-    (&[(312, 68)], 13),
+    [13, 312, 68, X, X, X, X, X, X],
     // the longest key for pages of 1024
-    (&[(358, 1), (359, 229)], 0),
+    [0, 358, 1, 359, 229, X, X, X, X],
     // longer
-    (&[(358, 1), (359, 230)], 13),
+    [13, 358, 1, 359, 230, X, X, X, X],
     // a collation that is taken and a long key
-    (&[(358, 3), (359, 233)], 13),
+    [13, 358, 3, 359, 233, X, X, X, X],
     // the longest key
-    (&[(358, 3), (359, 232), (342, 12)], 0),
+    [0, 358, 3, 359, 232, 342, 12, X, X],
     // longer
-    (&[(358, 3), (359, 233), (342, 12)], 16),
+    [16, 358, 3, 359, 233, 342, 12, X, X],
     // pointers
-    (&[(280, 1)], 14),
-    (&[(280, 2)], 0),
-    (&[(280, 8)], 0),
-    (&[(280, 9)], 14),
-    (&[(281, 0)], 14),
-    (&[(281, 1)], 0),
-    (&[(281, 8)], 0),
-    (&[(281, 9)], 14),
+    [14, 280, 1, X, X, X, X, X, X],
+    [0, 280, 2, X, X, X, X, X, X],
+    [0, 280, 8, X, X, X, X, X, X],
+    [14, 280, 9, X, X, X, X, X, X],
+    [14, 281, 0, X, X, X, X, X, X],
+    [0, 281, 1, X, X, X, X, X, X],
+    [0, 281, 8, X, X, X, X, X, X],
+    [14, 281, 9, X, X, X, X, X, X],
     // a pointer of 255 bytes, and pages
-    (&[(280, 255), (358, 1), (359, 229)], 13),
+    [13, 280, 255, 358, 1, 359, 229, X, X],
     // wide pointers and a long key
-    (&[(358, 3), (359, 233), (342, 12), (280, 9)], 14),
+    [14, 358, 3, 359, 233, 342, 12, 280, 9],
 ];
 
-// Bytes of `STATIC_HEADER` changed, and the number of the condition that then holds.
-const STATIC_CHANGED: [(&[(usize, u8)], u8); 4] = [
-    (&[], 0),
+// In each row the number of the condition that holds, and behind it the bytes that are changed in
+// `STATIC_HEADER`, each with its place.
+const STATIC_CHANGED: [[u16; 9]; 4] = [
+    [0, X, X, X, X, X, X, X, X],
     // a slot shorter than the row
-    (&[(271, 39)], 3),
+    [3, 271, 39, X, X, X, X, X, X],
     // the longest slot
-    (&[(269, 16), (271, 0)], 0),
+    [0, 269, 16, 271, 0, X, X, X, X],
     // longer
-    (&[(269, 16), (271, 1)], 3),
+    [3, 269, 16, 271, 1, X, X, X, X],
 ];
 
-// Bytes of `SMALL_HEADER` changed, and the number of the condition that then holds.
-const SMALL_CHANGED: [(&[(usize, u8)], u8); 3] = [
-    (&[], 0),
+// In each row the number of the condition that holds, and behind it the bytes that are changed in
+// `SMALL_HEADER`, each with its place.
+const SMALL_CHANGED: [[u16; 9]; 3] = [
+    [0, X, X, X, X, X, X, X, X],
     // a slot too short for a pointer
-    (&[(227, 6)], 14),
-    (&[], 0),
+    [14, 227, 6, X, X, X, X, X, X],
+    [0, X, X, X, X, X, X, X, X],
 ];
 
 // The number of the condition, or 0 where the header is read.
@@ -725,41 +733,41 @@ fn number(alloc: Global, bytes: &[u8]) -> u8 {
     }
 }
 
-// The number for the header with these bytes changed.
-fn changed(alloc: Global, header: &[u8], changes: &[(usize, u8)]) -> Result<u8, Fail> {
+// The number for the header with these bytes changed, each given behind its place.
+fn changed(alloc: Global, header: &[u8], changes: &[u16]) -> Result<u8, Fail> {
     let mut bytes = Vec::from_slice(alloc, header)?;
-    for (place, byte) in changes {
-        if let Some(cell) = bytes.get_mut(*place) {
-            *cell = *byte;
+    for change in changes.chunks_exact(2) {
+        if let [place, byte] = change {
+            if let Some(cell) = bytes.get_mut(*place as usize) {
+                *cell = byte.to_le_bytes()[0];
+            }
         }
     }
     Ok(number(alloc, &bytes))
 }
 
-#[test]
-fn changed_bytes(rt: HostRuntime) -> Result<(), Fail> {
-    for (changes, want) in &DYNAMIC_CHANGED {
-        assert_eq!(rt;
-            changed(rt.alloc(), &DYNAMIC_HEADER, changes)?,
-            *want,
-            "{changes:?}"
-        );
-    }
-    for (changes, want) in &STATIC_CHANGED {
-        assert_eq!(rt;
-            changed(rt.alloc(), &STATIC_HEADER, changes)?,
-            *want,
-            "{changes:?}"
-        );
-    }
-    for (changes, want) in &SMALL_CHANGED {
-        assert_eq!(rt;
-            changed(rt.alloc(), &SMALL_HEADER, changes)?,
-            *want,
-            "{changes:?}"
-        );
+// Tries each row of changes.
+fn try_rows(rt: &impl Abort, alloc: Global, header: &[u8], rows: &[[u16; 9]]) -> Result<(), Fail> {
+    for row in rows {
+        let got = changed(alloc, header, &row[1..])?;
+        assert_eq!(rt; got as u16, row[0], "{row:?}");
     }
     Ok(())
+}
+
+#[test]
+fn dynamic_changed(rt: HostRuntime) -> Result<(), Fail> {
+    try_rows(&rt, rt.alloc(), &DYNAMIC_HEADER, &DYNAMIC_CHANGED)
+}
+
+#[test]
+fn static_changed(rt: HostRuntime) -> Result<(), Fail> {
+    try_rows(&rt, rt.alloc(), &STATIC_HEADER, &STATIC_CHANGED)
+}
+
+#[test]
+fn small_changed(rt: HostRuntime) -> Result<(), Fail> {
+    try_rows(&rt, rt.alloc(), &SMALL_HEADER, &SMALL_CHANGED)
 }
 
 #[test]
@@ -767,7 +775,7 @@ fn each_byte(rt: HostRuntime) -> Result<(), Fail> {
     for (place, answers) in ONE_BYTE.iter().enumerate() {
         let next = STATIC_HEADER[place].wrapping_add(1);
         for (byte, want) in [0, 255, next].iter().zip(answers) {
-            let got = changed(rt.alloc(), &STATIC_HEADER, &[(place, *byte)])?;
+            let got = changed(rt.alloc(), &STATIC_HEADER, &[place as u16, *byte as u16])?;
             assert_eq!(rt; got, *want, "at {place}: {byte}");
         }
     }
@@ -834,7 +842,212 @@ fn printed(rt: HostRuntime) -> Result<(), Fail> {
     let defs = read_defs(rt.alloc(), &SMALL_HEADER)?;
     let bytes = print_defs(rt.alloc(), &defs)?;
     assert_eq!(rt; bytes.len(), 1024);
-    assert_eq!(rt; &bytes[..SMALL_HEADER.len()], SMALL_HEADER.as_slice());
+    assert!(rt; bytes.starts_with(&SMALL_HEADER));
     assert_eq!(rt; number(rt.alloc(), &bytes), 0);
     Ok(())
+}
+
+// The headers that the reference program prints for the two texts of `created`.
+const PRINTED_1: [u8; 297] = [
+    254, 254, 7, 1, 0, 0, 1, 41, 0, 176, 0, 100, 0, 176, 0, 0, 0, 0, 0, 0, 8, 0, 0, 0, 0, 0, 0, 0,
+    0, 0, 0, 0, 0, 0, 0, 0, 0, 0, 0, 0, 0, 0, 0, 0, 0, 0, 0, 0, 0, 0, 0, 0, 255, 255, 255, 255,
+    255, 255, 255, 255, 0, 0, 0, 0, 0, 0, 4, 0, 0, 0, 0, 0, 0, 0, 0, 0, 0, 0, 0, 0, 0, 0, 0, 0, 0,
+    0, 0, 0, 0, 0, 0, 0, 0, 0, 0, 0, 0, 0, 0, 0, 0, 0, 0, 0, 0, 0, 0, 0, 0, 0, 0, 0, 0, 0, 0, 0, 0,
+    0, 0, 0, 0, 0, 0, 0, 0, 0, 0, 0, 0, 0, 0, 0, 0, 0, 0, 0, 0, 0, 0, 0, 0, 0, 0, 0, 0, 0, 0, 0, 0,
+    0, 0, 0, 0, 0, 0, 0, 0, 0, 0, 0, 0, 0, 0, 0, 0, 0, 0, 0, 0, 0, 0, 0, 0, 0, 0, 0, 0, 0, 0, 0, 0,
+    0, 4, 0, 0, 0, 0, 0, 0, 0, 0, 0, 0, 0, 0, 0, 0, 0, 0, 0, 0, 0, 0, 0, 0, 0, 0, 0, 0, 0, 0, 0, 0,
+    0, 0, 0, 0, 0, 0, 0, 0, 0, 0, 8, 0, 0, 0, 8, 0, 0, 0, 0, 0, 0, 0, 0, 0, 0, 0, 0, 0, 0, 0, 3, 0,
+    0, 0, 0, 6, 6, 0, 0, 0, 0, 0, 0, 0, 0, 0, 0, 0, 0, 0, 0, 0, 0, 0, 0, 0, 0, 82, 75, 2, 0, 0, 0,
+    0, 0, 0, 1, 0, 0, 0, 0, 0, 0, 4, 0, 0, 0, 0, 0, 0, 3, 0, 0, 0,
+];
+
+const PRINTED_2: [u8; 462] = [
+    254, 254, 7, 1, 0, 1, 1, 206, 0, 176, 0, 100, 0, 224, 0, 4, 0, 0, 2, 0, 8, 2, 0, 0, 0, 0, 0, 0,
+    0, 0, 0, 0, 0, 0, 0, 0, 0, 0, 0, 0, 0, 0, 0, 0, 0, 0, 0, 0, 0, 0, 0, 0, 255, 255, 255, 255,
+    255, 255, 255, 255, 0, 0, 0, 0, 0, 0, 4, 0, 0, 0, 0, 0, 0, 0, 0, 0, 0, 0, 0, 0, 0, 0, 0, 0, 0,
+    0, 0, 0, 0, 0, 0, 0, 0, 0, 0, 0, 0, 0, 0, 0, 0, 0, 0, 0, 0, 0, 0, 0, 0, 0, 0, 0, 0, 0, 0, 0, 0,
+    0, 0, 0, 0, 0, 0, 0, 255, 255, 255, 255, 255, 255, 255, 255, 255, 255, 255, 255, 255, 255, 255,
+    255, 255, 255, 255, 255, 255, 255, 255, 255, 255, 255, 255, 255, 255, 255, 255, 255, 0, 0, 0,
+    0, 0, 0, 0, 0, 0, 0, 0, 0, 0, 0, 0, 0, 0, 0, 0, 3, 0, 0, 0, 0, 0, 0, 0, 0, 0, 0, 0, 0, 0, 0, 0,
+    0, 0, 0, 0, 0, 0, 0, 0, 0, 0, 0, 0, 0, 0, 0, 0, 0, 0, 0, 0, 0, 0, 0, 0, 0, 0, 0, 0, 0, 0, 0, 0,
+    0, 0, 0, 0, 0, 0, 0, 4, 0, 0, 0, 0, 0, 0, 0, 0, 0, 0, 0, 0, 0, 0, 0, 0, 0, 0, 0, 0, 0, 0, 0, 0,
+    0, 0, 0, 0, 0, 0, 0, 0, 0, 0, 0, 0, 0, 0, 0, 1, 54, 0, 0, 1, 54, 0, 0, 0, 0, 0, 0, 0, 0, 0, 0,
+    0, 0, 0, 0, 0, 6, 0, 0, 0, 0, 4, 6, 2, 0, 0, 1, 0, 0, 0, 0, 0, 0, 0, 0, 0, 0, 0, 0, 0, 0, 0, 0,
+    82, 75, 2, 0, 0, 0, 1, 0, 0, 1, 4, 0, 0, 5, 0, 5, 0, 5, 4, 63, 0, 0, 0, 0, 0, 0, 0, 4, 0, 0, 0,
+    1, 0, 0, 0, 0, 3, 0, 0, 0, 8, 0, 1, 133, 1, 133, 1, 133, 15, 8, 1, 0, 0, 0, 0, 0, 0, 100, 0, 0,
+    0, 42, 0, 0, 0, 0, 1, 83, 0, 0, 0, 0, 0, 0, 0, 30, 0, 0, 0, 5, 0, 0, 0, 0, 16, 0, 0, 0, 0, 0,
+    0, 0, 0, 254, 0, 0, 1, 44, 0, 0, 0, 0, 0, 0, 0, 1, 0, 0, 0, 0, 3, 0, 4, 0, 0, 0, 0, 1, 0, 30,
+    0, 0, 0, 0, 2, 0, 7, 0, 0, 0, 0, 8, 1, 2, 0, 0, 0, 0, 4, 0, 10, 0, 0, 0,
+];
+
+#[test]
+fn created(rt: HostRuntime) -> Result<(), Fail> {
+    let text = b"rows static\nfield normal 1\nfield normal 4\nfield normal 3\n";
+    let bytes = print_defs(rt.alloc(), &parse_text(rt.alloc(), text)?)?;
+    assert_eq!(rt; bytes.len(), 1024);
+    assert!(rt; bytes.starts_with(&PRINTED_1));
+    let text =
+        b"rows dynamic\npointer 4\nfield normal 1\nfield skip_zero 4\nfield skip_endspace 30\nfield skip_prespace 7\nfield varchar 258\nfield blob 10\nkey unique\nseg long_int 1 4 63 0 0\nkey plain\nseg vartext 42 100 8 1 0\nseg text 5 30 83 0 0\nseg varbinary 300 254 0 0 0";
+    let defs = parse_text(rt.alloc(), text)?;
+    assert_eq!(rt; defs.raw.as_slice(), PRINTED_2.as_slice());
+    let bytes = print_defs(rt.alloc(), &defs)?;
+    assert_eq!(rt; bytes.len(), 1024);
+    assert!(rt; bytes.starts_with(&PRINTED_2));
+    Ok(())
+}
+
+// The number of the line, or 0 where the text is taken; above 100 the condition that refuses the header.
+fn text_number(alloc: Global, text: &[u8]) -> u32 {
+    match parse_text(alloc, text) {
+        Ok(_) => 0,
+        Err(TextFault::Line(line)) => line,
+        Err(TextFault::Def(DefFault::Lengths)) => 103,
+        Err(TextFault::Def(DefFault::SegPlace)) => 111,
+        Err(TextFault::Def(_)) => 200,
+        Err(TextFault::Memory) => 300,
+    }
+}
+
+#[test]
+fn texts(rt: HostRuntime) {
+    let alloc = rt.alloc();
+    assert_eq!(rt; text_number(alloc, b""), 1);
+    assert_eq!(rt; text_number(alloc, b"\n"), 1);
+    assert_eq!(rt; text_number(alloc, b"rows static"), 2);
+    assert_eq!(rt; text_number(alloc, b"rows static\n"), 2);
+    assert_eq!(rt; text_number(alloc, b"rows static\n\n"), 2);
+    assert_eq!(rt; text_number(alloc, b"rows static\nfield normal 1\n"), 0);
+    assert_eq!(rt; text_number(alloc, b"rows static\nfield normal 1"), 0);
+    assert_eq!(rt; text_number(alloc, b"rows static\nfield normal 1\n\n"), 3);
+    assert_eq!(rt; text_number(alloc, b"rows  static\nfield normal 1"), 1);
+    assert_eq!(rt; text_number(alloc, b"rows static\nfield normal  1"), 2);
+    assert_eq!(rt; text_number(alloc, b"rows static\nfield normal 01"), 2);
+    assert_eq!(rt; text_number(alloc, b"rows static\nfield normal 1 "), 2);
+    assert_eq!(rt; text_number(alloc, b" rows static\nfield normal 1"), 1);
+}
+
+#[test]
+fn texts_2(rt: HostRuntime) {
+    let alloc = rt.alloc();
+    assert_eq!(rt; text_number(alloc, b"rows static\nfield normal +1"), 2);
+    assert_eq!(rt; text_number(alloc, b"rows static\nfield normal 65536"), 2);
+    assert_eq!(rt; text_number(alloc, b"rows static\nfield normal 65535\n"), 0);
+    assert_eq!(rt; text_number(alloc, b"rows static\nfield normal 0\n"), 103);
+    assert_eq!(rt;
+        text_number(alloc, b"rows static\npointer 1\nfield normal 1"),
+        2
+    );
+    assert_eq!(rt;
+        text_number(alloc, b"rows static\npointer 8\nfield normal 1"),
+        0
+    );
+    assert_eq!(rt;
+        text_number(alloc, b"rows static\npointer 9\nfield normal 1"),
+        2
+    );
+    assert_eq!(rt;
+        text_number(alloc, b"rows static\nfield normal 1\npointer 4"),
+        3
+    );
+    assert_eq!(rt;
+        text_number(alloc, b"rows static\nrows static\nfield normal 1"),
+        2
+    );
+    assert_eq!(rt; text_number(alloc, b"field normal 1"), 1);
+    assert_eq!(rt;
+        text_number(alloc, b"rows static\nfield normal 1\nkey unique"),
+        4
+    );
+    assert_eq!(rt;
+        text_number(alloc, b"rows static\nfield normal 1\nkey unique\n"),
+        4
+    );
+    assert_eq!(rt;
+        text_number(alloc, b"rows static\nfield normal 1\nkey both\n"),
+        3
+    );
+}
+
+#[test]
+fn texts_3(rt: HostRuntime) {
+    let alloc = rt.alloc();
+    assert_eq!(rt;
+        text_number(alloc, b"rows static\nfield normal 1\nseg binary 0 1 63 0 0"),
+        3
+    );
+    assert_eq!(rt;
+        text_number(
+            alloc,
+            b"rows static\nfield normal 1\nkey unique\nseg binary 0 1 63 0 0"
+        ),
+        0
+    );
+    assert_eq!(rt;
+        text_number(
+            alloc,
+            b"rows static\nfield normal 1\nkey unique\nseg binary 0 1 63 0 0\nfield normal 1"
+        ),
+        5
+    );
+    assert_eq!(rt;
+        text_number(
+            alloc,
+            b"rows static\nfield normal 1\nkey unique\nkey plain\nseg binary 0 1 63 0 0"
+        ),
+        4
+    );
+    assert_eq!(rt;
+        text_number(
+            alloc,
+            b"rows static\nfield normal 1\nkey unique\nseg binary 0 2 63 0 0"
+        ),
+        111
+    );
+    assert_eq!(rt;
+        text_number(
+            alloc,
+            b"rows static\nfield normal 1\nkey unique\nseg binary 0 1 63 256 0"
+        ),
+        4
+    );
+    assert_eq!(rt;
+        text_number(
+            alloc,
+            b"rows static\nfield normal 1\nkey unique\nseg binary 4294967295 1 63 0 0"
+        ),
+        111
+    );
+    assert_eq!(rt;
+        text_number(
+            alloc,
+            b"rows static\nfield normal 1\nkey unique\nseg binary 4294967296 1 63 0 0"
+        ),
+        4
+    );
+    assert_eq!(rt;
+        text_number(
+            alloc,
+            b"rows static\nfield normal 1\nkey unique\nseg float 0 1 63 0 0"
+        ),
+        4
+    );
+    assert_eq!(rt;
+        text_number(
+            alloc,
+            b"rows static\nfield normal 1\nkey unique\nseg binary 0 1 63 0"
+        ),
+        4
+    );
+    assert_eq!(rt;
+        text_number(
+            alloc,
+            b"rows static\nfield normal 1\nkey unique\nseg binary 0 1 63 0 0 0"
+        ),
+        4
+    );
+    assert_eq!(rt;
+        text_number(alloc, b"rows static\nfield normal \xc3\xa9\n"),
+        2
+    );
+    assert_eq!(rt; text_number(alloc, b"rows static\r\nfield normal 1\n"), 1);
 }

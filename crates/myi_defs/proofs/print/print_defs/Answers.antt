@@ -1,4 +1,4 @@
-use Rattle.std.proofs.Common.{◌≤◌, ap, sym, subst, ◌∙◌, arith, length}
+use Rattle.std.proofs.Common.{ap, ◌∙◌, arith, length}
 use Rattle.myi_defs.specs.declared.header.Front.{Front}
 use Rattle.myi_defs.specs.Header.{front}
 use Rattle.myi_defs.proofs.PrintLemmas.{header_facts, print_reads}
@@ -8,12 +8,6 @@ pub read-front-requires : goal.read-front-requires
 read-front-requires c =
     let fact = header_facts c.args.defs.now c.requires in
     omega (arith, fact.long, ap length c.as_slice-raw.ensures)
-
-pub empty_header-requires-clause-keys : goal.empty_header-requires-clause-keys
-empty_header-requires-clause-keys c =
-    let fact = header_facts c.args.defs.now c.requires in
-    let same = c.read-front.ensures.value ∙ ap front c.as_slice-raw.ensures in
-    subst (λ (f : Front). f.keys ≤ 64) (sym same) fact.keys
 
 pub empty_header-requires-clause-base : goal.empty_header-requires-clause-base
 empty_header-requires-clause-base c =

@@ -1,0 +1,73 @@
+//! Definitions from a creating text.
+//!
+//! A text is lines of words: `rows static` or `rows dynamic`, `pointer N` or nothing, then fields and then
+//! keys with their segments. `parse_text` reads the lines, prints the header that they stand for, and reads
+//! the definitions from it, so that a text is refused exactly as its header is.
+ghost use Rattle.std.specs.Prelude.{◌≡◌, ◌≢◌, take, IfOk, IfErr};
+ghost use Rattle.myi_base.specs.Numbers.{num_at};
+ghost use Rattle.myi_defs.specs.Text.{lines, said};
+ghost use Rattle.myi_defs.specs.TextHeader.{text_header};
+ghost use Rattle.myi_defs.specs.declared.parse.TextFault.TheVariants.{Memory};
+ghost use Rattle.myi_defs.specs.ParseText as spec;
+ghost use Rattle.myi_defs.specs.ReadDefs.{AreDefs};
+
+use crate::read::read_defs;
+use crate::text::{LineFault, read_lines};
+use crate::text_header::text_header;
+use crate::types::{DefFault, Defs};
+use std::alloc::{AllocError, Global};
+use thiserror::Error;
+
+/// More lines than a text in the grammar can have, which is 2 of the table, 4096 of fields, and 64 times 17 of
+/// keys.
+const MOST_LINES: usize = 65535;
+
+/// Why a creating text is refused.
+#[derive(Clone, Copy, Debug, PartialEq, Eq, Error)]
+pub enum TextFault {
+    /// The number of the first line that is not in the grammar, from 1. Where the text ends too early
+    /// it is the line after its last.
+    #[error("line {0} of the text is wrong")]
+    Line(u32),
+    /// The header that the text stands for is refused.
+    #[error("the table cannot be made: {0}")]
+    Def(DefFault),
+    #[error("out of memory")]
+    Memory,
+}
+
+impl From<AllocError> for TextFault {
+    ghost use Rattle.std.specs.Prelude.{◌≡◌};
+    ghost use Rattle.myi_defs.specs.declared.parse.TextFault.TheVariants.{Memory};
+
+    ghost from_gives = { λ _ e. e ≡ Memory };
+
+    fn from(_: AllocError) -> Self {
+        TextFault::Memory
+    }
+}
+
+/// The definitions of the table that a creating text stands for. Their header is the only one that the
+/// text stands for.
+#[tactic(auto, unfolding(crate::specs::ParseText::parse_text))]
+pub fn parse_text(alloc: Global, text: &[u8]) -> Result<Defs, TextFault>
+    ensures found { IfOk result (λ d. spec.parse_text text.now ≡ Ok d) }
+    ensures refused { IfErr result (λ f. f ≢ Memory → spec.parse_text text.now ≡ Err f) }
+    ensures itself { IfOk result AreDefs }
+    ensures header { IfOk result (λ d. let header = text_header (said (lines text.now)) in d.raw ≡ take (num_at 6 2 header) header) }
+{
+    let lines = match read_lines(alloc, text) {
+        Ok(lines) => lines,
+        Err(LineFault::Line(number)) => return Err(TextFault::Line(number)),
+        Err(LineFault::Memory) => return Err(TextFault::Memory),
+    };
+    if lines.len() > MOST_LINES {
+        return Err(TextFault::Memory);
+    }
+    let header = text_header(alloc, &lines)?;
+    match read_defs(alloc, &header) {
+        Ok(defs) => Ok(defs),
+        Err(DefFault::Memory) => Err(TextFault::Memory),
+        Err(fault) => Err(TextFault::Def(fault)),
+    }
+}
