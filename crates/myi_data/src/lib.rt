@@ -7,6 +7,8 @@
 
 mod data_file;
 mod scan;
+#[cfg(test)]
+mod tests;
 
 pub use data_file::DataFile;
 pub use scan::{DataScan, Piece, ScanFault};

@@ -190,7 +190,10 @@ impl DataScan {
         };
         self.at = at + self.size;
         if self.size > WINDOW {
-            return Ok(Some((at as u64, Piece::Joined(slot_at(&self.bytes, at, self.size)))));
+            return Ok(Some((
+                at as u64,
+                Piece::Joined(slot_at(&self.bytes, at, self.size)),
+            )));
         }
         Ok(Some((at as u64, Piece::Lent(slot_at(&self.bytes, at, self.size)))))
     }

@@ -22,6 +22,13 @@ fn files(alloc: Global, fail: &[u64]) -> Result<MemFiles, AllocError> {
     MemFiles::new(alloc, given, Vec::from_slice(alloc, fail)?)
 }
 
+fn holds(files: &MemFiles, name: &str, bytes: &[u8]) -> bool {
+    match files.get(name) {
+        None => false,
+        Some(found) => found == bytes,
+    }
+}
+
 #[test]
 fn files_in_memory_change_as_a_file_system_does(rt: HostRuntime) -> Result<(), Fail> {
     let alloc = rt.alloc();
@@ -33,17 +40,17 @@ fn files_in_memory_change_as_a_file_system_does(rt: HostRuntime) -> Result<(), F
     assert_eq!(rt; into, *b"ef--");
     assert_eq!(rt; files.read_at("b", 0, &mut into), Ok(0));
     assert_eq!(rt; files.write_at("a", 8, b"hi"), Ok(()));
-    assert_eq!(rt; files.get("a"), Some(b"abcdef\0\0hi".as_slice()));
+    assert!(rt; holds(&files, "a", b"abcdef\0\0hi"));
     assert_eq!(rt; files.write_at("a", 1, b"BC"), Ok(()));
     assert_eq!(rt; files.cut("a", 5), Ok(()));
-    assert_eq!(rt; files.get("a"), Some(b"aBCde".as_slice()));
+    assert!(rt; holds(&files, "a", b"aBCde"));
     assert_eq!(rt; files.cut("b", 2), Ok(()));
     assert_eq!(rt; files.rename("b", "a"), Ok(()));
-    assert_eq!(rt; files.get("a"), Some(b"\0\0".as_slice()));
+    assert!(rt; holds(&files, "a", b"\0\0"));
     assert_eq!(rt; files.rename("b", "a"), Ok(()));
     assert_eq!(rt; files.remove("b"), Ok(()));
     assert_eq!(rt; files.remove("a"), Ok(()));
-    assert_eq!(rt; files.get("a"), None);
+    assert!(rt; files.get("a").is_none());
     assert_eq!(rt; files.fault_count(), 0);
     Ok(())
 }

@@ -8,8 +8,7 @@ pub returns-in_default : goal.returns-in_default
 returns-in_default g c =
     let i = c.self.inside in
     let open_scan = opened _ c.args.self.now c.read.new.self _ _ _ _ _ c.in_ok-read.ensures.ok c.self.view_is in
-    let none = ap (λ xs. rows_in i.at i.size (drop i.at xs)) (sym c.deref.ensures.value) ∙ c.in_default.ensures in
-    (
+    let none = ap (λ xs. rows_in i.at i.size (drop i.at xs)) (sym c.deref.ensures.value) ∙ c.in_default.ensures in (
       (refl, λ _. tt, ended _ _ _ _ _ _ _ open_scan _ (none_at c.len-self-inside.result i.size i.bytes.items (omega arith) (omega (arith, c.self.invariant.0)))),
       record {
         row = no_head _ _ _ _ _ _ _ open_scan none;
