@@ -1,0 +1,147 @@
+-- Writing into a slice.
+use Rattle.std.proofs.Common.{Bool, true, false, not, eqb, replicate, cond, ◌≡◌, ℕ, zero, suc, ◌+◌, ◌-◌, ◌*◌, ◌/◌, ◌%◌, ◌^◌, ◌<◌, ◌≤◌, List, [], ◌∷◌, ◌++◌, length, get_or, set, take, drop, refl, sym, ap, ◌∙◌, append_assoc, arith, inl, inr}
+use Rattle.std.proofs.lemmas.List.{drop_more, drop_all, append-nil, length-append, length-drop}
+use Rattle.std.proofs.lemmas.Bool.{eqb-true, ne_eqb, lt-ltb, cases_lt}
+use Rattle.myi_base.specs.Numbers.{num_bytes}
+use Rattle.myi_keypage.specs.Page.{shared, Page, body_bytes, entry_bytes, entries_bytes, child_bytes, packed_bytes, number_bytes, page_with, page_bytes, IsBranching, is_node, head_bytes}
+use Rattle.myi_keypage.specs.declared.entry.Entry.{Entry}
+use Rattle.myi_base.proofs.NumberLaws.{length-num_bytes}
+use Rattle.myi_keypage.specs.Writing.{Puts, filled_up}
+use Rattle.myi_keypage.specs.Fitting.{entries_length, used_length}
+use Rattle.myi_keypage.proofs.Shared.{shared_empty, shared_le, shared_le_right}
+
+pub shared_end : (xs ys : List ℕ) (i : ℕ) → length ys ≤ i → shared xs (drop i ys) ≡ 0
+shared_end xs ys i le = eqb-true _ _ (shared_empty xs (drop i ys) (inr (rw (drop_all i ys le) refl)))
+
+pub Puts-then : (old : List ℕ) (at : ℕ) (mid : List ℕ) (end : ℕ) (new : List ℕ) (last : ℕ) (a b : List ℕ) → Puts old at mid end a → Puts mid end new last b → Puts old at new last (a ++ b)
+Puts-then old at mid end new last a b p q = record {
+  ends = omega (arith, p.ends, q.ends, length-append a b);
+  front = q.front ∙ ap (λ (t : List ℕ). t ++ b) p.front ∙ append_assoc (take at old) a b;
+}
+
+pub ruleset lengths = (length-num_bytes, length-append)
+
+tail_at : (es : List Entry) (i : ℕ) (e : Entry) → i < length es → e ≡ get_or es i e → drop i es ≡ e ∷ drop (i + 1) es
+tail_at es i e lt is = drop_more es i e lt ∙ ap (λ (x : Entry). x ∷ drop (i + 1) es) (sym is)
+
+-- the entry at i, with no child after it
+pub leaf_step : (rec_ref : ℕ) (before : List ℕ) (es : List Entry) (cs : List ℕ) (i : ℕ) (e : Entry) → i < length es → e ≡ get_or es i e → length cs ≤ i
+    → entries_bytes rec_ref before ((drop i es)) (drop i cs) ≡ entry_bytes rec_ref before e ++ entries_bytes rec_ref e.key ((drop (i + 1) es)) (drop (i + 1) cs)
+leaf_step rec_ref before es cs i e lt is le = rw (tail_at es i e lt is, drop_all i cs le, drop_all (i + 1) cs (omega arith)) refl
+
+pub node_step : (rec_ref : ℕ) (before : List ℕ) (es : List Entry) (cs : List ℕ) (i : ℕ) (e : Entry) → i < length es → e ≡ get_or es i e → i < length cs
+    → entries_bytes rec_ref before ((drop i es)) (drop i cs) ≡ (entry_bytes rec_ref before e ++ child_bytes (get_or cs i 0)) ++ entries_bytes rec_ref e.key ((drop (i + 1) es)) (drop (i + 1) cs)
+node_step rec_ref before es cs i e lt is le = rw (tail_at es i e lt is, drop_more cs i 0 le) refl
+
+pub length-packed : (rec_ref prefix : ℕ) (rest : List ℕ) (row : ℕ) → length (packed_bytes rec_ref prefix rest row) ≡ length (number_bytes prefix) + length (number_bytes (length rest)) + length rest + rec_ref
+length-packed rec_ref prefix rest row =
+    let a = length-append (number_bytes prefix ++ number_bytes (length rest) ++ rest) (num_bytes rec_ref row) in
+    let b = length-append (number_bytes prefix ++ number_bytes (length rest)) rest in
+    let c = length-append (number_bytes prefix) (number_bytes (length rest)) in
+    omega (arith, length-num_bytes rec_ref row)
+
+pub first_le : (rec_ref : ℕ) (before : List ℕ) (es : List Entry) (cs : List ℕ) (i : ℕ) (e : Entry) → i < length es → e ≡ get_or es i e
+    → length (entry_bytes rec_ref before e) ≤ length (entries_bytes rec_ref before ((drop i es)) (drop i cs))
+first_le rec_ref before es cs i e lt is =
+    elim (cases_lt i (length cs)) [
+      | inl more ↦ rw (node_step rec_ref before es cs i e lt is more) (simp length-append (omega arith))
+      | inr none ↦ rw (leaf_step rec_ref before es cs i e lt is none) (simp length-append (omega arith))
+    ]
+
+-- an entry that is short enough has short parts
+pub entry_len : (rec_ref : ℕ) (before : List ℕ) (e : Entry) (more : ℕ) → length before + (length (entry_bytes rec_ref before e) + more) < 65536
+    → (shared before e.key < 65536) × (length (drop (shared before e.key) e.key) < 65536) × (length e.key + more < 65536)
+entry_len rec_ref before e more lt =
+    let p : ℕ = shared before e.key in
+    let r : List ℕ = drop p e.key in
+    let a = length-append (number_bytes p ++ number_bytes (length r) ++ r) (num_bytes rec_ref e.row) in
+    let b = length-append (number_bytes p ++ number_bytes (length r)) r in
+    let c = length-drop p e.key in
+    let d = shared_le before e.key in
+    let f = shared_le_right before e.key in
+    (omega arith, omega arith, omega arith)
+
+-- a part of what is left is put, and the rest is left
+pub puts_on : (old : List ℕ) (at : ℕ) (new : List ℕ) (end : ℕ) (text rest more whole : List ℕ) (n : ℕ) → Puts old at new end text → rest ≡ text ++ more → take at old ++ rest ≡ whole → at + length rest ≡ n
+    → (take end new ++ more ≡ whole) × (end + length more ≡ n)
+puts_on old at new end text rest more whole n p r w l = (
+  ap (λ (t : List ℕ). t ++ more) p.front ∙ append_assoc (take at old) text more ∙ ap (λ (t : List ℕ). take at old ++ t) (sym r) ∙ w,
+  omega (arith, p.ends, ap length r, length-append text more),
+)
+
+-- what is left behind an entry stays short
+pub few_left : (rec_ref : ℕ) (before : List ℕ) (es : List Entry) (cs : List ℕ) (i : ℕ) (e : Entry) → i < length es → e ≡ get_or es i e
+    → length before + length (entries_bytes rec_ref before (drop i es) (drop i cs)) < 65536 → length e.key + length (entries_bytes rec_ref e.key (drop (i + 1) es) (drop (i + 1) cs)) < 65536
+few_left rec_ref before es cs i e lt is few =
+    let more : ℕ = length (entries_bytes rec_ref e.key (drop (i + 1) es) (drop (i + 1) cs)) in
+    elim (cases_lt i (length cs)) [
+      | inl some ↦
+          let whole = ap length (node_step rec_ref before es cs i e lt is some) in
+          let a = length-append (entry_bytes rec_ref before e ++ child_bytes (get_or cs i 0)) (entries_bytes rec_ref e.key (drop (i + 1) es) (drop (i + 1) cs)) in
+          let b = length-append (entry_bytes rec_ref before e) (child_bytes (get_or cs i 0)) in
+          (entry_len rec_ref before e more (omega arith)).2
+      | inr none ↦
+          let whole = ap length (leaf_step rec_ref before es cs i e lt is none) in
+          let a = length-append (entry_bytes rec_ref before e) (entries_bytes rec_ref e.key (drop (i + 1) es) (drop (i + 1) cs)) in
+          (entry_len rec_ref before e more (omega arith)).2
+    ]
+
+-- there is room for an entry and the child after it
+pub child_le : (rec_ref : ℕ) (before : List ℕ) (es : List Entry) (cs : List ℕ) (i : ℕ) (e : Entry) → i < length es → e ≡ get_or es i e → i < length cs
+    → length (entry_bytes rec_ref before e) + 7 ≤ length (entries_bytes rec_ref before (drop i es) (drop i cs))
+child_le rec_ref before es cs i e lt is more =
+    let whole = ap length (node_step rec_ref before es cs i e lt is more) in
+    let a = length-append (entry_bytes rec_ref before e ++ child_bytes (get_or cs i 0)) (entries_bytes rec_ref e.key (drop (i + 1) es) (drop (i + 1) cs)) in
+    let b = length-append (entry_bytes rec_ref before e) (child_bytes (get_or cs i 0)) in
+    omega (arith, length-num_bytes 7 (get_or cs i 0 / 1024))
+
+-- there is room for the first child
+pub body_le : (rec_ref : ℕ) (es : List Entry) (cs : List ℕ) → 1 ≤ length cs → 7 ≤ length (body_bytes rec_ref (page_with es cs))
+body_le rec_ref es [] some = absurd (omega arith)
+body_le rec_ref es (c ∷ cs) some = omega (arith, length-append (child_bytes c) (entries_bytes rec_ref [] es cs), length-num_bytes 7 (c / 1024))
+
+pub ruleset length_packed = (length-packed)
+
+-- the entry at i, and those after it
+pub len_step : (rec_ref : ℕ) (node : Bool) (before : List ℕ) (es : List Entry) (i : ℕ) (e : Entry) → i < length es → e ≡ get_or es i e
+    → entries_length rec_ref node before ((drop i es)) ≡ length (entry_bytes rec_ref before e) + cond node 7 0 + entries_length rec_ref node e.key ((drop (i + 1) es))
+len_step rec_ref node before es i e lt is = rw (tail_at es i e lt is) refl
+
+len_leaf : (rec_ref : ℕ) (before : List ℕ) (es : List Entry) → entries_length rec_ref false before es ≡ length (entries_bytes rec_ref before es [])
+len_leaf rec_ref before [] = refl
+len_leaf rec_ref before (e ∷ es) = omega (arith, length-append (entry_bytes rec_ref before e) (entries_bytes rec_ref e.key es []), len_leaf rec_ref e.key es)
+
+len_node : (rec_ref : ℕ) (before : List ℕ) (es : List Entry) (cs : List ℕ) → length cs ≡ length es → entries_length rec_ref true before es ≡ length (entries_bytes rec_ref before es cs)
+len_node rec_ref before [] cs h = refl
+len_node rec_ref before (e ∷ es) [] h = absurd (omega arith)
+len_node rec_ref before (e ∷ es) (c ∷ cs) h =
+    omega (arith, length-append (entry_bytes rec_ref before e ++ child_bytes c) (entries_bytes rec_ref e.key es cs), length-append (entry_bytes rec_ref before e) (child_bytes c), length-num_bytes 7 (c / 1024), len_node rec_ref e.key es cs (omega arith))
+
+pub used_is : (rec_ref : ℕ) (node : Bool) (es : List Entry) (cs : List ℕ) → IsBranching (page_with es cs) → not (eqb (length cs) 0) ≡ node → (used_length rec_ref node es ≡ length (body_bytes rec_ref (page_with es cs)) + 2) × (is_node (page_with es cs) ≡ node)
+used_is rec_ref true es [] b n = absurd cc
+used_is rec_ref false es [] b n = (omega (arith, len_leaf rec_ref [] es), refl)
+used_is rec_ref false es (c ∷ cs) b n = absurd (node_not c cs n)
+  where
+    node_not : (c : ℕ) (cs : List ℕ) → not (eqb (length (c ∷ cs)) 0) ≡ false → ⊥
+    node_not c cs h = let k : eqb (length (c ∷ cs)) 0 ≡ false = ne_eqb _ _ (omega arith) in let l : not false ≡ false = rw k at h in cc
+used_is rec_ref true es (c ∷ cs) b n =
+    (omega (arith, length-append (child_bytes c) (entries_bytes rec_ref [] es cs), length-num_bytes 7 (c / 1024), len_node rec_ref [] es cs b), lt-ltb 0 (length (c ∷ cs)) (omega arith))
+
+-- the used length of a page
+pub used_page : (rec_ref : ℕ) (es : List Entry) (cs : List ℕ) → IsBranching (page_with es cs) → used_length rec_ref (is_node (page_with es cs)) es ≡ length (body_bytes rec_ref (page_with es cs)) + 2
+used_page rec_ref es cs branching =
+    let u = used_is rec_ref (not (eqb (length cs) 0)) es cs branching refl in
+    rw u.1 u.0
+
+pub length-page_bytes : (rec_ref : ℕ) (page : Page) → length (page_bytes rec_ref page) ≡ length (body_bytes rec_ref page) + 2
+unfolding page_bytes
+length-page_bytes rec_ref page = omega arith
+
+pub written : (rec_ref : ℕ) (page : Page) (old a b new : List ℕ) (node : Bool) (used at1 at2 : ℕ) → used ≡ length (body_bytes rec_ref page) + 2 → is_node page ≡ node → Puts old 0 a at1 (head_bytes node used) → Puts a at1 b at2 (body_bytes rec_ref page)
+    → length b ≡ length old → new ≡ take at2 b ++ replicate (length b - at2) 0 → new ≡ filled_up (page_bytes rec_ref page) (length old)
+unfolding page_bytes
+written rec_ref page old a b new node used at1 at2 u n p q len e =
+    let front : take at2 b ≡ head_bytes node used ++ body_bytes rec_ref page = q.front ∙ ap (λ (t : List ℕ). t ++ body_bytes rec_ref page) p.front in
+    let text : head_bytes node used ++ body_bytes rec_ref page ≡ head_bytes (is_node page) (length (body_bytes rec_ref page) + 2) ++ body_bytes rec_ref page = ap (λ (m : Bool). head_bytes m used ++ body_bytes rec_ref page) (sym n) ∙ ap (λ (k : ℕ). head_bytes (is_node page) k ++ body_bytes rec_ref page) u in
+    let size : at2 ≡ length (head_bytes (is_node page) (length (body_bytes rec_ref page) + 2) ++ body_bytes rec_ref page) = omega (arith, p.ends, q.ends) in
+    e ∙ ap (λ (t : List ℕ). t ++ replicate (length b - at2) 0) (front ∙ text) ∙ ap (λ (k : ℕ). (head_bytes (is_node page) (length (body_bytes rec_ref page) + 2) ++ body_bytes rec_ref page) ++ replicate k 0) (ap (λ (k : ℕ). k - at2) len ∙ ap (λ (k : ℕ). length old - k) size)

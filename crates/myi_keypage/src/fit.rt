@@ -1,0 +1,74 @@
+//! Whether entries fit into a page.
+ghost use Rattle.std.specs.Prelude.{◌≡◌, ◌+◌, ◌^◌, ◌<◌, ◌≤◌, length, IfSome, IfNone, IsTrue, ◌↔◌, if◌then◌else◌};
+ghost use Rattle.myi_keypage.specs.Page.{number_bytes, entry_bytes};
+ghost use Rattle.myi_keypage.specs.Fitting.{used_length};
+
+use crate::entry::{Entry, shared_length};
+use crate::item::{CHILD_LENGTH, WIDE};
+
+/// How many bytes tell a node and the used length.
+const HEAD_LENGTH: usize = 2;
+
+fn number_length(number: usize) -> usize
+    ensures value { result ≡ length (number_bytes number) }
+    ensures bound { result ≤ 3 }
+{
+    if number < WIDE as usize { 1 } else { 3 }
+}
+
+#[tactic(auto, using(crate::proofs::WriteLaws::length_packed))]
+fn entry_length(rec_ref: usize, before: &[u8], entry: &Entry) -> usize
+    requires { rec_ref ≤ 8 }
+    ensures value { result ≡ length (entry_bytes rec_ref before.now entry.now) }
+    ensures bound { result < 2 ^ 63 + 16 }
+{
+    let key = entry.key.as_slice();
+    let prefix = shared_length(before, key);
+    let rest = key.len() - prefix;
+    number_length(prefix) + number_length(rest) + rest + rec_ref
+}
+
+fn child_length(node: bool) -> usize
+    ensures value { result ≡ (if node then 7 else 0) }
+    ensures bound { result ≤ 7 }
+{
+    if node { CHILD_LENGTH } else { 0 }
+}
+
+/// The used length of a page with these entries, where it is at most the limit.
+pub(crate) fn used_within(
+    entries: &[Entry],
+    node: bool,
+    rec_ref: usize,
+    limit: usize,
+) -> Option<usize>
+    requires narrow { rec_ref ≤ 8 }
+    ensures some { IfSome result (λ used. (used ≡ used_length rec_ref node entries.now) × (used ≤ limit)) }
+    ensures none { IfNone result (limit < used_length rec_ref node entries.now) }
+{
+    let child = child_length(node);
+    if limit < HEAD_LENGTH + child {
+        return None;
+    }
+    let mut left = limit - HEAD_LENGTH - child;
+    let mut before: &[u8] = &[];
+    for entry in entries {
+        let need = entry_length(rec_ref, before, entry) + child;
+        if left < need {
+            return None;
+        }
+        left -= need;
+        before = entry.key.as_slice();
+    }
+    Some(limit - left)
+}
+
+/// Whether the entries, with row pointers of `rec_ref` bytes, and in a node their children, take at most
+/// `length` bytes in a page.
+pub fn fits(entries: &[Entry], node: bool, rec_ref: u8, length: usize) -> bool
+    requires wide { 2 ≤ rec_ref }
+    requires narrow { rec_ref ≤ 8 }
+    ensures { IsTrue result ↔ (used_length rec_ref node entries.now ≤ length) }
+{
+    used_within(entries, node, rec_ref as usize, length).is_some()
+}
