@@ -1,12 +1,14 @@
 -- What fits still fits with entries taken out.
-use Rattle.std.proofs.Common.{◌≡◌, ℕ, ◌+◌, ◌-◌, ◌*◌, ◌≤◌, ◌⊎◌, Bool, true, false, cond, eqb, List, [], ◌∷◌, ◌++◌, length, take, drop, refl, ap, ◌∙◌, arith, inl, inr}
+use Rattle.std.proofs.Common.{◌≡◌, ℕ, suc, ◌+◌, ◌-◌, ◌*◌, ◌<◌, ◌≤◌, get_or, sym, ◌⊎◌, Bool, true, false, cond, eqb, List, [], ◌∷◌, ◌++◌, length, take, drop, refl, ap, ◌∙◌, arith, inl, inr}
 use Rattle.std.proofs.lemmas.Bool.{cases_Bool, eqb-true, eq-eqb, cases_lt, lt-ltb, le-ltb}
-use Rattle.std.proofs.lemmas.List.{length-drop, take-append-drop, append-nil}
+use Rattle.std.proofs.lemmas.List.{length-drop, take-append-drop, append-nil, take-take}
 use Rattle.myi_keypage.specs.declared.entry.Entry.{Entry}
-use Rattle.myi_keypage.specs.Page.{shared, entry_bytes, number_bytes}
+use Rattle.myi_keypage.specs.Page.{Page, shared, entry_bytes, number_bytes, page_bytes, is_node, IsBranching}
 use Rattle.myi_keypage.specs.Fitting.{entries_length, used_length}
 use Rattle.myi_keypage.proofs.Shared.{shared_le, shared_le_right}
-use Rattle.myi_keypage.proofs.WriteLaws.{length-packed}
+use Rattle.std.specs.Prelude.{◌↔◌}
+use Rattle.std.specs.List.{AllByRecursion}
+use Rattle.myi_keypage.proofs.WriteLaws.{length-packed, used_page, length-page_bytes, tail_at}
 
 -- of three keys, the outer two share at least the lesser of what neighbours share
 pub shared_over : (xs ys zs : List ℕ) → (shared xs ys ≤ shared xs zs) ⊎ (shared ys zs ≤ shared xs zs)
@@ -101,3 +103,54 @@ two_used rec_ref false most a b h k = omega (arith, entry_most rec_ref [] a, ent
 pub put_used : (rec_ref : ℕ) (before : List ℕ) (e z : Entry) → shared before z.key ≤ shared e.key z.key → length (entry_bytes rec_ref e.key z) ≤ length (entry_bytes rec_ref before z) + 2
 put_used rec_ref before e z h =
     omega (arith, entry_is rec_ref before z, entry_is rec_ref e.key z, number_most (shared e.key z.key), number_least (shared before z.key), number_more (length z.key - shared e.key z.key) (length z.key - shared before z.key) (omega arith))
+
+pub leaf_length : (rec_ref : ℕ) (es : List Entry) → used_length rec_ref false es ≤ used_length rec_ref true es
+leaf_length rec_ref es = omega (arith, leaf_used rec_ref [] es)
+
+-- the used length is the length of the spelling
+pub page_length : (rec_ref : ℕ) (page : Page) → IsBranching page → used_length rec_ref (is_node page) page.entries ≡ length (page_bytes rec_ref page)
+page_length rec_ref page branching = used_page rec_ref page.entries page.children branching ∙ sym (length-page_bytes rec_ref page)
+
+keys_after : (rec_ref : ℕ) (node : Bool) (before : List ℕ) (es : List Entry) (bound : ℕ) → length before + entries_length rec_ref node before es < bound → AllByRecursion (λ e. length e.key < bound) es
+keys_after rec_ref node before [] bound h = tt
+keys_after rec_ref node before (e ∷ es) bound h =
+    let most : length e.key ≤ length before + length (entry_bytes rec_ref before e) = omega (arith, entry_is rec_ref before e, shared_le before e.key) in
+    (omega arith, keys_after rec_ref node e.key es bound (omega arith))
+
+-- a key is shorter than the page
+pub keys_short : (rec_ref : ℕ) (node : Bool) (es : List Entry) → AllByRecursion (λ e. length e.key < used_length rec_ref node es) es
+keys_short rec_ref node es = keys_after rec_ref node [] es (used_length rec_ref node es) (omega arith)
+
+-- ---- how many fit
+
+pub fronts_used : (rec_ref : ℕ) (node : Bool) (c d : ℕ) (es : List Entry) → c ≤ d → used_length rec_ref node (take c es) ≤ used_length rec_ref node (take d es)
+fronts_used rec_ref node c d es le = let h = front_used rec_ref node c (take d es) in rw (take-take c d es le) at h
+
+-- a front that fits, behind which one more does not, is the longest
+pub fit_exactly : (rec_ref : ℕ) (node : Bool) (es : List Entry) (room i : ℕ) → used_length rec_ref node (take i es) ≤ room → (i < length es → room < used_length rec_ref node (take (i + 1) es))
+    → (count : ℕ) → 0 < count → count ≤ length es → (count ≤ i) ↔ (used_length rec_ref node (take count es) ≤ room)
+fit_exactly rec_ref node es room i now next count some inside = (
+  λ le. omega (arith, fronts_used rec_ref node count i es le),
+  λ fit. elim (cases_lt i count) [
+    | inl more ↦ absurd (omega (arith, next (omega arith), fronts_used rec_ref node (i + 1) count es (omega arith)))
+    | inr le ↦ le
+  ],
+)
+
+-- without room for the front of a page nothing fits
+pub none_fit : (rec_ref : ℕ) (node : Bool) (es : List Entry) (room : ℕ) → room < 2 + cond node 7 0 → (count : ℕ) → 0 < count → count ≤ length es → (count ≤ 0) ↔ (used_length rec_ref node (take count es) ≤ room)
+none_fit rec_ref node es room less count some inside = (λ le. absurd (omega arith), λ fit. absurd (omega arith))
+
+-- what is used up to a place, and what the entries behind it take
+abbrev pub Counts : ℕ → Bool → List Entry → ℕ → List ℕ → ℕ → Type 0
+Counts rec_ref node es i before done = (more : ℕ) → used_length rec_ref node (take (i + more) es) ≡ done + entries_length rec_ref node before (take more (drop i es))
+
+pub counts_step : (rec_ref : ℕ) (node : Bool) (es : List Entry) (i : ℕ) (before : List ℕ) (done last : ℕ) (e : Entry) → i < length es → e ≡ get_or es i e → last ≡ done + (length (entry_bytes rec_ref before e) + cond node 7 0)
+    → Counts rec_ref node es i before done → Counts rec_ref node es (i + 1) e.key last
+counts_step rec_ref node es i before done last e lt is end so_far more =
+    let k : i + 1 + more ≡ i + suc more = omega arith in
+    let s = so_far (suc more) in
+    rw (k, s, tail_at es i e lt is, end) (omega arith)
+
+pub counts_now : (rec_ref : ℕ) (node : Bool) (es : List Entry) (i : ℕ) (before : List ℕ) (done : ℕ) → Counts rec_ref node es i before done → used_length rec_ref node (take i es) ≡ done
+counts_now rec_ref node es i before done so_far = let k : i + 0 ≡ i = omega arith in let s = so_far 0 in omega (arith, rw k at s)

@@ -53,7 +53,7 @@ some_items node rec_ref (b ∷ bs) items lt e =
     consed item None items e = absurd cc
     consed item (Some is) items e = subst (λ (t : List Item). 0 < length t) (same_Some _ _ e) (omega arith)
 
-is_child_node : (node : Bool) (o : Option ℕ) → IsChild node o → is_some o ≡ node
+pub is_child_node : (node : Bool) (o : Option ℕ) → IsChild node o → is_some o ≡ node
 is_child_node false None h = refl
 is_child_node false (Some c) h = absurd h
 is_child_node true None h = absurd h
@@ -109,12 +109,12 @@ places_in rec_ref node (item ∷ items) h = one node item.child h.0.child (place
     one true (Some c) h again = (h, again)
     one false (Some c) h again = absurd h
 
-length-entries_after : (before : List ℕ) (items : List Item) → length (entries_after before items) ≡ length items
+pub length-entries_after : (before : List ℕ) (items : List Item) → length (entries_after before items) ≡ length items
 length-entries_after before [] = refl
 length-entries_after before (item ∷ items) = ap suc (length-entries_after (key_after before item) items)
 
 -- the parts that go by whether it is a node
-by_node : (node : Bool) (rec_ref : ℕ) (s : Shown) → IsChild node s.first → AreItems node rec_ref s.items → are_longest [] s.items ≡ true
+pub by_node : (node : Bool) (rec_ref : ℕ) (s : Shown) → IsChild node s.first → AreItems node rec_ref s.items → are_longest [] s.items ≡ true
     → AllByRecursion IsPlace (page_of s).children × IsBranching (page_of s) × (is_node (page_of s) ≡ node)
 by_node node rec_ref s f h l = cases node s.first s.items f h l
   where

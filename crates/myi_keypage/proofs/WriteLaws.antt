@@ -21,7 +21,7 @@ Puts-then old at mid end new last a b p q = record {
 
 pub ruleset lengths = (length-num_bytes, length-append)
 
-tail_at : (es : List Entry) (i : ℕ) (e : Entry) → i < length es → e ≡ get_or es i e → drop i es ≡ e ∷ drop (i + 1) es
+pub tail_at : (es : List Entry) (i : ℕ) (e : Entry) → i < length es → e ≡ get_or es i e → drop i es ≡ e ∷ drop (i + 1) es
 tail_at es i e lt is = drop_more es i e lt ∙ ap (λ (x : Entry). x ∷ drop (i + 1) es) (sym is)
 
 -- the entry at i, with no child after it

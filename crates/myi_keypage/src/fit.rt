@@ -1,5 +1,5 @@
 //! Whether entries fit into a page.
-ghost use Rattle.std.specs.Prelude.{◌≡◌, ◌+◌, ◌^◌, ◌<◌, ◌≤◌, length, IfSome, IfNone, IsTrue, ◌↔◌, if◌then◌else◌};
+ghost use Rattle.std.specs.Prelude.{◌≡◌, ◌+◌, ◌^◌, ◌<◌, ◌≤◌, ℕ, length, take, IfSome, IfNone, IsTrue, ◌↔◌, if◌then◌else◌};
 ghost use Rattle.myi_keypage.specs.Page.{number_bytes, entry_bytes};
 ghost use Rattle.myi_keypage.specs.Fitting.{used_length};
 
@@ -71,4 +71,30 @@ pub fn fits(entries: &[Entry], node: bool, rec_ref: u8, length: usize) -> bool
     ensures { IsTrue result ↔ (used_length rec_ref node entries.now ≤ length) }
 {
     used_within(entries, node, rec_ref as usize, length).is_some()
+}
+
+/// How many entries from the front fit, with row pointers of `rec_ref` bytes, into a page of `room`
+/// bytes that is a leaf or a node: the greatest such number.
+pub fn fitting(entries: &[Entry], node: bool, rec_ref: u8, room: usize) -> usize
+    requires wide { 2 ≤ rec_ref }
+    requires narrow { rec_ref ≤ 8 }
+    ensures inside { result ≤ length entries.now }
+    ensures exact { (count : ℕ) → 0 < count → count ≤ length entries.now
+        → (count ≤ result) ↔ (used_length rec_ref node (take count entries.now) ≤ room) }
+{
+    let child = child_length(node);
+    if room < HEAD_LENGTH + child {
+        return 0;
+    }
+    let mut left = room - HEAD_LENGTH - child;
+    let mut before: &[u8] = &[];
+    for (i, entry) in entries.iter().enumerate() {
+        let need = entry_length(rec_ref as usize, before, entry) + child;
+        if left < need {
+            return i;
+        }
+        left -= need;
+        before = entry.key.as_slice();
+    }
+    entries.len()
 }

@@ -14,12 +14,14 @@
 mod entry;
 mod fit;
 mod item;
+mod laws;
 mod prefix;
 mod view;
 mod write;
 
 pub use entry::Entry;
-pub use fit::fits;
+pub use fit::{fits, fitting};
 pub use item::PageItem;
+pub use laws::{entries_fit, pages_read_back, views_show_pages};
 pub use view::{PageView, PageWalk, read_page};
 pub use write::write_page;
