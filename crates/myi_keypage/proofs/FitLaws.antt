@@ -1,9 +1,9 @@
 -- What fits still fits with entries taken out.
-use Rattle.std.proofs.Common.{◌≡◌, ℕ, suc, ◌+◌, ◌-◌, ◌*◌, ◌<◌, ◌≤◌, get_or, sym, ◌⊎◌, Bool, true, false, cond, eqb, List, [], ◌∷◌, ◌++◌, length, take, drop, refl, ap, ◌∙◌, arith, inl, inr}
+use Rattle.std.proofs.Common.{◌≡◌, ℕ, suc, ◌+◌, ◌-◌, ◌*◌, ◌^◌, ◌<◌, ◌≤◌, get_or, sym, ◌⊎◌, Bool, true, false, cond, eqb, List, [], ◌∷◌, ◌++◌, length, take, drop, refl, ap, ◌∙◌, arith, inl, inr}
 use Rattle.std.proofs.lemmas.Bool.{cases_Bool, eqb-true, eq-eqb, cases_lt, lt-ltb, le-ltb}
-use Rattle.std.proofs.lemmas.List.{length-drop, take-append-drop, append-nil, take-take}
+use Rattle.std.proofs.lemmas.List.{length-append, length-drop, take-append-drop, append-nil, take-take}
 use Rattle.myi_keypage.specs.declared.entry.Entry.{Entry}
-use Rattle.myi_keypage.specs.Page.{Page, shared, entry_bytes, number_bytes, page_bytes, is_node, IsBranching}
+use Rattle.myi_keypage.specs.Page.{Page, shared, entry_bytes, number_bytes, page_bytes, is_node, IsPlace, IsBranching, IsWritable, IsPage}
 use Rattle.myi_keypage.specs.Fitting.{entries_length, used_length}
 use Rattle.myi_keypage.proofs.Shared.{shared_le, shared_le_right}
 use Rattle.std.specs.Prelude.{◌↔◌}
@@ -110,6 +110,15 @@ leaf_length rec_ref es = omega (arith, leaf_used rec_ref [] es)
 -- the used length is the length of the spelling
 pub page_length : (rec_ref : ℕ) (page : Page) → IsBranching page → used_length rec_ref (is_node page) page.entries ≡ length (page_bytes rec_ref page)
 page_length rec_ref page branching = used_page rec_ref page.entries page.children branching ∙ sym (length-page_bytes rec_ref page)
+
+-- the entries of a page fit into it
+pub page_inside : (rec_ref : ℕ) (bytes : List ℕ) (page : Page) → IsPage rec_ref bytes page → used_length rec_ref (is_node page) page.entries ≤ length bytes
+page_inside rec_ref bytes page h = omega (arith, page_length rec_ref page h.branching, ap length h.text.1, length-append (page_bytes rec_ref page) h.text.0)
+
+pub page_writable : (rec_ref : ℕ) (page : Page) → IsBranching page → 0 < length page.entries → AllByRecursion (λ e. e.row < 256 ^ rec_ref) page.entries → AllByRecursion IsPlace page.children
+    → used_length rec_ref (is_node page) page.entries < 32768 → IsWritable rec_ref page
+page_writable rec_ref page branching some rows places used =
+    record { some = some; rows = rows; places = places; used = omega (arith, used_page rec_ref page.entries page.children branching) }
 
 keys_after : (rec_ref : ℕ) (node : Bool) (before : List ℕ) (es : List Entry) (bound : ℕ) → length before + entries_length rec_ref node before es < bound → AllByRecursion (λ e. length e.key < bound) es
 keys_after rec_ref node before [] bound h = tt

@@ -4,10 +4,7 @@ ghost use Rattle.myi_keypage.specs.Page.{number_bytes, entry_bytes};
 ghost use Rattle.myi_keypage.specs.Fitting.{used_length};
 
 use crate::entry::{Entry, shared_length};
-use crate::item::{CHILD_LENGTH, WIDE};
-
-/// How many bytes tell a node and the used length.
-const HEAD_LENGTH: usize = 2;
+use crate::item::{CHILD_LENGTH, HEAD_LENGTH, WIDE};
 
 fn number_length(number: usize) -> usize
     ensures value { result ≡ length (number_bytes number) }

@@ -11,8 +11,20 @@ use myi_base::number_at;
 /// The least number that takes more than one byte, and the byte that such a number begins with.
 pub(crate) const WIDE: u8 = 255;
 
+/// How many bytes tell a node and the used length.
+pub(crate) const HEAD_LENGTH: usize = 2;
+
+/// The bit of the first byte that tells a node.
+pub(crate) const NODE_BIT: u8 = 128;
+
 /// How many bytes a child takes.
 pub(crate) const CHILD_LENGTH: usize = 7;
+
+/// What a child's place is divided by.
+pub(crate) const PLACE_UNIT: u64 = 1024;
+
+/// More than the number that a child's bytes may spell.
+const CHILD_LIMIT: u64 = 1 << 54;
 
 /// An entry of a page as it stands, with the rest of its key lent.
 #[derive(Clone, Copy, Debug, PartialEq, Eq)]
@@ -70,8 +82,8 @@ fn read_place(bytes: &[u8]) -> Option<(u64, &[u8])>
     ensures { option_map (λ x. (x.0, x.1.now)) result ≡ place_at bytes.now }
 {
     let (number, rest) = read_pointer(CHILD_LENGTH, bytes)?;
-    if number < 1 << 54 {
-        Some((number * 1024, rest))
+    if number < CHILD_LIMIT {
+        Some((number * PLACE_UNIT, rest))
     } else {
         None
     }

@@ -1,10 +1,10 @@
 //! Laws over the definitions of this crate. Each is the contract of a function that does nothing, so
 //! that it is proved with the crate and stands for the crates above.
-ghost use Rattle.std.specs.Prelude.{◌≡◌, ℕ, ◌+◌, ◌*◌, ◌<◌, ◌≤◌, ◌++◌, Bool, true, false, List, [], ◌∷◌, length, take, drop, is_some, Option, Some};
+ghost use Rattle.std.specs.Prelude.{◌≡◌, ℕ, ◌+◌, ◌*◌, ◌^◌, ◌<◌, ◌≤◌, ◌++◌, Bool, true, false, List, [], ◌∷◌, length, take, drop, is_some, Option, Some};
 ghost use Rattle.std.specs.List.{AllByRecursion};
 ghost use Rattle.myi_base.specs.Numbers.{AreBytes};
 ghost use Rattle.myi_keypage.specs.declared.entry.Entry.{Entry};
-ghost use Rattle.myi_keypage.specs.Page.{Page, shared, entry_bytes, page_bytes, is_node, IsBranching, IsWritable, IsPage};
+ghost use Rattle.myi_keypage.specs.Page.{Page, shared, entry_bytes, page_bytes, is_node, IsPlace, IsBranching, IsWritable, IsPage};
 ghost use Rattle.myi_keypage.specs.Showing.{Shown, page_of, shown_in, page_in};
 ghost use Rattle.myi_keypage.specs.Fitting.{used_length};
 
@@ -33,7 +33,8 @@ pub fn views_show_pages()
         → is_node (page_of s) ≡ is_some s.first }
 {}
 
-/// The used length is the length of the spelling. Entries that fit still fit with any run of them
+/// The used length is the length of the spelling, within the bytes of each page, and a page can be
+/// written where it is below 32,768. Entries that fit still fit with any run of them
 /// taken out, and so does each part of a list that is cut in two. An entry takes at most six bytes and
 /// its row pointer besides its key; one that is put before another lengthens that by at most two bytes,
 /// where it shares with it what the key before it did. Two entries whose keys are at most `most` bytes
@@ -41,6 +42,12 @@ pub fn views_show_pages()
 pub fn entries_fit()
     ensures length { (rec_ref : ℕ) (p : Page) → IsBranching p
         → used_length rec_ref (is_node p) p.entries ≡ length (page_bytes rec_ref p) }
+    ensures inside { (rec_ref : ℕ) (x : List ℕ) (p : Page) → IsPage rec_ref x p
+        → used_length rec_ref (is_node p) p.entries ≤ length x }
+    ensures writable { (rec_ref : ℕ) (p : Page) → IsBranching p → 0 < length p.entries
+        → AllByRecursion (λ e. e.row < 256 ^ rec_ref) p.entries → AllByRecursion IsPlace p.children
+        → used_length rec_ref (is_node p) p.entries < 32768 → IsWritable rec_ref p }
+
     ensures part { (rec_ref : ℕ) (node : Bool) (xs ys zs : List Entry)
         → used_length rec_ref node (xs ++ zs) ≤ used_length rec_ref node (xs ++ (ys ++ zs)) }
     ensures one { (rec_ref : ℕ) (node : Bool) (xs : List Entry) (e : Entry) (zs : List Entry)
@@ -50,6 +57,7 @@ pub fn entries_fit()
     ensures back { (rec_ref : ℕ) (node : Bool) (count : ℕ) (es : List Entry)
         → used_length rec_ref node (drop count es) ≤ used_length rec_ref node es }
     ensures leaf { (rec_ref : ℕ) (es : List Entry) → used_length rec_ref false es ≤ used_length rec_ref true es }
+
     ensures entry { (rec_ref : ℕ) (before : List ℕ) (e : Entry)
         → length (entry_bytes rec_ref before e) ≤ length e.key + 6 + rec_ref }
     ensures before { (rec_ref : ℕ) (before : List ℕ) (e z : Entry) → shared before z.key ≤ shared e.key z.key

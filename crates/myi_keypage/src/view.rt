@@ -8,7 +8,7 @@ ghost use Rattle.myi_keypage.specs.Page.{Page, IsPage};
 ghost use Rattle.myi_keypage.specs.Reading.{item_view};
 ghost use Rattle.myi_keypage.specs.Showing.{page_of, body_shown, shown_in};
 
-use crate::item::{PageItem, read_child, read_item};
+use crate::item::{HEAD_LENGTH, NODE_BIT, PageItem, read_child, read_item};
 use crate::prefix::all_pass;
 use std::marker::Model;
 
@@ -85,15 +85,15 @@ pub fn read_page<'a>(bytes: &'a [u8], rec_ref: u8) -> Option<PageView<'a>>
     ensures none { IfNone result ((page : Page) → IsPage rec_ref bytes.now page → ⊥) }
     ensures shown { result ≡ shown_in rec_ref bytes.now }
 {
-    if bytes.len() < 2 {
+    if bytes.len() < HEAD_LENGTH {
         return None;
     }
-    let node = bytes[0] >= 128;
-    let used = (bytes[0] % 128) as usize * 256 + bytes[1] as usize;
-    if used < 2 || bytes.len() < used {
+    let node = bytes[0] >= NODE_BIT;
+    let used = (bytes[0] % NODE_BIT) as usize * 256 + bytes[1] as usize;
+    if used < HEAD_LENGTH || bytes.len() < used {
         return None;
     }
-    view_of(node, rec_ref, &bytes[2..used])
+    view_of(node, rec_ref, &bytes[HEAD_LENGTH..used])
 }
 
 impl<'a> PageView<'a> {

@@ -11,7 +11,7 @@ ghost use Rattle.myi_keypage.specs.Writing.{Puts, IsMatching, filled_up};
 
 use crate::entry::{Entry, shared_length};
 use crate::fit::used_within;
-use crate::item::{CHILD_LENGTH, WIDE};
+use crate::item::{CHILD_LENGTH, NODE_BIT, PLACE_UNIT, WIDE};
 
 fn put(into: &mut [u8], at: usize, bytes: &[u8]) -> usize
     requires { at + length bytes.now ≤ length into.old }
@@ -71,7 +71,7 @@ fn put_child(into: &mut [u8], at: usize, place: u64) -> usize
     requires { at + 7 ≤ length into.old }
     ensures { Puts into.old at into.new result (child_bytes place) }
 {
-    put_pointer(into, at, CHILD_LENGTH, place / 1024)
+    put_pointer(into, at, CHILD_LENGTH, place / PLACE_UNIT)
 }
 
 // The entries, and the child after each in a node.
@@ -106,7 +106,7 @@ fn put_head(into: &mut [u8], node: bool, used: usize) -> usize
     requires room { 2 ≤ length into.old }
     ensures { Puts into.old 0 into.new result (head_bytes node used) }
 {
-    let high = if node { 128 } else { 0 };
+    let high = if node { NODE_BIT } else { 0 };
     put(into, 0, &[high + (used / 256) as u8, (used % 256) as u8])
 }
 

@@ -20,7 +20,7 @@ loop-i-preserved c = record {
   bound = c.loop-i.invariant.bound;
   within = omega (arith, c.loop-i.invariant.within);
   so_far = rw c.as_slice-before.ensures (counts_step c.args.rec_ref c.args.node c.args.entries.now c.loop-i.i c.loop-i.before.now _ _ c.index-entries-i.result c.loop-i-test.true c.index-entries-i.is
-  (omega (arith, c.entry_length.ensures.value, c.loop-i.invariant.child, c.loop-i.invariant.within)) c.loop-i.invariant.so_far);
+      (omega (arith, c.entry_length.ensures.value, c.loop-i.invariant.child, c.loop-i.invariant.within)) c.loop-i.invariant.so_far);
 }
 
 pub returns-clause-exact : goal.returns-clause-exact
