@@ -1,5 +1,5 @@
 -- What bytes show, and that bytes show a page exactly where they are it.
-use Rattle.std.proofs.Common.{◌≡◌, ◌⊎◌, ℕ, ◌-◌, ◌<◌, ◌≤◌, leb, Option, Some, None, List, [], ◌++◌, length, take, drop, get_or, refl, sym, subst, ap, ◌∙◌, arith, inl, inr}
+use Rattle.std.proofs.Common.{◌≡◌, ◌⊎◌, ℕ, ◌-◌, ◌<◌, ◌≤◌, leb, Bool, true, Option, Some, None, List, [], ◌∷◌, ◌++◌, length, take, drop, get_or, refl, sym, subst, ap, ◌∙◌, arith, inl, inr}
 use Rattle.std.proofs.lemmas.Bool.{cases_lt, le-ltb, lt-ltb}
 use Rattle.std.proofs.lemmas.List.{take_at, take-append-drop, append-nil}
 use Rattle.std.proofs.lemmas.Option.{same_Some}
@@ -8,7 +8,10 @@ use Rattle.myi_base.specs.Numbers.{AreBytes}
 use Rattle.myi_base.proofs.NumberLaws.{bytes-take, bytes-drop}
 use Rattle.myi_keypage.specs.Page.{Page, body_bytes, page_bytes, is_node, IsWritable, IsBranching, IsPage}
 use Rattle.myi_keypage.specs.Showing.{Shown, page_of, shown_in, used_in, body_shown, page_in}
-use Rattle.myi_keypage.proofs.PageLaws.{body_found}
+use Rattle.myi_keypage.proofs.PageLaws.{BodyIs, body_found}
+use Rattle.myi_keypage.proofs.ItemForms.{AreItems}
+use Rattle.myi_keypage.specs.Reading.{Item, are_longest}
+use Rattle.std.specs.List.{AllByRecursion}
 use Rattle.myi_keypage.proofs.PageIs.{shown_page, expected, page_found, one_page, by_node, is_child_node}
 
 pub shown_short : (rec_ref : ℕ) (bytes : List ℕ) → length bytes < 2 → None ≡ shown_in rec_ref bytes
@@ -86,9 +89,29 @@ page_used rec_ref x y page h same =
     let front : take n y ≡ page_bytes rec_ref page = same ∙ ap (take n) h.text.1 ∙ take_at (page_bytes rec_ref page) h.text.0 n refl in
     record { has = h.has; branching = h.branching; text = (drop n y, sym (take-append-drop n y) ∙ ap (λ (t : List ℕ). t ++ drop n y) front) }
 
+-- what is shown is a body
+shown_body : (rec_ref : ℕ) (bytes : List ℕ) (s : Shown) → AreBytes bytes → shown_in rec_ref bytes ≡ Some s → BodyIs (leb 128 (get_or bytes 0 0)) rec_ref (take (used_in bytes - 2) (drop 2 bytes)) s
+shown_body rec_ref bytes s fits e =
+    let k = shown_holds rec_ref bytes s e in
+    body_found _ rec_ref _ s (bytes-take (used_in bytes - 2) (drop 2 bytes) (bytes-drop 2 bytes fits)) k.3
+
 -- a view has a first child in a node alone
 pub shown_node : (rec_ref : ℕ) (bytes : List ℕ) (s : Shown) → AreBytes bytes → shown_in rec_ref bytes ≡ Some s → is_node (page_of s) ≡ is_some s.first
 shown_node rec_ref bytes s fits e =
-    let k = shown_holds rec_ref bytes s e in
-    let b = body_found _ rec_ref _ s (bytes-take (used_in bytes - 2) (drop 2 bytes) (bytes-drop 2 bytes fits)) k.3 in
+    let b = shown_body rec_ref bytes s fits e in
     (by_node _ rec_ref s b.first b.items b.longest).2 ∙ sym (is_child_node _ s.first b.first)
+
+pub shown_some : (rec_ref : ℕ) (bytes : List ℕ) (s : Shown) → AreBytes bytes → shown_in rec_ref bytes ≡ Some s → 0 < length s.items
+shown_some rec_ref bytes s fits e = (shown_body rec_ref bytes s fits e).some
+
+children_are : (node : Bool) (rec_ref : ℕ) (items : List Item) (b : Bool) → node ≡ b → AreItems node rec_ref items → AllByRecursion (λ item. is_some item.child ≡ b) items
+children_are node rec_ref [] b same h = tt
+children_are node rec_ref (item ∷ items) b same h = (is_child_node node item.child h.0.child ∙ same, children_are node rec_ref items b same h.1)
+
+pub shown_children : (rec_ref : ℕ) (bytes : List ℕ) (s : Shown) → AreBytes bytes → shown_in rec_ref bytes ≡ Some s → AllByRecursion (λ item. is_some item.child ≡ is_some s.first) s.items
+shown_children rec_ref bytes s fits e =
+    let b = shown_body rec_ref bytes s fits e in
+    children_are _ rec_ref s.items (is_some s.first) (sym (is_child_node _ s.first b.first)) b.items
+
+pub shown_longest : (rec_ref : ℕ) (bytes : List ℕ) (s : Shown) → AreBytes bytes → shown_in rec_ref bytes ≡ Some s → are_longest [] s.items ≡ true
+shown_longest rec_ref bytes s fits e = (shown_body rec_ref bytes s fits e).longest

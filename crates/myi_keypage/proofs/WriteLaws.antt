@@ -1,6 +1,6 @@
 -- Writing into a slice.
 use Rattle.std.proofs.Common.{Bool, true, false, not, eqb, replicate, cond, ◌≡◌, ℕ, zero, suc, ◌+◌, ◌-◌, ◌*◌, ◌/◌, ◌%◌, ◌^◌, ◌<◌, ◌≤◌, List, [], ◌∷◌, ◌++◌, length, get_or, set, take, drop, refl, sym, ap, ◌∙◌, append_assoc, arith, inl, inr}
-use Rattle.std.proofs.lemmas.List.{drop_more, drop_all, append-nil, length-append, length-drop}
+use Rattle.std.proofs.lemmas.List.{drop_more, drop_all, append-nil, length-append, length-drop, length-take, drop-take, drop_at}
 use Rattle.std.proofs.lemmas.Bool.{eqb-true, ne_eqb, lt-ltb, cases_lt}
 use Rattle.myi_base.specs.Numbers.{num_bytes}
 use Rattle.myi_keypage.specs.Page.{shared, Page, body_bytes, entry_bytes, entries_bytes, child_bytes, packed_bytes, number_bytes, page_with, page_bytes, IsBranching, is_node, head_bytes}
@@ -137,11 +137,27 @@ pub length-page_bytes : (rec_ref : ℕ) (page : Page) → length (page_bytes rec
 unfolding page_bytes
 length-page_bytes rec_ref page = omega arith
 
-pub written : (rec_ref : ℕ) (page : Page) (old a b new : List ℕ) (node : Bool) (used at1 at2 : ℕ) → used ≡ length (body_bytes rec_ref page) + 2 → is_node page ≡ node → Puts old 0 a at1 (head_bytes node used) → Puts a at1 b at2 (body_bytes rec_ref page)
-    → length b ≡ length old → new ≡ take at2 b ++ replicate (length b - at2) 0 → new ≡ filled_up (page_bytes rec_ref page) (length old)
+-- two bytes set at the front
+pub set_two : (bytes : List ℕ) (a b : ℕ) → 2 ≤ length bytes → set (set bytes 0 a) 1 b ≡ a ∷ b ∷ drop 2 bytes
+set_two [] a b long = absurd (omega arith)
+set_two (x ∷ []) a b long = absurd (omega arith)
+set_two (x ∷ y ∷ bytes) a b long = refl
+
+-- the page that is left once its body, the two bytes before it and the zeros behind it are put
+pub written : (rec_ref : ℕ) (page : Page) (old body head new : List ℕ) (node : Bool) (used : ℕ) → 2 ≤ length old → is_node page ≡ node → Puts old 2 body used (body_bytes rec_ref page)
+    → length body ≡ length old → head ≡ head_bytes node used ++ drop 2 body → length head ≡ length body → new ≡ take used head ++ replicate (length head - used) 0 → new ≡ filled_up (page_bytes rec_ref page) (length old)
 unfolding page_bytes
-written rec_ref page old a b new node used at1 at2 u n p q len e =
-    let front : take at2 b ≡ head_bytes node used ++ body_bytes rec_ref page = q.front ∙ ap (λ (t : List ℕ). t ++ body_bytes rec_ref page) p.front in
-    let text : head_bytes node used ++ body_bytes rec_ref page ≡ head_bytes (is_node page) (length (body_bytes rec_ref page) + 2) ++ body_bytes rec_ref page = ap (λ (m : Bool). head_bytes m used ++ body_bytes rec_ref page) (sym n) ∙ ap (λ (k : ℕ). head_bytes (is_node page) k ++ body_bytes rec_ref page) u in
-    let size : at2 ≡ length (head_bytes (is_node page) (length (body_bytes rec_ref page) + 2) ++ body_bytes rec_ref page) = omega (arith, p.ends, q.ends) in
-    e ∙ ap (λ (t : List ℕ). t ++ replicate (length b - at2) 0) (front ∙ text) ∙ ap (λ (k : ℕ). (head_bytes (is_node page) (length (body_bytes rec_ref page) + 2) ++ body_bytes rec_ref page) ++ replicate k 0) (ap (λ (k : ℕ). k - at2) len ∙ ap (λ (k : ℕ). length old - k) size)
+written rec_ref page old body head new node used long n p len h same e =
+    let text : List ℕ = body_bytes rec_ref page in
+    let ends : used ≡ length text + 2 = omega (arith, p.ends) in
+    let two : used ≡ suc (suc (length text)) = omega (arith, p.ends) in
+    let behind_two : used ≡ 2 + length text = omega (arith, p.ends) in
+    let short : length (take 2 old) ≡ 2 = omega (arith, length-take 2 old) in
+    let behind : take (length text) (drop 2 body) ≡ text =
+    sym (drop-take 2 (length text) body) ∙ ap (λ (k : ℕ). drop 2 (take k body)) (sym behind_two) ∙ ap (drop 2) p.front ∙ drop_at (take 2 old) text 2 short in
+    let front : take used head ≡ head_bytes node used ++ text =
+    ap (take used) h ∙ ap (λ (k : ℕ). take k (head_bytes node used ++ drop 2 body)) two ∙ ap (λ (t : List ℕ). head_bytes node used ++ t) behind in
+    let spelled : take used head ≡ head_bytes (is_node page) (length text + 2) ++ text =
+    front ∙ ap (λ (m : Bool). head_bytes m used ++ text) (sym n) ∙ ap (λ (k : ℕ). head_bytes (is_node page) k ++ text) ends in
+    let left : length head - used ≡ length old - length (head_bytes (is_node page) (length text + 2) ++ text) = omega (arith, two) in
+    e ∙ ap (λ (t : List ℕ). t ++ replicate (length head - used) 0) spelled ∙ ap (λ (k : ℕ). (head_bytes (is_node page) (length text + 2) ++ text) ++ replicate k 0) left

@@ -1,5 +1,5 @@
 //! Whether entries fit into a page.
-ghost use Rattle.std.specs.Prelude.{◌≡◌, ◌+◌, ◌^◌, ◌<◌, ◌≤◌, ℕ, length, take, IfSome, IfNone, IsTrue, ◌↔◌, if◌then◌else◌};
+ghost use Rattle.std.specs.Prelude.{◌≡◌, ◌+◌, ◌^◌, ◌<◌, ◌≤◌, ℕ, length, take, IsTrue, ◌↔◌, if◌then◌else◌};
 ghost use Rattle.myi_keypage.specs.Page.{number_bytes, entry_bytes};
 ghost use Rattle.myi_keypage.specs.Fitting.{used_length};
 
@@ -32,44 +32,6 @@ fn child_length(node: bool) -> usize
     if node { CHILD_LENGTH } else { 0 }
 }
 
-/// The used length of a page with these entries, where it is at most the limit.
-pub(crate) fn used_within(
-    entries: &[Entry],
-    node: bool,
-    rec_ref: usize,
-    limit: usize,
-) -> Option<usize>
-    requires narrow { rec_ref ≤ 8 }
-    ensures some { IfSome result (λ used. (used ≡ used_length rec_ref node entries.now) × (used ≤ limit)) }
-    ensures none { IfNone result (limit < used_length rec_ref node entries.now) }
-{
-    let child = child_length(node);
-    if limit < HEAD_LENGTH + child {
-        return None;
-    }
-    let mut left = limit - HEAD_LENGTH - child;
-    let mut before: &[u8] = &[];
-    for entry in entries {
-        let need = entry_length(rec_ref, before, entry) + child;
-        if left < need {
-            return None;
-        }
-        left -= need;
-        before = entry.key.as_slice();
-    }
-    Some(limit - left)
-}
-
-/// Whether the entries, with row pointers of `rec_ref` bytes, and in a node their children, take at most
-/// `length` bytes in a page.
-pub fn fits(entries: &[Entry], node: bool, rec_ref: u8, length: usize) -> bool
-    requires wide { 2 ≤ rec_ref }
-    requires narrow { rec_ref ≤ 8 }
-    ensures { IsTrue result ↔ (used_length rec_ref node entries.now ≤ length) }
-{
-    used_within(entries, node, rec_ref as usize, length).is_some()
-}
-
 /// How many entries from the front fit, with row pointers of `rec_ref` bytes, into a page of `room`
 /// bytes that is a leaf or a node: the greatest such number.
 pub fn fitting(entries: &[Entry], node: bool, rec_ref: u8, room: usize) -> usize
@@ -94,4 +56,17 @@ pub fn fitting(entries: &[Entry], node: bool, rec_ref: u8, room: usize) -> usize
         before = entry.key.as_slice();
     }
     entries.len()
+}
+
+/// Whether the entries, with row pointers of `rec_ref` bytes, and in a node their children, take at
+/// most `length` bytes in a page.
+pub fn fits(entries: &[Entry], node: bool, rec_ref: u8, length: usize) -> bool
+    requires wide { 2 ≤ rec_ref }
+    requires narrow { rec_ref ≤ 8 }
+    ensures { IsTrue result ↔ (used_length rec_ref node entries.now ≤ length) }
+{
+    if length < HEAD_LENGTH + child_length(node) {
+        return false;
+    }
+    fitting(entries, node, rec_ref, length) == entries.len()
 }

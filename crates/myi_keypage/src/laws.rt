@@ -5,6 +5,7 @@ ghost use Rattle.std.specs.List.{AllByRecursion};
 ghost use Rattle.myi_base.specs.Numbers.{AreBytes};
 ghost use Rattle.myi_keypage.specs.declared.entry.Entry.{Entry};
 ghost use Rattle.myi_keypage.specs.Page.{Page, shared, entry_bytes, page_bytes, is_node, IsPlace, IsBranching, IsWritable, IsPage};
+ghost use Rattle.myi_keypage.specs.Reading.{are_longest};
 ghost use Rattle.myi_keypage.specs.Showing.{Shown, page_of, shown_in, page_in};
 ghost use Rattle.myi_keypage.specs.Fitting.{used_length};
 
@@ -23,14 +24,20 @@ pub fn pages_read_back()
         → take (length (page_bytes rec_ref p)) y ≡ take (length (page_bytes rec_ref p)) x → IsPage rec_ref y p }
 {}
 
-/// Where bytes are a page, a view shows it: with an item for each entry, and with a first child in a
-/// node alone.
+/// Where bytes are a page, a view shows it: with an item for each entry, of which there is at least one,
+/// with a first child and a child after each item in a node alone, and with the longest prefixes.
 pub fn views_show_pages()
     ensures shown { (rec_ref : ℕ) (x : List ℕ) (p : Page) → IsPage rec_ref x p
         → (s : Shown) × (shown_in rec_ref x ≡ Some s) × (page_of s ≡ p) }
     ensures entries { (s : Shown) → length (page_of s).entries ≡ length s.items }
     ensures node { (rec_ref : ℕ) (x : List ℕ) (s : Shown) → AreBytes x → shown_in rec_ref x ≡ Some s
         → is_node (page_of s) ≡ is_some s.first }
+    ensures some { (rec_ref : ℕ) (x : List ℕ) (s : Shown) → AreBytes x → shown_in rec_ref x ≡ Some s
+        → 0 < length s.items }
+    ensures children { (rec_ref : ℕ) (x : List ℕ) (s : Shown) → AreBytes x → shown_in rec_ref x ≡ Some s
+        → AllByRecursion (λ item. is_some item.child ≡ is_some s.first) s.items }
+    ensures longest { (rec_ref : ℕ) (x : List ℕ) (s : Shown) → AreBytes x → shown_in rec_ref x ≡ Some s
+        → are_longest [] s.items ≡ true }
 {}
 
 /// The used length is the length of the spelling, within the bytes of each page, and a page can be

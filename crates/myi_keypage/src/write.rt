@@ -2,16 +2,16 @@
 //!
 //! Each writer here puts one thing at a place of a slice and answers the place behind it. `write_page`
 //! puts the first two bytes, the body, and zeros behind it.
-ghost use Rattle.std.specs.Prelude.{◌≡◌, ◌+◌, ◌-◌, ◌^◌, ◌<◌, ◌≤◌, [], ◌++◌, length, take, replicate};
+ghost use Rattle.std.specs.Prelude.{◌≡◌, ◌+◌, ◌-◌, ◌^◌, ◌<◌, ◌≤◌, [], ◌++◌, length, take, drop, replicate, Some};
 ghost use Rattle.std.specs.List.{AllByRecursion};
 ghost use Rattle.myi_base.specs.Numbers.{num_bytes};
 ghost use Rattle.myi_keypage.specs.Page.{page_with, number_bytes, child_bytes, entry_bytes, entries_bytes, body_bytes, head_bytes, page_bytes, is_node, IsPlace, IsBranching, IsPage};
+ghost use Rattle.myi_keypage.specs.Showing.{page_in};
 ghost use Rattle.myi_keypage.specs.Fitting.{used_length};
 ghost use Rattle.myi_keypage.specs.Writing.{Puts, IsMatching, filled_up};
 
 use crate::entry::{Entry, shared_length};
-use crate::fit::used_within;
-use crate::item::{CHILD_LENGTH, NODE_BIT, PLACE_UNIT, WIDE};
+use crate::item::{CHILD_LENGTH, HEAD_LENGTH, NODE_BIT, PLACE_UNIT, WIDE};
 
 fn put(into: &mut [u8], at: usize, bytes: &[u8]) -> usize
     requires { at + length bytes.now ≤ length into.old }
@@ -101,13 +101,15 @@ fn put_entries(
     at
 }
 
-fn put_head(into: &mut [u8], node: bool, used: usize) -> usize
+// The first two bytes. Those behind them stay.
+fn put_head(into: &mut [u8], node: bool, used: usize)
     requires small { used < 32768 }
     requires room { 2 ≤ length into.old }
-    ensures { Puts into.old 0 into.new result (head_bytes node used) }
+    ensures { into.new ≡ head_bytes node used ++ drop 2 into.old }
 {
     let high = if node { NODE_BIT } else { 0 };
-    put(into, 0, &[high + (used / 256) as u8, (used % 256) as u8])
+    into[0] = high + (used / 256) as u8;
+    into[1] = (used % 256) as u8;
 }
 
 fn put_body(
@@ -152,14 +154,11 @@ pub fn write_page(entries: &[Entry], children: &[u64], rec_ref: u8, into: &mut [
     requires places { AllByRecursion IsPlace children.now }
     requires branching { IsBranching (page_with entries.now children.now) }
     requires fits { used_length rec_ref (is_node (page_with entries.now children.now)) entries.now ≤ length into.old }
+    ensures read { page_in rec_ref into.new ≡ Some (page_with entries.now children.now) }
     ensures page { IsPage rec_ref into.new (page_with entries.now children.now) }
     ensures written { into.new ≡ filled_up (page_bytes rec_ref (page_with entries.now children.now)) (length into.old) }
 {
-    let node = !children.is_empty();
-    let Some(used) = used_within(entries, node, rec_ref as usize, into.len()) else {
-        unreachable!();
-    };
-    let at = put_head(into, node, used);
-    let at = put_body(into, at, rec_ref as usize, entries, children);
-    put_zeros(into, at);
+    let used = put_body(into, HEAD_LENGTH, rec_ref as usize, entries, children);
+    put_head(into, !children.is_empty(), used);
+    put_zeros(into, used);
 }

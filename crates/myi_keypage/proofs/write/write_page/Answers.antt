@@ -1,17 +1,19 @@
-use Rattle.std.proofs.Common.{◌∙◌, ap, sym, not, arith}
-use Rattle.myi_keypage.specs.Page.{page_with}
+use Rattle.std.proofs.Common.{◌≡◌, ◌∙◌, ap, sym, not, arith}
+use Rattle.myi_keypage.specs.Page.{page_with, is_node}
+use Rattle.myi_keypage.proofs.ShownIn.{page_is}
 use Rattle.myi_keypage.proofs.WriteLaws.{used_is, used_page, written}
 use Rattle.myi_keypage.proofs.write.write_page.Goals as goal
 
-pub put_body-at-requires-clause-room : goal.put_body-at-requires-clause-room
-put_body-at-requires-clause-room c =
-    omega (arith, c.put_head-at.ensures.ends, used_page c.args.rec_ref c.args.entries.now c.args.children.now c.requires.branching)
+pub put_body-used-requires-clause-room : goal.put_body-used-requires-clause-room
+put_body-used-requires-clause-room c = omega (arith, used_page c.args.rec_ref c.args.entries.now c.args.children.now c.requires.branching)
 
 pub returns-clause-written : goal.returns-clause-written
 returns-clause-written c =
-    let u = used_is c.args.rec_ref (not c.is_empty-node.result) c.args.entries.now c.args.children.now c.requires.branching (ap not (sym c.is_empty-node.ensures)) in
-    written c.args.rec_ref (page_with c.args.entries.now c.args.children.now) c.args.into.now c.put_head-at.new.into c.put_body-at.new.into c.put_zeros.new.into (not c.is_empty-node.result) c.in-Some.used c.put_head-at.result c.put_body-at.result
-    (c.in-Some.ensures.some.0 ∙ u.0) u.1 c.put_head-at.ensures c.put_body-at.ensures (omega arith) c.put_zeros.ensures
+    let u = used_page c.args.rec_ref c.args.entries.now c.args.children.now c.requires.branching in
+    let node : is_node (page_with c.args.entries.now c.args.children.now) ≡ not c.is_empty.result =
+    (used_is c.args.rec_ref (not c.is_empty.result) c.args.entries.now c.args.children.now c.requires.branching (ap not (sym c.is_empty.ensures))).1 in
+    written c.args.rec_ref (page_with c.args.entries.now c.args.children.now) c.args.into.now c.put_body-used.new.into c.put_head.new.into c.put_zeros.new.into (not c.is_empty.result) c.put_body-used.result
+    (omega (arith, u, c.requires.fits)) node c.put_body-used.ensures (omega arith) c.put_head.ensures (omega arith) c.put_zeros.ensures
 
 pub returns-clause-page : goal.returns-clause-page
 returns-clause-page c =
@@ -21,3 +23,6 @@ returns-clause-page c =
       branching = c.requires.branching;
       text = (_, returns-clause-written c);
     }
+
+pub returns-clause-read : goal.returns-clause-read
+returns-clause-read c = page_is _ _ _ (returns-clause-page c)
