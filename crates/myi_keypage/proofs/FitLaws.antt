@@ -146,10 +146,6 @@ fit_exactly rec_ref node es room i now next count some inside = (
   ],
 )
 
--- without room for the front of a page nothing fits
-pub none_fit : (rec_ref : ℕ) (node : Bool) (es : List Entry) (room : ℕ) → room < 2 + cond node 7 0 → (count : ℕ) → 0 < count → count ≤ length es → (count ≤ 0) ↔ (used_length rec_ref node (take count es) ≤ room)
-none_fit rec_ref node es room less count some inside = (λ le. absurd (omega arith), λ fit. absurd (omega arith))
-
 -- what is used up to a place, and what the entries behind it take
 abbrev pub Counts : ℕ → Bool → List Entry → ℕ → List ℕ → ℕ → Type 0
 Counts rec_ref node es i before done = (more : ℕ) → used_length rec_ref node (take (i + more) es) ≡ done + entries_length rec_ref node before (take more (drop i es))

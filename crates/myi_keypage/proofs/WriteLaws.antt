@@ -26,11 +26,11 @@ tail_at es i e lt is = drop_more es i e lt ∙ ap (λ (x : Entry). x ∷ drop (i
 
 -- the entry at i, with no child after it
 pub leaf_step : (rec_ref : ℕ) (before : List ℕ) (es : List Entry) (cs : List ℕ) (i : ℕ) (e : Entry) → i < length es → e ≡ get_or es i e → length cs ≤ i
-    → entries_bytes rec_ref before ((drop i es)) (drop i cs) ≡ entry_bytes rec_ref before e ++ entries_bytes rec_ref e.key ((drop (i + 1) es)) (drop (i + 1) cs)
+    → entries_bytes rec_ref before (drop i es) (drop i cs) ≡ entry_bytes rec_ref before e ++ entries_bytes rec_ref e.key (drop (i + 1) es) (drop (i + 1) cs)
 leaf_step rec_ref before es cs i e lt is le = rw (tail_at es i e lt is, drop_all i cs le, drop_all (i + 1) cs (omega arith)) refl
 
 pub node_step : (rec_ref : ℕ) (before : List ℕ) (es : List Entry) (cs : List ℕ) (i : ℕ) (e : Entry) → i < length es → e ≡ get_or es i e → i < length cs
-    → entries_bytes rec_ref before ((drop i es)) (drop i cs) ≡ (entry_bytes rec_ref before e ++ child_bytes (get_or cs i 0)) ++ entries_bytes rec_ref e.key ((drop (i + 1) es)) (drop (i + 1) cs)
+    → entries_bytes rec_ref before (drop i es) (drop i cs) ≡ (entry_bytes rec_ref before e ++ child_bytes (get_or cs i 0)) ++ entries_bytes rec_ref e.key (drop (i + 1) es) (drop (i + 1) cs)
 node_step rec_ref before es cs i e lt is le = rw (tail_at es i e lt is, drop_more cs i 0 le) refl
 
 pub length-packed : (rec_ref prefix : ℕ) (rest : List ℕ) (row : ℕ) → length (packed_bytes rec_ref prefix rest row) ≡ length (number_bytes prefix) + length (number_bytes (length rest)) + length rest + rec_ref
@@ -41,7 +41,7 @@ length-packed rec_ref prefix rest row =
     omega (arith, length-num_bytes rec_ref row)
 
 pub first_le : (rec_ref : ℕ) (before : List ℕ) (es : List Entry) (cs : List ℕ) (i : ℕ) (e : Entry) → i < length es → e ≡ get_or es i e
-    → length (entry_bytes rec_ref before e) ≤ length (entries_bytes rec_ref before ((drop i es)) (drop i cs))
+    → length (entry_bytes rec_ref before e) ≤ length (entries_bytes rec_ref before (drop i es) (drop i cs))
 first_le rec_ref before es cs i e lt is =
     elim (cases_lt i (length cs)) [
       | inl more ↦ rw (node_step rec_ref before es cs i e lt is more) (simp length-append (omega arith))
@@ -101,11 +101,6 @@ body_le rec_ref es [] some = absurd (omega arith)
 body_le rec_ref es (c ∷ cs) some = omega (arith, length-append (child_bytes c) (entries_bytes rec_ref [] es cs), length-num_bytes 7 (c / 1024))
 
 pub ruleset length_packed = (length-packed)
-
--- the entry at i, and those after it
-pub len_step : (rec_ref : ℕ) (node : Bool) (before : List ℕ) (es : List Entry) (i : ℕ) (e : Entry) → i < length es → e ≡ get_or es i e
-    → entries_length rec_ref node before ((drop i es)) ≡ length (entry_bytes rec_ref before e) + cond node 7 0 + entries_length rec_ref node e.key ((drop (i + 1) es))
-len_step rec_ref node before es i e lt is = rw (tail_at es i e lt is) refl
 
 len_leaf : (rec_ref : ℕ) (before : List ℕ) (es : List Entry) → entries_length rec_ref false before es ≡ length (entries_bytes rec_ref before es [])
 len_leaf rec_ref before [] = refl
