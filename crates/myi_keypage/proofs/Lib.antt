@@ -1,0 +1,9 @@
+pub mod Numbers
+pub mod ItemForms
+pub mod Shared
+pub mod ItemLaws
+pub mod PageLaws
+pub mod PageIs
+pub mod ShownIn
+pub mod WriteLaws
+pub mod FitLaws
