@@ -32,6 +32,27 @@ const KEPT: &[u8] = b"\xFF\x01\0\0\0abc\xFF\x02\0\0\0def";
 
 const LINE: &[u8] = b"a: recovered 2 rows, dropped 0 repeats, data 27 to 16 bytes\n";
 
+// The same of a table that a server wrote, with fields of 1, 4 and 4 bytes.
+const SERVER_BEFORE: &str =
+    "fefe07010000012900b0006400b000000000000008000000000019ff00000000000000020000000000000000\
+    0000000000000002ffffffffffffffff00000000000004000000000000000012000000000000000000000000\
+    000000000000000000000000000000000000000000000dca0000002500000000000000010000000000000000\
+    6b08c3040000000000000000000000006b08c304000000000000000000000000000000000000000000000000\
+    0000000000000400000000000000000000000000000000000000000000000000000000000000000000000000\
+    0000000900000009000000090000000900000014000000030000000006030000000000000000000800000000\
+    000000000000000000000000000000010000000000000400000000000004040000";
+
+const SERVER_AFTER: &str =
+    "fefe07010000012900b0006400b000000000000008000000000028ff00000000000000020000000000000000\
+    0000000000000002ffffffffffffffff00000000000004000000000000000012000000000000000000000000\
+    000000000000000000000000000000000000000000000dca0000002500000000000000010000000000000000\
+    6b08c3040000000000000000000000006b08c304000000006553f10000000000000000000000000000000000\
+    0000000000000400000000000000000000000000000000000000000000000000000000000000000000000000\
+    0000000900000009000000090000000900000014000000030000000006030000000000000000000800000000\
+    000000000000524b02000000000000010000000000000400000000000004040000";
+
+const SERVER_ROWS: &[u8] = b"\xFB\x01\0\0\0\x05\0\0\0\xFD\x02\0\0\0\0\0\0\0";
+
 fn index(alloc: Global, header: &str) -> Result<Vec<u8>, Fail> {
     let mut bytes = hex::decode(alloc, header)?;
     bytes.resize(1024, 0)?;
@@ -83,6 +104,29 @@ fn recovers_a_table(rt: HostRuntime) -> Result<(), Fail> {
     assert!(rt; files.get("a.TMD").is_none());
     assert!(rt; files.get("a.TMI").is_none());
     assert_eq!(rt; files.fault_count(), 0);
+    Ok(())
+}
+
+#[test]
+fn recovers_a_table_of_a_server(rt: HostRuntime) -> Result<(), Fail> {
+    let alloc = rt.alloc();
+    let given = vec![in alloc;
+        (text(alloc, "t.MYI")?, index(alloc, SERVER_BEFORE)?),
+        (text(alloc, "t.MYD")?, Vec::from_slice(alloc, SERVER_ROWS)?),
+    ]?;
+    let mut files = MemFiles::new(alloc, given, Vec::new(alloc))?;
+    let mut out = MemSink::new(alloc, Vec::new(alloc))?;
+    let asked = words(alloc, &["chk", "--recover", "t"])?;
+    assert_eq!(rt;
+        kit(alloc, &asked, &mut files, &mut out, MOMENT),
+        Status::Ok
+    );
+    assert_eq!(rt;
+        out.written(),
+        b"t: recovered 2 rows, dropped 0 repeats, data 18 to 18 bytes\n".as_slice()
+    );
+    assert!(rt; holds(&files, "t.MYD", SERVER_ROWS));
+    assert!(rt; holds(&files, "t.MYI", &index(alloc, SERVER_AFTER)?));
     Ok(())
 }
 
@@ -154,6 +198,37 @@ fn what_cannot_be_done_is_said(rt: HostRuntime) -> Result<(), Fail> {
         assert_eq!(rt; kit(alloc, &asked, &mut files, &mut out, MOMENT), status);
         assert_eq!(rt; out.written(), line.as_bytes());
         assert!(rt; holds(&files, "a.MYD", ROWS));
+    }
+    Ok(())
+}
+
+#[test]
+fn what_is_not_taken_is_refused_by_name(rt: HostRuntime) -> Result<(), Fail> {
+    let alloc = rt.alloc();
+    let cases = [
+        (0, 0, "a: refused: 2 Magic\n"),
+        (5, 1, "a: refused: not built\n"),
+        (5, 4, "a: refused: 4 Packed\n"),
+        (5, 32, "a: refused: 5 Checksum\n"),
+        (13, 177, "a: refused: 3 Lengths\n"),
+    ];
+    for (place, byte, line) in cases {
+        let mut header = index(alloc, BEFORE)?;
+        header[place] = byte;
+        let given = vec![in alloc;
+            (text(alloc, "a.MYI")?, header.clone()?),
+            (text(alloc, "a.MYD")?, Vec::from_slice(alloc, ROWS)?),
+        ]?;
+        let mut files = MemFiles::new(alloc, given, Vec::new(alloc))?;
+        let mut out = MemSink::new(alloc, Vec::new(alloc))?;
+        let asked = words(alloc, &["chk", "--recover", "a"])?;
+        assert_eq!(rt;
+            kit(alloc, &asked, &mut files, &mut out, MOMENT),
+            Status::Refused
+        );
+        assert_eq!(rt; out.written(), line.as_bytes());
+        assert!(rt; holds(&files, "a.MYD", ROWS));
+        assert!(rt; holds(&files, "a.MYI", &header));
     }
     Ok(())
 }
