@@ -1,0 +1,4 @@
+pub mod Chain
+pub mod Readable
+pub mod Meeting
+pub mod Laid
