@@ -2,3 +2,5 @@ pub mod BlockLemmas
 pub mod ChainLemmas
 pub mod CountLemmas
 pub mod ReadableLemmas
+pub mod LaidLemmas
+pub mod PartLemmas

@@ -2,3 +2,4 @@ pub mod Chain
 pub mod Readable
 pub mod Meeting
 pub mod Laid
+pub mod Parts

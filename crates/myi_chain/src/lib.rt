@@ -5,4 +5,4 @@ mod chain;
 mod laws;
 
 pub use chain::Link;
-pub use laws::{chains_are_found, rows_are_met};
+pub use laws::{chains_are_found, rows_are_met, sound_files_are_read};
