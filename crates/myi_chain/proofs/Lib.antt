@@ -4,3 +4,6 @@ pub mod CountLemmas
 pub mod ReadableLemmas
 pub mod LaidLemmas
 pub mod PartLemmas
+pub mod CodeLemmas
+pub mod SameLemmas
+pub mod StepLemmas
