@@ -7,3 +7,4 @@ pub mod PartLemmas
 pub mod CodeLemmas
 pub mod SameLemmas
 pub mod StepLemmas
+pub mod ScanLemmas

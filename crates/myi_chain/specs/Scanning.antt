@@ -1,5 +1,5 @@
 -- What a scan has still to answer.
-use Rattle.std.specs.Prelude.{◌≡◌, ◌≤◌, ◌<◌, ◌+◌, ◌-◌, ◌==◌, ◌&&◌, ℕ, Bool, true, false, nat_le, List, [], ◌∷◌, length, take, drop, map, Option, Some, None, Result, Ok, Err}
+use Rattle.std.specs.Prelude.{◌≡◌, ◌⊎◌, ◌+◌, ◌-◌, ◌==◌, ◌&&◌, ℕ, Bool, true, false, nat_le, List, [], ◌∷◌, length, take, drop, map, Option, Some, None, Result, Ok, Err}
 use Rattle.myi_base.specs.Holding.{Holding, bytes_of}
 use Rattle.myi_base.specs.Ranges.{Range}
 use Rattle.myi_chain.specs.declared.piece.Piece.{Piece}
@@ -75,7 +75,8 @@ pub record IsRead {A : Type 0} (gives : A → List ℕ → Bool) (holds : Option
   pub items : List readable.Item
   pub left : new.left ≡ Some items
   pub blocks : new.blocks ≡ old.blocks
-  pub told : (m : Holding) → holds ≡ Some m → items ≡ items_left gives old m
+  pub known : (before : List readable.Item) → old.left ≡ Some before → before ≡ items
+  pub told : (m : Holding) → holds ≡ Some m → items_left gives old m ≡ items
 
 -- the blocks that are kept after an item: those of a row
 abbrev pub AreBlocks : readable.Item → List (ℕ × ℕ) → List (ℕ × ℕ) → Type 0
@@ -93,6 +94,10 @@ pub record IsAnswered {A : Type 0} (gives : A → List ℕ → Bool) (holds : Op
   pub known : (items : List readable.Item) → old.left ≡ Some items → items ≡ first ∷ rest
   pub told : (m : Holding) → holds ≡ Some m → items_left gives old m ≡ first ∷ rest
 
+-- nothing was answered: the scan is as before, or the file was read
+abbrev pub IsKept : {A : Type 0} → (A → List ℕ → Bool) → Option Holding → Scanning A → Scanning A → Type 0
+IsKept gives holds old new = (new ≡ old) ⊎ IsRead gives holds old new
+
 -- the scan has ended: nothing is left
 pub record IsEnded {A : Type 0} (old new : Scanning A) : Type 0 where
   pub same : IsSameScan old new
@@ -101,7 +106,7 @@ pub record IsEnded {A : Type 0} (old new : Scanning A) : Type 0 where
 
 -- the scan after a call of next_item
 abbrev pub Leaves : {A : Type 0} → (A → List ℕ → Bool) → Option Holding → Scanning A → Result (Option Item) ScanFault → Scanning A → Type 0
-Leaves gives holds old (Err e) new = new ≡ old
+Leaves gives holds old (Err e) new = IsKept gives holds old new
 Leaves gives holds old (Ok None) new = IsEnded old new
 Leaves gives holds old (Ok (Some found)) new = IsAnswered gives holds old found new
 
@@ -119,6 +124,6 @@ pub record IsRowAnswered {A : Type 0} (gives : A → List ℕ → Bool) (holds :
 
 -- the scan after a call of next_row
 abbrev pub LeavesRows : {A : Type 0} → (A → List ℕ → Bool) → Option Holding → Scanning A → Result (Option (ℕ × Piece)) ScanFault → Scanning A → Type 0
-LeavesRows gives holds old (Err e) new = new ≡ old
+LeavesRows gives holds old (Err e) new = IsKept gives holds old new
 LeavesRows gives holds old (Ok None) new = IsEnded old new
 LeavesRows gives holds old (Ok (Some found)) new = IsRowAnswered gives holds old found new
