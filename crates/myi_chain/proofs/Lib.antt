@@ -8,3 +8,4 @@ pub mod CodeLemmas
 pub mod SameLemmas
 pub mod StepLemmas
 pub mod ScanLemmas
+pub mod UsedLemmas

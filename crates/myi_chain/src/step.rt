@@ -75,7 +75,7 @@ fn step<A: Accepts>(
     ensures err { OnErr result ((place.new ≡ place.old) × (used.new ≡ used.old)) }
 {
     let at = *place;
-    let end = used.end_of(at);
+    let end = used.end_from(at);
     if at < end {
         *place = end;
         return Ok(Met::Passed);

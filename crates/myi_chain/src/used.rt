@@ -2,11 +2,11 @@
 //!
 //! A scan asks of them only whether a range is apart from them all, and where the one that begins at a
 //! place ends.
-ghost use Rattle.std.specs.Prelude.{◌≡◌, ◌+◌, ◌<◌, ◌^◌, ℕ, List, [], ◌++◌, OnOk, OnErr};
+ghost use Rattle.std.specs.Prelude.{◌≡◌, max, ◌+◌, ◌<◌, ◌^◌, ℕ, List, [], ◌++◌, OnOk, OnErr};
 ghost use Rattle.std.specs.List.{list_all};
 ghost use Rattle.myi_base.specs.Ranges.{Range, are_apart, is_apart};
 ghost use Rattle.myi_chain.specs.Readable.{end_of};
-ghost use Rattle.myi_chain.specs.Walk.{ranges_at, SameUsed};
+ghost use Rattle.myi_chain.specs.Walk.{ranges_at, top_of, SameUsed};
 
 use std::alloc::{AllocError, Global};
 use std::marker::Model;
@@ -44,20 +44,35 @@ fn end_of(at: u64, blocks: &[(u64, u32)]) -> u64
     end
 }
 
+/// The greatest of a place and the ends of blocks, or the greatest number where an end is greater.
+fn top_of(top: u64, blocks: &[(u64, u32)]) -> u64
+    ensures { result ≡ top_of top blocks.now }
+{
+    let mut greatest = top;
+    for block in blocks {
+        greatest = greatest.max(block.0.saturating_add(block.1 as u64));
+    }
+    greatest
+}
+
 /// Used ranges.
 #[derive(Drop)]
 pub(crate) struct Used {
     blocks: Vec<(u64, u32)>,
+    /// No range ends behind this place, so that a scan of whole blocks looks at none of them.
+    top: u64,
 }
 
 impl Model for Used {
     ghost use Rattle.std.specs.Prelude.{List};
     ghost use Rattle.myi_base.specs.Ranges.{Range};
-    ghost use Rattle.myi_chain.specs.Walk.{ranges_at};
+    ghost use Rattle.myi_chain.specs.Walk.{ranges_at, IsTop};
 
     ghost Value = { List Range };
 
     ghost view = { λ s. ranges_at s.blocks.items };
+
+    ghost invariant = { λ s. IsTop s.top (ranges_at s.blocks.items) };
 }
 
 impl Used {
@@ -66,22 +81,27 @@ impl Used {
     {
         Used {
             blocks: Vec::new(alloc),
+            top: 0,
         }
     }
 
     /// Whether a range is apart from all.
     pub(crate) fn is_apart(&self, at: u64, end: u64) -> bool
+        requires { at < 2 ^ 63 }
         ensures { result ≡ is_apart (at, end) self.now }
     {
-        is_apart(at, end, &self.blocks)
+        self.top <= at || is_apart(at, end, &self.blocks)
     }
 
-    /// Where the range that begins at a place ends, and 0 where none begins there.
-    pub(crate) fn end_of(&self, at: u64) -> u64
+    /// Where the range that begins at a place ends, and the place itself where none begins there.
+    pub(crate) fn end_from(&self, at: u64) -> u64
         requires { at < 2 ^ 63 }
-        ensures { result ≡ end_of at self.now }
+        ensures { result ≡ max at (end_of at self.now) }
     {
-        end_of(at, &self.blocks)
+        if self.top <= at {
+            return at;
+        }
+        at.max(end_of(at, &self.blocks))
     }
 
     /// Adds the ranges of blocks, or none.
@@ -89,6 +109,8 @@ impl Used {
         ensures ok { OnOk result (SameUsed self.new (self.old ++ ranges_at blocks.now)) }
         ensures err { OnErr result (self.new ≡ self.old) }
     {
-        self.blocks.extend_from_slice(blocks)
+        self.blocks.extend_from_slice(blocks)?;
+        self.top = top_of(self.top, blocks);
+        Ok(())
     }
 }
