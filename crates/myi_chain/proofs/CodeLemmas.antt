@@ -1,7 +1,7 @@
 -- What the walk along a chain meets.
-use Rattle.std.proofs.Common.{◌≡◌, ℕ, zero, suc, ◌+◌, ◌-◌, ◌<◌, ◌≤◌, Bool, true, false, cond, List, [], ◌∷◌, ◌++◌, length, map, take, drop, Option, Some, None, refl, sym, ap, subst, ◌∙◌, arith, append_assoc, ◌⊎◌, inl, inr}
-use Rattle.std.specs.Prelude.{◌&&◌, ◌==◌, nat_lt, option_and_then}
-use Rattle.std.proofs.lemmas.List.{take_all, append-nil, length-take-le, length-drop}
+use Rattle.std.proofs.Common.{◌≡◌, ℕ, zero, suc, ◌+◌, ◌-◌, ◌<◌, ◌≤◌, List, [], ◌∷◌, ◌++◌, length, map, take, drop, Option, Some, None, refl, sym, ap, ◌∙◌, arith, append_assoc, ◌⊎◌, inl, inr}
+use Rattle.std.specs.Prelude.{◌&&◌}
+use Rattle.std.proofs.lemmas.List.{append-nil, length-take-le}
 use Rattle.std.specs.List.{list_all}
 use Rattle.myi_base.specs.Ranges.{Range, are_apart, is_apart}
 use Rattle.myi_frames.specs.declared.frame.Seen.{Seen}
@@ -11,7 +11,7 @@ use Rattle.myi_frames.specs.Seeing.{SeesBlock, IsPartAt}
 use Rattle.myi_frames.proofs.BlockLemmas.{block-stands}
 use Rattle.myi_chain.specs.declared.chain.Link.{Link}
 use Rattle.myi_chain.specs.declared.chain.Link.TheVariants.{Broken, Last, More}
-use Rattle.myi_chain.specs.Chain.{Reading, range_of, ranges, row_bytes, may_take, prepend, next_link, taken_by, tail_step, tail_of, tail, chain_of}
+use Rattle.myi_chain.specs.Chain.{Reading, range_of, ranges, row_bytes, prepend, next_link, taken_by, tail_of, tail}
 use Rattle.myi_chain.specs.Walk.{placed, ranges_at, ending}
 use Rattle.myi_chain.proofs.ChainLemmas.{tail_sound, tail_complete}
 

@@ -1,11 +1,11 @@
 -- Ranges that are apart have no more places than the file.
-use Rattle.std.proofs.Common.{◌≡◌, ℕ, zero, suc, ◌+◌, ◌-◌, ◌*◌, ◌/◌, ◌<◌, ◌≤◌, min, Bool, true, false, List, [], ◌∷◌, ◌++◌, length, Option, Some, None, refl, sym, ap, subst, ◌∙◌, arith, ◌⊎◌, inl, inr}
+use Rattle.std.proofs.Common.{◌≡◌, ℕ, zero, suc, ◌+◌, ◌-◌, ◌*◌, ◌/◌, ◌<◌, ◌≤◌, min, Bool, true, false, List, [], ◌∷◌, ◌++◌, length, Option, Some, None, refl, ap, arith, ◌⊎◌, inl, inr}
 use Rattle.std.specs.Prelude.{◌&&◌, ◌||◌, nat_le}
 use Rattle.std.specs.List.{AllByRecursion}
 use Rattle.std.proofs.lemmas.Bool.{leb-true, cases_lt}
 use Rattle.myi_base.specs.Ranges.{Range, are_apart, is_apart}
 use Rattle.myi_frames.specs.Block.{Block}
-use Rattle.myi_chain.specs.Chain.{Reading, IsReading, range_of, ranges, AreApart, IsChain, AreLinked, IsTail}
+use Rattle.myi_chain.specs.Chain.{Reading, IsReading, ranges, AreApart, IsChain, AreLinked, IsTail}
 
 -- how many places below n the ranges have
 abbrev pub covered : ℕ → List Range → ℕ
@@ -31,7 +31,7 @@ never_both : (n : ℕ) (r s : Range) → are_apart r s ≡ true → Covers n s �
 never_both n r s a c d = elim (one_of (nat_le r.1 s.0) (nat_le s.1 r.0) a) [
   | inl e ↦ let le = leb-true _ _ e in omega (arith, c.0, c.1, d.0, d.1)
   | inr e ↦ let le = leb-true _ _ e in omega (arith, c.0, c.1, d.0, d.1)
-  ]
+]
 
 not_covered : (n : ℕ) (r : Range) (u : List Range) → is_apart r u ≡ true → HasCover n u → Covers n r → ⊥
 not_covered n r [] a h c = h
@@ -51,7 +51,7 @@ covers_or : (n : ℕ) (r : Range) → Covers n r ⊎ (min r.1 (suc n) - min r.0 
 covers_or n r = elim (cases_lt n r.1) [
   | inl lt ↦ elim (cases_lt n r.0) [ inl a ↦ inr (omega arith) | inr b ↦ inl (b, lt) ]
   | inr le ↦ inr (omega arith)
-  ]
+]
 
 no_more : (n : ℕ) (u rs : List Range) → AreApart u rs → HasCover n u → covered (suc n) rs ≤ covered n rs
 no_more n u [] a h = omega arith

@@ -1,5 +1,5 @@
 -- A file of one whole block for each row is read row by row.
-use Rattle.std.proofs.Common.{◌≡◌, ℕ, zero, suc, ◌+◌, ◌<◌, ◌≤◌, Bool, true, false, List, [], ◌∷◌, ◌++◌, length, map, Option, Some, None, refl, sym, ap, subst, ◌∙◌, arith}
+use Rattle.std.proofs.Common.{◌≡◌, ℕ, ◌+◌, ◌<◌, ◌≤◌, Bool, true, false, List, [], ◌∷◌, ◌++◌, length, map, Some, refl, ap, ◌∙◌, arith}
 use Rattle.std.specs.Prelude.{◌==◌, nat_lt, nat_le, ◌&&◌, ◌||◌, option_to_list}
 use Rattle.std.specs.List.{AllByRecursion}
 use Rattle.std.proofs.lemmas.Bool.{lt-ltb, le-ltb, le-leb, eq-eqb, ne_eqb}
@@ -77,7 +77,7 @@ module _ (read : Reading) (len : ℕ) (stands : IsReading read len) (accepts : L
       let under : p < len = omega arith in
       let step = rest_step read len stands extend accepts p used under in
       let more : rest extend read len accepts (p + b.size) (used ++ range_of b ∷ []) ≡ map (λ b. row (whole_row b)) bs =
-        laid_rest extend (p + b.size) bs (used ++ range_of b ∷ []) (rw at (below_more p (p + b.size) used below (omega arith))) laid.1 in
+      laid_rest extend (p + b.size) bs (used ++ range_of b ∷ []) (rw at (below_more p (p + b.size) used below (omega arith))) laid.1 in
       step ∙ stepped extend (step_of extend read accepts p used) _ one (row (whole_row b)) _ refl more
 
   pub laid_read : (extend : Bool) (bs : List Block) → AreLaid read accepts len 0 bs → rest extend read len accepts 0 [] ≡ map (λ b. row (whole_row b)) bs

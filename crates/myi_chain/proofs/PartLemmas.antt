@@ -1,6 +1,6 @@
 -- A file of rows and deleted blocks is read as what stands in it.
-use Rattle.std.proofs.Common.{◌≡◌, ℕ, zero, suc, ◌+◌, ◌<◌, ◌≤◌, ◌⊎◌, Bool, true, false, List, [], ◌∷◌, ◌++◌, length, max, Option, Some, None, refl, sym, ap, subst, ◌∙◌, arith, inl, inr, append_assoc}
-use Rattle.std.specs.Prelude.{◌==◌, nat_lt, nat_le, ◌&&◌, ◌||◌, option_to_list, if◌then◌else◌}
+use Rattle.std.proofs.Common.{◌≡◌, ℕ, ◌+◌, ◌<◌, ◌≤◌, ◌⊎◌, Bool, true, false, List, [], ◌∷◌, ◌++◌, length, max, Option, Some, None, refl, sym, ap, subst, ◌∙◌, arith, inl, inr, append_assoc}
+use Rattle.std.specs.Prelude.{◌==◌, nat_lt, nat_le, ◌||◌, option_to_list, if◌then◌else◌}
 use Rattle.std.specs.List.{AllByRecursion}
 use Rattle.std.proofs.lemmas.Bool.{lt-ltb, le-ltb, leb-true, eqb-true, ne_eqb}
 use Rattle.std.proofs.lemmas.List.{append-nil}
@@ -9,7 +9,7 @@ use Rattle.myi_frames.specs.declared.form.FrameKind.TheVariants.{Deleted, Middle
 use Rattle.myi_frames.specs.Block.{Block, block_of}
 use Rattle.myi_chain.specs.declared.chain.Link.{Link}
 use Rattle.myi_chain.specs.declared.chain.Link.TheVariants.{Broken, Last, More}
-use Rattle.myi_chain.specs.Chain.{Reading, IsReading, IsTail, AreLinked, IsChain, AreApart, range_of, ranges, row_bytes, by_kind, chain_of, may_take, first_link}
+use Rattle.myi_chain.specs.Chain.{Reading, IsReading, IsTail, AreLinked, AreApart, range_of, ranges, row_bytes, by_kind, chain_of, may_take, first_link}
 use Rattle.myi_chain.specs.Readable.{Item, row, free, Step, end_of, skip_by, free_by, row_at, step_of, rest, items_in}
 use Rattle.myi_chain.specs.Parts.{Part, first, further, deleted, block_in, parts_met, row_ranges, Follow, IsRowIn, IsPart, IsMadeOf}
 use Rattle.myi_chain.proofs.ChainLemmas.{both, both_again, chain_complete}

@@ -1,7 +1,7 @@
 -- The recursion over the places of a file, for any reading.
 use Rattle.std.proofs.Common.{◌≡◌, ℕ, zero, suc, ◌+◌, ◌-◌, ◌*◌, ◌/◌, ◌<◌, ◌≤◌, Bool, true, false, cond, List, [], ◌∷◌, ◌++◌, length, max, Option, Some, None, refl, sym, ap, subst, ◌∙◌, arith, append_assoc}
 use Rattle.std.specs.Prelude.{◌==◌, nat_lt, nat_le, option_to_list}
-use Rattle.std.specs.List.{AllByRecursion, flat_map}
+use Rattle.std.specs.List.{AllByRecursion}
 use Rattle.std.proofs.lemmas.Bool.{ltb-true, le-leb, lt-leb, leb-false, eqb-true}
 use Rattle.std.proofs.lemmas.List.{append-nil}
 use Rattle.myi_base.specs.Ranges.{Range, are_apart, is_apart}
@@ -9,8 +9,8 @@ use Rattle.myi_frames.specs.declared.form.FrameKind.{FrameKind}
 use Rattle.myi_frames.specs.declared.form.FrameKind.TheVariants.{Deleted, Whole, Start, Middle, End}
 use Rattle.myi_frames.specs.Block.{Block}
 use Rattle.myi_chain.specs.Chain.{Reading, IsReading, IsTail, AreLinked, AreApart, IsChain, range_of, ranges, row_bytes, by_kind, chain_of}
-use Rattle.myi_chain.specs.Readable.{Row, Item, row, free, Step, end_of, skip_by, free_by, past, row_at, row_step, step_of, items, places, rest, rows_of, row_in}
-use Rattle.myi_chain.specs.Meeting.{IsRowOf, IsDeletedOf, IsItemOf, ranges_of, AreRising}
+use Rattle.myi_chain.specs.Readable.{Row, Item, row, free, Step, end_of, skip_by, free_by, row_at, row_step, step_of, items, places, rest, rows_of}
+use Rattle.myi_chain.specs.Meeting.{IsRowOf, IsItemOf, ranges_of, AreRising}
 use Rattle.myi_chain.proofs.ChainLemmas.{chain_sound, both}
 
 pub either_way : {X : Type 0} (P : X → Type 0) (b : Bool) (x y : X) → (b ≡ true → P x) → P y → P (cond b x y)

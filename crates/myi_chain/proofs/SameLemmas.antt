@@ -1,10 +1,10 @@
 -- What is read depends on the used ranges only by what is apart from them and where they end.
-use Rattle.std.proofs.Common.{◌≡◌, ℕ, zero, suc, ◌+◌, ◌-◌, ◌<◌, ◌≤◌, max, Bool, true, false, cond, List, [], ◌∷◌, ◌++◌, length, Option, Some, None, refl, sym, ap, subst, ◌∙◌, arith}
-use Rattle.std.specs.Prelude.{◌&&◌, ◌==◌, nat_lt, nat_le, option_and_then, option_to_list}
+use Rattle.std.proofs.Common.{◌≡◌, ℕ, zero, suc, ◌-◌, max, Bool, true, false, cond, List, [], ◌∷◌, ◌++◌, length, Option, Some, None, refl, sym, ap, subst, ◌∙◌, arith}
+use Rattle.std.specs.Prelude.{◌&&◌, ◌==◌, nat_lt, option_and_then}
 use Rattle.myi_base.specs.Ranges.{Range, are_apart, is_apart}
 use Rattle.myi_frames.specs.Block.{Block}
-use Rattle.myi_chain.specs.Chain.{Reading, range_of, ranges, row_bytes, may_take, first_link, next_link, taken_by, tail_step, tail_of, tail, head_step, chain_of}
-use Rattle.myi_chain.specs.Readable.{Item, Step, end_of, skip_by, past, row_step, step_of, items, rest}
+use Rattle.myi_chain.specs.Chain.{Reading, range_of, ranges, row_bytes, may_take, tail_step, tail_of, tail, head_step, chain_of}
+use Rattle.myi_chain.specs.Readable.{Step, end_of, past, row_step, step_of, items, rest}
 use Rattle.myi_chain.specs.Walk.{SameUsed}
 
 pub same_refl : (u : List Range) → SameUsed u u

@@ -1,18 +1,17 @@
 -- What a scan has left, before and after the file was read.
-use Rattle.std.proofs.Common.{◌≡◌, ℕ, ◌+◌, ◌-◌, ◌<◌, ◌≤◌, Bool, true, false, List, [], ◌∷◌, ◌++◌, length, take, Option, Some, None, refl, sym, ap, subst, ◌∙◌, arith, inl, inr}
+use Rattle.std.proofs.Common.{◌≡◌, ℕ, ◌+◌, Bool, true, false, List, [], ◌∷◌, length, take, Option, Some, None, refl, sym, ap, subst, ◌∙◌, inr}
 use Rattle.std.specs.Prelude.{if◌then◌else◌}
-use Rattle.std.proofs.lemmas.List.{append-nil}
 use Rattle.myi_base.specs.Ranges.{Range}
 use Rattle.myi_base.specs.Holding.{Holding, bytes_of}
-use Rattle.myi_frames.specs.Block.{Block, block_of}
+use Rattle.myi_frames.specs.Block.{block_of}
 use Rattle.myi_chain.specs.declared.piece.Piece.{Piece}
 use Rattle.myi_chain.specs.declared.piece.Item.{Item as Answer}
 use Rattle.myi_chain.specs.declared.piece.Item.TheVariants as item
 use Rattle.myi_chain.specs.declared.step.Found.{Found}
 use Rattle.myi_chain.specs.declared.step.Found.TheVariants as found
-use Rattle.myi_chain.specs.Chain.{Reading, ranges, row_bytes}
+use Rattle.myi_chain.specs.Chain.{Reading}
 use Rattle.myi_chain.specs.Readable.{Item, row, free, Row, rest, items_in, rows_of}
-use Rattle.myi_chain.specs.Walk.{placed, ranges_at, behind_row, IsFound, IsFoundRow, IsRowOfBlocks}
+use Rattle.myi_chain.specs.Walk.{ranges_at, behind_row, IsFound, IsFoundRow, IsRowOfBlocks}
 use Rattle.myi_chain.specs.Scanning.{Scanning, left_or, items_left, IsSameScan, IsRead, IsKept, IsEnded, IsAnswered, IsRowAnswered, IsFirst, IsFirstRow, IsPiece}
 use Rattle.myi_chain.proofs.CodeLemmas.{placed_ranges}
 

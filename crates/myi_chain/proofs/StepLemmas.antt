@@ -1,19 +1,17 @@
 -- One step of a scan, and what comes of it.
-use Rattle.std.proofs.Common.{◌≡◌, ℕ, ◌+◌, ◌<◌, ◌≤◌, Bool, true, false, cond, List, [], ◌∷◌, ◌++◌, length, Option, Some, None, refl, sym, ap, subst, ◌∙◌, arith}
+use Rattle.std.proofs.Common.{◌≡◌, ℕ, ◌+◌, ◌<◌, ◌≤◌, Bool, true, false, List, [], ◌∷◌, ◌++◌, Option, Some, None, refl, sym, ap, subst, ◌∙◌, arith}
 use Rattle.std.specs.Prelude.{nat_lt, option_to_list}
 use Rattle.std.proofs.lemmas.Bool.{lt-ltb, le-ltb}
-use Rattle.std.proofs.lemmas.List.{append-nil}
 use Rattle.myi_base.specs.Ranges.{Range}
 use Rattle.myi_frames.specs.Block.{Block}
 use Rattle.myi_chain.specs.declared.step.Met.{Met}
 use Rattle.myi_chain.specs.declared.step.Met.TheVariants as met
-use Rattle.myi_chain.specs.declared.step.Found.TheVariants as found
-use Rattle.myi_chain.specs.Chain.{Reading, IsReading, ranges, row_bytes, chain_of}
-use Rattle.myi_chain.specs.Readable.{Row, Item, row, free, Step, end_of, skip_by, free_by, past, row_at, row_step, step_of, rest, rows_of}
-use Rattle.myi_chain.specs.Walk.{placed, ranges_at, SameUsed, IsRowHere, NoRowHere, Tells, IsRowOfBlocks, IsRowItem, IsPassed, IsMet, IsStepped, IsFound, IsFoundRow, behind_row, is_row}
+use Rattle.myi_chain.specs.Chain.{Reading, IsReading, ranges, chain_of}
+use Rattle.myi_chain.specs.Readable.{Row, Item, row, free, end_of, skip_by, free_by, past, row_at, row_step, step_of, rest, rows_of}
+use Rattle.myi_chain.specs.Walk.{ranges_at, SameUsed, IsRowHere, NoRowHere, Tells, IsRowOfBlocks, IsRowItem, IsPassed, IsMet, IsStepped, IsFoundRow, behind_row, is_row}
 use Rattle.myi_chain.proofs.CodeLemmas.{placed_ranges}
-use Rattle.myi_chain.proofs.SameLemmas.{same_refl, same_of, rest_same}
-use Rattle.myi_chain.proofs.ReadableLemmas.{step_after, rest_step, rest_end}
+use Rattle.myi_chain.proofs.SameLemmas.{same_of, rest_same}
+use Rattle.myi_chain.proofs.ReadableLemmas.{step_after, rest_step}
 
 pub passed_met : (read : Reading) (p : ℕ) (taken : List (ℕ × ℕ)) (joined : List ℕ) (o : Option Item) (m : Met) → IsPassed p o m → IsMet read p taken joined o m
 passed_met read p taken joined o met.Passed h = h

@@ -84,14 +84,14 @@ may_take b used = nat_lt 0 (length b.bytes) && is_apart (range_of b) used
 abbrev pub first_link : Block → List Range → Link
 first_link b used =
     if may_take b used then
-      by_kind b.kind Broken (if length b.bytes == b.rec_len then Last else Broken) (if nat_lt (length b.bytes) b.rec_len then More else Broken) Broken Broken
+    by_kind b.kind Broken (if length b.bytes == b.rec_len then Last else Broken) (if nat_lt (length b.bytes) b.rec_len then More else Broken) Broken Broken
     else Broken
 
 -- what a block behind the first is, where so many row bytes are left to come
 abbrev pub next_link : Block → List Range → ℕ → Link
 next_link b used left =
     if may_take b used then
-      by_kind b.kind Broken Broken Broken (if nat_lt (length b.bytes) left then More else Broken) (if length b.bytes == left then Last else Broken)
+    by_kind b.kind Broken Broken Broken (if nat_lt (length b.bytes) left then More else Broken) (if length b.bytes == left then Last else Broken)
     else Broken
 
 abbrev pub prepend : Block → Option (List Block) → Option (List Block)

@@ -1,7 +1,7 @@
 -- The rows that can be read in a data file of dynamic rows, sound or damaged, and the deleted blocks that
 -- are passed (this project's own definition, for any test of what packs a row). From each place the first
 -- rule that holds says what is met and where to go on; the ranges of rows that were met are used.
-use Rattle.std.specs.Prelude.{◌≡◌, ◌+◌, ◌-◌, ◌==◌, ℕ, zero, suc, max, Bool, nat_lt, nat_le, if◌then◌else◌, List, [], ◌∷◌, ◌++◌, length, Option, Some, None, option_to_list}
+use Rattle.std.specs.Prelude.{◌+◌, ◌-◌, ◌==◌, ℕ, zero, suc, max, Bool, nat_lt, nat_le, if◌then◌else◌, List, [], ◌∷◌, ◌++◌, length, Option, Some, None, option_to_list}
 use Rattle.std.specs.List.{flat_map}
 use Rattle.myi_base.specs.Ranges.{Range}
 use Rattle.myi_frames.specs.Block.{Block, block_of}

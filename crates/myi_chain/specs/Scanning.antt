@@ -1,5 +1,5 @@
 -- What a scan has still to answer.
-use Rattle.std.specs.Prelude.{◌≡◌, ◌⊎◌, ◌+◌, ◌-◌, ◌==◌, ◌&&◌, ℕ, Bool, true, false, nat_le, List, [], ◌∷◌, length, take, drop, map, Option, Some, None, Result, Ok, Err}
+use Rattle.std.specs.Prelude.{◌≡◌, ◌⊎◌, ◌+◌, ◌-◌, ℕ, Bool, true, false, nat_le, List, [], ◌∷◌, take, Option, Some, None, Result, Ok, Err}
 use Rattle.myi_base.specs.Holding.{Holding, bytes_of}
 use Rattle.myi_base.specs.Ranges.{Range}
 use Rattle.myi_chain.specs.declared.piece.Piece.{Piece}
@@ -9,7 +9,6 @@ use Rattle.myi_chain.specs.declared.piece.Item.TheVariants as item
 use Rattle.myi_chain.specs.declared.piece.ScanFault.{ScanFault}
 use Rattle.myi_chain.specs.Readable.{Row, row, free, rows_of, items_in}
 use Rattle.myi_chain.specs.Readable as readable
-use Rattle.myi_chain.specs.Pieces.{shown}
 use Rattle.myi_chain.specs.Walk.{ranges_at, behind_row}
 
 -- A scan of a file up to its end, with a test of what packs a row. What is left is known once the file was

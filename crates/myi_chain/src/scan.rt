@@ -103,7 +103,12 @@ impl<A: Accepts> Scan<A> {
     ghost use Rattle.myi_chain.specs.Scanning.{Scanning, IsRead};
 
     /// A scan of the file of that name. Nothing is read yet. For want of memory the test is lost.
-    pub fn new(alloc: Global, name: &str, accepts: A, setup: ScanSetup) -> Result<Scan<A>, AllocError>
+    pub fn new(
+        alloc: Global,
+        name: &str,
+        accepts: A,
+        setup: ScanSetup,
+    ) -> Result<Scan<A>, AllocError>
     where
         A: Drop,
         ensures { IfOk result (λ scan. scan ≡ record { name = name.now; test = accepts; extend = setup.extend; end = setup.file_len; left = None; blocks = [] }) }

@@ -7,7 +7,7 @@ use Rattle.myi_chain.proofs.chain.tail_at.Given as goal
 abbrev pub invariant-loop-next : goal.invariant-loop-next
 invariant-loop-next l = record {
   same : ending l.taken.items l.joined.items (tail (block_of l.bytes) l.next (l.used ++ ranges_at l.taken.items) l.left)
-  ≡ ending l.initial.taken.items l.initial.joined.items (tail (block_of l.bytes) l.fn.first (l.used ++ ranges_at l.initial.taken.items) l.promised);
+      ≡ ending l.initial.taken.items l.initial.joined.items (tail (block_of l.bytes) l.fn.first (l.used ++ ranges_at l.initial.taken.items) l.promised);
   more : 0 < l.left;
 }
 

@@ -1,4 +1,4 @@
-use Rattle.std.proofs.Common.{arith, ◌<◌, length, refl, sym, ap, ◌∙◌}
+use Rattle.std.proofs.Common.{arith, length, sym, ◌∙◌}
 use Rattle.myi_frames.specs.Block.{block_of}
 use Rattle.myi_chain.proofs.BlockLemmas.{blocks_read}
 use Rattle.myi_chain.proofs.ReadableLemmas.{rest_end}

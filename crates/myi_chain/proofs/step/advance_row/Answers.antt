@@ -1,4 +1,4 @@
-use Rattle.std.proofs.Common.{arith, ◌<◌, ◌≡◌, false, length, refl, sym, ap, ◌∙◌}
+use Rattle.std.proofs.Common.{arith, ◌≡◌, false, length, sym, ap, ◌∙◌}
 use Rattle.myi_frames.specs.Block.{block_of}
 use Rattle.myi_chain.specs.Readable.{rows_of}
 use Rattle.myi_chain.specs.Walk.{is_row}

@@ -8,9 +8,9 @@ abbrev pub invariant-loop-place : goal.invariant-loop-place
 invariant-loop-place g l = record {
   used : l.used ≡ l.initial.used;
   rows : rows_of (rest l.extend (block_of l.bytes) (length l.bytes) (g.A.Accepts.accepts_gives l.test) l.place l.used)
-  ≡ rows_of (rest l.extend (block_of l.bytes) (length l.bytes) (g.A.Accepts.accepts_gives l.test) l.initial.place l.initial.used);
+      ≡ rows_of (rest l.extend (block_of l.bytes) (length l.bytes) (g.A.Accepts.accepts_gives l.test) l.initial.place l.initial.used);
   behind : behind_row (rest l.extend (block_of l.bytes) (length l.bytes) (g.A.Accepts.accepts_gives l.test) l.place l.used)
-  ≡ behind_row (rest l.extend (block_of l.bytes) (length l.bytes) (g.A.Accepts.accepts_gives l.test) l.initial.place l.initial.used);
+      ≡ behind_row (rest l.extend (block_of l.bytes) (length l.bytes) (g.A.Accepts.accepts_gives l.test) l.initial.place l.initial.used);
 }
 
 abbrev pub decreases-loop-place : goal.decreases-loop-place

@@ -1,4 +1,4 @@
-use Rattle.std.proofs.Common.{arith, ◌≤◌, ◌++◌, refl, sym, ap, subst, ◌∙◌, ◌≡◌, Some}
+use Rattle.std.proofs.Common.{arith, ◌≤◌, ◌++◌, refl, subst, ◌≡◌, Some}
 use Rattle.myi_frames.specs.Block.{block_of}
 use Rattle.myi_frames.specs.Seeing.{shown}
 use Rattle.myi_chain.specs.Readable.{end_of, free_by}

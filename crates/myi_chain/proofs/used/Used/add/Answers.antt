@@ -1,6 +1,3 @@
-use Rattle.std.proofs.Common.{◌∙◌, ◌++◌, ap, sym, subst}
-use Rattle.myi_chain.specs.Walk.{ranges_at, top_of, IsTop}
-use Rattle.myi_chain.proofs.CodeLemmas.{map_append}
 use Rattle.myi_chain.proofs.UsedLemmas.{top_added}
 use Rattle.myi_chain.proofs.used.Used.add.Goals as goal
 
