@@ -1,0 +1,11 @@
+pub mod BlockLemmas
+pub mod ChainLemmas
+pub mod CountLemmas
+pub mod ReadableLemmas
+pub mod LaidLemmas
+pub mod PartLemmas
+pub mod CodeLemmas
+pub mod SameLemmas
+pub mod StepLemmas
+pub mod ScanLemmas
+pub mod UsedLemmas
