@@ -1,7 +1,7 @@
 //! Rows and their bytes from outside: worked by hand from the format, or written by a server.
-ghost use Rattle.std.specs.Prelude.{◌≡◌, ◌≤◌, ◌<◌, ◌+◌, true, length, All, IfSome};
+ghost use Rattle.std.specs.Prelude.{◌≡◌, ◌≤◌, ◌<◌, ◌+◌, true, length, All, IfSome, sum_by};
 ghost use Rattle.myi_base.specs.Numbers.{num_at};
-ghost use Rattle.myi_defs.specs.Sound.{IsSound, IsLengthOf, StartFrom, base_place, fields_length};
+ghost use Rattle.myi_defs.specs.Sound.{IsSound, IsSoundKey, IsLengthOf, StartFrom, base_place, fields_length};
 
 use super::*;
 use myi_base::{Sequence, number_at, put_number};
@@ -91,12 +91,22 @@ fn end_of(fields: &[Field]) -> Option<u32>
     Some(end)
 }
 
+fn has_no_keys(defs: &Defs) -> bool
+    ensures none { result ≡ true → length defs.now.keys ≡ 0 }
+    ensures sound { result ≡ true → All (IsSoundKey defs.now.fields defs.now.rec_ref) defs.now.keys }
+    ensures parts { result ≡ true → sum_by (λ k. length k.segments) defs.now.keys ≡ 0 }
+{
+    match defs.keys.as_slice() {
+        [] => true,
+        _ => false,
+    }
+}
+
 fn is_sound(defs: &Defs) -> bool
     ensures { result ≡ true → IsSound defs.now }
 {
     let fields = defs.fields.as_slice();
-    let keys = defs.keys.as_slice().len();
-    if fields.is_empty() || fields.len() > 4096 || keys > 64 {
+    if fields.is_empty() || fields.len() > 4096 || !has_no_keys(defs) {
         return false;
     }
     let Some(end) = end_of(fields) else {
@@ -105,7 +115,7 @@ fn is_sound(defs: &Defs) -> bool
     if end > defs.row_length || defs.row_length == 0 || defs.row_length > 1048576 {
         return false;
     }
-    are_lengths(defs.format, fields) && is_slot(defs) && is_header(defs.raw.as_slice(), keys)
+    are_lengths(defs.format, fields) && is_slot(defs) && is_header(defs.raw.as_slice(), 0)
 }
 
 fn is_slot(defs: &Defs) -> bool
