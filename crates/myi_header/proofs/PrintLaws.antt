@@ -37,13 +37,13 @@ length-state_bytes l s long fits =
     let created = length-take-le 8 (drop (24 + m) s.rest) (omega (arith, length-drop (24 + m) s.rest)) in
     let end = length-drop (32 + m) s.rest in
     let C = spelling count_widths (counts s) in
-    let R0 = take 24 s.rest in
+    let Rest0 = take 24 s.rest in
     let Rt = root_bytes s.roots in
-    let R1 = part 24 m s.rest in
+    let Rest1 = part 24 m s.rest in
     let K = num_bytes 8 s.key_map in
-    let R2 = part (24 + m) 8 s.rest in
+    let Rest2 = part (24 + m) 8 s.rest in
     let T = num_bytes 8 s.recover_time in
-    let R3 = drop (32 + m) s.rest in
+    let Rest3 = drop (32 + m) s.rest in
     omega (
       arith,
       first,
@@ -54,13 +54,13 @@ length-state_bytes l s long fits =
       length-root_bytes s.roots,
       length-num_bytes 8 s.key_map,
       length-num_bytes 8 s.recover_time,
-      length-append C (R0 ++ (Rt ++ (R1 ++ (K ++ (R2 ++ (T ++ R3)))))),
-      length-append R0 (Rt ++ (R1 ++ (K ++ (R2 ++ (T ++ R3))))),
-      length-append Rt (R1 ++ (K ++ (R2 ++ (T ++ R3)))),
-      length-append R1 (K ++ (R2 ++ (T ++ R3))),
-      length-append K (R2 ++ (T ++ R3)),
-      length-append R2 (T ++ R3),
-      length-append T R3,
+      length-append C (Rest0 ++ (Rt ++ (Rest1 ++ (K ++ (Rest2 ++ (T ++ Rest3)))))),
+      length-append Rest0 (Rt ++ (Rest1 ++ (K ++ (Rest2 ++ (T ++ Rest3))))),
+      length-append Rt (Rest1 ++ (K ++ (Rest2 ++ (T ++ Rest3)))),
+      length-append Rest1 (K ++ (Rest2 ++ (T ++ Rest3))),
+      length-append K (Rest2 ++ (T ++ Rest3)),
+      length-append Rest2 (T ++ Rest3),
+      length-append T Rest3,
     )
 
 -- what stands behind a part that is at a place
@@ -116,44 +116,44 @@ rejoined a b c xs =
     ap (λ ys. take a xs ++ (take b (drop a xs) ++ ys)) third ∙ ap (λ ys. take a xs ++ ys) second ∙ take-append-drop a xs
 
 -- The places of a state's parts in a header whose first 24 bytes are F, and behind whose state B stands.
-pub record Placed (x C R0 Rt R1 K R2 T R3 B : List ℕ) (l : Layout) : Type 0 where
-  pub counts : drop 24 x ≡ C ++ (R0 ++ (Rt ++ (R1 ++ (K ++ (R2 ++ (T ++ (R3 ++ B)))))))
-  pub front_rest : part 100 24 x ≡ R0
-  pub roots : drop 124 x ≡ Rt ++ (R1 ++ (K ++ (R2 ++ (T ++ (R3 ++ B)))))
-  pub middle_rest : part l.key_del (l.key_map - l.key_del) x ≡ R1
-  pub key_map : drop l.key_map x ≡ K ++ (R2 ++ (T ++ (R3 ++ B)))
-  pub created : part (l.key_map + 8) 8 x ≡ R2
-  pub recover_time : drop l.recover_time x ≡ T ++ (R3 ++ B)
-  pub end_rest : part (l.recover_time + 8) (l.base - (l.recover_time + 8)) x ≡ R3
+pub record Placed (x C Rest0 Rt Rest1 K Rest2 T Rest3 B : List ℕ) (l : Layout) : Type 0 where
+  pub counts : drop 24 x ≡ C ++ (Rest0 ++ (Rt ++ (Rest1 ++ (K ++ (Rest2 ++ (T ++ (Rest3 ++ B)))))))
+  pub front_rest : part 100 24 x ≡ Rest0
+  pub roots : drop 124 x ≡ Rt ++ (Rest1 ++ (K ++ (Rest2 ++ (T ++ (Rest3 ++ B)))))
+  pub middle_rest : part l.key_del (l.key_map - l.key_del) x ≡ Rest1
+  pub key_map : drop l.key_map x ≡ K ++ (Rest2 ++ (T ++ (Rest3 ++ B)))
+  pub created : part (l.key_map + 8) 8 x ≡ Rest2
+  pub recover_time : drop l.recover_time x ≡ T ++ (Rest3 ++ B)
+  pub end_rest : part (l.recover_time + 8) (l.base - (l.recover_time + 8)) x ≡ Rest3
 
-pub placed : (x F C R0 Rt R1 K R2 T R3 B : List ℕ) (l : Layout) → x ≡ F ++ (C ++ (R0 ++ (Rt ++ (R1 ++ (K ++ (R2 ++ (T ++ (R3 ++ B))))))))
-    → length F ≡ 24 → length C ≡ 76 → length R0 ≡ 24 → 124 + length Rt ≡ l.key_del → l.key_del + length R1 ≡ l.key_map → length K ≡ 8 → length R2 ≡ 8 → length T ≡ 8 → l.recover_time ≡ l.key_map + 16 → l.recover_time + 8 + length R3 ≡ l.base
-    → Placed x C R0 Rt R1 K R2 T R3 B l
-placed x F C R0 Rt R1 K R2 T R3 B l flat f c r0 rt r1 k r2 t times r3 =
-    let S8 : List ℕ = R3 ++ B in
+pub placed : (x F C Rest0 Rt Rest1 K Rest2 T Rest3 B : List ℕ) (l : Layout) → x ≡ F ++ (C ++ (Rest0 ++ (Rt ++ (Rest1 ++ (K ++ (Rest2 ++ (T ++ (Rest3 ++ B))))))))
+    → length F ≡ 24 → length C ≡ 76 → length Rest0 ≡ 24 → 124 + length Rt ≡ l.key_del → l.key_del + length Rest1 ≡ l.key_map → length K ≡ 8 → length Rest2 ≡ 8 → length T ≡ 8 → l.recover_time ≡ l.key_map + 16 → l.recover_time + 8 + length Rest3 ≡ l.base
+    → Placed x C Rest0 Rt Rest1 K Rest2 T Rest3 B l
+placed x F C Rest0 Rt Rest1 K Rest2 T Rest3 B l flat f c r0 rt r1 k r2 t times r3 =
+    let S8 : List ℕ = Rest3 ++ B in
     let S7 : List ℕ = T ++ S8 in
-    let S6 : List ℕ = R2 ++ S7 in
+    let S6 : List ℕ = Rest2 ++ S7 in
     let S5 : List ℕ = K ++ S6 in
-    let S4 : List ℕ = R1 ++ S5 in
+    let S4 : List ℕ = Rest1 ++ S5 in
     let S3 : List ℕ = Rt ++ S4 in
-    let S2 : List ℕ = R0 ++ S3 in
+    let S2 : List ℕ = Rest0 ++ S3 in
     let d1 : drop 24 x ≡ C ++ S2 = ap (drop 24) flat ∙ drop_at F (C ++ S2) 24 f in
     let d2 : drop 100 x ≡ S2 = behind 24 76 100 x C S2 d1 c refl in
-    let d3 : drop 124 x ≡ S3 = behind 100 24 124 x R0 S3 d2 r0 refl in
+    let d3 : drop 124 x ≡ S3 = behind 100 24 124 x Rest0 S3 d2 r0 refl in
     let d4 : drop l.key_del x ≡ S4 = behind 124 (length Rt) l.key_del x Rt S4 d3 refl (sym rt) in
-    let d5 : drop l.key_map x ≡ S5 = behind l.key_del (length R1) l.key_map x R1 S5 d4 refl (sym r1) in
+    let d5 : drop l.key_map x ≡ S5 = behind l.key_del (length Rest1) l.key_map x Rest1 S5 d4 refl (sym r1) in
     let d6 : drop (l.key_map + 8) x ≡ S6 = behind l.key_map 8 (l.key_map + 8) x K S6 d5 k refl in
-    let d7 : drop l.recover_time x ≡ S7 = behind (l.key_map + 8) 8 l.recover_time x R2 S7 d6 r2 (omega (arith, times)) in
+    let d7 : drop l.recover_time x ≡ S7 = behind (l.key_map + 8) 8 l.recover_time x Rest2 S7 d6 r2 (omega (arith, times)) in
     let d8 : drop (l.recover_time + 8) x ≡ S8 = behind l.recover_time 8 (l.recover_time + 8) x T S8 d7 t refl in
     record {
       counts = d1;
-      front_rest = here 100 24 x R0 S3 d2 r0;
+      front_rest = here 100 24 x Rest0 S3 d2 r0;
       roots = d3;
-      middle_rest = here l.key_del (l.key_map - l.key_del) x R1 S5 d4 (omega (arith, r1));
+      middle_rest = here l.key_del (l.key_map - l.key_del) x Rest1 S5 d4 (omega (arith, r1));
       key_map = d5;
-      created = here (l.key_map + 8) 8 x R2 S7 d6 r2;
+      created = here (l.key_map + 8) 8 x Rest2 S7 d6 r2;
       recover_time = d7;
-      end_rest = here (l.recover_time + 8) (l.base - (l.recover_time + 8)) x R3 B d8 (omega (arith, r3));
+      end_rest = here (l.recover_time + 8) (l.base - (l.recover_time + 8)) x Rest3 B d8 (omega (arith, r3));
     }
 
 -- numbers that are spelled at a place are read there
@@ -173,8 +173,8 @@ roots_again d s x q count places fits at =
     ∙ ap (map pointer_of) (numbers_at 124 (map (λ r. 8) s.roots) (map pointer_number s.roots) x q at fits.roots)
     ∙ pointers_again s.roots (recursion_from_All IsPlace s.roots places)
 
-rest_again : (x : List ℕ) (l : Layout) (rest R0 R1 R2 R3 : List ℕ) → part 100 24 x ≡ R0 → part l.key_del (l.key_map - l.key_del) x ≡ R1 → part (l.key_map + 8) 8 x ≡ R2 → part (l.recover_time + 8) (l.base - (l.recover_time + 8)) x ≡ R3 → R0 ++ (R1 ++ (R2 ++ R3)) ≡ rest → rest_at l x ≡ rest
-rest_again x l rest R0 R1 R2 R3 e0 e1 e2 e3 whole = rw (e0, e1, e2, e3) whole
+rest_again : (x : List ℕ) (l : Layout) (rest Rest0 Rest1 Rest2 Rest3 : List ℕ) → part 100 24 x ≡ Rest0 → part l.key_del (l.key_map - l.key_del) x ≡ Rest1 → part (l.key_map + 8) 8 x ≡ Rest2 → part (l.recover_time + 8) (l.base - (l.recover_time + 8)) x ≡ Rest3 → Rest0 ++ (Rest1 ++ (Rest2 ++ Rest3)) ≡ rest → rest_at l x ≡ rest
+rest_again x l rest Rest0 Rest1 Rest2 Rest3 e0 e1 e2 e3 whole = rw (e0, e1, e2, e3) whole
 
 state_is : (d : Defs) (s : State) (x : List ℕ) → numbers 24 count_widths x ≡ counts s → roots_in (length d.keys) x ≡ s.roots → IsPlace s.dellink → num_at (layout_of d).key_map 8 x ≡ s.key_map → num_at (layout_of d).recover_time 8 x ≡ s.recover_time → rest_at (layout_of d) x ≡ s.rest → state_of d x ≡ s
 unfolding state_of
@@ -205,16 +205,16 @@ state_again d s x F B front roots rest link places fits is =
     let l = layout_of d in
     let m = middle_length l in
     let C = spelling count_widths (counts s) in
-    let R0 = take 24 s.rest in
+    let Rest0 = take 24 s.rest in
     let Rt = root_bytes s.roots in
-    let R1 = part 24 m s.rest in
+    let Rest1 = part 24 m s.rest in
     let K = num_bytes 8 s.key_map in
-    let R2 = part (24 + m) 8 s.rest in
+    let Rest2 = part (24 + m) 8 s.rest in
     let T = num_bytes 8 s.recover_time in
-    let R3 = drop (32 + m) s.rest in
-    let flat : x ≡ F ++ (C ++ (R0 ++ (Rt ++ (R1 ++ (K ++ (R2 ++ (T ++ (R3 ++ B)))))))) = is ∙ flattened F C R0 Rt R1 K R2 T R3 B in
+    let Rest3 = drop (32 + m) s.rest in
+    let flat : x ≡ F ++ (C ++ (Rest0 ++ (Rt ++ (Rest1 ++ (K ++ (Rest2 ++ (T ++ (Rest3 ++ B)))))))) = is ∙ flattened F C Rest0 Rt Rest1 K Rest2 T Rest3 B in
     let root_length = length-root_bytes s.roots in
-    let p : Placed x C R0 Rt R1 K R2 T R3 B l = placed x F C R0 Rt R1 K R2 T R3 B l flat front
+    let p : Placed x C Rest0 Rt Rest1 K Rest2 T Rest3 B l = placed x F C Rest0 Rt Rest1 K Rest2 T Rest3 B l flat front
     (length-spelling count_widths (counts s) fits.counts)
     (length-take-le 24 s.rest (omega arith))
     (omega (arith, root_length, roots))
@@ -224,11 +224,11 @@ state_again d s x F B front roots rest link places fits is =
     (length-num_bytes 8 s.recover_time)
     refl
     (let long = length-drop (32 + m) s.rest in omega (arith, long, rest)) in
-    let numbers_again : numbers 24 count_widths x ≡ counts s = numbers_at 24 count_widths (counts s) x (R0 ++ (Rt ++ (R1 ++ (K ++ (R2 ++ (T ++ (R3 ++ B))))))) p.counts fits.counts in
-    state_is d s x numbers_again (roots_again d s x (R1 ++ (K ++ (R2 ++ (T ++ (R3 ++ B))))) roots places fits p.roots) link
-    (number l.key_map s.key_map x (R2 ++ (T ++ (R3 ++ B))) p.key_map fits.key_map)
-    (number l.recover_time s.recover_time x (R3 ++ B) p.recover_time fits.recover_time)
-    (rest_again x l s.rest R0 R1 R2 R3 p.front_rest p.middle_rest p.created p.end_rest (ap (λ n. take 24 s.rest ++ (part 24 m s.rest ++ (part (24 + m) 8 s.rest ++ drop n s.rest))) (let e : 32 + m ≡ 24 + m + 8 = omega arith in e) ∙ rejoined 24 m 8 s.rest))
+    let numbers_again : numbers 24 count_widths x ≡ counts s = numbers_at 24 count_widths (counts s) x (Rest0 ++ (Rt ++ (Rest1 ++ (K ++ (Rest2 ++ (T ++ (Rest3 ++ B))))))) p.counts fits.counts in
+    state_is d s x numbers_again (roots_again d s x (Rest1 ++ (K ++ (Rest2 ++ (T ++ (Rest3 ++ B))))) roots places fits p.roots) link
+    (number l.key_map s.key_map x (Rest2 ++ (T ++ (Rest3 ++ B))) p.key_map fits.key_map)
+    (number l.recover_time s.recover_time x (Rest3 ++ B) p.recover_time fits.recover_time)
+    (rest_again x l s.rest Rest0 Rest1 Rest2 Rest3 p.front_rest p.middle_rest p.created p.end_rest (ap (λ n. take 24 s.rest ++ (part 24 m s.rest ++ (part (24 + m) 8 s.rest ++ drop n s.rest))) (let e : 32 + m ≡ 24 + m + 8 = omega arith in e) ∙ rejoined 24 m 8 s.rest))
 
 -- a header without the zeros behind it
 pub front_of : Defs → State → List ℕ

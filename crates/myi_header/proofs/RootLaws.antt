@@ -1,7 +1,6 @@
 -- Roots that are read, or written, one after the other.
 use Rattle.std.proofs.Common.{◌≡◌, ℕ, suc, ◌+◌, ◌-◌, ◌*◌, ◌<◌, List, [], ◌∷◌, ◌++◌, sym, ap, ◌∙◌, arith, append_assoc}
 use Rattle.std.specs.Prelude.{map, replicate, Option}
-use Rattle.std.proofs.lemmas.List.{append-nil}
 use Rattle.myi_base.specs.Numbers.{num_at, pointer_of}
 use Rattle.myi_base.specs.Items.{numbers}
 
