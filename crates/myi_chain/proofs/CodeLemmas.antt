@@ -1,9 +1,7 @@
 -- What the walk along a chain meets.
-use Rattle.std.proofs.Common.{◌≡◌, ℕ, zero, suc, ◌+◌, ◌-◌, ◌<◌, ◌≤◌, List, [], ◌∷◌, ◌++◌, length, map, take, drop, Option, Some, None, refl, sym, ap, ◌∙◌, arith, append_assoc, ◌⊎◌, inl, inr}
-use Rattle.std.specs.Prelude.{◌&&◌}
+use Rattle.std.proofs.Common.{◌≡◌, ℕ, zero, suc, ◌+◌, ◌-◌, ◌<◌, ◌≤◌, ◌^◌, List, [], ◌∷◌, ◌++◌, length, map, take, drop, Option, Some, None, refl, sym, ap, subst, ◌∙◌, arith, append_assoc, ◌⊎◌, inl, inr}
 use Rattle.std.proofs.lemmas.List.{append-nil, length-take-le}
-use Rattle.std.specs.List.{list_all}
-use Rattle.myi_base.specs.Ranges.{Range, are_apart, is_apart}
+use Rattle.myi_base.specs.Ranges.{Range}
 use Rattle.myi_frames.specs.declared.frame.Seen.{Seen}
 use Rattle.myi_frames.specs.declared.frame.Seen.TheVariants as seen
 use Rattle.myi_frames.specs.Block.{Block, block_of}
@@ -12,6 +10,8 @@ use Rattle.myi_frames.proofs.BlockLemmas.{block-stands}
 use Rattle.myi_chain.specs.declared.chain.Link.{Link}
 use Rattle.myi_chain.specs.declared.chain.Link.TheVariants.{Broken, Last, More}
 use Rattle.myi_chain.specs.Chain.{Reading, range_of, ranges, row_bytes, prepend, next_link, taken_by, tail_of, tail}
+use Rattle.std.specs.List.{AllByRecursion}
+use Rattle.myi_chain.specs.Used.{IsRange}
 use Rattle.myi_chain.specs.Walk.{placed, ranges_at, ending}
 use Rattle.myi_chain.proofs.ChainLemmas.{tail_sound, tail_complete}
 
@@ -112,6 +112,9 @@ goes_on read next p used taken t joined left b r taken' joined' n e same link po
     let u : used ++ ranges_at taken' ≡ (used ++ ranges_at taken) ++ range_of b ∷ [] = let m = map_append {B = Range} (λ (x : ℕ × ℕ). (x.0, x.0 + x.1)) taken ((b.at, b.size) ∷ []) in rw (tk, m) (sym (append_assoc used (ranges_at taken) (range_of b ∷ []))) in
     rw (u, tk, jn, ← ending-prepend) (ap (ending taken joined) (sym more) ∙ inv)
 
-pub apart_map : (r : Range) (bs : List (ℕ × ℕ)) → list_all (λ (b : ℕ × ℕ). are_apart r (b.0, b.0 + b.1)) bs ≡ is_apart r (ranges_at bs)
-apart_map r [] = refl
-apart_map r (b ∷ bs) = ap (λ t. are_apart r (b.0, b.0 + b.1) && t) (apart_map r bs)
+-- a block that stands in a file has a range
+pub one_range : (d : List ℕ) (b : Block) (taken : List (ℕ × ℕ)) → block_of d b.at ≡ Some b → length d < 2 ^ 64 → taken ≡ (b.at, b.size) ∷ [] → AllByRecursion IsRange (ranges_at taken)
+one_range d b taken here small is =
+    let s = block-stands d b.at b here in
+    let one : AllByRecursion IsRange (ranges_at ((b.at, b.size) ∷ [])) = ((omega (arith, s.least), omega (arith, s.inside, small)), tt) in
+    subst (λ t. AllByRecursion IsRange (ranges_at t)) (sym is) one

@@ -77,7 +77,7 @@ covered_below zero u rs a = omega (arith, nothing rs)
 covered_below (suc n) u rs a = omega (arith, covered_below n u rs a, one_more n u rs a)
 
 -- ranges of blocks
-abbrev IsBlock : ℕ → Range → Type 0
+abbrev pub IsBlock : ℕ → Range → Type 0
 IsBlock len r = (r.0 + 20 ≤ r.1) × (r.1 ≤ len)
 
 twenty_each : (len : ℕ) (rs : List Range) → AllByRecursion (IsBlock len) rs → 20 * length rs ≤ covered len rs
@@ -90,7 +90,7 @@ tail_blocks read len stands (Some p) [] t = absurd t
 tail_blocks read len stands (Some p) (b ∷ []) t = let s = stands p b t.0 in ((omega (arith, s.least), omega (arith, s.at, s.inside)), tt)
 tail_blocks read len stands (Some p) (b ∷ c ∷ bs) t = let s = stands p b t.0 in ((omega (arith, s.least), omega (arith, s.at, s.inside)), tail_blocks read len stands b.next (c ∷ bs) t.2)
 
-chain_blocks : (read : Reading) (len : ℕ) (stands : IsReading read len) (p : ℕ) (bs : List Block) → AreLinked read p bs → AllByRecursion (IsBlock len) (ranges bs)
+pub chain_blocks : (read : Reading) (len : ℕ) (stands : IsReading read len) (p : ℕ) (bs : List Block) → AreLinked read p bs → AllByRecursion (IsBlock len) (ranges bs)
 chain_blocks read len stands p [] t = absurd t
 chain_blocks read len stands p (b ∷ []) t = let s = stands p b t.0 in ((omega (arith, s.least), omega (arith, s.at, s.inside)), tt)
 chain_blocks read len stands p (b ∷ c ∷ bs) t = let s = stands p b t.0 in ((omega (arith, s.least), omega (arith, s.at, s.inside)), tail_blocks read len stands b.next (c ∷ bs) t.2)

@@ -9,3 +9,5 @@ pub mod SameLemmas
 pub mod StepLemmas
 pub mod ScanLemmas
 pub mod UsedLemmas
+pub mod MapLemmas
+pub mod NearLemmas

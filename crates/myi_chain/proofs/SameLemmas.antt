@@ -1,11 +1,12 @@
 -- What is read depends on the used ranges only by what is apart from them and where they end.
-use Rattle.std.proofs.Common.{◌≡◌, ℕ, zero, suc, ◌-◌, max, Bool, true, false, cond, List, [], ◌∷◌, ◌++◌, length, Option, Some, None, refl, sym, ap, subst, ◌∙◌, arith}
+use Rattle.std.proofs.Common.{◌≡◌, ℕ, zero, suc, ◌+◌, ◌-◌, max, Bool, true, false, cond, List, [], ◌∷◌, ◌++◌, length, Option, Some, None, refl, sym, ap, subst, ◌∙◌, arith}
 use Rattle.std.specs.Prelude.{◌&&◌, ◌==◌, nat_lt, option_and_then}
 use Rattle.myi_base.specs.Ranges.{Range, are_apart, is_apart}
 use Rattle.myi_frames.specs.Block.{Block}
-use Rattle.myi_chain.specs.Chain.{Reading, range_of, ranges, row_bytes, may_take, tail_step, tail_of, tail, head_step, chain_of}
+use Rattle.myi_chain.specs.Chain.{Reading, range_of, ranges, row_bytes, may_take, next_link, tail_step, tail_of, tail, head_step, chain_of}
 use Rattle.myi_chain.specs.Readable.{Step, end_of, past, row_step, step_of, items, rest}
-use Rattle.myi_chain.specs.Walk.{SameUsed}
+use Rattle.myi_chain.specs.Walk.{ranges_at, SameUsed}
+use Rattle.myi_chain.proofs.CodeLemmas.{map_append}
 
 pub same_refl : (u : List Range) → SameUsed u u
 same_refl u = record { apart = λ r. refl; ends = λ p. refl }
@@ -13,7 +14,7 @@ same_refl u = record { apart = λ r. refl; ends = λ p. refl }
 pub same_of : (u v : List Range) → u ≡ v → SameUsed u v
 same_of u v e = subst (SameUsed u) e (same_refl u)
 
-is_apart-append : (r : Range) (u t : List Range) → is_apart r (u ++ t) ≡ (is_apart r u && is_apart r t)
+pub is_apart-append : (r : Range) (u t : List Range) → is_apart r (u ++ t) ≡ (is_apart r u && is_apart r t)
 is_apart-append r [] t = refl
 is_apart-append r (x ∷ u) t = by_test (are_apart r x) (is_apart r (u ++ t)) (is_apart r u) (is_apart r t) (is_apart-append r u t)
   where
@@ -21,7 +22,7 @@ is_apart-append r (x ∷ u) t = by_test (are_apart r x) (is_apart r (u ++ t)) (i
     by_test true b c d e = e
     by_test false b c d e = refl
 
-end_of-append : (p : ℕ) (u t : List Range) → end_of p (u ++ t) ≡ max (end_of p u) (end_of p t)
+pub end_of-append : (p : ℕ) (u t : List Range) → end_of p (u ++ t) ≡ max (end_of p u) (end_of p t)
 end_of-append p [] t = omega arith
 end_of-append p (x ∷ u) t = by_test (x.0 == p) (end_of p (u ++ t)) (end_of-append p u t)
   where
@@ -37,6 +38,24 @@ same_append u v t s = record {
 
 may_same : (b : Block) (u v : List Range) → SameUsed u v → may_take b u ≡ may_take b v
 may_same b u v s = ap (λ x. nat_lt 0 (length b.bytes) && x) (s.apart (range_of b))
+
+pub same_before : (t u v : List Range) → SameUsed u v → SameUsed (t ++ u) (t ++ v)
+same_before t u v s = record {
+  apart = λ r. is_apart-append r t u ∙ ap (λ b. is_apart r t && b) (s.apart r) ∙ sym (is_apart-append r t v);
+  ends = λ p. end_of-append p t u ∙ ap (max (end_of p t)) (s.ends p) ∙ sym (end_of-append p t v);
+}
+
+pub same_after : (u v w : List Range) → SameUsed u v → SameUsed v w → SameUsed u w
+same_after u v w s t = record { apart = λ r. s.apart r ∙ t.apart r; ends = λ p. s.ends p ∙ t.ends p }
+
+pub next_same : (b : Block) (used u v : List Range) (left : ℕ) → SameUsed u v → next_link b (used ++ u) left ≡ next_link b (used ++ v) left
+next_same b used u v left s = let m = may_same b (used ++ u) (used ++ v) (same_before used u v s) in rw m refl
+
+-- one more of a chain's own blocks
+pub own_more : (taken taken' : List (ℕ × ℕ)) (b : ℕ × ℕ) (old new : List Range) → taken' ≡ taken ++ b ∷ [] → SameUsed old (ranges_at taken) → SameUsed new (old ++ ranges_at (b ∷ [])) → SameUsed new (ranges_at taken')
+own_more taken taken' b old new is s t =
+    let m = ap ranges_at is ∙ map_append {B = Range} (λ (x : ℕ × ℕ). (x.0, x.0 + x.1)) taken (b ∷ []) in
+    subst (SameUsed new) (sym m) (same_after _ _ _ t (same_append old (ranges_at taken) (ranges_at (b ∷ [])) s))
 
 Rest : Type 0
 Rest = Option ℕ → List Range → ℕ → Option (List Block)

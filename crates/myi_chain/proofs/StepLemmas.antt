@@ -1,15 +1,19 @@
 -- One step of a scan, and what comes of it.
-use Rattle.std.proofs.Common.{◌≡◌, ℕ, ◌+◌, ◌<◌, ◌≤◌, Bool, true, false, List, [], ◌∷◌, ◌++◌, Option, Some, None, refl, sym, ap, subst, ◌∙◌, arith}
+use Rattle.std.proofs.Common.{◌≡◌, ℕ, ◌+◌, ◌<◌, ◌≤◌, ◌^◌, Bool, true, false, List, [], ◌∷◌, ◌++◌, Option, Some, None, refl, sym, ap, subst, ◌∙◌, arith}
 use Rattle.std.specs.Prelude.{nat_lt, option_to_list}
+use Rattle.std.specs.List.{AllByRecursion}
 use Rattle.std.proofs.lemmas.Bool.{lt-ltb, le-ltb}
 use Rattle.myi_base.specs.Ranges.{Range}
 use Rattle.myi_frames.specs.Block.{Block}
 use Rattle.myi_chain.specs.declared.step.Met.{Met}
 use Rattle.myi_chain.specs.declared.step.Met.TheVariants as met
-use Rattle.myi_chain.specs.Chain.{Reading, IsReading, ranges, chain_of}
+use Rattle.myi_chain.specs.Chain.{Reading, IsReading, AreApart, ranges, chain_of}
+use Rattle.myi_chain.specs.Used.{IsRange}
 use Rattle.myi_chain.specs.Readable.{Row, Item, row, free, end_of, skip_by, free_by, past, row_at, row_step, step_of, rest, rows_of}
 use Rattle.myi_chain.specs.Walk.{ranges_at, SameUsed, IsRowHere, NoRowHere, Tells, IsRowOfBlocks, IsRowItem, IsPassed, IsMet, IsStepped, IsFoundRow, behind_row, is_row}
 use Rattle.myi_chain.proofs.CodeLemmas.{placed_ranges}
+use Rattle.myi_chain.proofs.ChainLemmas.{chain_sound}
+use Rattle.myi_chain.proofs.CountLemmas.{IsBlock, chain_blocks}
 use Rattle.myi_chain.proofs.SameLemmas.{same_of, rest_same}
 use Rattle.myi_chain.proofs.ReadableLemmas.{step_after, rest_step}
 
@@ -71,6 +75,22 @@ told_row read accepts p used taken joined false e t = absurd cc
 pub told_none : (read : Reading) (accepts : List ℕ → Bool) (p : ℕ) (used : List Range) (taken : List (ℕ × ℕ)) (joined : List ℕ) (b : Bool) → b ≡ false → Tells read accepts p used taken joined b → NoRowHere read accepts p used (chain_of read p used)
 told_none read accepts p used taken joined true e t = absurd cc
 told_none read accepts p used taken joined false e t = t
+
+-- ---- the ranges of a row's blocks
+
+row_is_range : (len : ℕ) (rs : List Range) → len < 2 ^ 64 → AllByRecursion (IsBlock len) rs → AllByRecursion IsRange rs
+row_is_range len [] small h = tt
+row_is_range len (r ∷ rs) small h = ((omega (arith, h.0.0), omega (arith, h.0.1, small)), row_is_range len rs small h.1)
+
+pub row_apart : (read : Reading) (accepts : List ℕ → Bool) (p : ℕ) (used : List Range) (taken : List (ℕ × ℕ)) (joined : List ℕ) → IsRowHere read accepts p used taken joined → AreApart used (ranges_at taken)
+row_apart read accepts p used taken joined r =
+    let bs = r.first ∷ r.more in
+    subst (AreApart used) (sym (ap ranges_at r.blocks ∙ placed_ranges bs)) (chain_sound read p used bs r.chain).apart
+
+pub row_filled : (read : Reading) (len : ℕ) (stands : IsReading read len) → len < 2 ^ 64 → (accepts : List ℕ → Bool) (p : ℕ) (used : List Range) (taken : List (ℕ × ℕ)) (joined : List ℕ) → IsRowHere read accepts p used taken joined → AllByRecursion IsRange (ranges_at taken)
+row_filled read len stands small accepts p used taken joined r =
+    let bs = r.first ∷ r.more in
+    subst (AllByRecursion IsRange) (sym (ap ranges_at r.blocks ∙ placed_ranges bs)) (row_is_range len (ranges bs) small (chain_blocks read len stands p bs (chain_sound read p used bs r.chain).linked))
 
 -- ---- what is left after a step
 

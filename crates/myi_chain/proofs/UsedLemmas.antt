@@ -1,57 +1,122 @@
--- The place behind which no used range ends.
-use Rattle.std.proofs.Common.{◌≡◌, ℕ, ◌+◌, ◌-◌, ◌<◌, ◌≤◌, ◌^◌, min, max, Bool, true, false, cond, List, [], ◌∷◌, ◌++◌, refl, sym, ap, subst, ◌∙◌, arith, append_assoc}
-use Rattle.std.specs.Prelude.{◌==◌, ◌&&◌, ◌||◌, nat_le}
-use Rattle.std.specs.List.{AllByRecursion}
-use Rattle.std.proofs.lemmas.Bool.{le-leb}
-use Rattle.std.proofs.lemmas.List.{append-nil}
+-- Used ranges in order: what the last that begins before a place answers, and what one more leaves.
+use Rattle.std.proofs.Common.{◌≡◌, ℕ, ◌+◌, ◌<◌, ◌≤◌, max, Bool, true, false, cond, List, [], ◌∷◌, ◌++◌, Option, Some, None, refl, sym, ap, subst, ◌∙◌, arith, ◌⊎◌, inl, inr}
+use Rattle.std.specs.Prelude.{◌&&◌, ◌==◌, nat_lt, nat_le, filter}
+use Rattle.std.proofs.lemmas.Bool.{lt-ltb, le-ltb, le-leb, cases_lt}
+use Rattle.std.proofs.lemmas.Bool.Decides.{nat_tests}
 use Rattle.myi_base.specs.Ranges.{Range, is_apart}
 use Rattle.myi_chain.specs.Readable.{end_of}
-use Rattle.myi_chain.proofs.CodeLemmas.{map_append}
-use Rattle.myi_chain.specs.Walk.{ranges_at, top_of, IsTop}
+use Rattle.myi_chain.specs.Used.{AreInOrder, last_of, last_before, is_behind, end_from}
+use Rattle.myi_chain.proofs.SameLemmas.{is_apart-append, end_of-append}
 
-top_rises : (top : ℕ) (bs : List (ℕ × ℕ)) → top ≤ top_of top bs
-top_rises top [] = omega arith
-top_rises top (b ∷ bs) = omega (arith, top_rises (max top (min (b.0 + b.1) (2 ^ 64 - 1))) bs)
+pub lower : (low high : ℕ) (rs : List Range) → low ≤ high → AreInOrder high rs → AreInOrder low rs
+lower low high [] le h = tt
+lower low high (r ∷ rs) le h = (omega (arith, h.0), h.1, h.2)
 
-higher : (low high : ℕ) (used : List Range) → low ≤ high → AllByRecursion (λ (r : Range). r.1 ≤ low) used → AllByRecursion (λ (r : Range). r.1 ≤ high) used
-higher low high [] le h = tt
-higher low high (r ∷ used) le h = (omega (arith, h.0), higher low high used le h.1)
+-- ---- the last before a place
 
-add_last : (top : ℕ) (used : List Range) (r : Range) → AllByRecursion (λ (r : Range). r.1 ≤ top) used → r.1 ≤ top → AllByRecursion (λ (r : Range). r.1 ≤ top) (used ++ r ∷ [])
-add_last top [] r h k = (k, tt)
-add_last top (x ∷ used) r h k = (h.0, add_last top used r h.1 k)
+abbrev or_else : Option Range → Option Range → Option Range
+or_else None o = o
+or_else (Some r) o = Some r
 
-pub top_kept : (top : ℕ) (used : List Range) (bs : List (ℕ × ℕ)) → IsTop top used → IsTop (top_of top bs) (used ++ ranges_at bs)
-top_kept top used [] h small = subst (AllByRecursion (λ (r : Range). r.1 ≤ top)) (sym (append-nil used)) (h small)
-top_kept top used (b ∷ bs) h small =
-    let next : ℕ = max top (min (b.0 + b.1) (2 ^ 64 - 1)) in
-    let rises = top_rises next bs in
-    let one : IsTop next (used ++ (b.0, b.0 + b.1) ∷ []) = λ less. add_last next used (b.0, b.0 + b.1) (higher top next used (omega arith) (h (omega arith))) (omega arith) in
-    subst (AllByRecursion (λ (r : Range). r.1 ≤ top_of next bs)) (append_assoc used ((b.0, b.0 + b.1) ∷ []) (ranges_at bs)) (top_kept next (used ++ (b.0, b.0 + b.1) ∷ []) bs one small)
-
-all_below : (at end top : ℕ) (used : List Range) → AllByRecursion (λ (r : Range). r.1 ≤ top) used → top ≤ at → is_apart (at, end) used ≡ true
-all_below at end top [] h le = refl
-all_below at end top (r ∷ used) h le = by_test (nat_le end r.0) (nat_le r.1 at) (is_apart (at, end) used) (le-leb _ _ (omega (arith, h.0))) (all_below at end top used h.1 le)
+last_of-cons : (r : Range) (rs : List Range) → last_of (r ∷ rs) ≡ or_else (last_of rs) (Some r)
+last_of-cons r [] = refl
+last_of-cons r (s ∷ []) = refl
+last_of-cons r (s ∷ t ∷ rs) = some_more (last_of (s ∷ t ∷ rs)) s (last_of-cons s (t ∷ rs))
   where
-    by_test : (a b c : Bool) → b ≡ true → c ≡ true → ((a || b) && c) ≡ true
-    by_test true b c e f = f
-    by_test false b c e f = rw (e, f) refl
+    some_or : (o : Option Range) (s : Range) → or_else (or_else o (Some s)) (Some r) ≡ or_else o (Some s)
+    some_or None s = refl
+    some_or (Some x) s = refl
 
-no_end : (at top : ℕ) (used : List Range) → AllByRecursion (λ (r : Range). r.1 ≤ top) used → top ≤ at → end_of at used ≤ at
-no_end at top [] h le = omega arith
-no_end at top (r ∷ used) h le = by_test (r.0 == at) (no_end at top used h.1 le)
+    some_more : (o : Option Range) (s : Range) → o ≡ or_else (last_of (t ∷ rs)) (Some s) → o ≡ or_else o (Some r)
+    some_more o s e = rw e (sym (some_or (last_of (t ∷ rs)) s))
+
+before-none : (end low : ℕ) (rs : List Range) → AreInOrder low rs → end ≤ low → last_before end rs ≡ None
+before-none end low [] h le = refl
+before-none end low (r ∷ rs) h le =
+    let f : nat_lt r.0 end ≡ false = le-ltb _ _ (omega (arith, h.0)) in
+    let more = before-none end r.1 rs h.2 (omega (arith, h.0, h.1)) in
+    rw f more
+
+before-some : (end : ℕ) (r : Range) (rs : List Range) → r.0 < end → last_before end (r ∷ rs) ≡ or_else (last_before end rs) (Some r)
+before-some end r rs h =
+    let t : nat_lt r.0 end ≡ true = lt-ltb _ _ h in
+    rw t (last_of-cons r (filter (λ (x : Range). nat_lt x.0 end) rs))
+
+before-later : (end low : ℕ) (rs : List Range) (x : Range) → AreInOrder low rs → last_before end rs ≡ Some x → (low ≤ x.0) × (x.0 < x.1)
+before-later end low [] x h e = absurd cc
+before-later end low (r ∷ rs) x h e = by_order (λ k. before-later end r.1 rs x h.2 k) (cases_lt r.0 end)
   where
-    by_test : (b : Bool) → end_of at used ≤ at → cond b (max r.1 (end_of at used)) (end_of at used) ≤ at
-    by_test true e = omega (arith, h.0)
-    by_test false e = e
+    by_last : (last_before end rs ≡ Some x → (r.1 ≤ x.0) × (x.0 < x.1)) → (o : Option Range) → last_before end rs ≡ o → or_else o (Some r) ≡ Some x → (low ≤ x.0) × (x.0 < x.1)
+    by_last more None k f = let same : r ≡ x = cc in subst (λ (y : Range). (low ≤ y.0) × (y.0 < y.1)) same (h.0, h.1)
+    by_last more (Some y) k f = let l = more (k ∙ f) in (omega (arith, l.0, h.0, h.1), l.1)
 
-pub apart_above : (at end top : ℕ) (used : List Range) → IsTop top used → top ≤ at → at < 2 ^ 63 → is_apart (at, end) used ≡ true
-apart_above at end top used h le small = all_below at end top used (h (omega arith)) le
+    by_order : (last_before end rs ≡ Some x → (r.1 ≤ x.0) × (x.0 < x.1)) → (r.0 < end) ⊎ (end ≤ r.0) → (low ≤ x.0) × (x.0 < x.1)
+    by_order more (inl lt) = by_last more (last_before end rs) refl (sym (before-some end r rs lt) ∙ e)
+    by_order more (inr le) = let none = before-none end r.0 (r ∷ rs) (omega arith, h.1, h.2) le in absurd cc
 
-pub end_above : (at top : ℕ) (used : List Range) → IsTop top used → top ≤ at → at < 2 ^ 63 → max at (end_of at used) ≡ at
-end_above at top used h le small = omega (arith, no_end at top used (h (omega arith)) le)
+apart-above : (at end low : ℕ) (rs : List Range) → AreInOrder low rs → end ≤ low → is_apart (at, end) rs ≡ true
+apart-above at end low [] h le = refl
+apart-above at end low (r ∷ rs) h le =
+    let t : nat_le end r.0 ≡ true = le-leb _ _ (omega (arith, h.0)) in
+    let more = apart-above at end r.1 rs h.2 (omega (arith, h.0, h.1)) in
+    rw (t, more) refl
 
-pub top_added : (top next : ℕ) (old bs now : List (ℕ × ℕ)) → IsTop top (ranges_at old) → next ≡ top_of top bs → now ≡ old ++ bs → IsTop next (ranges_at now)
-top_added top next old bs now h is all =
-    let m = map_append {B = Range} (λ (x : ℕ × ℕ). (x.0, x.0 + x.1)) old bs in
-    subst (λ t. IsTop t (ranges_at now)) (sym is) (subst (IsTop (top_of top bs)) (sym (ap ranges_at all ∙ m)) (top_kept top (ranges_at old) bs h))
+pub apart_by_last : (at end low : ℕ) (rs : List Range) → AreInOrder low rs → is_apart (at, end) rs ≡ is_behind at (last_before end rs)
+apart_by_last at end low [] h = refl
+apart_by_last at end low (r ∷ rs) h = by_order (apart_by_last at end r.1 rs h.2) (cases_lt r.0 end)
+  where
+    by_last : (o : Option Range) → last_before end rs ≡ o → (nat_le r.1 at && is_behind at o) ≡ is_behind at (or_else o (Some r))
+    by_last None k = grind (arith, nat_tests)
+    by_last (Some x) k = let l = before-later end r.1 rs x h.2 k in grind (arith, nat_tests)
+
+    by_order : is_apart (at, end) rs ≡ is_behind at (last_before end rs) → (r.0 < end) ⊎ (end ≤ r.0) → is_apart (at, end) (r ∷ rs) ≡ is_behind at (last_before end (r ∷ rs))
+    by_order ih (inl lt) =
+        let f : nat_le end r.0 ≡ false = grind (arith, nat_tests) in
+        let last = before-some end r rs lt in
+        rw (f, ih, last) (by_last (last_before end rs) refl)
+    by_order ih (inr le) =
+        let none = before-none end r.0 (r ∷ rs) (omega arith, h.1, h.2) le in
+        apart-above at end r.0 (r ∷ rs) (omega arith, h.1, h.2) le ∙ sym (ap (is_behind at) none)
+
+end-above : (at low : ℕ) (rs : List Range) → AreInOrder low rs → at < low → end_of at rs ≡ 0
+end-above at low [] h le = refl
+end-above at low (r ∷ rs) h le =
+    let f : (r.0 == at) ≡ false = grind (arith, nat_tests, h.0) in
+    let more = end-above at r.1 rs h.2 (omega (arith, h.0, h.1)) in
+    rw (f, more) refl
+
+pub end_by_last : (at low : ℕ) (rs : List Range) → AreInOrder low rs → end_of at rs ≡ end_from at (last_before (at + 1) rs)
+end_by_last at low [] h = refl
+end_by_last at low (r ∷ rs) h = by_order (end_by_last at r.1 rs h.2) (cases_lt r.0 (at + 1))
+  where
+    by_last : (o : Option Range) → last_before (at + 1) rs ≡ o → end_of at rs ≡ end_from at o → (cond (r.0 == at) (max r.1 (end_of at rs)) (end_of at rs)) ≡ end_from at (or_else o (Some r))
+    by_last None k e = rw e (by_test (r.0 == at))
+      where
+        by_test : (b : Bool) → cond b (max r.1 0) 0 ≡ cond b r.1 0
+        by_test true = omega arith
+        by_test false = refl
+    by_last (Some x) k e = let l = before-later (at + 1) r.1 rs x h.2 k in by_place (cases_lt r.0 at) l
+      where
+        by_place : (r.0 < at) ⊎ (at ≤ r.0) → (r.1 ≤ x.0) × (x.0 < x.1) → (cond (r.0 == at) (max r.1 (end_of at rs)) (end_of at rs)) ≡ end_from at (Some x)
+        by_place (inl lt) l = let f : (r.0 == at) ≡ false = grind (arith, nat_tests) in rw f e
+        by_place (inr le) l = let none = before-none (at + 1) r.1 rs h.2 (omega (arith, h.1)) in absurd cc
+
+    by_order : end_of at rs ≡ end_from at (last_before (at + 1) rs) → (r.0 < at + 1) ⊎ (at + 1 ≤ r.0) → end_of at (r ∷ rs) ≡ end_from at (last_before (at + 1) (r ∷ rs))
+    by_order ih (inl lt) = by_last (last_before (at + 1) rs) refl ih ∙ sym (ap (end_from at) (before-some (at + 1) r rs lt))
+    by_order ih (inr le) =
+        let none = before-none (at + 1) r.0 (r ∷ rs) (omega arith, h.1, h.2) le in
+        end-above at (at + 1) (r ∷ rs) (le, h.1, h.2) (omega arith) ∙ sym (ap (end_from at) none)
+
+-- ---- in both parts
+
+pub both_behind : (at end : ℕ) (u v : List Range) → AreInOrder 0 u → AreInOrder 0 v → is_apart (at, end) (u ++ v) ≡ (is_behind at (last_before end u) && is_behind at (last_before end v))
+both_behind at end u v h k =
+    let a = apart_by_last at end 0 u h in
+    let b = apart_by_last at end 0 v k in
+    is_apart-append (at, end) u v ∙ (rw (a, b) refl)
+
+pub both_ends : (at : ℕ) (u v : List Range) → AreInOrder 0 u → AreInOrder 0 v → end_of at (u ++ v) ≡ max (end_from at (last_before (at + 1) u)) (end_from at (last_before (at + 1) v))
+both_ends at u v h k =
+    let a = end_by_last at 0 u h in
+    let b = end_by_last at 0 v k in
+    end_of-append at u v ∙ (rw (a, b) refl)

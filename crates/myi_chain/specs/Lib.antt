@@ -4,5 +4,6 @@ pub mod Meeting
 pub mod Laid
 pub mod Parts
 pub mod Pieces
+pub mod Used
 pub mod Walk
 pub mod Scanning

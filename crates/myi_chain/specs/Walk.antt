@@ -1,6 +1,5 @@
 -- What a walk along a chain and a step of a scan leave.
-use Rattle.std.specs.Prelude.{◌≡◌, ◌+◌, ◌-◌, ◌^◌, ◌<◌, ◌≤◌, min, max, ℕ, Bool, true, false, List, [], ◌∷◌, ◌++◌, map, Option, Some, None}
-use Rattle.std.specs.List.{AllByRecursion}
+use Rattle.std.specs.Prelude.{◌≡◌, ◌+◌, ℕ, Bool, true, false, List, [], ◌∷◌, ◌++◌, map, Option, Some, None}
 use Rattle.myi_base.specs.Ranges.{Range, is_apart}
 use Rattle.myi_frames.specs.Block.{Block}
 use Rattle.myi_chain.specs.declared.step.Met.{Met}
@@ -32,15 +31,6 @@ Ends false taken joined o = o ≡ None
 pub record SameUsed (u v : List Range) : Type 0 where
   pub apart : (r : Range) → is_apart r u ≡ is_apart r v
   pub ends : (p : ℕ) → end_of p u ≡ end_of p v
-
--- the greatest of a place and the ends of blocks, or the greatest number of eight bytes where an end is greater
-abbrev pub top_of : ℕ → List (ℕ × ℕ) → ℕ
-top_of top [] = top
-top_of top (b ∷ bs) = top_of (max top (min (b.0 + b.1) (2 ^ 64 - 1))) bs
-
--- no range ends behind this place, unless it is the greatest number
-abbrev pub IsTop : ℕ → List Range → Type 0
-IsTop top used = top < 2 ^ 64 - 1 → AllByRecursion (λ r. r.1 ≤ top) used
 
 -- the bytes of a row of several blocks are joined
 abbrev pub AreJoined : List Block → List Block → List ℕ → Type 0

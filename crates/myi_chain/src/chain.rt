@@ -1,12 +1,13 @@
 //! The chain of blocks that holds one row: how it is followed in the bytes of a file.
-ghost use Rattle.std.specs.Prelude.{◌≡◌, ℕ, ◌+◌, ◌-◌, ◌<◌, ◌≤◌, ◌^◌, ◌++◌, ◌∷◌, [], length, MatchOption, OnOk, OnErr, IfSome, Some, None, IfOk};
+ghost use Rattle.std.specs.Prelude.{◌≡◌, true, ℕ, ◌+◌, ◌-◌, ◌<◌, ◌≤◌, ◌^◌, ◌++◌, ◌∷◌, [], length, MatchOption, OnOk, OnErr, IfSome, Some, None, IfOk};
+ghost use Rattle.myi_base.specs.Ranges.{is_apart};
 ghost use Rattle.myi_frames.specs.Block.{Block, block_of};
 ghost use Rattle.myi_frames.specs.Seeing.{shown};
-ghost use Rattle.myi_chain.specs.Chain.{may_take, next_link, first_link, tail};
-ghost use Rattle.myi_chain.specs.Walk.{ranges_at, ending, Ends, Tells};
+ghost use Rattle.myi_chain.specs.Chain.{range_of, may_take, next_link, first_link, tail};
+ghost use Rattle.myi_chain.specs.Walk.{ranges_at, ending, SameUsed, Ends, Tells};
 
 use crate::piece::Accepts;
-use crate::used::{Used, is_apart};
+use crate::used::Used;
 use myi_frames::{Frame, FrameKind, Seen, frame_at};
 use std::alloc::AllocError;
 
@@ -36,12 +37,19 @@ pub(crate) fn block_at(bytes: &[u8], at: u64) -> Option<Frame<'_>>
     }
 }
 
-fn may_take(block: &Frame, used: &Used, taken: &[(u64, u32)]) -> bool
+fn is_apart(block: &Frame, used: &Used) -> bool
     requires { block.now.at < 2 ^ 63 }
-    ensures { result ≡ may_take (shown block.now) (used.now ++ ranges_at taken.now) }
+    ensures { result ≡ is_apart (range_of (shown block.now)) used.now }
 {
-    let end = block.at + u64::from(block.size);
-    !block.bytes.is_empty() && used.is_apart(block.at, end) && is_apart(block.at, end, taken)
+    used.is_apart(block.at, block.at + block.size as u64)
+}
+
+/// Whether a block holds a row byte and is apart from used ranges.
+fn may_take(block: &Frame, used: &Used) -> bool
+    requires { block.now.at < 2 ^ 63 }
+    ensures { result ≡ may_take (shown block.now) used.now }
+{
+    !block.bytes.is_empty() && is_apart(block, used)
 }
 
 fn first_link(block: &Frame, used: &Used) -> Link
@@ -49,7 +57,7 @@ fn first_link(block: &Frame, used: &Used) -> Link
     ensures link { result ≡ first_link (shown block.now) used.now }
     ensures below { result ≡ Link.More → length block.now.bytes.now < block.now.rec_len }
 {
-    if !may_take(block, used, &[]) {
+    if !may_take(block, used) {
         return Link::Broken;
     }
     let len = block.bytes.len() as u64;
@@ -61,13 +69,15 @@ fn first_link(block: &Frame, used: &Used) -> Link
     }
 }
 
-fn next_link(block: &Frame, used: &Used, taken: &[(u64, u32)], left: u64) -> Link
+/// What a block is behind others of its chain, whose ranges are its own.
+fn next_link(block: &Frame, used: &Used, own: &Used, left: u64) -> Link
     requires { block.now.at < 2 ^ 63 }
-    ensures link { result ≡ next_link (shown block.now) (used.now ++ ranges_at taken.now) left }
+    ensures link { result ≡ next_link (shown block.now) (used.now ++ own.now) left }
+    ensures apart { result ≡ Link.More → is_apart (range_of (shown block.now)) own.now ≡ true }
     ensures below { result ≡ Link.More → (0 < length block.now.bytes.now) × (length block.now.bytes.now < left) }
     ensures last { result ≡ Link.Last → 0 < length block.now.bytes.now }
 {
-    if !may_take(block, used, taken) {
+    if !(may_take(block, used) && is_apart(block, own)) {
         return Link::Broken;
     }
     let len = block.bytes.len() as u64;
@@ -90,17 +100,20 @@ fn take_block(
     joined.extend_from_slice(block.bytes)
 }
 
-/// Takes the blocks of a chain behind its first, for so many row bytes.
+/// Takes the blocks of a chain behind its first, for so many row bytes. The ranges of those that are taken
+/// are the chain's own.
 #[tactic(auto, using(crate::proofs::CodeLemmas::tail_broken, crate::proofs::CodeLemmas::tail_last, crate::proofs::CodeLemmas::tail_more, crate::proofs::CodeLemmas::tail_none, crate::proofs::CodeLemmas::tail_no_block))]
 fn tail_at(
     bytes: &[u8],
     first: Option<u64>,
     used: &Used,
+    own: &mut Used,
     taken: &mut Vec<(u64, u32)>,
     joined: &mut Vec<u8>,
     promised: u64,
 ) -> Result<bool, AllocError>
     requires more { 0 < promised }
+    requires own { SameUsed own.old (ranges_at taken.old.items) }
     ensures { IfOk result (λ found. Ends found taken.new.items joined.new.items
         (ending taken.old.items joined.old.items (tail (block_of bytes.now) first (used.now ++ ranges_at taken.old.items) promised))) }
 {
@@ -113,7 +126,7 @@ fn tail_at(
         let Some(block) = block_at(bytes, at) else {
             return Ok(false);
         };
-        match next_link(&block, used, taken, left) {
+        match next_link(&block, used, own, left) {
             Link::Broken => return Ok(false),
             Link::Last => {
                 take_block(&block, taken, joined)?;
@@ -121,6 +134,7 @@ fn tail_at(
             }
             Link::More => {
                 take_block(&block, taken, joined)?;
+                own.add(&[(block.at, block.size)])?;
                 next = block.next;
                 left -= block.bytes.len() as u64;
             }
@@ -156,8 +170,11 @@ pub(crate) fn row_from<A: Accepts>(
         Link::More => {
             joined.clear();
             take_block(block, taken, joined)?;
+            let mut own = Used::new(*taken.allocator());
+            own.add(taken)?;
             let left = u64::from(block.rec_len) - block.bytes.len() as u64;
-            Ok(tail_at(bytes, block.next, used, taken, joined, left)? && test.accepts(joined))
+            let ends = tail_at(bytes, block.next, used, &mut own, taken, joined, left)?;
+            Ok(ends && test.accepts(joined))
         }
     }
 }

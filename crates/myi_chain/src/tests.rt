@@ -29,6 +29,17 @@ fn start(next: u8) -> [u8; 20] {
     ]
 }
 
+/// A start of a row of 33 bytes, whose next block is at place 20.
+const LONGER: [u8; 20] = *b"\x05\0\x21\0\x07\0\0\0\0\0\0\0\x14\xfe\x01\0\0\0\x1ba";
+
+/// A middle of nine bytes, whose next block is at this place; the last eight are these.
+fn middle(next: u8, last: [u8; 8]) -> [u8; 20] {
+    let [a, b, c, d, e, f, g, h] = last;
+    [
+        11, 0, 9, 0, 0, 0, 0, 0, 0, 0, next, b'-', a, b, c, d, e, f, g, h,
+    ]
+}
+
 /// What an answer says: how it came, the place, and the number of bytes.
 fn told(answer: Result<Option<Item>, ScanFault>) -> (u8, u64, usize) {
     match answer {
@@ -101,6 +112,27 @@ fn chains_are_followed(rt: HostRuntime) -> Result<(), Fail> {
     expect(&rt, alloc, &[&start(40), &FIRST], false, &[(1, 20, 9)])?;
     expect(&rt, alloc, &[&[0; 40]], false, &[])?;
     expect(&rt, alloc, &[&FIRST[..19]], false, &[])
+}
+
+#[test]
+fn chains_go_any_way(rt: HostRuntime) -> Result<(), Fail> {
+    let alloc = rt.alloc();
+    let back = [
+        END.as_slice(),
+        &middle(0, *b"ijklmnop"),
+        &LONGER,
+        &start(0),
+        &FIRST,
+    ];
+    // The second start names an end that the first row took.
+    expect(&rt, alloc, &back, false, &[(2, 40, 33), (1, 80, 9)])?;
+    let over = [
+        LONGER.as_slice(),
+        &middle(32, *b"\x07\0\x11bcdef"),
+        b"ghijklmnopqr",
+    ];
+    // The end lies in the middle of its own chain.
+    expect(&rt, alloc, &over, false, &[])
 }
 
 #[test]

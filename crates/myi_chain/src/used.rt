@@ -1,78 +1,142 @@
 //! The ranges of the blocks of the rows that were met.
 //!
 //! A scan asks of them only whether a range is apart from them all, and where the one that begins at a
-//! place ends.
-ghost use Rattle.std.specs.Prelude.{◌≡◌, max, ◌+◌, ◌<◌, ◌^◌, ℕ, List, [], ◌++◌, OnOk, OnErr};
-ghost use Rattle.std.specs.List.{list_all};
-ghost use Rattle.myi_base.specs.Ranges.{Range, are_apart, is_apart};
+//! place ends. Most rows are one block, and the places of rows rise: the ranges of first blocks are a
+//! list in order, which grows at its end. The ranges of the other blocks of chains come in any order and
+//! are kept in a map by their places. In each the last range that begins before a place answers for all,
+//! so that a question costs the logarithm of their number.
+ghost use Rattle.std.specs.Prelude.{◌≡◌, true, false, max, ◌<◌, ◌≤◌, ◌^◌, nat_lt, length, List, [], ◌++◌, OnOk, OnErr};
+ghost use Rattle.std.specs.List.{AllByRecursion};
+ghost use Rattle.std.specs.List.Sorted.{IsPartitionPoint};
+ghost use Rattle.myi_base.specs.Ranges.{is_apart};
+ghost use Rattle.myi_chain.specs.Chain.{AreApart};
 ghost use Rattle.myi_chain.specs.Readable.{end_of};
-ghost use Rattle.myi_chain.specs.Walk.{ranges_at, top_of, SameUsed};
+ghost use Rattle.myi_chain.specs.Used.{IsRange, AreInOrder, reach, last_before, is_behind, end_from, without};
+ghost use Rattle.myi_chain.specs.Walk.{ranges_at, SameUsed};
 
 use std::alloc::{AllocError, Global};
+use std::collections::BTreeMap;
 use std::marker::Model;
 
-fn are_apart(at: u64, end: u64, block: (u64, u32)) -> bool
-    ensures { result ≡ are_apart (at, end) (block.0, block.0 + block.1) }
+/// How many of these ranges, which are in order, begin before a place.
+fn count_before(near: &[(u64, u64)], end: u64) -> usize
+    requires order { AreInOrder 0 near.now }
+    ensures point { IsPartitionPoint (λ r. nat_lt r.0 end ≡ true) (λ r. nat_lt r.0 end ≡ false) near.now result }
+    ensures bound { result ≤ length near.now }
 {
-    end <= block.0 || (block.0 <= at && u64::from(block.1) <= at - block.0)
+    let count = near.len();
+    if count == 0 {
+        return 0;
+    }
+    if near[count - 1].0 < end {
+        return count;
+    }
+    near.partition_point(|range| range.0 < end)
 }
 
-fn all_apart(at: u64, end: u64, blocks: &[(u64, u32)]) -> bool
-    ensures { result ≡ list_all (λ b. are_apart (at, end) (b.0, b.0 + b.1)) blocks.now }
+/// The last of these ranges, which are in order, that begins before a place.
+fn last_near(near: &[(u64, u64)], end: u64) -> Option<(u64, u64)>
+    requires order { AreInOrder 0 near.now }
+    ensures { result ≡ last_before end near.now }
 {
-    blocks.iter().all(|block| are_apart(at, end, *block))
+    let count = count_before(near, end);
+    if count == 0 {
+        return None;
+    }
+    Some(near[count - 1])
 }
 
-/// Whether a range is apart from these blocks, each by its place and its size.
-pub(crate) fn is_apart(at: u64, end: u64, blocks: &[(u64, u32)]) -> bool
-    ensures { result ≡ is_apart (at, end) (ranges_at blocks.now) }
+/// The last range of a map that begins before a place.
+fn last_far(far: &BTreeMap<u64, u64>, end: u64) -> Option<(u64, u64)>
+    ensures { result ≡ last_before end far.now.entries }
 {
-    all_apart(at, end, blocks)
+    match far.range(..end).next_back() {
+        Some((from, to)) => Some((*from, *to)),
+        None => None,
+    }
 }
 
-/// Where the greatest of the ranges of blocks that begin at a place ends, and 0 where none does.
-fn end_of(at: u64, blocks: &[(u64, u32)]) -> u64
-    requires { at < 2 ^ 63 }
-    ensures { result ≡ end_of at (ranges_at blocks.now) }
+fn is_behind(at: u64, last: Option<(u64, u64)>) -> bool
+    ensures { result ≡ is_behind at last }
 {
-    let mut end = 0;
-    for block in blocks {
-        if block.0 == at && at + block.1 as u64 > end {
-            end = at + block.1 as u64;
+    match last {
+        Some((_, to)) => to <= at,
+        None => true,
+    }
+}
+
+fn end_from(at: u64, last: Option<(u64, u64)>) -> u64
+    ensures { result ≡ end_from at last }
+{
+    match last {
+        Some((from, to)) if from == at => to,
+        _ => 0,
+    }
+}
+
+/// Where the last of these ranges ends, and 0 where there is none.
+fn reach(near: &[(u64, u64)]) -> u64
+    ensures { result ≡ reach 0 near.now }
+{
+    let count = near.len();
+    if count == 0 {
+        return 0;
+    }
+    near[count - 1].1
+}
+
+/// Takes the ranges that begin where these blocks do out of a map, the last first.
+fn take_out(far: &mut BTreeMap<u64, u64>, blocks: &[(u64, u32)])
+    ensures { far.new.entries ≡ without far.old.entries (ranges_at blocks.now) }
+{
+    let mut left = blocks.len();
+    while left > 0 {
+        left -= 1;
+        far.remove(&blocks[left].0);
+    }
+}
+
+/// Adds the ranges of blocks to a map, or none.
+fn put_all(far: &mut BTreeMap<u64, u64>, blocks: &[(u64, u32)]) -> Result<(), AllocError>
+    requires order { AreInOrder 0 far.old.entries }
+    requires apart { AreApart far.old.entries (ranges_at blocks.now) }
+    requires some { AllByRecursion IsRange (ranges_at blocks.now) }
+    ensures same { OnOk result (SameUsed far.new.entries (far.old.entries ++ ranges_at blocks.now)) }
+    ensures order { AreInOrder 0 far.new.entries }
+    ensures err { OnErr result (far.new.entries ≡ far.old.entries) }
+{
+    for i in 0..blocks.len() {
+        let (at, size) = blocks[i];
+        match far.insert(at, at + size as u64) {
+            Ok(_) => {}
+            Err(_) => {
+                take_out(far, &blocks[..i]);
+                return Err(AllocError);
+            }
         }
     }
-    end
-}
-
-/// The greatest of a place and the ends of blocks, or the greatest number where an end is greater.
-fn top_of(top: u64, blocks: &[(u64, u32)]) -> u64
-    ensures { result ≡ top_of top blocks.now }
-{
-    let mut greatest = top;
-    for block in blocks {
-        greatest = greatest.max(block.0.saturating_add(block.1 as u64));
-    }
-    greatest
+    Ok(())
 }
 
 /// Used ranges.
 #[derive(Drop)]
 pub(crate) struct Used {
-    blocks: Vec<(u64, u32)>,
-    /// No range ends behind this place, so that a scan of whole blocks looks at none of them.
-    top: u64,
+    /// Ranges in order, each from its first byte up to the place behind its last.
+    near: Vec<(u64, u64)>,
+    /// The place behind the last byte of each other range, by that of its first.
+    far: BTreeMap<u64, u64>,
 }
 
 impl Model for Used {
-    ghost use Rattle.std.specs.Prelude.{List};
+    ghost use Rattle.std.specs.Prelude.{List, ◌++◌};
     ghost use Rattle.myi_base.specs.Ranges.{Range};
-    ghost use Rattle.myi_chain.specs.Walk.{ranges_at, IsTop};
+    ghost use Rattle.myi_chain.specs.Used.{AreInOrder};
 
     ghost Value = { List Range };
 
-    ghost view = { λ s. ranges_at s.blocks.items };
+    ghost view = { λ s. s.near.items ++ s.far.entries };
 
-    ghost invariant = { λ s. IsTop s.top (ranges_at s.blocks.items) };
+    ghost invariant = { λ s. AreInOrder 0 s.near.items × AreInOrder 0 s.far.entries };
 }
 
 impl Used {
@@ -80,17 +144,16 @@ impl Used {
         ensures { result ≡ [] }
     {
         Used {
-            blocks: Vec::new(alloc),
-            top: 0,
+            near: Vec::new(alloc),
+            far: BTreeMap::new(alloc),
         }
     }
 
     /// Whether a range is apart from all.
     pub(crate) fn is_apart(&self, at: u64, end: u64) -> bool
-        requires { at < 2 ^ 63 }
         ensures { result ≡ is_apart (at, end) self.now }
     {
-        self.top <= at || is_apart(at, end, &self.blocks)
+        is_behind(at, last_near(&self.near, end)) && is_behind(at, last_far(&self.far, end))
     }
 
     /// Where the range that begins at a place ends, and the place itself where none begins there.
@@ -98,19 +161,32 @@ impl Used {
         requires { at < 2 ^ 63 }
         ensures { result ≡ max at (end_of at self.now) }
     {
-        if self.top <= at {
-            return at;
-        }
-        at.max(end_of(at, &self.blocks))
+        let near = end_from(at, last_near(&self.near, at + 1));
+        let far = end_from(at, last_far(&self.far, at + 1));
+        at.max(near).max(far)
     }
 
-    /// Adds the ranges of blocks, or none.
+    /// Adds the ranges of blocks that are apart from all and from each other, or none.
     pub(crate) fn add(&mut self, blocks: &[(u64, u32)]) -> Result<(), AllocError>
+        requires apart { AreApart self.old (ranges_at blocks.now) }
+        requires some { AllByRecursion IsRange (ranges_at blocks.now) }
         ensures ok { OnOk result (SameUsed self.new (self.old ++ ranges_at blocks.now)) }
         ensures err { OnErr result (self.new ≡ self.old) }
     {
-        self.blocks.extend_from_slice(blocks)?;
-        self.top = top_of(self.top, blocks);
-        Ok(())
+        let Some((first, more)) = blocks.split_first() else {
+            return Ok(());
+        };
+        if first.0 < reach(&self.near) {
+            put_all(&mut self.far, blocks)?;
+            return Ok(());
+        }
+        self.near.push((first.0, first.0 + first.1 as u64))?;
+        match put_all(&mut self.far, more) {
+            Ok(()) => Ok(()),
+            Err(fault) => {
+                self.near.pop();
+                Err(fault)
+            }
+        }
     }
 }

@@ -1,8 +1,14 @@
-use Rattle.std.proofs.Common.{arith, ◌∙◌, ap, sym, max}
+use Rattle.std.proofs.Common.{◌+◌, arith, sym, ap, ◌∙◌}
 use Rattle.myi_chain.specs.Readable.{end_of}
-use Rattle.myi_chain.proofs.UsedLemmas.{end_above}
+use Rattle.myi_chain.specs.Used.{last_before, end_from}
+use Rattle.myi_chain.proofs.UsedLemmas.{both_ends}
 use Rattle.myi_chain.proofs.used.Used.end_from.Goals as goal
 
-pub returns-then-self-at : goal.returns-then-self-at
-returns-then-self-at c =
-    sym (ap (λ u. max c.args.at (end_of c.args.at u)) (sym c.self.view_is) ∙ end_above c.args.at c.self.inside.top _ c.self.invariant c.if-self-at.true (omega arith))
+pub returns : goal.returns
+returns c =
+    let at = c.args.at in
+    let u = c.self.inside in
+    let e = ap (end_of at) (sym c.self.view_is) ∙ both_ends at u.near.items u.far.entries c.self.invariant.0 c.self.invariant.1 in
+    let near = c.end_from-near.ensures ∙ ap (end_from at) (c.last_near.ensures ∙ ap (last_before (at + 1)) c.deref.ensures.value) in
+    let far = c.end_from-far.ensures ∙ ap (end_from at) c.last_far.ensures in
+    omega (arith, e, c.max.ensures, c.max-2.ensures, near, far)
