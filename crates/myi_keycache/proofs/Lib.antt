@@ -1,0 +1,4 @@
+pub mod RangeLemmas
+pub mod KeptLemmas
+pub mod LentLemmas
+pub mod PlainLemmas

@@ -1,0 +1,11 @@
+use Rattle.myi_keycache.proofs.PlainLemmas.{plain_written, plain_flushes, counts_stay}
+use Rattle.myi_keycache.proofs.cache.KeyCache.flush.Goals as goal
+
+pub returns-clause-ok : goal.returns-clause-ok
+returns-clause-ok g c m held = (m, held, plain_flushes _ _ c.args.self.now m c.self.view_is)
+
+pub returns-clause-written : goal.returns-clause-written
+returns-clause-written g c = plain_written _ _ c.args.self.now c.self.view_is
+
+pub returns-clause-counters : goal.returns-clause-counters
+returns-clause-counters g c = counts_stay _ _ c.args.self.now c.self.view_is c.self.invariant.1

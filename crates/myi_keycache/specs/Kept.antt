@@ -1,0 +1,52 @@
+-- The pages that a key cache keeps (MySQL Reference Manual, "The MyISAM Key Cache": blocks that were read,
+-- and blocks that were changed and that the index file has yet to get).
+use Rattle.std.specs.Prelude.{◌≡◌, ◌==◌, ◌&&◌, ◌⊎◌, ◌+◌, ℕ, Bool, true, List, length, find, count_by, Option, option_map, is_some}
+use Rattle.std.specs.List.{list_any}
+use Rattle.myi_base.specs.Ranges.{Range, are_apart}
+
+-- a page: its place in the file, its bytes, and whether the file has yet to get them
+pub record Page : Type 0 where
+  pub at : ℕ
+  pub bytes : List ℕ
+  pub unwritten : Bool
+
+abbrev pub range_of : Page → Range
+range_of page = (page.at, page.at + length page.bytes)
+
+-- a page is named by its place and its length
+abbrev pub is_page : ℕ → ℕ → Page → Bool
+is_page at len page = (page.at == at) && (length page.bytes == len)
+
+-- the bytes of the page of a place and a length
+unfoldable pub kept : List Page → ℕ → ℕ → Option (List ℕ)
+kept pages at len = option_map (λ page. page.bytes) (find (is_page at len) pages)
+
+abbrev pub is_kept : List Page → ℕ → ℕ → Bool
+is_kept pages at len = is_some (kept pages at len)
+
+unfoldable pub is_unwritten : List Page → ℕ → ℕ → Bool
+is_unwritten pages at len = list_any (λ page. is_page at len page && page.unwritten) pages
+
+-- how many pages the file has yet to get
+unfoldable pub unwritten_count : List Page → ℕ
+unwritten_count pages = count_by (λ page. page.unwritten) pages
+
+-- of the pages that a test names by place and length, none but the very one of this range meets it
+abbrev pub NoOtherMeets : (ℕ → ℕ → Bool) → ℕ → ℕ → Type 0
+NoOtherMeets test at len = (p n : ℕ) → test p n ≡ true → ((p ≡ at) × (n ≡ len)) ⊎ (are_apart (p, p + n) (at, at + len) ≡ true)
+
+-- each page that is kept was kept before, or is the one of this place and length
+abbrev pub AddsOnly : ℕ → ℕ → List Page → List Page → Type 0
+AddsOnly at len old new = (p n : ℕ) → is_kept new p n ≡ true → (is_kept old p n ≡ true) ⊎ ((p ≡ at) × (n ≡ len))
+
+-- the same pages are kept, with the same bytes
+abbrev pub SameKept : List Page → List Page → Type 0
+SameKept old new = (p n : ℕ) → kept new p n ≡ kept old p n
+
+-- each unwritten page was unwritten before
+abbrev pub ChangesNone : List Page → List Page → Type 0
+ChangesNone old new = (p n : ℕ) → is_unwritten new p n ≡ true → is_unwritten old p n ≡ true
+
+-- the file has all pages
+abbrev pub AllWritten : List Page → Type 0
+AllWritten pages = (p n : ℕ) → is_unwritten pages p n ≡ true → ⊥

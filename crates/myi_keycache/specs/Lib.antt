@@ -1,0 +1,6 @@
+pub mod Setup
+pub mod Kept
+pub mod Lent
+pub mod Counts
+pub mod Caching
+pub mod Faults
