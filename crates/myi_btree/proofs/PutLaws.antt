@@ -1,0 +1,125 @@
+-- Putting pages one behind the other.
+use Rattle.std.proofs.Common.{◌≡◌, ℕ, zero, suc, ◌+◌, ◌*◌, ◌<◌, ◌≤◌, true, Option, Some, List, [], ◌∷◌, ◌++◌, length, refl, sym, ap, subst, ◌∙◌, arith, inl, inr}
+use Rattle.std.proofs.lemmas.Bool.{le-leb, or_left}
+use Rattle.std.proofs.lemmas.List.{length-append}
+use Rattle.myi_base.specs.Ranges.{are_apart}
+use Rattle.myi_base.specs.Holding.{Holding, Told, overwritten}
+use Rattle.myi_keycache.specs.Kept.{Page, AddsOnly}
+use Rattle.myi_keycache.specs.Caching.{Caching, lends, contents, IsCurrent, CanPut, Puts}
+use Rattle.myi_btree.specs.declared.place.Place.{Place}
+use Rattle.myi_btree.specs.Walk.{Node}
+use Rattle.myi_btree.specs.Building.{page_for, PutsPage, PutsSome, AreLent, laid_over, EndBefore, CanLay, Spares, AddsLaid, Lays}
+
+-- ranges that end before another begins have no byte of it
+apart_before : (p n at size : ℕ) → p + n ≤ at → are_apart (p, p + n) (at, at + size) ≡ true
+apart_before p n at size le = or_left _ _ (le-leb (p + n) at le)
+
+pub can_put : (cache : Caching) (m : Holding) (at size : ℕ) → IsCurrent cache m → EndBefore cache.pages at → CanPut cache m at size
+can_put cache m at size current before = record { current = current; apart = λ p n kept. inr (apart_before p n at size (before p n kept)) }
+
+lent_still : (place : Place) (old new : Caching) (m n : Holding) (first at : ℕ) (bytes : List ℕ) (nodes : List Node) → length bytes ≡ place.block_length → first + place.block_length * length nodes ≡ at
+    → Puts at bytes old new m n → AreLent place old m first nodes → AreLent place new n first nodes
+lent_still place old new m n first at bytes [] len at_is puts there = tt
+lent_still place old new m n first at bytes (node ∷ nodes) len at_is puts there = (
+  puts.lent first place.block_length (page_for place node) (apart_before first place.block_length at (length bytes) (omega arith)) there.0,
+  lent_still place old new m n (first + place.block_length) at bytes nodes len (omega arith) puts there.1,
+)
+
+lent_more : (place : Place) (cache : Caching) (m : Holding) (first at : ℕ) (nodes : List Node) (node : Node) → first + place.block_length * length nodes ≡ at
+    → AreLent place cache m first nodes → lends cache m at place.block_length ≡ Some (page_for place node) → AreLent place cache m first (nodes ++ node ∷ [])
+lent_more place cache m first at [] node at_is there last = let e : at ≡ first = omega arith in (subst (λ (t : ℕ). lends cache m t place.block_length ≡ Some (page_for place node)) e last, tt)
+lent_more place cache m first at (d ∷ nodes) node at_is there last = (there.0, lent_more place cache m (first + place.block_length) at nodes node (omega arith) there.1 last)
+
+over_more : (place : Place) (first at : ℕ) (nodes : List Node) (node : Node) (file : List ℕ) → first + place.block_length * length nodes ≡ at
+    → laid_over place first (nodes ++ node ∷ []) file ≡ overwritten at (page_for place node) (laid_over place first nodes file)
+over_more place first at [] node file at_is = let e : first ≡ at = omega arith in ap (λ (t : ℕ). overwritten t (page_for place node) file) e
+over_more place first at (d ∷ nodes) node file at_is = over_more place (first + place.block_length) at nodes node (overwritten first (page_for place d) file) (omega arith)
+
+-- kept pages end before the place behind those that were laid
+pub ends : (place : Place) (first count : ℕ) (old new : List Page) → EndBefore old first → AddsLaid place first count old new → EndBefore new (first + place.block_length * count)
+ends place first count old new before adds p n kept =
+    elim (adds p n kept) [
+      | inl was ↦ let k = before p n was in omega (arith, times_le place.block_length count)
+      | inr laid ↦ let k = room place.block_length count laid.1 laid.2 in omega (arith, laid.0, laid.3)
+    ]
+  where
+    times_le : (b c : ℕ) → 0 ≤ b * c
+    times_le b c = omega arith
+
+    room : (b c i : ℕ) → i < c → b * i + b ≤ b * c
+    room b zero i lt = absurd (omega arith)
+    room b (suc c) zero lt = omega arith
+    room b (suc c) (suc i) lt = omega (arith, room b c i (omega arith))
+
+pub lays_none : (place : Place) (first : ℕ) (cache : Caching) (m : Holding) → IsCurrent cache m → Lays place first [] cache cache m m
+lays_none place first cache m current = record {
+  spares = record { current = current; lent = λ p len x le e. e; others = λ q ne. refl };
+  there = tt;
+  contents = refl;
+  kept = λ p n kept. inl kept;
+}
+
+pub lays_more : (place : Place) (first at : ℕ) (nodes : List Node) (node : Node) (old mid new : Caching) (m k n : Holding)
+    → length (page_for place node) ≡ place.block_length → first + place.block_length * length nodes ≡ at → mid.name ≡ old.name → CanLay old m first → Lays place first nodes old mid m k
+    → (CanPut mid k at (length (page_for place node)) → PutsPage at (page_for place node) mid new k n) → AddsOnly at (length (page_for place node)) mid.pages new.pages
+    → Lays place first (nodes ++ node ∷ []) old new m n
+lays_more place first at nodes node old mid new m k n len at_is name can lays put adds =
+    let end : EndBefore mid.pages (first + place.block_length * length nodes) = ends place first (length nodes) old.pages mid.pages can.before lays.kept in
+    let end1 : EndBefore mid.pages at = subst (λ (t : ℕ). EndBefore mid.pages t) at_is end in
+    let puts = put (can_put mid k at (length (page_for place node)) lays.spares.current end1) in
+    let more : suc (length nodes) ≡ length (nodes ++ node ∷ []) = omega (arith, length-append nodes (node ∷ [])) in
+    record {
+      spares = record {
+        current = puts.0.current;
+        lent = λ p l x le e. puts.0.lent p l x (apart_before p l at (length (page_for place node)) (omega arith)) (lays.spares.lent p l x le e);
+        others = λ q ne. puts.1 q (λ same. ne (same ∙ name)) ∙ lays.spares.others q ne;
+      };
+      there = lent_more place new n first at nodes node at_is (lent_still place mid new k n first at (page_for place node) nodes len at_is puts.0 lays.there) (subst (λ (t : ℕ). lends new n at t ≡ Some (page_for place node)) len puts.0.there);
+      contents = puts.0.contents ∙ ap (overwritten at (page_for place node)) lays.contents ∙ sym (over_more place first at nodes node (contents old m) at_is);
+      kept = λ p l kept. elim (adds p l kept) [
+        | inl was ↦ elim (lays.kept p l was) [ inl older ↦ inl older | inr laid ↦ inr (laid.0, laid.1, omega (arith, laid.2), laid.3) ]
+        | inr now ↦ inr (now.1 ∙ len, length nodes, omega arith, now.0 ∙ sym at_is)
+      ];
+    }
+
+-- a put that was refused
+pub spares_more : (place : Place) (first at : ℕ) (nodes : List Node) (bytes : List ℕ) (old mid new : Caching) (m k n : Holding)
+    → first + place.block_length * length nodes ≡ at → mid.name ≡ old.name → CanLay old m first → Lays place first nodes old mid m k
+    → (CanPut mid k at (length bytes) → PutsSome at bytes mid new k n) → Spares first old new m n
+spares_more place first at nodes bytes old mid new m k n at_is name can lays put =
+    let end : EndBefore mid.pages (first + place.block_length * length nodes) = ends place first (length nodes) old.pages mid.pages can.before lays.kept in
+    let end1 : EndBefore mid.pages at = subst (λ (t : ℕ). EndBefore mid.pages t) at_is end in
+    let puts = put (can_put mid k at (length bytes) lays.spares.current end1) in
+    record {
+      current = puts.0.current;
+      lent = λ p l x le e. puts.0.lent p l x (apart_before p l at (length bytes) (omega arith)) (lays.spares.lent p l x le e);
+      others = λ q ne. puts.1 q (λ same. ne (same ∙ name)) ∙ lays.spares.others q ne;
+    }
+
+-- ---- where the files tell what they hold
+
+pub told_start : (a : Option Holding) (place : Place) (first : ℕ) (cache : Caching) → Told a a (λ m n. CanLay cache m first → Lays place first [] cache cache m n)
+told_start a place first cache m e = (m, e, λ can. lays_none place first cache m can.current)
+
+pub told_more : (a b c : Option Holding) (place : Place) (first at : ℕ) (nodes : List Node) (node : Node) (old mid new : Caching)
+    → length (page_for place node) ≡ place.block_length → first + place.block_length * length nodes ≡ at → mid.name ≡ old.name
+    → Told a b (λ m n. CanLay old m first → Lays place first nodes old mid m n)
+    → Told b c (λ m n. CanPut mid m at (length (page_for place node)) → PutsPage at (page_for place node) mid new m n) → AddsOnly at (length (page_for place node)) mid.pages new.pages
+    → Told a c (λ m n. CanLay old m first → Lays place first (nodes ++ node ∷ []) old new m n)
+told_more a b c place first at nodes node old mid new len at_is name done put adds m e =
+    let k = done m e in
+    let n = put k.0 k.1 in
+    (n.0, n.1, λ can. lays_more place first at nodes node old mid new m k.0 n.0 len at_is name can (k.2 can) n.2 adds)
+
+pub told_refused : (a b c : Option Holding) (place : Place) (first at : ℕ) (nodes : List Node) (bytes : List ℕ) (old mid new : Caching)
+    → first + place.block_length * length nodes ≡ at → mid.name ≡ old.name
+    → Told a b (λ m n. CanLay old m first → Lays place first nodes old mid m n)
+    → Told b c (λ m n. CanPut mid m at (length bytes) → PutsSome at bytes mid new m n)
+    → Told a c (λ m n. CanLay old m first → Spares first old new m n)
+told_refused a b c place first at nodes bytes old mid new at_is name done put m e =
+    let k = done m e in
+    let n = put k.0 k.1 in
+    (n.0, n.1, λ can. spares_more place first at nodes bytes old mid new m k.0 n.0 at_is name can (k.2 can) n.2)
+
+pub told_spares : (a b : Option Holding) (place : Place) (first : ℕ) (nodes : List Node) (old new : Caching) → Told a b (λ m n. CanLay old m first → Lays place first nodes old new m n) → Told a b (λ m n. CanLay old m first → Spares first old new m n)
+told_spares a b place first nodes old new done m e = let k = done m e in (k.0, k.1, λ can. (k.2 can).spares)

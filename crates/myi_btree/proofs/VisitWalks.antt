@@ -1,0 +1,75 @@
+-- What a visit finds is one, and it is the walk exactly where there is one.
+use Rattle.std.proofs.Common.{◌≡◌, ◌⊎◌, ℕ, ◌+◌, ◌≤◌, ◌||◌, Bool, true, false, leb, Result, Ok, List, [], ◌∷◌, ◌++◌, map, refl, sym, subst, ◌∙◌, inl, inr}
+use Rattle.std.specs.List.{AllByRecursion}
+use Rattle.std.proofs.lemmas.Bool.{and_from, and_parts}
+use Rattle.myi_base.specs.Ranges.{Range, are_apart, is_apart, AreDisjoint}
+use Rattle.myi_btree.specs.Walk.{Places, Walked}
+use Rattle.myi_btree.specs.Visit.{page_range, is_new, AreNew, visit, Finds, HasWalk}
+use Rattle.myi_btree.proofs.VisitLaws.{visited, visits, visit_depth, same_visit}
+
+apart_both : (r s : Range) → are_apart r s ≡ true → are_apart s r ≡ true
+apart_both r s e = swap (leb r.1 s.0) (leb s.1 r.0) e
+  where
+    swap : (a b : Bool) → (a || b) ≡ true → (b || a) ≡ true
+    swap true true e = refl
+    swap true false e = refl
+    swap false true e = refl
+    swap false false e = e
+
+apart_parts : (block : ℕ) (r : Range) (met : List ℕ) (p : ℕ) → is_apart r (map (page_range block) (met ++ p ∷ [])) ≡ true → (is_apart r (map (page_range block) met) ≡ true) × (are_apart r (page_range block p) ≡ true)
+apart_parts block r [] p e = let k = and_parts (are_apart r (page_range block p)) true e in (refl, k.0)
+apart_parts block r (q ∷ qs) p e =
+    let k = and_parts (are_apart r (page_range block q)) (is_apart r (map (page_range block) (qs ++ p ∷ []))) e in
+    let rest = apart_parts block r qs p k.1 in
+    (and_from (are_apart r (page_range block q)) (is_apart r (map (page_range block) qs)) k.0 rest.0, rest.1)
+
+apart_from : (block : ℕ) (r : Range) (met : List ℕ) (p : ℕ) → is_apart r (map (page_range block) met) ≡ true → are_apart r (page_range block p) ≡ true → is_apart r (map (page_range block) (met ++ p ∷ [])) ≡ true
+apart_from block r [] p e f = and_from (are_apart r (page_range block p)) true f refl
+apart_from block r (q ∷ qs) p e f =
+    let k = and_parts (are_apart r (page_range block q)) (is_apart r (map (page_range block) qs)) e in
+    and_from (are_apart r (page_range block q)) (is_apart r (map (page_range block) (qs ++ p ∷ []))) k.0 (apart_from block r qs p k.1 f)
+
+abbrev AllNew : ℕ → List ℕ → List ℕ → Type 0
+AllNew block met places = AllByRecursion (λ p. is_new block p met ≡ true) places
+
+-- pages that are new behind those that were met and one more
+fewer_met : (block : ℕ) (met : List ℕ) (p : ℕ) (ps : List ℕ) → AllNew block (met ++ p ∷ []) ps → AllNew block met ps × (is_apart (page_range block p) (map (page_range block) ps) ≡ true)
+fewer_met block met p [] h = (tt, refl)
+fewer_met block met p (q ∷ qs) h =
+    let k = apart_parts block (page_range block q) met p h.0 in
+    let rest = fewer_met block met p qs h.1 in
+    ((k.0, rest.0), and_from (are_apart (page_range block p) (page_range block q)) (is_apart (page_range block p) (map (page_range block) qs)) (apart_both (page_range block q) (page_range block p) k.1) rest.1)
+
+more_met : (block : ℕ) (met : List ℕ) (p : ℕ) (ps : List ℕ) → AllNew block met ps → is_apart (page_range block p) (map (page_range block) ps) ≡ true → AllNew block (met ++ p ∷ []) ps
+more_met block met p [] h e = tt
+more_met block met p (q ∷ qs) h e =
+    let k = and_parts (are_apart (page_range block p) (page_range block q)) (is_apart (page_range block p) (map (page_range block) qs)) e in
+    (apart_from block (page_range block q) met p h.0 (apart_both (page_range block p) (page_range block q) k.0), more_met block met p qs h.1 k.1)
+
+new_disjoint : (block : ℕ) (met ps : List ℕ) → AreNew block met ps → AllNew block met ps × AreDisjoint (map (page_range block) ps)
+new_disjoint block met [] h = (tt, tt)
+new_disjoint block met (p ∷ ps) h =
+    let k = new_disjoint block (met ++ p ∷ []) ps h.1 in
+    let f = fewer_met block met p ps k.0 in
+    ((h.0, f.0), (f.1, k.1))
+
+disjoint_new : (block : ℕ) (met ps : List ℕ) → AllNew block met ps → AreDisjoint (map (page_range block) ps) → AreNew block met ps
+disjoint_new block met [] h d = tt
+disjoint_new block met (p ∷ ps) h d = (h.0, disjoint_new block (met ++ p ∷ []) ps (more_met block met p ps h.1 d.0) d.1)
+
+none_met : (block : ℕ) (ps : List ℕ) → AllNew block [] ps
+none_met block [] = tt
+none_met block (p ∷ ps) = (refl, none_met block ps)
+
+pub found_walks : (block : ℕ) (read : Places) (place : ℕ) (w : Walked) → Finds block read place (Ok w) → HasWalk block read place w
+found_walks block read place w f =
+    let v = visited block read f.height place [] w f.is in
+    record { height = f.height; walk = v.walk; disjoint = (new_disjoint block [] w.pages v.new).1 }
+
+pub walks_found : (block : ℕ) (read : Places) (place : ℕ) (w : Walked) → HasWalk block read place w → Finds block read place (Ok w)
+walks_found block read place w h =
+    let is : visit block read h.height place [] ≡ Ok w = visits block read h.height place [] w h.walk (disjoint_new block [] w.pages (none_met block w.pages) h.disjoint) in
+    record { height = h.height; depth = visit_depth block read h.height place [] w is; is = is }
+
+pub found_once : (block : ℕ) (read : Places) (place : ℕ) (r s : Result Walked ℕ) → Finds block read place r → Finds block read place s → r ≡ s
+found_once block read place r s f g = sym f.is ∙ same_visit block read f.height g.height place [] f.depth g.depth ∙ g.is

@@ -1,0 +1,171 @@
+-- Loading a page, and whether it has a byte of one that was met.
+use Rattle.std.proofs.Common.{◌≡◌, ◌⊎◌, ℕ, zero, suc, ◌+◌, ◌-◌, ◌%◌, ◌<◌, ◌≤◌, ◌||◌, ◌&&◌, Bool, true, false, not, leb, eqb, cond, nat_cmp, Option, Some, None, Result, Ok, Err, List, [], ◌∷◌, ◌++◌, length, map, take, refl, sym, ap, subst, ◌∙◌, arith, inl, inr}
+use Rattle.std.specs.Prelude.{MatchOption, IfErr, option_map, is_some}
+use Rattle.std.specs.List.{list_all, filter}
+use Rattle.std.specs.Ordering.{is_le, match_ordering}
+use Rattle.std.specs.Cmp.{nat_cmp_is}
+use Rattle.std.specs.BTreeMap.Range.{range_contains}
+use Rattle.std.specs.BTreeSet.{insert_key}
+use Rattle.std.specs.declared.ops.Bound.{Bound}
+use Rattle.std.specs.declared.cmp.Ordering.{Ordering}
+use Rattle.std.specs.declared.cmp.Ordering.TheVariants.{Less, Equal, Greater}
+use Rattle.std.proofs.lemmas.Bool.{cases_lt, cases_Bool, le-leb, lt-leb, leb-true, eq-eqb, ne_eqb}
+use Rattle.myi_base.specs.Ranges.{Range, are_apart, is_apart}
+use Rattle.myi_base.specs.Holding.{Holding}
+use Rattle.myi_keycache.specs.Kept.{AllWritten}
+use Rattle.myi_keycache.specs.Caching.{Caching, lends, IsCurrent, CanGet}
+use Rattle.myi_keycache.specs.declared.setup.CacheFault.{CacheFault}
+use Rattle.myi_keycache.specs.declared.setup.CacheFault.TheVariants as cache
+use Rattle.myi_btree.specs.declared.fault.TreeFault.{TreeFault}
+use Rattle.myi_btree.specs.declared.fault.TreeFault.TheVariants.{Damaged}
+use Rattle.myi_btree.specs.declared.place.Place.{Place}
+use Rattle.myi_btree.specs.Faults.{fault_of}
+use Rattle.myi_btree.specs.Walk.{◌>>=◌, Node, Places}
+use Rattle.myi_btree.specs.Nodes.{node_in}
+use Rattle.myi_btree.specs.Reading.{node_lent}
+use Rattle.myi_btree.specs.Visit.{found_at, page_range, is_new, entered}
+use Rattle.myi_btree.specs.Meeting.{HasMet}
+
+-- ---- loading
+
+pub same_place : (x y : ℕ) → Damaged x ≡ Damaged y → y ≡ x
+same_place x y e = let k : x ≡ y = cc in sym k
+
+pub can_get : (cache : Caching) (m : Holding) (at len : ℕ) → AllWritten cache.pages → IsCurrent cache m → CanGet cache m at len
+can_get cache m at len written current = record { current = current; apart = λ p n u. absurd (written p n u) }
+
+pub lent_off : (place : Place) (cache : Caching) (m : Holding) (at : ℕ) → (at % 1024 ≡ 0 → ⊥) → node_lent place cache m at ≡ None
+unfolding node_lent
+lent_off place cache m at off = rw (ne_eqb (at % 1024) 0 off) refl
+
+pub lent_none : (place : Place) (cache : Caching) (m : Holding) (at : ℕ) → at % 1024 ≡ 0 → lends cache m at place.block_length ≡ None → node_lent place cache m at ≡ None
+unfolding node_lent
+lent_none place cache m at whole e = rw (eq-eqb (at % 1024) 0 whole, e) refl
+
+pub lent_is : (place : Place) (cache : Caching) (m : Holding) (at : ℕ) (bytes : List ℕ) (found : Option Node) → at % 1024 ≡ 0 → lends cache m at place.block_length ≡ Some bytes → found ≡ node_in place.rec_ref bytes → node_lent place cache m at ≡ found
+unfolding node_lent
+lent_is place cache m at bytes found whole e f = rw (eq-eqb (at % 1024) 0 whole, e) (sym f)
+
+-- a fault of the cache that is a damage says that the file ends before
+pub short_only : (f : CacheFault) (x : TreeFault) (p : ℕ) → x ≡ fault_of f → x ≡ Damaged p → f ≡ cache.Short p
+short_only (cache.Short at) x p e d = let k : Damaged at ≡ Damaged p = sym e ∙ d in let q : at ≡ p = cc in ap cache.Short q
+short_only cache.File x p e d = absurd cc
+short_only cache.Memory x p e d = absurd cc
+
+pub if_err : {T : Type 0} (r : Result T TreeFault) (x : TreeFault) (P : TreeFault → Type 0) → r ≡ Err x → P x → IfErr r P
+if_err r x P e h = rw e h
+
+-- ---- whether a page has a byte of one that was met
+
+is_le-leb : (x y : ℕ) → is_le (nat_cmp x y) ≡ leb x y
+is_le-leb x y = elim (cases_lt x y) [
+  | inl lt ↦ ap is_le (sym (nat_cmp_is x y Less lt)) ∙ sym (le-leb x y (omega arith))
+  | inr ge ↦ elim (cases_lt y x) [
+    | inl gt ↦ ap is_le (sym (nat_cmp_is x y Greater gt)) ∙ sym (lt-leb x y gt)
+    | inr le ↦ let e : x ≡ y = omega arith in ap is_le (sym (nat_cmp_is x y Equal e)) ∙ sym (le-leb x y (omega arith))
+  ]
+]
+
+below_first : (block at q : ℕ) → 0 < block → leb (at + 1 - block) q ≡ not (leb (q + block) at)
+below_first block at q some = elim (cases_lt at (q + block)) [
+  | inl lt ↦ le-leb _ _ (omega arith) ∙ sym (ap not (lt-leb _ _ lt))
+  | inr ge ↦ lt-leb _ _ (omega arith) ∙ sym (ap not (le-leb _ _ ge))
+]
+
+and_or : (a b : Bool) → (a || b) ≡ not (not b && not a)
+and_or true true = refl
+and_or true false = refl
+and_or false true = refl
+and_or false false = refl
+
+contains_is : (block at q : ℕ) → 0 < block → are_apart (page_range block at) (page_range block q) ≡ not (range_contains nat_cmp (Bound.Included (at + 1 - block)) (Bound.Excluded (at + block)) q)
+contains_is block at q some =
+    let a : is_le (nat_cmp (at + 1 - block) q) ≡ not (leb (q + block) at) = is_le-leb (at + 1 - block) q ∙ below_first block at q some in
+    let b : is_le (nat_cmp (at + block) q) ≡ leb (at + block) q = is_le-leb (at + block) q in
+    rw (a, b) (and_or (leb (at + block) q) (leb (q + block) at))
+
+abbrev is_none_left : List ℕ → Bool
+is_none_left [] = true
+is_none_left (x ∷ xs) = false
+
+none_left : (test other : ℕ → Bool) → ((q : ℕ) → test q ≡ not (other q)) → (keys : List ℕ) → is_none_left (filter other keys) ≡ list_all test keys
+none_left test other same [] = refl
+none_left test other same (k ∷ keys) = elim (cases_Bool (other k)) [
+  | inl yes_it ↦ let t : test k ≡ false = same k ∙ ap not yes_it in rw (yes_it, t) refl
+  | inr other_it ↦ let t : test k ≡ true = same k ∙ ap not other_it in rw (other_it, t) (none_left test other same keys)
+]
+
+next_none : {A : Type 0} (now : A → ℕ) (o : Option A) (b : Bool) (xs rest : List ℕ) → MatchOption o ((xs ≡ []) × (rest ≡ [])) (λ x. xs ≡ now x ∷ rest) → is_some o ≡ not b → b ≡ is_none_left xs
+next_none now None true xs rest h e = rw h.0 refl
+next_none now None false xs rest h e = absurd cc
+next_none now (Some x) true xs rest h e = absurd cc
+next_none now (Some x) false xs rest h e = rw h refl
+
+pub range_apart : {A : Type 0} (now : A → ℕ) (o : Option A) (b : Bool) (block at first end : ℕ) (keys xs rest : List ℕ) → 0 < block → first ≡ at + 1 - block → end ≡ at + block → xs ≡ filter (range_contains nat_cmp (Bound.Included first) (Bound.Excluded end)) keys
+    → MatchOption o ((xs ≡ []) × (rest ≡ [])) (λ x. xs ≡ now x ∷ rest) → is_some o ≡ not b → b ≡ list_all (λ p. are_apart (page_range block at) (page_range block p)) keys
+range_apart now o b block at first end keys xs rest some f e are h is =
+    next_none now o b xs rest h is ∙ ap is_none_left are ∙ ap (λ (n : ℕ). is_none_left (filter (range_contains nat_cmp (Bound.Included n) (Bound.Excluded end)) keys)) f ∙ ap (λ (n : ℕ). is_none_left (filter (range_contains nat_cmp (Bound.Included (at + 1 - block)) (Bound.Excluded n)) keys)) e
+    ∙ none_left (λ p. are_apart (page_range block at) (page_range block p)) (range_contains nat_cmp (Bound.Included (at + 1 - block)) (Bound.Excluded (at + block))) (λ q. contains_is block at q some) keys
+
+-- ---- going into a page
+
+all-map : {A : Type 0} (test : A → Bool) (f : ℕ → A) (xs : List ℕ) → list_all test (map f xs) ≡ list_all (λ x. test (f x)) xs
+all-map test f [] = refl
+all-map test f (x ∷ xs) = ap (λ (b : Bool). test (f x) && b) (all-map test f xs)
+
+new_is : (block at : ℕ) (keys met : List ℕ) (b : Bool) → HasMet keys met → b ≡ list_all (λ p. are_apart (page_range block at) (page_range block p)) keys → is_new block at met ≡ b
+new_is block at keys met b has e = all-map (λ s. are_apart (page_range block at) s) (page_range block) met ∙ sym (has (λ p. are_apart (page_range block at) (page_range block p))) ∙ sym e
+
+pub entered_ok : (block : ℕ) (read : Places) (at : ℕ) (keys met : List ℕ) (node : Node) (b : Bool) → HasMet keys met → b ≡ list_all (λ p. are_apart (page_range block at) (page_range block p)) keys → b ≡ true → read at ≡ Some node → entered block read at met ≡ Ok node
+entered_ok block read at keys met node b has e yes_it r = rw (new_is block at keys met b has e ∙ yes_it, r) refl
+
+pub entered_not : (block : ℕ) (read : Places) (at : ℕ) (keys met : List ℕ) (b : Bool) → HasMet keys met → b ≡ list_all (λ p. are_apart (page_range block at) (page_range block p)) keys → b ≡ false → entered block read at met ≡ Err at
+entered_not block read at keys met b has e no_it = rw (new_is block at keys met b has e ∙ no_it) refl
+
+pub entered_none : (block : ℕ) (read : Places) (at : ℕ) (met : List ℕ) → read at ≡ None → entered block read at met ≡ Err at
+entered_none block read at met r = rw r (by (is_new block at met))
+  where
+    by : (b : Bool) → ◌≡◌ {A = Result Node ℕ} (cond b (Err at) (Err at)) (Err at)
+    by true = refl
+    by false = refl
+
+and_again : (a b : Bool) → (a && b) ≡ (a && (a && b))
+and_again true b = refl
+and_again false b = refl
+
+and_turn : (a b c : Bool) → (a && (b && c)) ≡ (b && (a && c))
+and_turn true true c = refl
+and_turn true false c = refl
+and_turn false true c = refl
+and_turn false false c = refl
+
+and_swap : (a b : Bool) → (a && b) ≡ (b && a)
+and_swap true true = refl
+and_swap true false = refl
+and_swap false true = refl
+and_swap false false = refl
+
+equal_is : (x y : ℕ) → nat_cmp x y ≡ Equal → x ≡ y
+equal_is x y e = elim (cases_lt x y) [
+  | inl lt ↦ let k : Less ≡ Equal = nat_cmp_is x y Less lt ∙ e in absurd cc
+  | inr ge ↦ elim (cases_lt y x) [
+    | inl gt ↦ let k : Greater ≡ Equal = nat_cmp_is x y Greater gt ∙ e in absurd cc
+    | inr le ↦ omega arith
+  ]
+]
+
+all_insert : (test : ℕ → Bool) (keys : List ℕ) (k : ℕ) → list_all test (insert_key nat_cmp keys k) ≡ (test k && list_all test keys)
+all_insert test [] k = refl
+all_insert test (x ∷ xs) k = by (nat_cmp k x) refl (all_insert test xs k)
+  where
+    by : (o : Ordering) → nat_cmp k x ≡ o → list_all test (insert_key nat_cmp xs k) ≡ (test k && list_all test xs) → list_all test (insert_key nat_cmp (x ∷ xs) k) ≡ (test k && list_all test (x ∷ xs))
+    by Less e again = rw e refl
+    by Equal e again = let same : k ≡ x = equal_is k x e in rw e (ap (λ (n : ℕ). test x && list_all test xs) same ∙ and_again (test x) (list_all test xs) ∙ ap (λ (n : ℕ). test n && (test x && list_all test xs)) (sym same))
+    by Greater e again = rw e (ap (λ (b : Bool). test x && b) again ∙ and_turn (test x) (test k) (list_all test xs))
+
+all_end : (test : ℕ → Bool) (met : List ℕ) (k : ℕ) → list_all test (met ++ k ∷ []) ≡ (test k && list_all test met)
+all_end test [] k = refl
+all_end test (x ∷ xs) k = ap (λ (b : Bool). test x && b) (all_end test xs k) ∙ and_turn (test x) (test k) (list_all test xs)
+
+pub met_more : (keys met new : List ℕ) (k : ℕ) → new ≡ insert_key nat_cmp keys k → HasMet keys met → HasMet new (met ++ k ∷ [])
+met_more keys met new k e has = λ test. ap (list_all test) e ∙ all_insert test keys k ∙ ap (λ (b : Bool). test k && b) (has test) ∙ sym (all_end test met k)

@@ -1,0 +1,99 @@
+use Rattle.std.proofs.Common.{◌≡◌, ℕ, suc, ◌-◌, ◌<◌, ◌++◌, [], ◌∙◌, true, false, List, length, ltb, refl, sym, ap, subst, append-nil, arith}
+use Rattle.std.proofs.lemmas.Bool.{lt-ltb}
+use Rattle.myi_base.specs.Holding.{Told}
+use Rattle.myi_keypage.specs.declared.entry.Entry.{Entry}
+use Rattle.myi_btree.specs.declared.pair.Pair.{Pair}
+use Rattle.myi_btree.specs.Walk.{Node}
+use Rattle.myi_btree.specs.Nodes.{entries_of}
+use Rattle.myi_btree.specs.Sizes.{fits_in}
+use Rattle.myi_btree.specs.Laid.{Level, level_of, laid}
+use Rattle.myi_btree.specs.Building.{CanLay, Lays, IsLevel}
+use Rattle.myi_btree.proofs.LevelsLaws.{upper, stepped, told_both, told_spares_both, levels_first, levels_more, level_above, pages_above, end_on}
+use Rattle.myi_btree.proofs.BodyLaws.{on_err}
+use Rattle.myi_btree.proofs.build.lay_levels.Goals as goal
+
+pub levels-init : goal.levels-init
+levels-init g c =
+    let place = c.args.place in
+    let pairs : List Pair = c.args.pairs.now in
+    let are : c.new-none.result.items ++ entries_of pairs ≡ entries_of pairs = ap (λ (t : List Entry). t ++ entries_of pairs) c.new-none.ensures.items in
+    let level : Level = level_of (length pairs) (fits_in place false) pairs [] in
+    let is : IsLevel place c.args.first level c.in_ok-level.level = c.in_ok-level.ensures.level pairs are in
+    let b : ℕ = length pairs - 1 in
+    let s = stepped place c.args.first b false pairs [] level c.in_ok-level.level refl is c.requires.placed c.requires.sized c.requires.some (omega arith) c.requires.at c.in_ok-level.ensures.small in
+    record {
+      written = level.pages;
+      bound = b;
+      aside = level.separators;
+      all = levels_first place c.args.first pairs c.requires.some ∙ s.pages;
+      enough = s.enough;
+      aside_are = is.separators;
+      sized = s.sized;
+      count = s.count;
+      places = s.places;
+      end = is.end;
+      whole = s.whole;
+      buffer = c.in_ok-level.ensures.buffer;
+      name = c.in_ok-level.ensures.name;
+      later = c.in_ok-level.ensures.cause.later;
+      reads = c.in_ok-level.ensures.reads;
+      told = c.in_ok-level.ensures.laid pairs are;
+    }
+
+pub returns-in_err-level-2-clause-refused : goal.returns-in_err-level-2-clause-refused
+returns-in_err-level-2-clause-refused g c =
+    on_err c.from_residual-in_err-level-2.result (told_spares_both (g.F.Files.holds c.args.files.now) (g.F.Files.holds c.levels.files) (g.F.Files.holds c.lay_level-in-levels.new.files) c.args.place c.args.first c.levels.level.end c.levels.invariant.written
+    c.args.cache.now c.levels.cache c.lay_level-in-levels.new.cache (sym c.levels.invariant.end) c.levels.invariant.name c.levels.invariant.told c.in_err-level-2.ensures.refused)
+
+pub levels-smaller : goal.levels-smaller
+levels-smaller g c =
+    let i = c.levels.invariant in
+    let place = c.args.place in
+    let at : ℕ = c.levels.level.end in
+    let places : List ℕ = c.levels.level.places.items in
+    let more : 1 < length places = omega (arith, c.len.ensures, c.levels-test.true) in
+    let some : 0 < length i.aside = omega (arith, i.count, more) in
+    let b : ℕ = i.bound - 1 in
+    let bound : i.bound ≡ suc b = omega (arith, i.enough, some) in
+    let are : c.levels.level.separators.items ++ entries_of [] ≡ entries_of i.aside = append-nil c.levels.level.separators.items ∙ i.aside_are in
+    let level : Level = level_of (length i.aside) (fits_in place true) i.aside places in
+    let is : IsLevel place at level c.in_ok-level-2.level = level_above place at i.aside places c.deref.result.now c.in_ok-level-2.level c.deref.ensures.value i.count (c.in_ok-level-2.ensures.level i.aside are) in
+    let s = stepped place at b true i.aside places level c.in_ok-level-2.level refl is c.requires.placed i.sized some (omega (arith, i.enough, bound)) i.whole c.in_ok-level-2.ensures.small in
+    omega (arith, s.count, s.fewer, i.count)
+
+pub levels-preserved : goal.levels-preserved
+levels-preserved g c =
+    let i = c.levels.invariant in
+    let place = c.args.place in
+    let at : ℕ = c.levels.level.end in
+    let places : List ℕ = c.levels.level.places.items in
+    let more : 1 < length places = omega (arith, c.len.ensures, c.levels-test.true) in
+    let some : 0 < length i.aside = omega (arith, i.count, more) in
+    let b : ℕ = i.bound - 1 in
+    let bound : i.bound ≡ suc b = omega (arith, i.enough, some) in
+    let are : c.levels.level.separators.items ++ entries_of [] ≡ entries_of i.aside = append-nil c.levels.level.separators.items ∙ i.aside_are in
+    let level : Level = level_of (length i.aside) (fits_in place true) i.aside places in
+    let is : IsLevel place at level c.in_ok-level-2.level = level_above place at i.aside places c.deref.result.now c.in_ok-level-2.level c.deref.ensures.value i.count (c.in_ok-level-2.ensures.level i.aside are) in
+    let s = stepped place at b true i.aside places level c.in_ok-level-2.level refl is c.requires.placed i.sized some (omega (arith, i.enough, bound)) i.whole c.in_ok-level-2.ensures.small in
+    let all1 : laid (fits_in place) place.block_length c.args.first c.args.pairs.now ≡ i.written ++ upper (suc b) (fits_in place) place.block_length at i.aside places (ltb 1 (length places)) =
+    subst (λ (n : ℕ). laid (fits_in place) place.block_length c.args.first c.args.pairs.now ≡ i.written ++ upper n (fits_in place) place.block_length at i.aside places (ltb 1 (length places))) bound i.all in
+    let pages = pages_above place i.aside places c.deref.result.now c.deref.ensures.value i.count in
+    let laid1 = subst (λ (t : List Node). Told (g.F.Files.holds c.levels.files) (g.F.Files.holds c.lay_level-in-levels.new.files) (λ m n. CanLay c.levels.cache m at → Lays place at t c.levels.cache c.lay_level-in-levels.new.cache m n)) pages (c.in_ok-level-2.ensures.laid i.aside are) in
+    record {
+      written = i.written ++ level.pages;
+      bound = b;
+      aside = level.separators;
+      all = levels_more place at b i.aside places _ i.written level.pages _ all1 (lt-ltb 1 (length places) more) s.pages;
+      enough = s.enough;
+      aside_are = is.separators;
+      sized = s.sized;
+      count = s.count;
+      places = s.places;
+      end = end_on place.block_length c.args.first at c.in_ok-level-2.level.end i.written level.pages i.end is.end;
+      whole = s.whole;
+      buffer = c.in_ok-level-2.ensures.buffer;
+      name = c.in_ok-level-2.ensures.name ∙ i.name;
+      later = omega (arith, i.later, c.in_ok-level-2.ensures.cause.later);
+      reads = c.in_ok-level-2.ensures.reads ∙ i.reads;
+      told = told_both (g.F.Files.holds c.args.files.now) (g.F.Files.holds c.levels.files) (g.F.Files.holds c.lay_level-in-levels.new.files) place c.args.first at i.written level.pages c.args.cache.now c.levels.cache c.lay_level-in-levels.new.cache (sym i.end) i.name i.told laid1;
+    }

@@ -1,0 +1,70 @@
+-- What building a tree does to a key cache and the files.
+use Rattle.std.specs.Prelude.{◌≡◌, ◌⊎◌, ℕ, ◌+◌, ◌*◌, ◌<◌, ◌≤◌, true, List, [], ◌∷◌, length, Some}
+use Rattle.myi_base.specs.Holding.{Holding, overwritten}
+use Rattle.myi_keypage.specs.Page.{Page as IndexPage, page_bytes}
+use Rattle.myi_keypage.specs.Writing.{filled_up}
+use Rattle.myi_keycache.specs.Kept.{Page, is_kept}
+use Rattle.myi_keycache.specs.Caching.{Caching, lends, contents, IsCurrent, OthersStay, Puts, PutsPart}
+use Rattle.myi_btree.specs.declared.place.Place.{Place}
+use Rattle.myi_btree.specs.declared.level.Level.{Level as LaidLevel}
+use Rattle.myi_btree.specs.Walk.{Node}
+use Rattle.myi_btree.specs.Nodes.{entries_of, page_of_node}
+use Rattle.myi_btree.specs.Laid.{Level, places_from}
+
+-- a page with zeros behind its used bytes
+abbrev pub whole_page : Place → IndexPage → List ℕ
+whole_page place page = filled_up (page_bytes place.rec_ref page) place.block_length
+
+-- the page of a node
+unfoldable pub page_for : Place → Node → List ℕ
+page_for place node = whole_page place (page_of_node node)
+
+-- a page was put, and files of other names hold what they held
+abbrev pub PutsPage : ℕ → List ℕ → Caching → Caching → Holding → Holding → Type 0
+PutsPage at bytes old new m n = Puts at bytes old new m n × OthersStay old.name m n
+
+-- a put was refused, and files of other names hold what they held
+abbrev pub PutsSome : ℕ → List ℕ → Caching → Caching → Holding → Holding → Type 0
+PutsSome at bytes old new m n = PutsPart at bytes old new m n × OthersStay old.name m n
+
+-- the pages of these nodes are lent, one behind the other from a place on
+abbrev pub AreLent : Place → Caching → Holding → ℕ → List Node → Type 0
+AreLent place cache m first [] = Unit {0}
+AreLent place cache m first (node ∷ nodes) = (lends cache m first place.block_length ≡ Some (page_for place node)) × AreLent place cache m (first + place.block_length) nodes
+
+-- a file over which the pages of these nodes were written, one behind the other from a place on
+abbrev pub laid_over : Place → ℕ → List Node → List ℕ → List ℕ
+laid_over place first [] file = file
+laid_over place first (node ∷ nodes) file = laid_over place (first + place.block_length) nodes (overwritten first (page_for place node) file)
+
+-- no page that is kept ends behind this place
+abbrev pub EndBefore : List Page → ℕ → Type 0
+EndBefore pages end = (p n : ℕ) → is_kept pages p n ≡ true → p + n ≤ end
+
+-- pages may be put from a place on: the cache's file is as its last call left it, and no page that is kept ends behind it
+pub record CanLay (cache : Caching) (m : Holding) (first : ℕ) : Type 0 where
+  pub current : IsCurrent cache m
+  pub before : EndBefore cache.pages first
+
+-- of each range before this place the same is lent, and files of other names hold what they held
+pub record Spares (first : ℕ) (old new : Caching) (m n : Holding) : Type 0 where
+  pub current : IsCurrent new n
+  pub lent : (p len : ℕ) (x : List ℕ) → p + len ≤ first → lends old m p len ≡ Some x → lends new n p len ≡ Some x
+  pub others : OthersStay old.name m n
+
+-- each page that is kept was kept before, or is one of so many from a place on
+abbrev pub AddsLaid : Place → ℕ → ℕ → List Page → List Page → Type 0
+AddsLaid place first count old new = (p n : ℕ) → is_kept new p n ≡ true → (is_kept old p n ≡ true) ⊎ ((n ≡ place.block_length) × (i : ℕ) × (i < count) × (p ≡ first + place.block_length * i))
+
+-- the pages of these nodes were put from a place on, and nothing else
+pub record Lays (place : Place) (first : ℕ) (nodes : List Node) (old new : Caching) (m n : Holding) : Type 0 where
+  pub spares : Spares first old new m n
+  pub there : AreLent place new n first nodes
+  pub contents : contents new n ≡ laid_over place first nodes (contents old m)
+  pub kept : AddsLaid place first (length nodes) old.pages new.pages
+
+-- what a level of the code is: the entries set aside, the places of its pages, and the place behind them
+pub record IsLevel (place : Place) (first : ℕ) (level : Level) (found : LaidLevel) : Type 0 where
+  pub separators : found.separators.items ≡ entries_of level.separators
+  pub places : found.places.items ≡ places_from (length level.pages) place.block_length first
+  pub end : found.end ≡ first + place.block_length * length level.pages

@@ -1,0 +1,10 @@
+pub mod Walk
+pub mod Laid
+pub mod Nodes
+pub mod Entries
+pub mod Sizes
+pub mod Faults
+pub mod Building
+pub mod Visit
+pub mod Reading
+pub mod Meeting

@@ -1,0 +1,98 @@
+//! The entries of a level that are still to be laid.
+//!
+//! The lowest level has the pairs, whose keys are coded page by page, so that no more codes are kept than
+//! one page may need. A level above has the entries that were set aside below it, which are coded.
+ghost use Rattle.std.specs.Prelude.{◌≡◌, ◌⊎◌, ◌+◌, ◌≤◌, [], length, IfOk};
+ghost use Rattle.myi_btree.specs.Nodes.{entries_of};
+ghost use Rattle.myi_btree.specs.Entries.{coded_of, left_of};
+
+use crate::node::append_entries;
+use crate::pair::Pair;
+use myi_keypage::Entry;
+use std::alloc::{AllocError, Global};
+
+/// The entries of a level that are left, beside the pairs of the level: those that are coded, from
+/// `start` on, and behind them the entries of the pairs from `taken` on.
+#[derive(Drop)]
+pub(crate) struct Entries {
+    pub(crate) coded: Vec<Entry>,
+    pub(crate) start: usize,
+    pub(crate) taken: usize,
+}
+
+impl Entries {
+    /// Entries that are coded, and behind them those of the pairs of the level.
+    pub(crate) fn new(coded: Vec<Entry>) -> Self
+        ensures left { left_of [] result ≡ coded.items }
+        ensures coded { result.coded ≡ coded }
+        ensures start { result.start ≡ 0 }
+        ensures taken { result.taken ≡ 0 }
+    {
+        Entries {
+            coded,
+            start: 0,
+            taken: 0,
+        }
+    }
+
+    /// How many are left.
+    pub(crate) fn count(&self, pairs: &[Pair]) -> usize
+        requires start { self.now.start ≤ length self.now.coded.items }
+        requires taken { self.now.taken ≤ length pairs.now }
+        ensures { result ≡ length (left_of pairs.now self.now) }
+    {
+        self.coded.len() - self.start + (pairs.len() - self.taken)
+    }
+
+    /// Those that are coded.
+    pub(crate) fn coded(&self) -> &[Entry]
+        requires { self.now.start ≤ length self.now.coded.items }
+        ensures { result.now ≡ coded_of self.now }
+    {
+        &self.coded[self.start..]
+    }
+
+    /// Those behind so many of the coded ones.
+    pub(crate) fn behind(self, count: usize) -> Entries
+        requires { self.start + count ≤ length self.coded.items }
+        ensures coded { result.coded ≡ self.coded }
+        ensures start { result.start ≡ self.start + count }
+        ensures taken { result.taken ≡ self.taken }
+    {
+        Entries {
+            coded: self.coded,
+            start: self.start + count,
+            taken: self.taken,
+        }
+    }
+}
+
+/// The same entries, of which as many are coded as are asked for, or all.
+pub(crate) fn code_ahead(
+    alloc: Global,
+    entries: Entries,
+    pairs: &[Pair],
+    most: usize,
+) -> Result<Entries, AllocError>
+    requires start { entries.start ≤ length entries.coded.items }
+    requires taken { entries.taken ≤ length pairs.now }
+    ensures left { IfOk result (λ e. left_of pairs.now e ≡ left_of pairs.now entries) }
+    ensures start { IfOk result (λ e. e.start ≤ length e.coded.items) }
+    ensures taken { IfOk result (λ e. e.taken ≤ length pairs.now) }
+    ensures ahead { IfOk result (λ e. (most ≤ length (coded_of e)) ⊎ (e.taken ≡ length pairs.now)) }
+{
+    let ready = entries.coded.len() - entries.start;
+    if ready >= most || entries.taken == pairs.len() {
+        return Ok(entries);
+    }
+    let mut before = entries.coded;
+    let mut coded = before.split_off(entries.start)?;
+    let left = &pairs[entries.taken..];
+    let count = (most - ready).min(left.len());
+    append_entries(alloc, &mut coded, &left[..count])?;
+    Ok(Entries {
+        coded,
+        start: 0,
+        taken: entries.taken + count,
+    })
+}

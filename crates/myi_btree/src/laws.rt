@@ -1,0 +1,66 @@
+//! Laws over walks and laid pages. Each is the contract of a function that does nothing, so that it is
+//! proved with the crate and stands for the crates above.
+ghost use Rattle.std.specs.Prelude.{◌≡◌, ℕ, suc, ◌+◌, ◌*◌, ◌%◌, ◌^◌, ◌<◌, ◌≤◌, List, [], ◌∷◌, length, Some, Result, Ok};
+ghost use Rattle.myi_btree.specs.declared.pair.Pair.{Pair};
+ghost use Rattle.myi_btree.specs.Walk.{Node, Places, Walked, walk_of, Agree, AreNodes};
+ghost use Rattle.myi_btree.specs.Laid.{Fits, laid, Stands, IsRooted};
+ghost use Rattle.myi_btree.specs.Visit.{Finds, HasWalk};
+ghost use Rattle.std.specs.List.{AllByRecursion};
+ghost use Rattle.myi_base.specs.Holding.{Holding};
+ghost use Rattle.myi_keys.specs.Limits.{IsKey};
+ghost use Rattle.myi_keycache.specs.Caching.{Caching};
+ghost use Rattle.myi_btree.specs.declared.place.Place.{Place};
+ghost use Rattle.myi_btree.specs.Reading.{node_lent};
+ghost use Rattle.myi_btree.specs.Sizes.{IsPlaced, AreSized, fits_in};
+ghost use Rattle.myi_btree.specs.Building.{Lays};
+
+/// A walk depends on its own pages alone: where two readings give the same at each of them, the walk is
+/// the same, whatever else changed.
+pub fn walks_depend_on_their_pages()
+    ensures { (one two : Places) (height place : ℕ) (w : Walked)
+        → walk_of one height place ≡ Some w → Agree one two w.pages → walk_of two height place ≡ Some w }
+{}
+
+/// A place has one walk at most, whatever its height.
+pub fn walks_exist_once()
+    ensures { (read : Places) (one other place : ℕ) (w v : Walked)
+        → walk_of read one place ≡ Some w → walk_of read other place ≡ Some v → w ≡ v }
+{}
+
+/// A tree has few levels: with leaves `height` levels below the root, it has at least
+/// 2^(height + 1) - 1 pairs.
+pub fn trees_are_shallow()
+    ensures { (read : Places) (height place : ℕ) (w : Walked)
+        → AreNodes read → walk_of read height place ≡ Some w → 2 ^ suc height ≤ length w.pairs + 1 }
+{}
+
+/// Laid pages that stand at their places are a tree, whose root is the last of them and whose pairs are
+/// those that were laid.
+pub fn laid_pages_walk()
+    ensures { (read : Places) (fits : Fits) (block first : ℕ) (pair : Pair) (pairs : List Pair)
+        → Stands read block first (laid fits block first (pair ∷ pairs))
+        → IsRooted read block first (length (laid fits block first (pair ∷ pairs))) (pair ∷ pairs) }
+{}
+
+/// A visit from a place finds one thing at most, the walk or the first bad place. It finds a walk exactly
+/// where that is the walk of the place and no two of its pages have a byte in common.
+pub fn visits_find_walks()
+    ensures once { (block : ℕ) (read : Places) (place : ℕ) (one other : Result Walked ℕ)
+        → Finds block read place one → Finds block read place other → one ≡ other }
+    ensures walk { (block : ℕ) (read : Places) (place : ℕ) (w : Walked)
+        → Finds block read place (Ok w) → HasWalk block read place w }
+    ensures found { (block : ℕ) (read : Places) (place : ℕ) (w : Walked)
+        → HasWalk block read place w → Finds block read place (Ok w) }
+{}
+
+/// What the key cache lends after building is a tree: the last of the laid pages is the root of one whose
+/// pairs are those that were laid.
+pub fn built_trees_walk()
+    ensures { (place : Place) (first : ℕ) (pair : Pair) (pairs : List Pair) (old new : Caching) (m n : Holding)
+        → IsPlaced place → first % 1024 ≡ 0 → AreSized place (pair ∷ pairs)
+        → AllByRecursion (λ p. IsKey p.key) (pair ∷ pairs)
+        → first + place.block_length * length (laid (fits_in place) place.block_length first (pair ∷ pairs)) < 2 ^ 64
+        → Lays place first (laid (fits_in place) place.block_length first (pair ∷ pairs)) old new m n
+        → IsRooted (node_lent place new n) place.block_length first
+        (length (laid (fits_in place) place.block_length first (pair ∷ pairs))) (pair ∷ pairs) }
+{}

@@ -1,0 +1,34 @@
+//! Trees of index pages: what a tree holds, and laying one from sorted pairs.
+//!
+//! A tree has the pairs of one key, sorted, each a key value and a row pointer (`Pair`), on pages of an
+//! index file. A contract speaks of its walk: the pairs in order, each with its page, by a reading from
+//! places to nodes (`specs/Walk`). `specs/Laid` says which pages building puts, and `specs/Building` what
+//! that does to a key cache and the files.
+//!
+//! - `Place` says how the pages of a tree are made and where its root stands, `Room` where new pages go.
+//! - `Tree::build` lays a tree from pairs; `Tree::new` takes one that stands; `Tree::root` is its root, and
+//!   `Tree::walk` answers its pairs. `specs/Visit` says which place is the first bad one of a damaged tree.
+//! - The laws over walks and laid pages are the contracts of the functions in `laws`.
+#![tactic(auto)]
+
+mod build;
+mod entries;
+mod fault;
+mod laws;
+mod level;
+mod node;
+mod pair;
+mod place;
+#[cfg(test)]
+mod tests;
+mod tree;
+mod walk;
+
+pub use fault::TreeFault;
+pub use laws::{
+    built_trees_walk, laid_pages_walk, trees_are_shallow, visits_find_walks,
+    walks_depend_on_their_pages, walks_exist_once,
+};
+pub use pair::Pair;
+pub use place::{Place, Room};
+pub use tree::Tree;

@@ -1,0 +1,102 @@
+//! What stands on a page: its pairs with their keys, and its children.
+//!
+//! `read_node` reads a `Node` from the bytes of a page, and `entry_of` gives the entry of a pair.
+ghost use Rattle.std.specs.Prelude.{◌≡◌, ◌≤◌, ◌++◌, length, take, IfOk, OnOk, option_map};
+ghost use Rattle.std.specs.Option.{option_to_list};
+ghost use Rattle.myi_btree.specs.Nodes.{node_view, key_in, node_in, entry_of, entries_of};
+
+use crate::pair::Pair;
+use myi_base::Sequence;
+use myi_keypage::{Entry, read_page};
+use myi_keys::{KeyFault, KeyVal, decode, encode};
+use std::alloc::{AllocError, Global};
+
+/// A page that is read: its pairs, and the places of its children, of which a leaf has none.
+#[derive(Drop)]
+pub(crate) struct NodeData {
+    pub(crate) pairs: Vec<Pair>,
+    pub(crate) children: Vec<u64>,
+}
+
+#[tactic(auto, unfolding(crate::specs::Nodes::key_in))]
+fn key_of(alloc: Global, code: &[u8]) -> Result<Option<KeyVal>, AllocError>
+    ensures { IfOk result (λ key. key ≡ key_in code.now) }
+{
+    match decode(alloc, code) {
+        Ok(key) => Ok(Some(key)),
+        Err(KeyFault::Memory) => Err(AllocError),
+        Err(_) => Ok(None),
+    }
+}
+
+// The code of the key after this one, of which it keeps a front.
+fn change_code(code: &mut Vec<u8>, prefix: usize, rest: &[u8]) -> Result<(), AllocError>
+    ensures { OnOk result (code.new.items ≡ take prefix code.old.items ++ rest.now) }
+{
+    code.truncate(prefix);
+    code.extend_from_slice(rest)
+}
+
+fn push_child(children: &mut Vec<u64>, child: Option<u64>) -> Result<(), AllocError>
+    ensures { OnOk result (children.new.items ≡ children.old.items ++ option_to_list child) }
+{
+    if let Some(place) = child {
+        children.push(place)?;
+    }
+    Ok(())
+}
+
+/// The node that the bytes are, with row pointers of `rec_ref` bytes, and None where they are no page or
+/// a key of it is no key's code.
+pub(crate) fn read_node(
+    alloc: Global,
+    bytes: &[u8],
+    rec_ref: u8,
+) -> Result<Option<NodeData>, AllocError>
+    requires wide { 2 ≤ rec_ref }
+    requires narrow { rec_ref ≤ 8 }
+    ensures { IfOk result (λ node. option_map node_view node ≡ node_in rec_ref bytes.now) }
+{
+    let Some(view) = read_page(bytes, rec_ref) else {
+        return Ok(None);
+    };
+    let mut walk = view.walk();
+    let mut code: Vec<u8> = Vec::new(alloc);
+    let mut pairs: Vec<Pair> = Vec::new(alloc);
+    let mut children: Vec<u64> = Vec::new(alloc);
+    push_child(&mut children, view.first_child())?;
+    while let Some(item) = walk.next_item() {
+        change_code(&mut code, item.prefix, item.rest)?;
+        let Some(key) = key_of(alloc, &code)? else {
+            return Ok(None);
+        };
+        pairs.push(Pair { key, row: item.row })?;
+        push_child(&mut children, item.child)?;
+    }
+    Ok(Some(NodeData { pairs, children }))
+}
+
+/// A pair as it stands on a page, with its key's code.
+pub(crate) fn entry_of(alloc: Global, pair: &Pair) -> Result<Entry, AllocError>
+    ensures { IfOk result (λ entry. entry ≡ entry_of pair.now) }
+{
+    let code = encode(alloc, &pair.key)?;
+    Ok(Entry {
+        key: Sequence::new(code),
+        row: pair.row,
+    })
+}
+
+/// Appends the entries of pairs.
+pub(crate) fn append_entries(
+    alloc: Global,
+    entries: &mut Vec<Entry>,
+    pairs: &[Pair],
+) -> Result<(), AllocError>
+    ensures { OnOk result (entries.new.items ≡ entries.old.items ++ entries_of pairs.now) }
+{
+    for pair in pairs {
+        entries.push(entry_of(alloc, pair)?)?;
+    }
+    Ok(())
+}

@@ -1,0 +1,144 @@
+//! `Tree`: the pairs of one key, sorted, on pages of an index file.
+ghost use Rattle.std.specs.Prelude.{◌≡◌, ◌⊎◌, ◌+◌, ◌*◌, ◌%◌, ◌≤◌, ℕ, Some, length, IfOk, IfErr, OnOk, OnErr, IsTrue};
+ghost use Rattle.myi_base.specs.Holding.{Holding, Told};
+ghost use Rattle.myi_base.specs.Causes.{HasCause};
+ghost use Rattle.myi_btree.specs.declared.fault.TreeFault.TheVariants.{Damaged, File, Memory};
+ghost use Rattle.myi_btree.specs.Sizes.{IsPlaced, AreSized, fits_in};
+ghost use Rattle.myi_btree.specs.Laid.{laid, root_of};
+ghost use Rattle.myi_btree.specs.Building.{CanLay, Spares, Lays};
+ghost use Rattle.myi_keycache.specs.Kept.{AllWritten};
+ghost use Rattle.myi_keycache.specs.Caching.{IsCurrent};
+ghost use Rattle.myi_btree.specs.Reading.{node_lent, ReadsOnly};
+ghost use Rattle.myi_btree.specs.Visit.{FindsPairs, FindsBad};
+
+use crate::build::lay_levels;
+use crate::fault::TreeFault;
+use crate::pair::Pair;
+use crate::place::{Place, Room};
+use crate::walk::{LEVELS, Met, visit};
+use myi_io::Files;
+use myi_keycache::KeyCache;
+use std::alloc::Global;
+use std::marker::Model;
+
+/// A tree of an index file, which a contract sees as its place.
+#[derive(Debug, Drop)]
+pub struct Tree {
+    place: Place,
+}
+
+impl Model for Tree {
+    ghost use Rattle.myi_btree.specs.declared.place.Place.{Place};
+
+    ghost Value = { Place };
+
+    ghost view = { λ tree. tree.place };
+}
+
+impl Tree {
+    /// The tree at a place. It takes no memory.
+    pub fn new(place: Place) -> Tree
+        ensures { result ≡ place }
+    {
+        Tree { place }
+    }
+
+    /// The place of the root page, and None where the tree has no pair. It takes no memory.
+    pub fn root(&self) -> Option<u64>
+        ensures { result ≡ self.now.root }
+    {
+        self.place.root
+    }
+
+    /// The pairs of the tree in the order of its walk, each with the place of its page. `Damaged` comes at
+    /// the first place on the walk's path where what stands is no page of the tree: no page, or its page has
+    /// a byte of one that was met before, or it is a leaf above the depth of the first leaf, or a node at that
+    /// depth. What is said of pairs and places holds where the file is as the last call of the cache left it.
+    /// A tree has fewer than 64 levels; where a path goes deeper, the answer is `Memory`.
+    pub fn walk<F: Files>(
+        &self,
+        alloc: Global,
+        files: &mut F,
+        cache: &mut KeyCache,
+    ) -> Result<Vec<(Pair, u64)>, TreeFault>
+        requires placed { IsPlaced self.now }
+        requires written { AllWritten cache.old.pages }
+
+        // The answer is the walk, or the first bad place on its path.
+        ensures pairs { IfOk result (λ pairs. (m : Holding) → F.holds files.old ≡ Some m → IsCurrent cache.old m
+            → FindsPairs self.now.block_length (node_lent self.now cache.old m) self.now.root pairs.items) }
+        ensures damaged { IfErr result (λ fault. (at : ℕ) → fault ≡ Damaged at → (m : Holding) → F.holds files.old ≡ Some m → IsCurrent cache.old m
+            → FindsBad self.now.block_length (node_lent self.now cache.old m) self.now.root at) }
+
+        // Nothing was put, and the same is lent.
+        ensures cache { ReadsOnly (F.holds files.old) cache.old cache.new }
+        ensures holds { F.holds files.new ≡ F.holds files.old }
+        ensures cause { HasCause File (F.faults files.old) (F.faults files.new) result }
+        ensures reads { F.reads files.old ≤ F.reads files.new }
+    {
+        let Some(root) = self.place.root else {
+            return Ok(Vec::new(alloc));
+        };
+        let mut met = Met::new(alloc);
+        visit(alloc, files, cache, self.place, root, LEVELS, &mut met)?;
+        Ok(met.pairs)
+    }
+
+    /// Puts the laid pages of sorted pairs into the room from its end on, and moves the end past them. The
+    /// root that `place` names is not looked at. After a refusal nothing before the room's end was changed,
+    /// and the room is as it was; what stands from its end on may be anything. A page may have no other
+    /// place than one below 2^64: past it the answer is `Memory`.
+    pub fn build<F: Files>(
+        alloc: Global,
+        files: &mut F,
+        cache: &mut KeyCache,
+        place: Place,
+        room: &mut Room,
+        pairs: &[Pair],
+    ) -> Result<Tree, TreeFault>
+        requires writable { IsTrue F.writable }
+        requires placed { IsPlaced place }
+        requires end { room.old.end % 1024 ≡ 0 }
+        requires sized { AreSized place pairs.now }
+
+        // The pages are those that are laid, one behind the other, and nothing else is put.
+        ensures laid { OnOk result (Told (F.holds files.old) (F.holds files.new) (λ m n.
+            CanLay cache.old m room.old.end
+            → Lays place room.old.end (laid (fits_in place) place.block_length room.old.end pairs.now) cache.old cache.new m n)) }
+        ensures root { IfOk result (λ tree. tree ≡ record place {
+          root = root_of place.block_length room.old.end (laid (fits_in place) place.block_length room.old.end pairs.now);
+        }) }
+        ensures end { OnOk result (room.new.end ≡ room.old.end
+            + place.block_length * length (laid (fits_in place) place.block_length room.old.end pairs.now)) }
+        ensures free { room.new.free ≡ room.old.free }
+
+        // After a refusal nothing before the room's end was changed.
+        ensures refused { OnErr result (Told (F.holds files.old) (F.holds files.new) (λ m n.
+            CanLay cache.old m room.old.end → Spares room.old.end cache.old cache.new m n)) }
+        ensures room { OnErr result (room.new.end ≡ room.old.end) }
+
+        ensures name { cache.new.name ≡ cache.old.name }
+        ensures faults { IfErr result (λ fault. (fault ≡ File) ⊎ (fault ≡ Memory)) }
+        ensures cause { HasCause File (F.faults files.old) (F.faults files.new) result }
+        ensures reads { F.reads files.new ≡ F.reads files.old }
+    {
+        if pairs.is_empty() {
+            return Ok(Tree {
+                place: Place {
+                    root: None,
+                    ..place
+                },
+            });
+        }
+        let mut page = vec![in alloc; 0u8; place.block_length as usize]?;
+        let end = lay_levels(alloc, files, cache, &mut page, place, room.end, pairs)?;
+        room.end = end;
+        let root = end - place.block_length as u64;
+        Ok(Tree {
+            place: Place {
+                root: Some(root),
+                ..place
+            },
+        })
+    }
+}
