@@ -1,2 +1,10 @@
-pub mod RowLaws
+pub mod SlotLaws
+pub mod RowsLemmas
+pub mod PlainLaws
+pub mod SpellingLemmas
+pub mod LaidLemmas
+pub mod KeyLemmas
+pub mod WalkLemmas
+pub mod SlotLemmas
 pub mod ScanLaws
+pub mod BlockScans

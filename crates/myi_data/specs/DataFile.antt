@@ -1,12 +1,8 @@
--- What an object of a data file keeps.
-use Rattle.std.specs.Prelude.{ℕ, List, string_bytes}
-use Rattle.myi_data.specs.declared.data_file.DataFile.{DataFile}
+-- What an object of a data file keeps: the file's name, the definitions of its table, and how far it is scanned.
+use Rattle.std.specs.Prelude.{ℕ, List}
+use Rattle.myi_defs.specs.declared.types.Defs.{Defs}
 
-abbrev pub file_name : DataFile → List ℕ
-file_name s = string_bytes s.name
-
-abbrev pub slot_length : DataFile → ℕ
-slot_length s = s.slot_length
-
-abbrev pub file_length : DataFile → ℕ
-file_length s = s.length
+pub record TableFile : Type 0 where
+  pub name : List ℕ
+  pub defs : Defs
+  pub length : ℕ

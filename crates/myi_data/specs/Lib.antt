@@ -1,4 +1,9 @@
+pub mod Slots
 pub mod Readable
+pub mod Plain
+pub mod Laid
+pub mod Keys
 pub mod Scanning
+pub mod NextSlot
+pub mod Inner
 pub mod DataFile
-pub mod ScanFaults

@@ -5,7 +5,8 @@
 //! may have several packings; the one that is written is its `spelling`, and none is shorter.
 //!
 //! `view` finds the row in its bytes and takes no memory: a `RowView` lends each field as a slice of
-//! the bytes, one by one (`fields`) or by its number (`field`). `unpack` copies the row that is viewed.
+//! the bytes, one by one (`fields`) or by its number (`field`). `unpack` copies the row that is viewed,
+//! and `value_of` one field of it.
 //! `fits` decides whether a row has the form that the definitions of the table ask for, and `pack`
 //! writes the spelling of such a row. The laws over the definitions are in `laws`.
 #![tactic(auto)]
@@ -20,7 +21,7 @@ pub use fields::FieldView;
 pub use laws::{packings_are_read, spellings_are_shortest};
 pub use packing::{fits, pack};
 pub use row::{RowFields, RowView, view};
-pub use values::{Row, Value, unpack};
+pub use values::{Row, Value, unpack, value_of};
 
 #[cfg(test)]
 mod tests;

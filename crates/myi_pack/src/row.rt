@@ -182,8 +182,9 @@ impl<'a> RowFields<'a> {
         Some(shown)
     }
 
-    // The length of the next field, and what the field shows.
-    pub(crate) fn next_with_length(&mut self) -> Option<(u16, FieldView<'a>)>
+    /// The length of the next field, in bytes, and what the field shows, or None behind the last one.
+    /// Both together determine the field's value.
+    pub fn next_with_length(&mut self) -> Option<(u16, FieldView<'a>)>
         ensures { IsNextShown self.old result self.new }
     {
         let [field, fields @ ..] = self.fields else {

@@ -28,8 +28,8 @@ pub fn unpack(alloc: Global, view: &RowView<'_>) -> Result<Row, AllocError>
     Ok(Sequence::new(values))
 }
 
-// The value that a view shows of a field of so many bytes.
-fn value_of(alloc: Global, field: usize, view: FieldView<'_>) -> Result<Value, AllocError>
+/// The value that a view shows of a field of so many bytes.
+pub fn value_of(alloc: Global, field: usize, view: FieldView<'_>) -> Result<Value, AllocError>
     requires { field < 65536 }
     ensures { IfOk result (λ value. value ≡ shown field view.entry) }
 {

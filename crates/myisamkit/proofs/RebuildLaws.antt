@@ -1,5 +1,5 @@
 -- How the steps of a rebuild compose, over plain values.
-use Rattle.std.proofs.Common.{◌≡◌, ◌⊎◌, ℕ, ◌+◌, ◌≤◌, List, [], ◌++◌, true, length, take, drop, Option, Some, None, unwrap_or, sym, ap, subst, ◌∙◌, arith, inl, inr, length-append}
+use Rattle.std.proofs.Common.{◌≡◌, ◌⊎◌, ℕ, ◌+◌, ◌≤◌, List, [], ◌++◌, true, false, length, take, drop, Option, Some, None, unwrap_or, sym, ap, subst, ◌∙◌, arith, inl, inr, length-append}
 use Rattle.std.specs.Prelude.{replicate}
 use Rattle.std.proofs.lemmas.List.{take_all, length-take-le, length-drop, length-replicate}
 use Rattle.myi_base.specs.Holding.{Holding, bytes_of}
@@ -12,8 +12,9 @@ use Rattle.myi_header.specs.declared.state.State.{State}
 use Rattle.myi_header.specs.Layout.{first_page_of}
 use Rattle.myi_header.specs.StateOf.{state_of, has_mark}
 use Rattle.myi_header.specs.HeaderOf.{header_of}
-use Rattle.myi_data.specs.Readable.{Slot, readable}
-use Rattle.myi_data.specs.Scanning.{Scanning, rows_left}
+use Rattle.myi_chain.specs.Readable.{Row, rows_of}
+use Rattle.myi_data.specs.Readable.{items_in, readable}
+use Rattle.myi_data.specs.Scanning.{TableScan, rows_left}
 use Rattle.myisamkit.specs.Gathered.{KeepsOthers, Gathers}
 use Rattle.myisamkit.specs.Rebuilt.{slots_of, kept, new_rows, new_state, new_index, is_built}
 use Rattle.myisamkit.specs.Recovered.{Recovered}
@@ -21,27 +22,25 @@ use Rattle.myisamkit.proofs.RecoveredLaws.{recovered}
 use Rattle.myisamkit.specs.Finished.{FourNames, AreApart, IsWhole}
 
 -- a scan of which nothing was read yet
-abbrev pub fresh_scan : List ℕ → ℕ → ℕ → Scanning
-fresh_scan name size end = record { name = name; size = size; end = end; left = None }
+abbrev pub fresh_scan : List ℕ → Defs → ℕ → TableScan
+fresh_scan name defs end = record { name = name; test = defs; extend = false; end = end; left = None; blocks = [] }
 
-pub fresh_is : (s : Scanning) (n0 n1 n2 : List ℕ) (z0 z1 e0 e1 : ℕ) → s ≡ fresh_scan n0 z0 e0 → n0 ≡ n1 → n1 ≡ n2 → z0 ≡ z1 → e0 ≡ e1 → s ≡ fresh_scan n2 z1 e1
-fresh_is s n0 n1 n2 z0 z1 e0 e1 is first second size end = is ∙ (λ i. fresh_scan ((first ∙ second) i) (size i) (end i))
-
-fresh_rows : (name d : List ℕ) (size : ℕ) (m : Holding) → m name ≡ Some d → rows_left (fresh_scan name size (length d)) m ≡ readable size d
-fresh_rows name d size m is =
+fresh_rows : (name d : List ℕ) (defs : Defs) (m : Holding) → m name ≡ Some d → rows_left (fresh_scan name defs (length d)) m ≡ readable defs false d
+unfolding readable
+fresh_rows name d defs m is =
     let file : bytes_of name m ≡ d = ap (λ o. unwrap_or o []) is in
-    ap (λ b. readable size (take (length d) b)) file ∙ ap (readable size) (take_all (length d) d (omega arith))
+    ap (λ b. rows_of (items_in defs false (take (length d) b))) file ∙ ap (λ b. rows_of (items_in defs false b)) (take_all (length d) d (omega arith))
 
 -- the rows of a file that is read whole are written
-pub gathers_rows : (t : FourNames) (defs : Defs) (scan : Scanning) (row end count : ℕ) (m n : Holding) (d : List ℕ) → scan ≡ fresh_scan t.rows defs.slot_length end → row ≡ fields_length defs.fields → end ≡ length d → m t.rows ≡ Some d → Gathers scan t.new_rows row count m n
+pub gathers_rows : (t : FourNames) (defs : Defs) (scan : TableScan) (row end count : ℕ) (m n : Holding) (d : List ℕ) → scan ≡ fresh_scan t.rows defs end → row ≡ fields_length defs.fields → end ≡ length d → m t.rows ≡ Some d → Gathers scan t.new_rows row count m n
     → (n t.new_rows ≡ Some (new_rows defs d)) × (count ≡ length (kept defs d))
 unfolding new_rows
 gathers_rows t defs scan row end count m n d is total long there gathers =
-    let P : Scanning → ℕ → Type 0 = λ s r. Gathers s t.new_rows r count m n in
-    let fresh : Gathers (fresh_scan t.rows defs.slot_length (length d)) t.new_rows (fields_length defs.fields) count m n =
-    subst (λ e. P (fresh_scan t.rows defs.slot_length e) (fields_length defs.fields)) long (subst (λ s. P s (fields_length defs.fields)) is (subst (λ r. P scan r) total gathers)) in
-    let rows = fresh_rows t.rows d defs.slot_length m there in
-    (fresh.here ∙ ap (λ r. Some (slots_of (fields_length defs.fields) defs.slot_length r)) rows, fresh.all ∙ ap (λ (r : List Slot). length r) rows)
+    let P : TableScan → ℕ → Type 0 = λ s r. Gathers s t.new_rows r count m n in
+    let fresh : Gathers (fresh_scan t.rows defs (length d)) t.new_rows (fields_length defs.fields) count m n =
+    subst (λ e. P (fresh_scan t.rows defs e) (fields_length defs.fields)) long (subst (λ s. P s (fields_length defs.fields)) is (subst (λ r. P scan r) total gathers)) in
+    let rows = fresh_rows t.rows d defs m there in
+    (fresh.here ∙ ap (λ r. Some (slots_of (fields_length defs.fields) defs.slot_length r)) rows, fresh.all ∙ ap (λ (r : List Row). length r) rows)
 
 pub length-without_free_pages : (n : ℕ) (rest : List ℕ) → 24 + n ≤ length rest → length (take 24 rest ++ (replicate n 255 ++ drop (24 + n) rest)) ≡ length rest
 length-without_free_pages n rest inside =

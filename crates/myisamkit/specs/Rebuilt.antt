@@ -12,7 +12,8 @@ use Rattle.myi_header.specs.declared.state.State.{State}
 use Rattle.myi_header.specs.Layout.{page_sizes, first_page_of}
 use Rattle.myi_header.specs.StateOf.{state_of}
 use Rattle.myi_header.specs.HeaderOf.{header_of}
-use Rattle.myi_data.specs.Readable.{Slot, readable}
+use Rattle.myi_chain.specs.Readable.{Row}
+use Rattle.myi_data.specs.Readable.{readable}
 
 abbrev pub is_static : RowFormat → Bool
 is_static Static = true
@@ -31,20 +32,20 @@ abbrev pub is_built : Defs → Bool
 is_built d = is_static d.format && ((length d.keys == 0) && list_all (λ f. is_normal f.kind) d.fields)
 
 -- the bytes of a row's fields
-abbrev pub row_of : Defs → Slot → List ℕ
-row_of d slot = take (fields_length d.fields) slot.bytes
+abbrev pub row_of : Defs → Row → List ℕ
+row_of d row = take (fields_length d.fields) row.bytes
 
 -- a slot with a row: its fields, and zeros behind them
 abbrev pub slot_of : ℕ → ℕ → List ℕ → List ℕ
 slot_of row size bytes = take row bytes ++ replicate (size - row) 0
 
 -- slots of rows, one after the other
-abbrev pub slots_of : ℕ → ℕ → List Slot → List ℕ
-slots_of row size rows = flat_map (λ slot. slot_of row size slot.bytes) rows
+abbrev pub slots_of : ℕ → ℕ → List Row → List ℕ
+slots_of row size rows = flat_map (λ r. slot_of row size r.bytes) rows
 
 -- the rows that are kept: all that are readable
-abbrev pub kept : Defs → List ℕ → List Slot
-kept defs d = readable defs.slot_length d
+abbrev pub kept : Defs → List ℕ → List Row
+kept defs d = readable defs false d
 
 -- the new data file
 unfoldable pub new_rows : Defs → List ℕ → List ℕ

@@ -3,8 +3,8 @@ use Rattle.myi_io.specs.declared.files.FileErr.{FileErr}
 use Rattle.myi_io.specs.declared.files.FileErr.TheVariants as file
 use Rattle.myi_io.specs.declared.sink.SinkErr.{SinkErr}
 use Rattle.myi_io.specs.declared.sink.SinkErr.TheVariants as sink
-use Rattle.myi_data.specs.declared.scan.ScanFault.{ScanFault}
-use Rattle.myi_data.specs.declared.scan.ScanFault.TheVariants as scan
+use Rattle.myi_chain.specs.declared.piece.ScanFault.{ScanFault}
+use Rattle.myi_chain.specs.declared.piece.ScanFault.TheVariants as scan
 use Rattle.myisamkit.specs.declared.status.Stop.{Stop}
 use Rattle.myisamkit.specs.declared.status.Stop.TheVariants as stop
 use Rattle.myisamkit.specs.declared.status.Status.{Status}

@@ -2,7 +2,8 @@
 ghost use Rattle.std.specs.Prelude.{◌≡◌, ◌≢◌, ◌≤◌, ◌<◌, ◌+◌, ◌*◌, ◌^◌, List, length, IfOk, OnOk, OnErr, IsTrue, None};
 ghost use Rattle.myi_base.specs.Holding.{Holding, Told, Writes, WritesPart};
 ghost use Rattle.myi_base.specs.Causes.{HasCause};
-ghost use Rattle.myi_data.specs.Scanning.{Scanning};
+ghost use Rattle.myi_defs.specs.declared.types.RowFormat.TheVariants.{Static};
+ghost use Rattle.myi_data.specs.Scanning.{TableScan};
 ghost use Rattle.myisamkit.specs.Rebuilt.{slot_of};
 ghost use Rattle.myisamkit.specs.Gathered.{Gathers, KeepsOthers};
 
@@ -63,7 +64,8 @@ pub(crate) fn gather<F: Files>(
     requires writable { IsTrue F.writable }
     requires apart { scan.old.name ≢ file.now }
     requires fresh { scan.old.left ≡ None }
-    requires slots { scan.old.size ≡ form.slot }
+    requires slotted { scan.old.test.format ≡ Static }
+    requires slots { scan.old.test.slot_length ≡ form.slot }
     requires short { scan.old.end ≤ 2 ^ 40 }
     requires row { form.row ≤ form.slot }
     requires some { 0 < form.slot }

@@ -2,7 +2,7 @@
 ghost use Rattle.std.specs.Prelude.{◌≡◌};
 ghost use Rattle.myisamkit.specs.declared.status.Stop.TheVariants.{Memory};
 
-use myi_data::ScanFault;
+use myi_chain::ScanFault;
 use myi_io::{FileErr, SinkErr};
 use std::alloc::AllocError;
 

@@ -1,6 +1,7 @@
 use Rattle.std.proofs.Common.{◌≡◌, ◌+◌, ◌*◌, ◌≤◌}
 use Rattle.myi_base.specs.Holding.{Told}
-use Rattle.myi_data.specs.Scanning.{most_left, IsSameScan}
+use Rattle.myi_chain.specs.Scanning.{IsSameScan}
+use Rattle.myi_data.specs.Scanning.{most_left}
 use Rattle.myisamkit.specs.Gathered.{KeepsOthers}
 use Rattle.myisamkit.proofs.GatherLaws.{Gathering}
 use Rattle.myisamkit.proofs.gather.gather.Given as goal

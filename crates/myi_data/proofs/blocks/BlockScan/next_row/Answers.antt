@@ -1,0 +1,21 @@
+use Rattle.std.proofs.Common.{◌≡◌, refl, subst, Some}
+use Rattle.std.specs.Prelude.{IfOk, IfSome}
+use Rattle.myi_base.specs.Holding.{Holding}
+use Rattle.myi_chain.specs.Scanning.{IsFirstRow}
+use Rattle.myi_data.specs.Scanning.{rows_left, IsSlotOf, LeavesRows}
+use Rattle.myi_data.proofs.BlockScans.{rows_leave_of, rows_ok, slots_ok}
+use Rattle.myi_data.proofs.blocks.BlockScan.next_row.Goals as goal
+
+pub returns : goal.returns
+returns g c =
+    let h = g.F.Files.holds c.args.files.now in
+    let scan = c.self.inside.scan in (
+      (refl, λ _. tt, subst (λ s. LeavesRows h s c.next_row.result c.next_row.follows.lender-at-none) c.self.view_is (rows_leave_of h scan c.self.invariant c.next_row.result _ c.next_row.follows.holds-at-none)),
+      record {
+        row = subst (λ s. IfOk c.next_row.result (λ found. (m : Holding) → h ≡ Some m → IsFirstRow (rows_left s m) found)) c.self.view_is (rows_ok h scan c.self.invariant c.next_row.result c.next_row.ensures.row);
+        slot = subst (λ s. IfOk c.next_row.result (λ found. IfSome found (IsSlotOf s))) c.self.view_is (slots_ok h scan c.self.invariant c.next_row.result);
+        holds = c.next_row.ensures.holds;
+        cause = c.next_row.ensures.cause;
+        after = tt;
+      },
+    )
