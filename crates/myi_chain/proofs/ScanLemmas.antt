@@ -1,6 +1,7 @@
 -- What a scan has left, before and after the file was read.
 use Rattle.std.proofs.Common.{◌≡◌, ℕ, ◌+◌, Bool, true, false, List, [], ◌∷◌, length, take, Option, Some, None, refl, sym, ap, subst, ◌∙◌, inr}
 use Rattle.std.specs.Prelude.{if◌then◌else◌}
+use Rattle.myi_base.specs.Numbers.{AreBytes}
 use Rattle.myi_base.specs.Ranges.{Range}
 use Rattle.myi_base.specs.Holding.{Holding, bytes_of}
 use Rattle.myi_frames.specs.Block.{block_of}
@@ -57,6 +58,20 @@ module _ {A : Type 0} (gives : A → List ℕ → Bool) (h : Option Holding) whe
         known = λ before e. absurd cc;
         told = λ m held. read_bytes name test extend end bytes m (told m held);
       }
+
+  -- what was read now is bytes
+  pub bytes_now : (s : Scanning A) (name : List ℕ) (test : A) (extend : Bool) (end : ℕ) (left : Option (List Item)) (blocks : List (ℕ × ℕ)) (bytes : List ℕ) → scan_of name test extend end left blocks ≡ s
+      → ((m : Holding) → h ≡ Some m → bytes ≡ take end (bytes_of name m)) → AreBytes bytes → (m : Holding) → h ≡ Some m → s.left ≡ None → AreBytes (take s.end (bytes_of s.name m))
+  bytes_now s name test extend end left blocks bytes is told fits m held none =
+      subst (λ (t : Scanning A). AreBytes (take t.end (bytes_of t.name m))) is (subst AreBytes (told m held) fits)
+
+  -- the file was read before
+  pub bytes_known : (s : Scanning A) (name : List ℕ) (test : A) (extend : Bool) (end : ℕ) (is_read : Bool) (items : List Item) (blocks : List (ℕ × ℕ)) → scan_of name test extend end (if is_read then Some items else None) blocks ≡ s → is_read ≡ true
+      → (m : Holding) → h ≡ Some m → s.left ≡ None → AreBytes (take s.end (bytes_of s.name m))
+  bytes_known s name test extend end is_read items blocks is read m held none =
+      let was = known s name test extend end is_read items blocks is read in
+      let left : Some was.items ≡ None = sym was.left ∙ none in
+      absurd cc
 
   -- the file was read, and these are the scan's fields then
   pub record Opened (old : Scanning A) (name : List ℕ) (test : A) (extend : Bool) (end : ℕ) (is_read : Bool) (items : List Item) (blocks : List (ℕ × ℕ)) : Type 0 where

@@ -3,10 +3,11 @@
 //! The first call reads the file whole. A row of one short block is lent as a slice of what was read;
 //! the bytes of a row of several blocks are joined in a buffer of the scan. What a scan has still to
 //! answer is the model of a `Scan`.
-ghost use Rattle.std.specs.Prelude.{◌≡◌, ◌≤◌, ◌<◌, ◌+◌, ◌^◌, ℕ, List, [], Option, Some, None, length, string_bytes, IfOk, IfSome, OnOk, OnErr};
+ghost use Rattle.std.specs.Prelude.{◌≡◌, ◌≤◌, ◌<◌, ◌+◌, ◌^◌, ℕ, List, [], Option, Some, None, length, take, string_bytes, IfOk, IfSome, OnOk, OnErr};
 ghost use Rattle.std.specs.Borrow.{sem};
 ghost use Rattle.std.specs.Io.BufRead.{Rests};
-ghost use Rattle.myi_base.specs.Holding.{Holding};
+ghost use Rattle.myi_base.specs.Numbers.{AreBytes};
+ghost use Rattle.myi_base.specs.Holding.{Holding, bytes_of};
 ghost use Rattle.myi_base.specs.Causes.{HasCause};
 ghost use Rattle.myi_frames.specs.Block.{Block, block_of};
 ghost use Rattle.myi_chain.specs.Readable.{Row};
@@ -46,6 +47,11 @@ fn bytes_at(bytes: &[u8], at: u64) -> &[u8]
         None => &[],
     }
 }
+
+/// Nothing is done: it states that a slice of bytes holds bytes.
+fn state_bytes(bytes: &[u8])
+    ensures { AreBytes bytes.now }
+{}
 
 fn is_lent(blocks: &[(u64, u32)]) -> bool
     ensures { result ≡ is_lent (ranges_at blocks.now) }
@@ -97,7 +103,9 @@ impl<A: Accepts> Model for Scan<A> {
 }
 
 impl<A: Accepts> Scan<A> {
-    ghost use Rattle.std.specs.Prelude.{◌≡◌, None, [], IfOk, OnOk, OnErr, string_bytes};
+    ghost use Rattle.std.specs.Prelude.{◌≡◌, Option, Some, None, [], take, IfOk, OnOk, OnErr, string_bytes};
+    ghost use Rattle.myi_base.specs.Numbers.{AreBytes};
+    ghost use Rattle.myi_base.specs.Holding.{Holding, bytes_of};
     ghost use Rattle.myi_base.specs.Causes.{HasCause};
     ghost use Rattle.myi_chain.specs.declared.piece.ScanFault.TheVariants.{File};
     ghost use Rattle.myi_chain.specs.Scanning.{Scanning, IsRead};
@@ -134,6 +142,7 @@ impl<A: Accepts> Scan<A> {
     /// Reads the file, if it was not read yet.
     fn read<F: Files>(&mut self, files: &mut F) -> Result<(), ScanFault>
         ensures ok { OnOk result (IsRead A.accepts_gives (F.holds files.old) self.old self.new) }
+        ensures bytes { OnOk result ((m : Holding) → F.holds files.old ≡ Some m → self.old.left ≡ None → AreBytes (take self.old.end (bytes_of self.old.name m))) }
         ensures err { OnErr result (self.new ≡ self.old) }
         ensures holds { F.holds files.new ≡ F.holds files.old }
         ensures cause { HasCause File (F.faults files.old) (F.faults files.new) result }
@@ -143,6 +152,7 @@ impl<A: Accepts> Scan<A> {
         }
         let alloc = *self.held.bytes.allocator();
         self.held.bytes = read_front(alloc, files, self.name.as_str(), self.end)?;
+        state_bytes(&self.held.bytes);
         self.used = Used::new(alloc);
         self.place = 0;
         self.is_read = true;
@@ -151,10 +161,11 @@ impl<A: Accepts> Scan<A> {
 }
 
 impl<A: Accepts> Scan<A> {
-    ghost use Rattle.std.specs.Prelude.{◌≡◌, Option, Some, IfOk, IfSome};
+    ghost use Rattle.std.specs.Prelude.{◌≡◌, Option, Some, None, take, IfOk, IfSome, OnOk};
     ghost use Rattle.std.specs.Borrow.{sem};
     ghost use Rattle.std.specs.Io.BufRead.{Rests};
-    ghost use Rattle.myi_base.specs.Holding.{Holding};
+    ghost use Rattle.myi_base.specs.Numbers.{AreBytes};
+    ghost use Rattle.myi_base.specs.Holding.{Holding, bytes_of};
     ghost use Rattle.myi_base.specs.Causes.{HasCause};
     ghost use Rattle.myi_chain.specs.declared.piece.ScanFault.TheVariants.{File};
     ghost use Rattle.myi_chain.specs.Readable.{rows_of};
@@ -165,6 +176,7 @@ impl<A: Accepts> Scan<A> {
     /// as this one would have.
     pub fn next_item<F: Files>(&mut self, files: &mut F) -> Result<Option<Item<'_>>, ScanFault>
         ensures item { IfOk result (λ found. (m : Holding) → F.holds files.old ≡ Some m → IsFirst (items_left A.accepts_gives self.old m) found) }
+        ensures bytes { OnOk result ((m : Holding) → F.holds files.old ≡ Some m → self.old.left ≡ None → AreBytes (take self.old.end (bytes_of self.old.name m))) }
         ensures holds { F.holds files.new ≡ F.holds files.old }
         ensures cause { HasCause File (F.faults files.old) (F.faults files.new) result }
         ensures* after { sem 𝓛 (Rests (the_row A.row A.Accepts) self.entry (Leaves A.accepts_gives (F.holds files.old) self.old result)) }
@@ -201,6 +213,7 @@ impl<A: Accepts> Scan<A> {
         files: &mut F,
     ) -> Result<Option<(u64, Piece<'_>)>, ScanFault>
         ensures row { IfOk result (λ found. (m : Holding) → F.holds files.old ≡ Some m → IsFirstRow (rows_of (items_left A.accepts_gives self.old m)) found) }
+        ensures bytes { OnOk result ((m : Holding) → F.holds files.old ≡ Some m → self.old.left ≡ None → AreBytes (take self.old.end (bytes_of self.old.name m))) }
         ensures holds { F.holds files.new ≡ F.holds files.old }
         ensures cause { HasCause File (F.faults files.old) (F.faults files.new) result }
         ensures* after { sem 𝓛 (Rests (the_row A.row A.Accepts) self.entry (LeavesRows A.accepts_gives (F.holds files.old) self.old result)) }

@@ -1,5 +1,5 @@
 -- A scan of blocks, seen as a scan of a dynamic table.
-use Rattle.std.proofs.Common.{◌≡◌, ℕ, Bool, List, [], ◌∷◌, take, Option, Some, None, Result, Ok, Err, refl, sym, ap, subst, ◌∙◌, inl, inr}
+use Rattle.std.proofs.Common.{◌≡◌, ℕ, Bool, List, take, Option, Some, None, Result, Ok, Err, sym, ap, subst, ◌∙◌, inl, inr}
 use Rattle.std.specs.Prelude.{IfOk, IfSome}
 use Rattle.myi_base.specs.Holding.{Holding, bytes_of}
 use Rattle.myi_defs.specs.declared.types.RowFormat.{RowFormat}

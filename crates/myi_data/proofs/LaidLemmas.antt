@@ -1,29 +1,25 @@
 -- A file of rows, one block or one slot each, is read as these rows.
-use Rattle.std.proofs.Common.{◌≡◌, ℕ, zero, suc, ◌+◌, ◌*◌, ◌%◌, ◌^◌, ◌<◌, ◌≤◌, Bool, true, false, eqb, List, [], ◌∷◌, ◌++◌, length, take, drop, map, Option, Some, None, refl, sym, ap, subst, ◌∙◌, arith, append_assoc, length-append}
+use Rattle.std.proofs.Common.{◌≡◌, ℕ, ◌+◌, ◌%◌, ◌<◌, ◌≤◌, Bool, true, false, eqb, List, [], ◌∷◌, ◌++◌, length, take, drop, map, Some, refl, sym, ap, subst, ◌∙◌, arith, append_assoc, length-append}
 use Rattle.std.specs.Prelude.{slice_index, All, is_some}
 use Rattle.std.specs.List.{flat_map, AllByRecursion}
 use Rattle.std.proofs.lemmas.Bool.{ne_eqb}
-use Rattle.std.proofs.lemmas.List.{append-nil, take_at, drop_at}
+use Rattle.std.proofs.lemmas.List.{take_at, drop_at}
 use Rattle.std.proofs.lemmas.List.Elements.{recursion_from_All}
 use Rattle.myi_defs.specs.declared.types.RowFormat.{RowFormat}
 use Rattle.myi_defs.specs.declared.types.RowFormat.TheVariants.{Static, Dynamic}
-use Rattle.myi_defs.specs.declared.types.Field.{Field}
-use Rattle.myi_defs.specs.declared.types.FieldKind.{FieldKind}
-use Rattle.myi_defs.specs.declared.types.FieldKind.TheVariants as kind
 use Rattle.myi_defs.specs.declared.types.Defs.{Defs}
-use Rattle.myi_defs.specs.Sound.{IsSound, IsLengthOf}
+use Rattle.myi_defs.specs.Sound.{IsSound}
 use Rattle.myi_frames.specs.Block.{Block, block_of}
 use Rattle.myi_frames.specs.Sizes.{least_size}
-use Rattle.myi_frames.specs.Writing.{IsWritable, block_bytes, whole_spec, written_block}
+use Rattle.myi_frames.specs.Writing.{IsWritable, whole_spec, written_block}
 use Rattle.myi_frames.proofs.WriteLemmas.{length-block, block-joined}
 use Rattle.myi_frames.proofs.SizeLemmas.{least-writable}
-use Rattle.myi_pack.specs.Packed.{Values, Packs, IsStaticRow, IsRow}
-use Rattle.myi_pack.specs.Reading.{row_of}
+use Rattle.myi_pack.specs.Packed.{Values, IsStaticRow, IsRow}
 use Rattle.myi_pack.specs.Spelling.{spelling, fits}
 use Rattle.myi_pack.proofs.RowSpelling.{row-spelled, row-reads}
 use Rattle.myi_chain.specs.Readable.{Row, Item, rows_of}
 use Rattle.myi_chain.specs.Readable as chains
-use Rattle.myi_chain.specs.Laid.{IsWholeRow, AreLaid, whole_row}
+use Rattle.myi_chain.specs.Laid.{AreLaid, whole_row}
 use Rattle.myi_chain.proofs.LaidLemmas as chains_laid
 use Rattle.myi_data.specs.Slots.{Slot, slots_in}
 use Rattle.myi_data.specs.Readable.{packs, slot_row, slot_items, items_at, items_by, items_in, readable}

@@ -1,6 +1,6 @@
 -- The rows of a static table whose fields are all NORMAL.
-use Rattle.std.proofs.Common.{◌≡◌, ℕ, zero, suc, ◌+◌, ◌-◌, ◌*◌, ◌/◌, ◌<◌, ◌≤◌, Bool, true, false, not, eqb, cond, List, [], ◌∷◌, ◌++◌, length, map, take, drop, Option, Some, None, refl, sym, ap, subst, ◌∙◌, arith}
-use Rattle.std.specs.Prelude.{slice_index, filter, All, is_some, nat_le}
+use Rattle.std.proofs.Common.{◌≡◌, ℕ, zero, suc, ◌+◌, ◌*◌, ◌/◌, ◌<◌, ◌≤◌, Bool, true, false, eqb, List, [], ◌∷◌, length, map, take, drop, Option, Some, None, refl, sym, ap, ◌∙◌, arith}
+use Rattle.std.specs.Prelude.{slice_index, filter, is_some, nat_le}
 use Rattle.std.specs.List.{flat_map, AllByRecursion}
 use Rattle.std.proofs.Math.Nat.{div-mul-le_self, le-div_iff_mul-le}
 use Rattle.std.proofs.lemmas.List.{length-take-le, length-drop, length-map}
@@ -8,7 +8,7 @@ use Rattle.std.proofs.lemmas.List.Sums.{length-filter, count_by-le-length, sum_b
 use Rattle.std.proofs.lemmas.List.Elements.{recursion_from_All}
 use Rattle.std.proofs.lemmas.Bool.{eq-eqb, ne_eqb, le-leb}
 use Rattle.myi_defs.specs.declared.types.RowFormat.{RowFormat}
-use Rattle.myi_defs.specs.declared.types.RowFormat.TheVariants.{Static, Dynamic}
+use Rattle.myi_defs.specs.declared.types.RowFormat.TheVariants.{Static}
 use Rattle.myi_defs.specs.declared.types.FieldKind.TheVariants.{Normal}
 use Rattle.myi_defs.specs.declared.types.Field.{Field}
 use Rattle.myi_defs.specs.declared.types.Defs.{Defs}
@@ -16,7 +16,7 @@ use Rattle.myi_defs.specs.Sound.{IsSound, fields_length}
 use Rattle.myi_pack.specs.Packed.{Values}
 use Rattle.myi_pack.specs.Reading.{Cut, row_of, ended, fields_of, then_fields, put_front, field_of}
 use Rattle.myi_pack.specs.Flags.{flag_at, next_flag}
-use Rattle.myi_chain.specs.Readable.{Row, Item, row, free, rows_of}
+use Rattle.myi_chain.specs.Readable.{rows_of}
 use Rattle.myi_data.specs.Slots.{Slot, slots, slots_in}
 use Rattle.myi_data.specs.Readable.{packs, slot_row, slot_items, items_at, items_by, items_in, readable}
 use Rattle.myi_data.specs.Plain.{IsPlain, is_used, plain_rows}

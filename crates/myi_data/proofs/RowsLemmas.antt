@@ -1,11 +1,10 @@
 -- What holds of the readable rows of any bytes.
-use Rattle.std.proofs.Common.{◌≡◌, ℕ, zero, suc, ◌+◌, ◌<◌, ◌≤◌, Bool, true, false, eqb, cond, List, [], ◌∷◌, ◌++◌, length, take, drop, Option, Some, None, refl, sym, ap, subst, ◌∙◌, arith}
+use Rattle.std.proofs.Common.{◌≡◌, ℕ, zero, suc, ◌+◌, ◌<◌, ◌≤◌, Bool, true, false, eqb, cond, List, [], ◌∷◌, ◌++◌, length, take, drop, Option, Some, None, refl, sym, subst, arith}
 use Rattle.std.specs.Prelude.{slice_index, nat_le, filter, is_some, ◌||◌, ◌&&◌}
 use Rattle.std.specs.List.{flat_map, AllByRecursion}
 use Rattle.std.proofs.lemmas.Bool.{le-leb}
-use Rattle.std.proofs.lemmas.List.{length-take-le}
 use Rattle.myi_base.specs.Numbers.{AreBytes}
-use Rattle.myi_base.specs.Ranges.{Range, are_apart, is_apart}
+use Rattle.myi_base.specs.Ranges.{Range, is_apart}
 use Rattle.myi_base.proofs.NumberLaws.{bytes-take, bytes-drop}
 use Rattle.myi_defs.specs.declared.types.RowFormat.{RowFormat}
 use Rattle.myi_defs.specs.declared.types.RowFormat.TheVariants.{Static, Dynamic}
@@ -13,16 +12,16 @@ use Rattle.myi_defs.specs.declared.types.Defs.{Defs}
 use Rattle.myi_defs.specs.Sound.{IsSound}
 use Rattle.myi_frames.specs.Block.{Block, block_of}
 use Rattle.myi_frames.proofs.BlockLemmas.{block-bytes}
-use Rattle.myi_pack.specs.Packed.{Values, Packs}
+use Rattle.myi_pack.specs.Packed.{Values}
 use Rattle.myi_pack.specs.Reading.{row_of}
 use Rattle.myi_pack.proofs.RowLaws.{row-takes}
 use Rattle.myi_chain.specs.Chain.{AreApart, AreLinked, IsTail, row_bytes}
 use Rattle.myi_chain.specs.Readable.{Row, Item, row, free, rows_of, rest}
 use Rattle.myi_chain.specs.Readable as chains
-use Rattle.myi_chain.specs.Meeting.{IsRowOf, IsItemOf, ranges_of, AreRising}
+use Rattle.myi_chain.specs.Meeting.{IsItemOf, ranges_of, AreRising}
 use Rattle.myi_chain.proofs.BlockLemmas.{blocks_read}
 use Rattle.myi_chain.proofs.ReadableLemmas.{rest_fine}
-use Rattle.myi_data.specs.Slots.{Slot, slots, slots_in}
+use Rattle.myi_data.specs.Slots.{Slot, slots}
 use Rattle.myi_data.specs.Readable.{packs, slot_range, slot_row, slot_items, items_at, items_by, items_in, readable, deleted}
 use Rattle.myi_data.specs.Laid.{PackARow}
 

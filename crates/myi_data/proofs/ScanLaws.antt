@@ -1,21 +1,20 @@
 -- What a scan of slots has left, before and after the file was read.
-use Rattle.std.proofs.Common.{◌≡◌, ℕ, ◌+◌, ◌-◌, ◌*◌, ◌/◌, ◌<◌, ◌≤◌, Bool, true, false, List, [], ◌∷◌, length, take, drop, Option, Some, None, refl, sym, ap, subst, ◌∙◌, arith, inr}
-use Rattle.std.specs.Prelude.{if◌then◌else◌, nat_le, option_to_list}
+use Rattle.std.proofs.Common.{◌≡◌, ℕ, ◌+◌, ◌-◌, ◌*◌, ◌/◌, ◌<◌, ◌≤◌, Bool, true, false, List, [], ◌∷◌, length, take, drop, Option, Some, None, refl, sym, ap, subst, ◌∙◌, arith}
+use Rattle.std.specs.Prelude.{if◌then◌else◌, nat_le}
 use Rattle.std.proofs.Math.Nat.{div-mul-le_self, le-div_iff_mul-le}
 use Rattle.std.proofs.lemmas.Bool.{le-leb, lt-leb}
+use Rattle.myi_base.specs.Numbers.{AreBytes}
 use Rattle.myi_base.specs.Holding.{Holding, bytes_of}
 use Rattle.myi_defs.specs.declared.types.RowFormat.{RowFormat}
-use Rattle.myi_defs.specs.declared.types.RowFormat.TheVariants.{Static, Dynamic}
+use Rattle.myi_defs.specs.declared.types.RowFormat.TheVariants.{Static}
 use Rattle.myi_defs.specs.declared.types.Defs.{Defs}
 use Rattle.myi_chain.specs.declared.piece.Piece.{Piece}
-use Rattle.myi_chain.specs.declared.piece.Piece.TheVariants.{Lent, Joined}
 use Rattle.myi_chain.specs.declared.piece.Item.TheVariants as item
 use Rattle.myi_chain.specs.Readable.{Row, Item, row, free, rows_of}
-use Rattle.myi_chain.specs.Walk.{behind_row}
 use Rattle.myi_chain.specs.Pieces.{shown}
 use Rattle.myi_chain.specs.Scanning.{left_or, IsSameScan, IsEnded, IsPiece, IsFirst, IsFirstRow}
 use Rattle.myi_data.specs.Readable.{packs, items_at, items_by, items_in}
-use Rattle.myi_data.specs.Scanning.{TableScan, items_left, rows_left, most_of, most_left, ComesFirst, IsRead, IsKept, IsAnswered, IsRowAnswered, IsSlotOf}
+use Rattle.myi_data.specs.Scanning.{TableScan, items_left, rows_left, most_of, most_left, ComesFirst, IsRead, IsAnswered, IsRowAnswered, IsSlotOf}
 use Rattle.myi_data.specs.declared.slots.NextSlot.{NextSlot}
 use Rattle.myi_data.specs.declared.slots.NextSlot.TheVariants as next
 use Rattle.myi_data.specs.NextSlot.{row_in_slot, IsNextSlot, IsNextRow}
@@ -74,6 +73,20 @@ module _ (h : Option Holding) where
         known = λ before e. absurd cc;
         told = λ m held. static_items test extend (take end (bytes_of name m)) static ∙ ap (items_at (packs test) test.slot_length 0) (sym (told m held) ∙ sym (drop_none bytes));
       }
+
+  -- what was read now is bytes
+  pub bytes_now : (s : TableScan) (name : List ℕ) (test : Defs) (extend : Bool) (end : ℕ) (left : Option (List Item)) (blocks : List (ℕ × ℕ)) (bytes : List ℕ) → scan_of name test extend end left blocks ≡ s
+      → ((m : Holding) → h ≡ Some m → bytes ≡ take end (bytes_of name m)) → AreBytes bytes → (m : Holding) → h ≡ Some m → s.left ≡ None → AreBytes (take s.end (bytes_of s.name m))
+  bytes_now s name test extend end left blocks bytes is told fits m held none =
+      subst (λ (t : TableScan). AreBytes (take t.end (bytes_of t.name m))) is (subst AreBytes (told m held) fits)
+
+  -- the file was read before
+  pub bytes_known : (s : TableScan) (name : List ℕ) (test : Defs) (extend : Bool) (end : ℕ) (is_read : Bool) (items : List Item) (blocks : List (ℕ × ℕ)) → scan_of name test extend end (if is_read then Some items else None) blocks ≡ s → is_read ≡ true
+      → (m : Holding) → h ≡ Some m → s.left ≡ None → AreBytes (take s.end (bytes_of s.name m))
+  bytes_known s name test extend end is_read items blocks is read m held none =
+      let was = known s name test extend end is_read items blocks is read in
+      let left : Some was.items ≡ None = sym was.left ∙ none in
+      absurd cc
 
   -- the file was read, and these are the scan's fields then
   pub record Opened (old : TableScan) (name : List ℕ) (test : Defs) (extend : Bool) (end : ℕ) (is_read : Bool) (items : List Item) (blocks : List (ℕ × ℕ)) : Type 0 where

@@ -1,13 +1,13 @@
 -- What is met in the slots of a file, from a place on.
-use Rattle.std.proofs.Common.{◌≡◌, ◌≢◌, ℕ, zero, suc, ◌+◌, ◌-◌, ◌/◌, ◌<◌, ◌≤◌, Bool, true, false, eqb, cond, List, [], ◌∷◌, ◌++◌, length, take, drop, refl, sym, ap, subst, ◌∙◌, arith, length-append}
+use Rattle.std.proofs.Common.{◌≡◌, ◌≢◌, ℕ, zero, suc, ◌+◌, ◌-◌, ◌/◌, ◌<◌, ◌≤◌, Bool, true, false, eqb, List, [], ◌∷◌, ◌++◌, length, take, drop, refl, sym, ap, subst, ◌∙◌, arith}
 use Rattle.std.specs.Prelude.{slice_index}
 use Rattle.std.specs.List.{flat_map}
 use Rattle.std.proofs.lemmas.Bool.{eq-eqb, ne_eqb}
-use Rattle.std.proofs.lemmas.List.{get_or-take, length-take-le, length-drop, drop-drop}
+use Rattle.std.proofs.lemmas.List.{length-take-le, length-drop, drop-drop}
 use Rattle.myi_chain.specs.Readable.{Row, Item, row, free, rows_of}
 use Rattle.myi_chain.specs.Walk.{behind_row}
 use Rattle.myi_data.specs.Slots.{Slot, slots, slots_in}
-use Rattle.myi_data.specs.Readable.{slot_range, slot_row, slot_items, items_at}
+use Rattle.myi_data.specs.Readable.{slot_items, items_at}
 use Rattle.myi_data.specs.Scanning.{ComesFirst}
 use Rattle.myi_data.specs.NextSlot.{row_in_slot}
 use Rattle.myi_data.proofs.SlotLaws.{slots_more, slots_none, at_place, first_byte}

@@ -1,10 +1,9 @@
 -- The spelling of a row has a byte.
-use Rattle.std.proofs.Common.{◌≡◌, ℕ, ◌+◌, ◌*◌, ◌/◌, ◌<◌, ◌≤◌, ◌⊎◌, Bool, true, false, inl, inr, List, [], ◌∷◌, ◌++◌, length, refl, sym, ap, subst, ◌∙◌, arith, length-append}
-use Rattle.std.specs.Prelude.{All, count_by, if◌then◌else◌}
+use Rattle.std.proofs.Common.{◌≡◌, ℕ, ◌+◌, ◌<◌, Bool, true, false, inl, inr, List, [], ◌∷◌, length, refl, ap, subst, ◌∙◌, arith, length-append}
+use Rattle.std.specs.Prelude.{All, if◌then◌else◌}
 use Rattle.std.specs.List.{AllByRecursion}
 use Rattle.std.proofs.lemmas.List.Elements.{recursion_from_All}
 use Rattle.std.proofs.lemmas.List.Sums.{sum_by-cons}
-use Rattle.myi_base.specs.Numbers.{num_bytes}
 use Rattle.myi_defs.specs.declared.types.RowFormat.{RowFormat}
 use Rattle.myi_defs.specs.declared.types.RowFormat.TheVariants.{Static, Dynamic}
 use Rattle.myi_defs.specs.declared.types.FieldKind.{FieldKind}
@@ -14,7 +13,7 @@ use Rattle.myi_defs.specs.declared.types.Defs.{Defs}
 use Rattle.myi_defs.specs.Sound.{IsSound, IsLengthOf}
 use Rattle.myi_pack.specs.Lengths.{IsVarcharLength}
 use Rattle.myi_pack.specs.Flags.{has_flag, flag_count, flag_bytes}
-use Rattle.myi_pack.specs.Packed.{Values, Packs, PacksField, IsDynamicRow, IsStaticRow, IsRow}
+use Rattle.myi_pack.specs.Packed.{Values, PacksField, IsDynamicRow, IsRow}
 use Rattle.myi_pack.specs.Spelling.{spelling, fits}
 use Rattle.myi_pack.proofs.RowSpelling.{row-spelled}
 

@@ -1,9 +1,8 @@
 -- A walk over the values of a row.
-use Rattle.std.proofs.Common.{◌≡◌, ℕ, zero, suc, ◌+◌, ◌-◌, ◌<◌, Bool, true, false, List, [], ◌∷◌, length, get_or, drop, Option, Some, None, refl, sym, ap, subst, ◌∙◌, arith}
+use Rattle.std.proofs.Common.{◌≡◌, ℕ, ◌+◌, ◌-◌, ◌<◌, true, false, List, [], ◌∷◌, length, get_or, drop, Option, Some, None, refl, sym, ap, subst, ◌∙◌, arith}
 use Rattle.std.specs.Prelude.{IsSome, slice_index}
 use Rattle.std.proofs.lemmas.List.{length-drop, get_or-drop}
 use Rattle.std.proofs.lemmas.Bool.{and_parts}
-use Rattle.myi_defs.specs.declared.types.RowFormat.{RowFormat}
 use Rattle.myi_defs.specs.declared.types.FieldKind.{FieldKind}
 use Rattle.myi_defs.specs.declared.types.FieldKind.TheVariants.{Normal, SkipEndspace, SkipPrespace, SkipZero, Blob, Varchar}
 use Rattle.myi_defs.specs.declared.types.Field.{Field}
@@ -11,7 +10,7 @@ use Rattle.myi_defs.specs.Kinds.{is_fixed, is_plain_at}
 use Rattle.myi_pack.specs.declared.fields.FieldView.{FieldView}
 use Rattle.myi_pack.specs.Packed.{Values}
 use Rattle.myi_pack.specs.Spelling.{fits_field, fits_fields}
-use Rattle.myi_pack.specs.Views.{shown, Shows, IsNext, IsNextShown}
+use Rattle.myi_pack.specs.Views.{shown, IsNext, IsNextShown}
 use Rattle.myi_data.specs.Keys.{AreValues, byte_at}
 use Rattle.myi_data.proofs.KeyLemmas.{fixed_long}
 

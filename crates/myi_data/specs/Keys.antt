@@ -1,6 +1,6 @@
 -- The key of a row (MySQL Internals Manual, "The .MYI file", on key segments: a segment is a part of a field, and where
 -- a bit of the null bits is set in the row there is no value).
-use Rattle.std.specs.Prelude.{◌≡◌, ◌-◌, ◌==◌, ℕ, Bool, true, not, ◌&&◌, if◌then◌else◌, List, [], ◌∷◌, map, take, drop, slice_index, slice_index_or, slice_get, bit_and, Option}
+use Rattle.std.specs.Prelude.{◌≡◌, ◌-◌, ◌==◌, ℕ, Bool, true, not, ◌&&◌, if◌then◌else◌, List, [], ◌∷◌, map, take, drop, slice_index, slice_index_or, slice_get, bit_and}
 use Rattle.std.specs.Option.{option_map_or}
 use Rattle.myi_defs.specs.declared.types.RowFormat.{RowFormat}
 use Rattle.myi_defs.specs.declared.types.Field.{Field}

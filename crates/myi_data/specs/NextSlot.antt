@@ -3,7 +3,6 @@ use Rattle.std.specs.Prelude.{◌≡◌, ◌+◌, ◌≤◌, ℕ, Bool, List, []
 use Rattle.myi_chain.specs.Readable.{Row, row, free, rows_of}
 use Rattle.myi_data.specs.declared.slots.NextSlot.{NextSlot}
 use Rattle.myi_data.specs.declared.slots.NextSlot.TheVariants as next
-use Rattle.myi_data.specs.Slots.{Slot}
 use Rattle.myi_data.specs.Readable.{items_at, slot_row}
 use Rattle.myi_data.specs.Scanning.{ComesFirst}
 

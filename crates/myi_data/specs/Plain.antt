@@ -4,7 +4,7 @@ use Rattle.myi_defs.specs.declared.types.RowFormat.TheVariants.{Static}
 use Rattle.myi_defs.specs.declared.types.FieldKind.TheVariants.{Normal}
 use Rattle.myi_defs.specs.declared.types.Defs.{Defs}
 use Rattle.myi_chain.specs.Readable.{Row}
-use Rattle.myi_data.specs.Slots.{Slot, slots_in}
+use Rattle.myi_data.specs.Slots.{slots_in}
 use Rattle.myi_data.specs.Readable.{slot_row}
 
 abbrev pub IsPlain : Defs → Type 0

@@ -1,5 +1,5 @@
 -- What a scan of a table's data file has still to answer.
-use Rattle.std.specs.Prelude.{◌≡◌, ◌⊎◌, ◌≤◌, ◌<◌, ◌+◌, ◌/◌, ℕ, List, [], ◌∷◌, length, take, Option, Some, None, Result, Ok, Err}
+use Rattle.std.specs.Prelude.{◌≡◌, ◌⊎◌, ◌≤◌, ◌<◌, ◌+◌, ◌/◌, ℕ, List, ◌∷◌, length, take, Option, Some, None, Result, Ok, Err}
 use Rattle.myi_base.specs.Holding.{Holding, bytes_of}
 use Rattle.myi_defs.specs.declared.types.RowFormat.TheVariants.{Static}
 use Rattle.myi_defs.specs.declared.types.Defs.{Defs}

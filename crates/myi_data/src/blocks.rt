@@ -1,8 +1,9 @@
 //! `BlockScan`: the blocks of a dynamic table's data file, seen as a scan of a table.
-ghost use Rattle.std.specs.Prelude.{◌≡◌, [], Option, None, Some, IfOk, IfSome};
+ghost use Rattle.std.specs.Prelude.{◌≡◌, [], Option, None, Some, take, IfOk, IfSome, OnOk};
 ghost use Rattle.std.specs.Borrow.{sem};
 ghost use Rattle.std.specs.Io.BufRead.{Rests};
-ghost use Rattle.myi_base.specs.Holding.{Holding};
+ghost use Rattle.myi_base.specs.Numbers.{AreBytes};
+ghost use Rattle.myi_base.specs.Holding.{Holding, bytes_of};
 ghost use Rattle.myi_base.specs.Causes.{HasCause};
 ghost use Rattle.myi_defs.specs.declared.types.RowFormat.TheVariants.{Dynamic};
 ghost use Rattle.myi_chain.specs.declared.piece.ScanFault.TheVariants.{File};
@@ -34,10 +35,11 @@ impl Model for BlockScan {
 }
 
 impl BlockScan {
-    ghost use Rattle.std.specs.Prelude.{◌≡◌, [], None, Option, Some, IfOk, IfSome};
+    ghost use Rattle.std.specs.Prelude.{◌≡◌, [], None, Option, Some, take, IfOk, IfSome, OnOk};
     ghost use Rattle.std.specs.Borrow.{sem};
     ghost use Rattle.std.specs.Io.BufRead.{Rests};
-    ghost use Rattle.myi_base.specs.Holding.{Holding};
+    ghost use Rattle.myi_base.specs.Numbers.{AreBytes};
+    ghost use Rattle.myi_base.specs.Holding.{Holding, bytes_of};
     ghost use Rattle.myi_base.specs.Causes.{HasCause};
     ghost use Rattle.myi_defs.specs.declared.types.RowFormat.TheVariants.{Dynamic};
     ghost use Rattle.myi_chain.specs.declared.piece.ScanFault.TheVariants.{File};
@@ -65,6 +67,7 @@ impl BlockScan {
         files: &mut F,
     ) -> Result<Option<Item<'_>>, ScanFault>
         ensures item { IfOk result (λ found. (m : Holding) → F.holds files.old ≡ Some m → IsFirst (items_left self.old m) found) }
+        ensures bytes { OnOk result ((m : Holding) → F.holds files.old ≡ Some m → self.old.left ≡ None → AreBytes (take self.old.end (bytes_of self.old.name m))) }
         ensures holds { F.holds files.new ≡ F.holds files.old }
         ensures cause { HasCause File (F.faults files.old) (F.faults files.new) result }
         ensures* after { sem 𝓛 (Rests the_row self.entry (Leaves (F.holds files.old) self.old result)) }
@@ -79,6 +82,7 @@ impl BlockScan {
     ) -> Result<Option<(u64, Piece<'_>)>, ScanFault>
         ensures row { IfOk result (λ found. (m : Holding) → F.holds files.old ≡ Some m → IsFirstRow (rows_left self.old m) found) }
         ensures slot { IfOk result (λ found. IfSome found (IsSlotOf self.old)) }
+        ensures bytes { OnOk result ((m : Holding) → F.holds files.old ≡ Some m → self.old.left ≡ None → AreBytes (take self.old.end (bytes_of self.old.name m))) }
         ensures holds { F.holds files.new ≡ F.holds files.old }
         ensures cause { HasCause File (F.faults files.old) (F.faults files.new) result }
         ensures* after { sem 𝓛 (Rests the_row self.entry (LeavesRows (F.holds files.old) self.old result)) }

@@ -3,10 +3,11 @@
 //! It is a `SlotScan` of a static table or a `BlockScan` of a dynamic one, each with the table's
 //! definitions as the test of what packs a row. What a scan has still to answer is its model, a
 //! `TableScan` of `specs/Scanning`, the same for both.
-ghost use Rattle.std.specs.Prelude.{◌≡◌, [], Option, None, Some, IfOk, IfSome};
+ghost use Rattle.std.specs.Prelude.{◌≡◌, [], Option, None, Some, take, IfOk, IfSome, OnOk};
 ghost use Rattle.std.specs.Borrow.{sem};
 ghost use Rattle.std.specs.Io.BufRead.{Rests};
-ghost use Rattle.myi_base.specs.Holding.{Holding};
+ghost use Rattle.myi_base.specs.Numbers.{AreBytes};
+ghost use Rattle.myi_base.specs.Holding.{Holding, bytes_of};
 ghost use Rattle.myi_base.specs.Causes.{HasCause};
 ghost use Rattle.myi_chain.specs.declared.piece.ScanFault.TheVariants.{File};
 ghost use Rattle.myi_chain.specs.Readable.{rows_of};
@@ -46,10 +47,11 @@ impl Model for DataScan {
 }
 
 impl DataScan {
-    ghost use Rattle.std.specs.Prelude.{◌≡◌, Option, Some, IfOk, IfSome};
+    ghost use Rattle.std.specs.Prelude.{◌≡◌, Option, Some, None, take, IfOk, IfSome, OnOk};
     ghost use Rattle.std.specs.Borrow.{sem};
     ghost use Rattle.std.specs.Io.BufRead.{Rests};
-    ghost use Rattle.myi_base.specs.Holding.{Holding};
+    ghost use Rattle.myi_base.specs.Numbers.{AreBytes};
+    ghost use Rattle.myi_base.specs.Holding.{Holding, bytes_of};
     ghost use Rattle.myi_base.specs.Causes.{HasCause};
     ghost use Rattle.myi_chain.specs.declared.piece.ScanFault.TheVariants.{File};
     ghost use Rattle.myi_chain.specs.Scanning.{IsFirst, IsFirstRow};
@@ -73,6 +75,7 @@ impl DataScan {
     /// row's block meets. After an error the next call answers as this one would have.
     pub fn next_item<F: Files>(&mut self, files: &mut F) -> Result<Option<Item<'_>>, ScanFault>
         ensures item { IfOk result (λ found. (m : Holding) → F.holds files.old ≡ Some m → IsFirst (items_left self.old m) found) }
+        ensures bytes { OnOk result ((m : Holding) → F.holds files.old ≡ Some m → self.old.left ≡ None → AreBytes (take self.old.end (bytes_of self.old.name m))) }
         ensures holds { F.holds files.new ≡ F.holds files.old }
         ensures cause { HasCause File (F.faults files.old) (F.faults files.new) result }
         ensures* after { sem 𝓛 (Rests the_row self.entry (Leaves (F.holds files.old) self.old result)) }
@@ -92,6 +95,7 @@ impl DataScan {
     ) -> Result<Option<(u64, Piece<'_>)>, ScanFault>
         ensures row { IfOk result (λ found. (m : Holding) → F.holds files.old ≡ Some m → IsFirstRow (rows_left self.old m) found) }
         ensures slot { IfOk result (λ found. IfSome found (IsSlotOf self.old)) }
+        ensures bytes { OnOk result ((m : Holding) → F.holds files.old ≡ Some m → self.old.left ≡ None → AreBytes (take self.old.end (bytes_of self.old.name m))) }
         ensures holds { F.holds files.new ≡ F.holds files.old }
         ensures cause { HasCause File (F.faults files.old) (F.faults files.new) result }
         ensures* after { sem 𝓛 (Rests the_row self.entry (LeavesRows (F.holds files.old) self.old result)) }

@@ -4,7 +4,8 @@
 ghost use Rattle.std.specs.Prelude.{◌≡◌, ◌≤◌, ◌<◌, ◌+◌, ◌*◌, ◌/◌, ℕ, List, [], ◌∷◌, Option, Some, None, length, string_bytes, drop, take, IfOk, IfSome, OnOk, OnErr, MatchOption, slice_index};
 ghost use Rattle.std.specs.Borrow.{sem};
 ghost use Rattle.std.specs.Io.BufRead.{Rests};
-ghost use Rattle.myi_base.specs.Holding.{Holding};
+ghost use Rattle.myi_base.specs.Numbers.{AreBytes};
+ghost use Rattle.myi_base.specs.Holding.{Holding, bytes_of};
 ghost use Rattle.myi_base.specs.Causes.{HasCause};
 ghost use Rattle.myi_defs.specs.declared.types.RowFormat.TheVariants.{Static};
 ghost use Rattle.myi_chain.specs.declared.piece.ScanFault.TheVariants.{File, Memory};
@@ -63,6 +64,11 @@ fn next_row_place(bytes: &[u8], test: &RowTest, from: usize, size: usize) -> Opt
     None
 }
 
+/// Nothing is done: it states that a slice of bytes holds bytes.
+fn state_bytes(bytes: &[u8])
+    ensures { AreBytes bytes.now }
+{}
+
 /// A slot at a place, and nothing where there is none.
 fn slot_at(bytes: &[u8], at: usize, size: usize) -> &[u8]
     ensures { at + size ≤ length bytes.now → result.now ≡ take size (drop at bytes.now) }
@@ -103,7 +109,9 @@ impl Model for SlotScan {
 }
 
 impl SlotScan {
-    ghost use Rattle.std.specs.Prelude.{◌≡◌, None, [], IfOk, OnOk, OnErr};
+    ghost use Rattle.std.specs.Prelude.{◌≡◌, Option, Some, None, [], take, IfOk, OnOk, OnErr};
+    ghost use Rattle.myi_base.specs.Numbers.{AreBytes};
+    ghost use Rattle.myi_base.specs.Holding.{Holding, bytes_of};
     ghost use Rattle.myi_base.specs.Causes.{HasCause};
     ghost use Rattle.myi_defs.specs.declared.types.RowFormat.TheVariants.{Static};
     ghost use Rattle.myi_chain.specs.declared.piece.ScanFault.TheVariants.{File};
@@ -135,6 +143,7 @@ impl SlotScan {
     /// Reads the file, if it was not read yet.
     fn read<F: Files>(&mut self, files: &mut F) -> Result<(), ScanFault>
         ensures ok { OnOk result (IsRead (F.holds files.old) self.old self.new) }
+        ensures bytes { OnOk result ((m : Holding) → F.holds files.old ≡ Some m → self.old.left ≡ None → AreBytes (take self.old.end (bytes_of self.old.name m))) }
         ensures err { OnErr result (self.new ≡ self.old) }
         ensures holds { F.holds files.new ≡ F.holds files.old }
         ensures cause { HasCause File (F.faults files.old) (F.faults files.new) result }
@@ -144,6 +153,7 @@ impl SlotScan {
         }
         let alloc = *self.bytes.allocator();
         self.bytes = read_front(alloc, files, self.name.as_str(), self.end)?;
+        state_bytes(&self.bytes);
         self.at = 0;
         self.is_read = true;
         Ok(())
@@ -151,10 +161,11 @@ impl SlotScan {
 }
 
 impl SlotScan {
-    ghost use Rattle.std.specs.Prelude.{◌≡◌, Option, Some, IfOk, IfSome};
+    ghost use Rattle.std.specs.Prelude.{◌≡◌, Option, Some, None, take, IfOk, IfSome, OnOk};
     ghost use Rattle.std.specs.Borrow.{sem};
     ghost use Rattle.std.specs.Io.BufRead.{Rests};
-    ghost use Rattle.myi_base.specs.Holding.{Holding};
+    ghost use Rattle.myi_base.specs.Numbers.{AreBytes};
+    ghost use Rattle.myi_base.specs.Holding.{Holding, bytes_of};
     ghost use Rattle.myi_base.specs.Causes.{HasCause};
     ghost use Rattle.myi_chain.specs.declared.piece.ScanFault.TheVariants.{File};
     ghost use Rattle.myi_chain.specs.Scanning.{IsFirst, IsFirstRow};
@@ -167,6 +178,7 @@ impl SlotScan {
         files: &mut F,
     ) -> Result<Option<Item<'_>>, ScanFault>
         ensures item { IfOk result (λ found. (m : Holding) → F.holds files.old ≡ Some m → IsFirst (items_left self.old m) found) }
+        ensures bytes { OnOk result ((m : Holding) → F.holds files.old ≡ Some m → self.old.left ≡ None → AreBytes (take self.old.end (bytes_of self.old.name m))) }
         ensures holds { F.holds files.new ≡ F.holds files.old }
         ensures cause { HasCause File (F.faults files.old) (F.faults files.new) result }
         ensures* after { sem 𝓛 (Rests the_row self.entry (Leaves (F.holds files.old) self.old result)) }
@@ -206,6 +218,7 @@ impl SlotScan {
     ) -> Result<Option<(u64, Piece<'_>)>, ScanFault>
         ensures row { IfOk result (λ found. (m : Holding) → F.holds files.old ≡ Some m → IsFirstRow (rows_left self.old m) found) }
         ensures slot { IfOk result (λ found. IfSome found (IsSlotOf self.old)) }
+        ensures bytes { OnOk result ((m : Holding) → F.holds files.old ≡ Some m → self.old.left ≡ None → AreBytes (take self.old.end (bytes_of self.old.name m))) }
         ensures holds { F.holds files.new ≡ F.holds files.old }
         ensures cause { HasCause File (F.faults files.old) (F.faults files.new) result }
         ensures* after { sem 𝓛 (Rests the_row self.entry (LeavesRows (F.holds files.old) self.old result)) }

@@ -46,23 +46,25 @@ fn scan_of(alloc: Global, text: &[u8], end: u64, extend: bool) -> Result<DataSca
 }
 
 /// What an answer says: how it came, the place, and the number of bytes.
-fn told(answer: Result<Option<Item>, ScanFault>) -> (u8, u64, usize) {
+fn told(answer: Result<Option<Item>, ScanFault>) -> Result<(u8, u64, usize), AllocError> {
     match answer {
-        Ok(None) => (0, 0, 0),
-        Ok(Some(Item::Row(at, Piece::Lent(bytes)))) => (1, at, bytes.len()),
-        Ok(Some(Item::Row(at, Piece::Joined(bytes)))) => (2, at, bytes.len()),
-        Ok(Some(Item::Free { at, size })) => (3, at, size as usize),
-        Err(ScanFault::File) => (4, 0, 0),
-        Err(ScanFault::Memory) => (5, 0, 0),
+        Ok(None) => Ok((0, 0, 0)),
+        Ok(Some(Item::Row(at, Piece::Lent(bytes)))) => Ok((1, at, bytes.len())),
+        Ok(Some(Item::Row(at, Piece::Joined(bytes)))) => Ok((2, at, bytes.len())),
+        Ok(Some(Item::Free { at, size })) => Ok((3, at, size as usize)),
+        Err(ScanFault::File) => Ok((4, 0, 0)),
+        Err(ScanFault::Memory) => Err(AllocError),
     }
 }
 
-fn told_row(answer: Result<Option<(u64, Piece)>, ScanFault>) -> (u8, u64, usize) {
+fn told_row(
+    answer: Result<Option<(u64, Piece)>, ScanFault>,
+) -> Result<(u8, u64, usize), AllocError> {
     match answer {
-        Ok(None) => (0, 0, 0),
-        Ok(Some((at, piece))) => (1, at, piece.bytes().len()),
-        Err(ScanFault::File) => (4, 0, 0),
-        Err(ScanFault::Memory) => (5, 0, 0),
+        Ok(None) => Ok((0, 0, 0)),
+        Ok(Some((at, piece))) => Ok((1, at, piece.bytes().len())),
+        Err(ScanFault::File) => Ok((4, 0, 0)),
+        Err(ScanFault::Memory) => Err(AllocError),
     }
 }
 
@@ -83,10 +85,13 @@ fn expect(rt: &impl Abort, alloc: Global, met: &Met) -> Result<(), Fail> {
     let mut files = files(alloc, &bytes, &[])?;
     let mut scan = scan_of(alloc, met.text, met.end, met.extend)?;
     for want in met.wants {
-        assert_eq!(rt; told(scan.next_item(&mut files)), *want);
+        let answer = told(scan.next_item(&mut files))?;
+        assert_eq!(rt; answer, *want);
     }
-    assert_eq!(rt; told(scan.next_item(&mut files)), (0, 0, 0));
-    assert_eq!(rt; told(scan.next_item(&mut files)), (0, 0, 0));
+    let end = told(scan.next_item(&mut files))?;
+    assert_eq!(rt; end, (0, 0, 0));
+    let again = told(scan.next_item(&mut files))?;
+    assert_eq!(rt; again, (0, 0, 0));
     Ok(())
 }
 
@@ -113,7 +118,7 @@ const HIDING: &[u8] = b"\0\0\0\x1c\xff\xff\xff\xff\xff\xff\xff\xff\xff\xff\xff\x
 
 const HIDDEN: &[u8] = b"\x09\0\x11\x07bcde\x07\0\x15ijklmnopqr\0\0\0\0\0\0\0";
 
-const MET: [Met; 14] = [
+const MET: [Met; 15] = [
     Met {
         text: A,
         parts: &[SLOTS],
@@ -218,6 +223,19 @@ const MET: [Met; 14] = [
         extend: false,
         wants: &[],
     },
+    Met {
+        text: FOUR,
+        parts: &[
+            b"\x01\x00\x11",
+            ANN,
+            b"\x03\x00\x07\x09",
+            NOBODY,
+            b"\0\0\0\0\0\0\0\0\0",
+        ],
+        end: 40,
+        extend: false,
+        wants: &[(1, 0, 17), (1, 20, 7)],
+    },
 ];
 
 #[test]
@@ -260,7 +278,7 @@ fn expect_rows(
     rows: &[Shown],
 ) -> Result<(), Fail> {
     for (row, blocks) in rows {
-        let answer = told_row(scan.next_row(files));
+        let answer = told_row(scan.next_row(files))?;
         assert_eq!(rt; answer, *row);
         assert!(rt; blocks.is_empty() || has_blocks(scan, blocks));
     }
@@ -291,7 +309,7 @@ fn slot_of(alloc: Global, text: &[u8], size: usize) -> Result<(u8, u64, usize), 
     let bytes = vec![in alloc; b'-'; size]?;
     let mut files = files(alloc, &bytes, &[])?;
     let mut scan = scan_of(alloc, text, size as u64, false)?;
-    Ok(told(scan.next_item(&mut files)))
+    Ok(told(scan.next_item(&mut files))?)
 }
 
 const WIDE: &[u8] = b"rows static\nfield normal 65535\nfield normal 65535\nfield normal 2\n";
@@ -329,9 +347,10 @@ fn has_code(code: Option<Vec<u8>>, want: &[u8]) -> bool {
     }
 }
 
-/// A row of a table with one key, and the code of its key.
+/// A row of a table, the number of a key, and the code of the row's key.
 struct Keyed {
     text: &'static [u8],
+    key: usize,
     row: &'static [u8],
     code: &'static [u8],
 }
@@ -360,81 +379,128 @@ const ZEROS: &[u8] =
 const TWO: &[u8] =
     b"rows dynamic\nfield normal 1\nfield varchar 11\nfield normal 4\nkey plain\nseg vartext 1 10 8 1 0\nseg long_int 12 4 0 0 0\n";
 
-const KEYED: [Keyed; 15] = [
+const FOUR: &[u8] =
+    b"rows dynamic\nfield normal 1\nfield normal 4\nfield varchar 101\nfield blob 10\nkey unique\nseg long_int 1 4 0 0 0\nkey plain\nseg vartext 5 100 8 1 0\n";
+
+// Two rows of that table; in the second the text is absent.
+const ANN: &[u8] = b"\0\xFC\x01\0\0\0\x03Ann\x05\0hello";
+
+const NOBODY: &[u8] = b"\x01\xFF\x02\0\0\0\0";
+
+const KEYED: [Keyed; 19] = [
     Keyed {
         text: INTEGER,
+        key: 0,
         row: b"\xFF\xFF\xFF\xFF\xFF\0\0\0\0",
         code: b"\x05\x7F\xFF\xFF\xFF",
     },
     Keyed {
         text: INTEGER,
+        key: 0,
         row: b"\xFF\0\0\0\0\0\0\0\0",
         code: b"\x05\x80\0\0\0",
     },
     Keyed {
         text: INTEGER,
+        key: 0,
         row: b"\xFF\xFF\xFF\xFF\x7F\0\0\0\0",
         code: b"\x05\xFF\xFF\xFF\xFF",
     },
     Keyed {
         text: INTEGER,
+        key: 0,
         row: b"\xFF\0\0\0\x80\0\0\0\0",
         code: b"\x05\0\0\0\0",
     },
     Keyed {
         text: NULLABLE,
+        key: 0,
         row: b"\xFF\0\0\0\0\x0A\0\0\0",
         code: b"\0",
     },
     Keyed {
         text: NULLABLE,
+        key: 0,
         row: b"\xFD\x01\0\0\0\x1E\0\0\0",
         code: b"\x05\x80\0\0\x01",
     },
     Keyed {
         text: TEXT,
+        key: 0,
         row: b"\xFE\x01a",
         code: b"\x02A",
     },
     Keyed {
         text: TEXT,
+        key: 0,
         row: b"\xFE\x03a  ",
         code: b"\x02A",
     },
     Keyed {
         text: BINARY,
+        key: 0,
         row: b"\xFE\x03a  ",
         code: b"\x04a  ",
     },
     Keyed {
         text: PART,
+        key: 0,
         row: b"\x01\xFE\x04abcd",
         code: b"\x05cd  ",
     },
     Keyed {
         text: LED,
+        key: 0,
         row: b"\x01\xFE\x04abcd",
         code: b"\x05  ab",
     },
     Keyed {
         text: ZEROS,
+        key: 0,
         row: b"\x01\xF8",
         code: b"\x05\0\0\0\0",
     },
     Keyed {
         text: ZEROS,
+        key: 0,
         row: b"\x01\xFA",
         code: b"\0",
     },
     Keyed {
         text: TWO,
+        key: 0,
         row: b"\xFC\x03Ann\x01\0\0\0",
         code: b"\x04ANN\x05\x80\0\0\x01",
     },
     Keyed {
         text: TWO,
+        key: 0,
         row: b"\xFF\0\x02\0\0\0",
         code: b"\0\x05\x80\0\0\x02",
+    },
+    Keyed {
+        text: FOUR,
+        key: 0,
+        row: ANN,
+        code: b"\x05\x80\0\0\x01",
+    },
+    Keyed {
+        text: FOUR,
+        key: 1,
+        row: ANN,
+        code: b"\x04ANN",
+    },
+    Keyed {
+        text: FOUR,
+        key: 0,
+        row: NOBODY,
+        code: b"\x05\x80\0\0\x02",
+    },
+    Keyed {
+        text: FOUR,
+        key: 1,
+        row: NOBODY,
+        code: b"\0",
     },
 ];
 
@@ -443,7 +509,7 @@ fn rows_have_these_keys(rt: HostRuntime) -> Result<(), Fail> {
     let alloc = rt.alloc();
     for keyed in &KEYED {
         let defs = definitions(alloc, keyed.text)?;
-        let code = key_code(alloc, &defs, 0, keyed.row)?;
+        let code = key_code(alloc, &defs, keyed.key, keyed.row)?;
         assert!(rt; has_code(code, keyed.code));
     }
     Ok(())

@@ -18,6 +18,7 @@ returns-in-Row g c =
       (refl, λ _. tt, answer),
       record {
         item = λ m held. subst (λ is. IsFirst is (Some (item.Row c.in-Row.at c.piece_at.result))) (sym (answer.told m held)) answer.item;
+        bytes = c.in_ok-read.ensures.bytes;
         holds = c.read.ensures.holds;
         cause = record { later = c.read.ensures.cause.later; cause = λ e. absurd cc };
         after = tt;
@@ -35,6 +36,7 @@ returns-in-Free g c =
       (refl, λ _. tt, answer),
       record {
         item = λ m held. subst (λ is. IsFirst is (Some (item.Free c.in-Free.at c.in-Free.size))) (sym (answer.told m held)) answer.item;
+        bytes = c.in_ok-read.ensures.bytes;
         holds = c.read.ensures.holds;
         cause = record { later = c.read.ensures.cause.later; cause = λ e. absurd cc };
         after = tt;

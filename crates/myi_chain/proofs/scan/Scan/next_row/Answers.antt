@@ -17,6 +17,7 @@ returns g c =
       (refl, λ _. tt, answer),
       record {
         row = λ m held. subst (λ rows. IsFirstRow rows (Some (c.in-Some.at, c.piece_at.result))) (sym (answer.told m held).0) (answer.at, answer.piece);
+        bytes = c.in_ok-read.ensures.bytes;
         holds = c.read.ensures.holds;
         cause = record { later = c.read.ensures.cause.later; cause = λ e. absurd cc };
         after = tt;

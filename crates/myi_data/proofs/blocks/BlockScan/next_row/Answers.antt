@@ -1,8 +1,9 @@
-use Rattle.std.proofs.Common.{◌≡◌, refl, subst, Some}
-use Rattle.std.specs.Prelude.{IfOk, IfSome}
-use Rattle.myi_base.specs.Holding.{Holding}
+use Rattle.std.proofs.Common.{◌≡◌, take, refl, subst, Some, None}
+use Rattle.std.specs.Prelude.{IfOk, IfSome, OnOk}
+use Rattle.myi_base.specs.Numbers.{AreBytes}
+use Rattle.myi_base.specs.Holding.{Holding, bytes_of}
 use Rattle.myi_chain.specs.Scanning.{IsFirstRow}
-use Rattle.myi_data.specs.Scanning.{rows_left, IsSlotOf, LeavesRows}
+use Rattle.myi_data.specs.Scanning.{TableScan, rows_left, IsSlotOf, LeavesRows}
 use Rattle.myi_data.proofs.BlockScans.{rows_leave_of, rows_ok, slots_ok}
 use Rattle.myi_data.proofs.blocks.BlockScan.next_row.Goals as goal
 
@@ -14,6 +15,7 @@ returns g c =
       record {
         row = subst (λ s. IfOk c.next_row.result (λ found. (m : Holding) → h ≡ Some m → IsFirstRow (rows_left s m) found)) c.self.view_is (rows_ok h scan c.self.invariant c.next_row.result c.next_row.ensures.row);
         slot = subst (λ s. IfOk c.next_row.result (λ found. IfSome found (IsSlotOf s))) c.self.view_is (slots_ok h scan c.self.invariant c.next_row.result);
+        bytes = subst (λ (s : TableScan). OnOk c.next_row.result ((m : Holding) → h ≡ Some m → s.left ≡ None → AreBytes (take s.end (bytes_of s.name m)))) c.self.view_is c.next_row.ensures.bytes;
         holds = c.next_row.ensures.holds;
         cause = c.next_row.ensures.cause;
         after = tt;

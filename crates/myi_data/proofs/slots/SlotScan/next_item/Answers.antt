@@ -1,4 +1,4 @@
-use Rattle.std.proofs.Common.{◌∙◌, ◌≡◌, sym, ap, refl, subst, arith, length, drop, take, Some}
+use Rattle.std.proofs.Common.{◌∙◌, sym, ap, refl, subst, arith, Some}
 use Rattle.std.proofs.lemmas.List.{length-drop}
 use Rattle.myi_chain.specs.declared.piece.Item.TheVariants as item
 use Rattle.myi_chain.specs.declared.piece.Piece.TheVariants.{Lent, Joined}
@@ -17,6 +17,7 @@ returns-in_default g c =
       (refl, λ _. tt, ended _ _ _ _ _ _ _ _ _ open_scan _ (items_none (packs i.test) i.test.slot_length c.len-self-inside.result i.bytes.items (omega arith) (omega (arith, c.self.invariant.1)))),
       record {
         item = none_first _ _ _ _ _ _ _ _ _ open_scan none;
+        bytes = c.in_ok-read.ensures.bytes;
         holds = c.read.ensures.holds;
         cause = record { later = c.read.ensures.cause.later; cause = λ e. absurd cc };
         after = tt;
@@ -33,6 +34,7 @@ returns-in-Free g c =
       (refl, λ _. tt, answer),
       record {
         item = λ m held. subst (λ is. IsFirst is (Some (item.Free c.in-Free.at c.slot_length-size.result))) (sym (answer.told m held)) answer.item;
+        bytes = c.in_ok-read.ensures.bytes;
         holds = c.read.ensures.holds;
         cause = record { later = c.read.ensures.cause.later; cause = λ e. absurd cc };
         after = tt;
@@ -53,6 +55,7 @@ returns-then-size-gt-WINDOW g c =
       (refl, λ _. tt, answer),
       record {
         item = λ m held. subst (λ is. IsFirst is (Some (item.Row at (Joined c.slot_at.result)))) (sym (answer.told m held)) answer.item;
+        bytes = c.in_ok-read.ensures.bytes;
         holds = c.read.ensures.holds;
         cause = record { later = c.read.ensures.cause.later; cause = λ e. absurd cc };
         after = tt;
@@ -73,6 +76,7 @@ returns-else-size-gt-WINDOW g c =
       (refl, λ _. tt, answer),
       record {
         item = λ m held. subst (λ is. IsFirst is (Some (item.Row at (Lent c.slot_at-in-Row.result)))) (sym (answer.told m held)) answer.item;
+        bytes = c.in_ok-read.ensures.bytes;
         holds = c.read.ensures.holds;
         cause = record { later = c.read.ensures.cause.later; cause = λ e. absurd cc };
         after = tt;

@@ -1,4 +1,4 @@
-use Rattle.std.proofs.Common.{◌∙◌, ◌≡◌, sym, ap, refl, subst, arith, length, drop, take, Some}
+use Rattle.std.proofs.Common.{◌∙◌, sym, ap, refl, subst, arith, length, Some}
 use Rattle.std.proofs.lemmas.List.{length-drop}
 use Rattle.myi_chain.specs.declared.piece.Piece.TheVariants.{Lent, Joined}
 use Rattle.myi_chain.specs.Scanning.{IsFirstRow}
@@ -17,6 +17,7 @@ returns-in_default g c =
       record {
         row = none_first_row _ _ _ _ _ _ _ _ _ open_scan none;
         slot = tt;
+        bytes = c.in_ok-read.ensures.bytes;
         holds = c.read.ensures.holds;
         cause = record { later = c.read.ensures.cause.later; cause = λ e. absurd cc };
         after = tt;
@@ -38,6 +39,7 @@ returns-then-size-gt-WINDOW g c =
       record {
         row = λ m held. subst (λ rows. IsFirstRow rows (Some (at, Joined c.slot_at.result))) (sym (answer.told m held).rows) (answer.at, answer.piece);
         slot = slot_of _ _ _ _ _ _ _ _ _ open_scan at (Joined c.slot_at.result) (ap (λ b. length b) bytes ∙ long_here (packs i.test) i.test.slot_length at i.bytes.items (omega (arith, t.0, c.slot_length-size.ensures))) (omega (arith, t.0, c.slot_length-size.ensures, c.self.invariant.2));
+        bytes = c.in_ok-read.ensures.bytes;
         holds = c.read.ensures.holds;
         cause = record { later = c.read.ensures.cause.later; cause = λ e. absurd cc };
         after = tt;
@@ -59,6 +61,7 @@ returns g c =
       record {
         row = λ m held. subst (λ rows. IsFirstRow rows (Some (at, Lent c.slot_at-2.result))) (sym (answer.told m held).rows) (answer.at, answer.piece);
         slot = slot_of _ _ _ _ _ _ _ _ _ open_scan at (Lent c.slot_at-2.result) (ap (λ b. length b) bytes ∙ long_here (packs i.test) i.test.slot_length at i.bytes.items (omega (arith, t.0, c.slot_length-size.ensures))) (omega (arith, t.0, c.slot_length-size.ensures, c.self.invariant.2));
+        bytes = c.in_ok-read.ensures.bytes;
         holds = c.read.ensures.holds;
         cause = record { later = c.read.ensures.cause.later; cause = λ e. absurd cc };
         after = tt;
