@@ -1,5 +1,5 @@
 -- Laid pages are read as they were laid.
-use Rattle.std.proofs.Common.{◌≡◌, ◌≢◌, ◌⊎◌, ℕ, zero, suc, ◌+◌, ◌-◌, ◌*◌, ◌%◌, ◌^◌, ◌<◌, ◌≤◌, Bool, true, false, not, ◌&&◌, eqb, cond, ltb, Option, Some, List, [], ◌∷◌, ◌++◌, length, replicate, take, drop, append-nil, refl, sym, ap, subst, ◌∙◌, arith, inl, inr}
+use Rattle.std.proofs.Common.{◌≡◌, ℕ, zero, suc, ◌+◌, ◌-◌, ◌*◌, ◌%◌, ◌^◌, ◌<◌, ◌≤◌, Bool, true, false, not, ◌&&◌, eqb, ltb, Some, List, [], ◌∷◌, ◌++◌, length, replicate, take, drop, append-nil, refl, sym, ap, subst, ◌∙◌, arith, inl, inr}
 use Rattle.std.specs.List.{AllByRecursion}
 use Rattle.std.proofs.lemmas.Bool.{cases_lt, cases_Bool, le-leb, leb-true, ltb-true, eq-eqb, ne_eqb, and_from, and_parts}
 use Rattle.std.proofs.lemmas.List.{length-append, length-map, length-drop, length-take}
@@ -16,13 +16,12 @@ use Rattle.myi_keypage.proofs.ShownIn.{page_again}
 use Rattle.myi_keycache.specs.Caching.{Caching, lends}
 use Rattle.myi_btree.specs.declared.pair.Pair.{Pair}
 use Rattle.myi_btree.specs.declared.place.Place.{Place}
-use Rattle.myi_btree.specs.Walk.{◌>>=◌, Node, node_with}
+use Rattle.myi_btree.specs.Walk.{Node, node_with}
 use Rattle.myi_btree.specs.Nodes.{entry_of, entries_of, page_of_node, node_in}
 use Rattle.myi_btree.specs.Reading.{node_lent}
 use Rattle.myi_btree.specs.Sizes.{IsPlaced, IsSized, AreSized, fits_in, IsCount}
 use Rattle.myi_btree.specs.Laid.{greatest, count_of, Level, after_page, level_of, places_from, levels_from, laid, Stands, IsRooted}
 use Rattle.myi_btree.specs.Building.{page_for, AreLent, Lays}
-use Rattle.myi_btree.proofs.Frames.{all_left, all_right}
 use Rattle.myi_btree.proofs.NodeLaws.{pairs_again, node_again}
 use Rattle.myi_btree.proofs.CountLaws.{not_one}
 use Rattle.myi_btree.proofs.FitCount.{one_fits, two_fit, entries-take}
@@ -70,7 +69,7 @@ some_passes place node (p ∷ []) sized some = (1, omega arith, omega arith, and
 some_passes place node (p ∷ q ∷ []) sized some = (2, omega arith, omega arith, and_from _ _ (le-leb _ _ (two_fit place node (entry_of p) (entry_of q) sized.0 sized.1.0)) refl)
 some_passes place node (p ∷ q ∷ r ∷ ps) sized some = (1, omega arith, omega arith, and_from _ _ (le-leb _ _ (one_fits place node (entry_of p) sized.0)) (not_one (length (p ∷ q ∷ r ∷ ps)) 1 (λ e. omega arith)))
 
-good_count : (place : Place) (node : Bool) (ps : List Pair) → AreSized place ps → 0 < length ps → IsCount place node ps (count_of (fits_in place node) ps)
+pub good_count : (place : Place) (node : Bool) (ps : List Pair) → AreSized place ps → 0 < length ps → IsCount place node ps (count_of (fits_in place node) ps)
 good_count place node ps sized some =
     let w = some_passes place node ps sized some in
     let g = greatest_passes (passes_at place node ps) (length ps) w.0 w.1 w.2 w.3 in
@@ -91,11 +90,12 @@ pub record IsWritten (place : Place) (node : Node) : Type 0 where
   pub page : IsWritable place.rec_ref (page_of_node node)
   pub branching : IsBranching (page_of_node node)
   pub keys : AreKeys node.pairs
+  pub fits : used_length place.rec_ref (is_node (page_of_node node)) (page_of_node node).entries ≤ place.block_length
 
 written_page : (place : Place) (node : Node) (page : Page) → IsPlaced place → page ≡ page_of_node node → 0 < length page.entries → AllByRecursion (λ (e : Entry). e.row < 256 ^ place.rec_ref) page.entries → AllByRecursion IsPlace page.children → IsBranching page
     → used_length place.rec_ref (is_node page) page.entries ≤ place.block_length → AreKeys node.pairs → IsWritten place node
 written_page place node page placed is some rows places branching used keys =
-    record { page = subst (λ (p : Page). IsWritable place.rec_ref p) is (page_writable place.rec_ref page branching some rows places (omega (arith, placed.most))); branching = subst IsBranching is branching; keys = keys }
+    record { page = subst (λ (p : Page). IsWritable place.rec_ref p) is (page_writable place.rec_ref page branching some rows places (omega (arith, placed.most))); branching = subst IsBranching is branching; keys = keys; fits = subst (λ (p : Page). used_length place.rec_ref (is_node p) p.entries ≤ place.block_length) is used }
 
 pub level_written : (n : ℕ) (place : Place) (node : Bool) (left : List Pair) (children : List ℕ) → IsPlaced place → length left ≤ n → 0 < length left → AreSized place left → AreKeys left → not (eqb (length children) 0) ≡ node → IsBranching (page_with (entries_of left) children) → AllByRecursion IsPlace children
     → AllByRecursion (IsWritten place) (level_of n (fits_in place node) left children).pages
@@ -177,7 +177,7 @@ pub laid_written : (place : Place) (first : ℕ) (pairs : List Pair) → IsPlace
 laid_written place first [] placed whole sized keys small = tt
 laid_written place first (p ∷ ps) placed whole sized keys small = levels_written (length (p ∷ ps)) place first false (p ∷ ps) [] placed whole (omega arith) (omega arith) sized keys refl tt tt small
 
-written_read : (place : Place) (node : Node) → IsWritten place node → node_in place.rec_ref (page_for place node) ≡ Some node
+pub written_read : (place : Place) (node : Node) → IsWritten place node → node_in place.rec_ref (page_for place node) ≡ Some node
 unfolding page_for
 written_read place node w =
     let text : List ℕ = page_bytes place.rec_ref (page_of_node node) in

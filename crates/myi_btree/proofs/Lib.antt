@@ -17,3 +17,7 @@ pub mod LaidRead
 pub mod WalkLaws
 pub mod VisitSteps
 pub mod WalkFinds
+pub mod ServeLaws
+pub mod Within
+pub mod PathWithin
+pub mod StartLaws

@@ -1,10 +1,9 @@
 -- A visit that finds no bad place is the walk, and its pages are new.
-use Rattle.std.proofs.Common.{◌≡◌, ℕ, zero, suc, ◌<◌, Bool, true, false, cond, ltb, Option, Some, None, Result, Ok, Err, List, [], ◌∷◌, ◌++◌, length, map, refl, sym, ap, subst, ◌∙◌, append_assoc, arith}
+use Rattle.std.proofs.Common.{◌≡◌, ℕ, zero, suc, ◌<◌, Bool, true, false, cond, ltb, Option, Some, None, Result, Ok, Err, List, [], ◌∷◌, ◌++◌, length, refl, sym, ap, subst, ◌∙◌, append_assoc, arith}
 use Rattle.std.specs.List.{flat_map}
 use Rattle.std.proofs.lemmas.Bool.{lt-ltb, ltb-true}
 use Rattle.std.proofs.lemmas.List.{append-nil}
 use Rattle.std.proofs.lemmas.Option.{same_Some, cond_some}
-use Rattle.myi_btree.specs.declared.pair.Pair.{Pair}
 use Rattle.myi_btree.specs.Walk.{◌>>=◌, Node, Places, Walked, each, at_node, as_leaf, walk_of}
 use Rattle.myi_btree.specs.Visit.{◌>>>◌, found_at, is_new, AreNew, entered, visit_each, as_node, visit, HasFirst, IsDepth}
 use Rattle.myi_btree.proofs.Frames.{bind_some}
@@ -17,7 +16,7 @@ bind_ok (Err d) f y e = absurd cc
 pub same_ok : {A : Type 0} (x y : A) → ◌≡◌ {A = Result A ℕ} (Ok x) (Ok y) → x ≡ y
 same_ok x y e = cc
 
-found_is : {A : Type 0} (at : ℕ) (o : Option A) (x : A) → found_at at o ≡ Ok x → o ≡ Some x
+pub found_is : {A : Type 0} (at : ℕ) (o : Option A) (x : A) → found_at at o ≡ Ok x → o ≡ Some x
 found_is at None x e = absurd cc
 found_is at (Some y) x e = ap (λ t. Some t) (same_ok y x e)
 
@@ -41,7 +40,7 @@ new-parts block met (x ∷ xs) ys h =
     let k = new-parts block (met ++ x ∷ []) xs ys h.1 in
     ((h.0, k.0), subst (λ (t : List ℕ). AreNew block t ys) (append_assoc met (x ∷ []) xs) k.1)
 
-leaf_pages : (place : ℕ) (node : Node) (cs : List ℕ) (w : Walked) → as_leaf place node cs ≡ Some w → w.pages ≡ place ∷ []
+pub leaf_pages : (place : ℕ) (node : Node) (cs : List ℕ) (w : Walked) → as_leaf place node cs ≡ Some w → w.pages ≡ place ∷ []
 leaf_pages place node [] w e = ap (λ (w : Walked). w.pages) (sym (same_Some _ _ e))
 leaf_pages place node (c ∷ cs) w e = absurd cc
 

@@ -1,16 +1,17 @@
 -- Loading a page, and whether it has a byte of one that was met.
-use Rattle.std.proofs.Common.{◌≡◌, ◌⊎◌, ℕ, zero, suc, ◌+◌, ◌-◌, ◌%◌, ◌<◌, ◌≤◌, ◌||◌, ◌&&◌, Bool, true, false, not, leb, eqb, cond, nat_cmp, Option, Some, None, Result, Ok, Err, List, [], ◌∷◌, ◌++◌, length, map, take, refl, sym, ap, subst, ◌∙◌, arith, inl, inr}
-use Rattle.std.specs.Prelude.{MatchOption, IfErr, option_map, is_some}
-use Rattle.std.specs.List.{list_all, filter}
-use Rattle.std.specs.Ordering.{is_le, match_ordering}
+use Rattle.std.proofs.Common.{◌≡◌, ℕ, ◌+◌, ◌-◌, ◌%◌, ◌<◌, ◌≤◌, ◌||◌, ◌&&◌, Bool, true, false, leb, cond, nat_cmp, Option, Some, None, Result, Ok, Err, List, [], ◌∷◌, ◌++◌, map, refl, sym, ap, ◌∙◌, arith, inl, inr}
+use Rattle.std.specs.Prelude.{IfErr}
+use Rattle.std.specs.List.{list_all, filter, AllByRecursion}
+use Rattle.std.specs.List.Sorted.{IsStrictlySortedBy}
+use Rattle.std.specs.Ordering.{is_le}
 use Rattle.std.specs.Cmp.{nat_cmp_is}
 use Rattle.std.specs.BTreeMap.Range.{range_contains}
 use Rattle.std.specs.BTreeSet.{insert_key}
 use Rattle.std.specs.declared.ops.Bound.{Bound}
 use Rattle.std.specs.declared.cmp.Ordering.{Ordering}
 use Rattle.std.specs.declared.cmp.Ordering.TheVariants.{Less, Equal, Greater}
-use Rattle.std.proofs.lemmas.Bool.{cases_lt, cases_Bool, le-leb, lt-leb, leb-true, eq-eqb, ne_eqb}
-use Rattle.myi_base.specs.Ranges.{Range, are_apart, is_apart}
+use Rattle.std.proofs.lemmas.Bool.{cases_lt, le-leb, lt-leb, eq-eqb, ne_eqb}
+use Rattle.myi_base.specs.Ranges.{are_apart}
 use Rattle.myi_base.specs.Holding.{Holding}
 use Rattle.myi_keycache.specs.Kept.{AllWritten}
 use Rattle.myi_keycache.specs.Caching.{Caching, lends, IsCurrent, CanGet}
@@ -20,10 +21,11 @@ use Rattle.myi_btree.specs.declared.fault.TreeFault.{TreeFault}
 use Rattle.myi_btree.specs.declared.fault.TreeFault.TheVariants.{Damaged}
 use Rattle.myi_btree.specs.declared.place.Place.{Place}
 use Rattle.myi_btree.specs.Faults.{fault_of}
-use Rattle.myi_btree.specs.Walk.{◌>>=◌, Node, Places}
+use Rattle.myi_btree.specs.declared.pair.Pair.{Pair}
+use Rattle.myi_btree.specs.Walk.{Node, node_with, Places}
 use Rattle.myi_btree.specs.Nodes.{node_in}
 use Rattle.myi_btree.specs.Reading.{node_lent}
-use Rattle.myi_btree.specs.Visit.{found_at, page_range, is_new, entered}
+use Rattle.myi_btree.specs.Visit.{page_range, is_new, entered}
 use Rattle.myi_btree.specs.Meeting.{HasMet}
 
 -- ---- loading
@@ -66,46 +68,82 @@ is_le-leb x y = elim (cases_lt x y) [
   ]
 ]
 
-below_first : (block at q : ℕ) → 0 < block → leb (at + 1 - block) q ≡ not (leb (q + block) at)
-below_first block at q some = elim (cases_lt at (q + block)) [
-  | inl lt ↦ le-leb _ _ (omega arith) ∙ sym (ap not (lt-leb _ _ lt))
-  | inr ge ↦ lt-leb _ _ (omega arith) ∙ sym (ap not (le-leb _ _ ge))
+less_is : (x y : ℕ) → nat_cmp x y ≡ Less → x < y
+less_is x y e = elim (cases_lt x y) [
+  | inl lt ↦ lt
+  | inr ge ↦ elim (cases_lt y x) [
+    | inl gt ↦ let k : Greater ≡ Less = nat_cmp_is x y Greater gt ∙ e in absurd cc
+    | inr le ↦ let k : Equal ≡ Less = nat_cmp_is x y Equal (omega arith) ∙ e in absurd cc
+  ]
 ]
 
-and_or : (a b : Bool) → (a || b) ≡ not (not b && not a)
-and_or true true = refl
-and_or true false = refl
-and_or false true = refl
-and_or false false = refl
+-- whether pages of so many bytes there have no byte in common
+apart : ℕ → ℕ → ℕ → Bool
+apart block at q = are_apart (page_range block at) (page_range block q)
 
-contains_is : (block at q : ℕ) → 0 < block → are_apart (page_range block at) (page_range block q) ≡ not (range_contains nat_cmp (Bound.Included (at + 1 - block)) (Bound.Excluded (at + block)) q)
-contains_is block at q some =
-    let a : is_le (nat_cmp (at + 1 - block) q) ≡ not (leb (q + block) at) = is_le-leb (at + 1 - block) q ∙ below_first block at q some in
-    let b : is_le (nat_cmp (at + block) q) ≡ leb (at + block) q = is_le-leb (at + block) q in
-    rw (a, b) (and_or (leb (at + block) q) (leb (q + block) at))
+apart_below : (block at q : ℕ) → q < at - (block - 1) → apart block at q ≡ true
+unfolding apart
+apart_below block at q lt = let e : leb (q + block) at ≡ true = le-leb _ _ (omega arith) in rw e (or_true (leb (at + block) q))
+  where
+    or_true : (b : Bool) → (b || true) ≡ true
+    or_true true = refl
+    or_true false = refl
 
-abbrev is_none_left : List ℕ → Bool
-is_none_left [] = true
-is_none_left (x ∷ xs) = false
-
-none_left : (test other : ℕ → Bool) → ((q : ℕ) → test q ≡ not (other q)) → (keys : List ℕ) → is_none_left (filter other keys) ≡ list_all test keys
-none_left test other same [] = refl
-none_left test other same (k ∷ keys) = elim (cases_Bool (other k)) [
-  | inl yes_it ↦ let t : test k ≡ false = same k ∙ ap not yes_it in rw (yes_it, t) refl
-  | inr other_it ↦ let t : test k ≡ true = same k ∙ ap not other_it in rw (other_it, t) (none_left test other same keys)
+apart_behind : (block at q : ℕ) → 0 < block → at - (block - 1) ≤ q → apart block at q ≡ leb block (q - at)
+unfolding apart
+apart_behind block at q some ge = elim (cases_lt q (at + block)) [
+  | inl lt ↦
+      let a : leb (at + block) q ≡ false = lt-leb _ _ lt in
+      let b : leb (q + block) at ≡ false = lt-leb _ _ (omega arith) in
+      let c : leb block (q - at) ≡ false = lt-leb _ _ (omega arith) in
+      rw (a, b, c) refl
+  | inr le ↦
+      let a : leb (at + block) q ≡ true = le-leb _ _ le in
+      let c : leb block (q - at) ≡ true = le-leb _ _ (omega arith) in
+      rw (a, c) refl
 ]
 
-next_none : {A : Type 0} (now : A → ℕ) (o : Option A) (b : Bool) (xs rest : List ℕ) → MatchOption o ((xs ≡ []) × (rest ≡ [])) (λ x. xs ≡ now x ∷ rest) → is_some o ≡ not b → b ≡ is_none_left xs
-next_none now None true xs rest h e = rw h.0 refl
-next_none now None false xs rest h e = absurd cc
-next_none now (Some x) true xs rest h e = absurd cc
-next_none now (Some x) false xs rest h e = rw h refl
+all_apart : (block at p : ℕ) (keys : List ℕ) → at + block ≤ p → AllByRecursion (λ y. nat_cmp p y ≡ Less) keys → list_all (apart block at) keys ≡ true
+unfolding apart
+all_apart block at p [] le all = refl
+all_apart block at p (k ∷ keys) le all =
+    let lt : p < k = less_is p k all.0 in
+    let a : leb (at + block) k ≡ true = le-leb _ _ (omega arith) in
+    rw a (all_apart block at p keys le all.1)
 
-pub range_apart : {A : Type 0} (now : A → ℕ) (o : Option A) (b : Bool) (block at first end : ℕ) (keys xs rest : List ℕ) → 0 < block → first ≡ at + 1 - block → end ≡ at + block → xs ≡ filter (range_contains nat_cmp (Bound.Included first) (Bound.Excluded end)) keys
-    → MatchOption o ((xs ≡ []) × (rest ≡ [])) (λ x. xs ≡ now x ∷ rest) → is_some o ≡ not b → b ≡ list_all (λ p. are_apart (page_range block at) (page_range block p)) keys
-range_apart now o b block at first end keys xs rest some f e are h is =
-    next_none now o b xs rest h is ∙ ap is_none_left are ∙ ap (λ (n : ℕ). is_none_left (filter (range_contains nat_cmp (Bound.Included n) (Bound.Excluded end)) keys)) f ∙ ap (λ (n : ℕ). is_none_left (filter (range_contains nat_cmp (Bound.Included (at + 1 - block)) (Bound.Excluded n)) keys)) e
-    ∙ none_left (λ p. are_apart (page_range block at) (page_range block p)) (range_contains nat_cmp (Bound.Included (at + 1 - block)) (Bound.Excluded (at + block))) (λ q. contains_is block at q some) keys
+-- what the first of the keys from a place on says of all
+abbrev says : ℕ → ℕ → List ℕ → Bool
+says block at [] = true
+says block at (p ∷ rest) = leb block (p - at)
+
+from_first : (block at first : ℕ) (keys : List ℕ) → 0 < block → first ≡ at - (block - 1) → IsStrictlySortedBy nat_cmp keys → says block at (filter (range_contains nat_cmp (Bound.Included first) Bound.Unbounded) keys) ≡ list_all (apart block at) keys
+unfolding IsStrictlySortedBy
+from_first block at first [] some f sorted = refl
+from_first block at first (k ∷ keys) some f sorted = elim (cases_lt k first) [
+  | inl lt ↦
+      let off : is_le (nat_cmp first k) ≡ false = is_le-leb first k ∙ lt-leb _ _ lt in
+      let a : apart block at k ≡ true = apart_below block at k (omega arith) in
+      rw (off, a) (from_first block at first keys some f sorted.1)
+  | inr ge ↦
+      let on : is_le (nat_cmp first k) ≡ true = is_le-leb first k ∙ le-leb _ _ ge in
+      let a : apart block at k ≡ leb block (k - at) = apart_behind block at k some (omega arith) in
+      rw (on, a) (elim (cases_lt k (at + block)) [
+        | inl near ↦ let n : leb block (k - at) ≡ false = lt-leb _ _ (omega arith) in rw n refl
+        | inr far ↦ let n : list_all (apart block at) keys ≡ true = all_apart block at k keys far sorted.0 in rw n (sym (and_true (leb block (k - at))))
+      ])
+]
+  where
+    and_true : (b : Bool) → (b && true) ≡ b
+    and_true true = refl
+    and_true false = refl
+
+pub none_from : (block at first : ℕ) (keys xs : List ℕ) → 0 < block → first ≡ at - (block - 1) → IsStrictlySortedBy nat_cmp keys → xs ≡ filter (range_contains nat_cmp (Bound.Included first) Bound.Unbounded) keys → xs ≡ [] → true ≡ list_all (λ p. are_apart (page_range block at) (page_range block p)) keys
+unfolding apart
+none_from block at first keys xs some f sorted are none = ap (says block at) (sym none ∙ are) ∙ from_first block at first keys some f sorted
+
+pub some_from : (block at first p : ℕ) (keys xs rest : List ℕ) → 0 < block → first ≡ at - (block - 1) → IsStrictlySortedBy nat_cmp keys → xs ≡ filter (range_contains nat_cmp (Bound.Included first) Bound.Unbounded) keys → xs ≡ p ∷ rest → leb block (p - at) ≡ list_all (λ p. are_apart (page_range block at) (page_range block p)) keys
+unfolding apart
+some_from block at first p keys xs rest some f sorted are is = ap (says block at) (sym is ∙ are) ∙ from_first block at first keys some f sorted
 
 -- ---- going into a page
 
@@ -169,3 +207,6 @@ all_end test (x ∷ xs) k = ap (λ (b : Bool). test x && b) (all_end test xs k) 
 
 pub met_more : (keys met new : List ℕ) (k : ℕ) → new ≡ insert_key nat_cmp keys k → HasMet keys met → HasMet new (met ++ k ∷ [])
 met_more keys met new k e has = λ test. ap (list_all test) e ∙ all_insert test keys k ∙ ap (λ (b : Bool). test k && b) (has test) ∙ sym (all_end test met k)
+
+pub node_left : (pairs : List Pair) (children : List ℕ) (ps : List Pair) (cs : List ℕ) → ps ≡ pairs → cs ≡ children → ◌≡◌ {A = Result Node ℕ} (Ok (node_with pairs children)) (Ok (node_with ps cs))
+node_left pairs children ps cs e f = rw (e, f) refl

@@ -8,3 +8,4 @@ pub mod Building
 pub mod Visit
 pub mod Reading
 pub mod Meeting
+pub mod Serving

@@ -1,32 +1,71 @@
--- What the code of a walk has met so far, and what going into one more page does to it.
-use Rattle.std.specs.Prelude.{◌≡◌, ◌⊎◌, ℕ, ◌+◌, ◌++◌, Bool, List, Option, Some, None, MatchOption, Ok, Err}
-use Rattle.std.specs.List.{list_all}
-use Rattle.myi_btree.specs.declared.walk.Met.{Met}
-use Rattle.myi_btree.specs.Walk.{Places, Walked}
-use Rattle.myi_btree.specs.Visit.{visit, IsDepth}
+-- What the code of a walk has met so far, which pages it has open, and what going into more pages does to it.
+use Rattle.std.specs.Prelude.{◌≡◌, ◌≢◌, ℕ, ◌++◌, ◌∷◌, Bool, List, [], map, Ok, Err}
+use Rattle.std.specs.List.{list_all, flat_map}
+use Rattle.std.specs.Vec.Iter.{into_iter_items}
+use Rattle.myi_btree.specs.declared.met.Met.{Met}
+use Rattle.myi_btree.specs.declared.met.OpenPage.{OpenPage}
+use Rattle.myi_btree.specs.Walk.{Node, node_with, Places, Walked, between_pairs}
+use Rattle.myi_btree.specs.Visit.{entered, visit, visit_each}
 
 -- the set and the list have the same places: what holds of all of one holds of all of the other
 abbrev pub HasMet : List ℕ → List ℕ → Type 0
 HasMet keys met = (test : ℕ → Bool) → list_all test keys ≡ list_all test met
 
--- the leaves stand so many levels below a place with so many levels to go: as the first leaf does, if it was met
-abbrev pub IsLevel : ℕ → Places → Option ℕ → ℕ → ℕ → ℕ → List ℕ → Type 0
-IsLevel block read leaves levels height place met = MatchOption leaves (IsDepth block read height place met) (λ l. height + l ≡ levels)
+-- the pairs and children of an open page that are still to come
+abbrev pub left_of : OpenPage → Node
+left_of page = node_with (into_iter_items page.pairs) (into_iter_items page.children)
 
--- the walk of a place was met
-pub record Visits (block : ℕ) (read : Places) (levels place : ℕ) (met : List ℕ) (old new : Met) : Type 0 where
+-- the page has children, and this is its place
+abbrev pub IsRefused : OpenPage → ℕ → Type 0
+IsRefused page at = (at ≡ page.at) × (into_iter_items page.children ≢ [])
+
+-- the walk of a place with its leaves so many levels below it was met
+pub record Visits (block : ℕ) (read : Places) (level place : ℕ) (met : List ℕ) (old new : Met) : Type 0 where
   pub walked : Walked
-  pub height : ℕ
-  pub leaves : ℕ
-  pub level : height + leaves ≡ levels
-  pub before : (old.leaves ≡ None) ⊎ (old.leaves ≡ Some leaves)
-  pub now : new.leaves ≡ Some leaves
-  pub visited : visit block read height place met ≡ Ok walked
+  pub visited : visit block read level place met ≡ Ok walked
   pub pairs : new.pairs.items ≡ old.pairs.items ++ walked.pairs
   pub met_all : HasMet new.places.keys (met ++ walked.pages)
 
--- the first bad place was met
-pub record Breaks (block : ℕ) (read : Places) (levels place : ℕ) (met : List ℕ) (leaves : Option ℕ) (at : ℕ) : Type 0 where
-  pub height : ℕ
-  pub level : IsLevel block read leaves levels height place met
-  pub visited : visit block read height place met ≡ Err at
+-- there the first bad place was met
+abbrev pub Breaks : ℕ → Places → ℕ → ℕ → List ℕ → ℕ → Type 0
+Breaks block read level place met at = visit block read level place met ≡ Err at
+
+-- the walks of the children that a page at a place has left were met, each followed by its next pair
+pub record VisitsEach (block : ℕ) (read : Places) (level place : ℕ) (left : Node) (met : List ℕ) (old new : Met) : Type 0 where
+  pub walks : List Walked
+  pub visited : visit_each (visit block read level) left.children met ≡ Ok walks
+  pub pairs : new.pairs.items ≡ old.pairs.items ++ between_pairs place (map (λ (w : Walked). w.pairs) walks) left.pairs
+  pub met_all : HasMet new.places.keys (met ++ flat_map (λ (w : Walked). w.pages) walks)
+
+-- at one of these children, or below it, the first bad place was met
+abbrev pub BreaksEach : ℕ → Places → ℕ → List ℕ → List ℕ → ℕ → Type 0
+BreaksEach block read level children met at = visit_each (visit block read level) children met ≡ Err at
+
+-- the places of open pages
+abbrev pub places_of : List OpenPage → List ℕ
+places_of path = map (λ (p : OpenPage). p.at) path
+
+-- the node that an open page was, with the child that was taken off it
+abbrev pub with_first : ℕ → OpenPage → Node
+with_first child page = node_with (into_iter_items page.pairs) (child ∷ into_iter_items page.children)
+
+-- open pages, from one place down to another: each is the first child of the one before, and new
+abbrev pub IsPath : ℕ → Places → ℕ → List ℕ → List OpenPage → ℕ → Type 0
+IsPath block read place met [] below = place ≡ below
+IsPath block read place met (page ∷ path) below =
+    (page.at ≡ place) × ((child : ℕ) × (entered block read place met ≡ Ok (with_first child page)) × IsPath block read child (met ++ place ∷ []) path below)
+
+-- a path goes down to a leaf
+pub record Descends (block : ℕ) (read : Places) (root : ℕ) (path : List OpenPage) (leaf : OpenPage) : Type 0 where
+  pub above : IsPath block read root [] path leaf.at
+  pub here : entered block read leaf.at (places_of path) ≡ Ok (left_of leaf)
+  pub none : into_iter_items leaf.children ≡ []
+
+-- the walk of the place below a path, with its leaves so many levels below it, was met
+pub record IsBelow (block : ℕ) (read : Places) (level root : ℕ) (path : List OpenPage) (met : Met) : Type 0 where
+  pub place : ℕ
+  pub above : IsPath block read root [] path place
+  pub walked : Walked
+  pub visited : visit block read level place (places_of path) ≡ Ok walked
+  pub pairs : met.pairs.items ≡ walked.pairs
+  pub met_all : HasMet met.places.keys (places_of path ++ walked.pages)

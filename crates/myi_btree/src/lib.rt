@@ -16,6 +16,7 @@ mod entries;
 mod fault;
 mod laws;
 mod level;
+mod met;
 mod node;
 mod pair;
 mod place;

@@ -268,6 +268,175 @@ fn a_failing_put_is_a_file_fault(rt: HostRuntime) -> Result<(), Fail> {
     Ok(())
 }
 
+fn absent_key(alloc: Global) -> Result<KeyVal, AllocError> {
+    let segs = Vec::from_array(alloc, [KeySeg::Absent])?;
+    Ok(KeyVal::new(segs))
+}
+
+fn weights_key(alloc: Global, weights: &[u8]) -> Result<KeyVal, AllocError>
+    requires { length weights.now ≤ 1000 }
+{
+    let bytes = Vec::from_slice(alloc, weights)?;
+    let weights = WeightList::new(bytes);
+    let segs = Vec::from_array(alloc, [KeySeg::Weights(weights)])?;
+    Ok(KeyVal::new(segs))
+}
+
+// The key of such weights, or of an absent segment.
+fn one_key(alloc: Global, weights: Option<&'static [u8]>) -> Result<KeyVal, AllocError> {
+    match weights {
+        Some(bytes) if bytes.len() <= 1000 => weights_key(alloc, bytes),
+        _ => absent_key(alloc),
+    }
+}
+
+fn listed(
+    alloc: Global,
+    rows: &'static [(Option<&'static [u8]>, u64)],
+) -> Result<Vec<Pair>, AllocError> {
+    let mut pairs = Vec::new(alloc);
+    for (weights, row) in rows {
+        let key = one_key(alloc, *weights)?;
+        pairs.push(Pair { key, row: *row })?;
+    }
+    Ok(pairs)
+}
+
+// Sorted pairs, each by its weights, or none where the segment is absent, and its row: an integer key of which
+// two rows have none; the values -2147483648, -1, 0 and 2147483647 of a signed one; a text key.
+const SORTED: [&'static [(Option<&'static [u8]>, u64)]; 3] = [
+    &[(None, 0), (None, 1), (Some(b"\x80\0\0\x01"), 2)],
+    &[
+        (Some(b"\0\0\0\0"), 3),
+        (Some(b"\x7F\xFF\xFF\xFF"), 0),
+        (Some(b"\x80\0\0\0"), 1),
+        (Some(b"\xFF\xFF\xFF\xFF"), 2),
+    ],
+    &[(None, 1), (Some(b"ANN"), 0)],
+];
+
+#[test]
+fn keys_are_walked_in_the_order_of_their_weights(rt: HostRuntime) -> Result<(), Fail> {
+    let alloc = rt.alloc();
+    for rows in &SORTED {
+        let mut files = index_file(alloc, Vec::new(alloc))?;
+        let mut cache = cache(alloc)?;
+        let mut room = empty_room(alloc);
+        let pairs = listed(alloc, *rows)?;
+        let tree = build(alloc, &mut files, &mut cache, &mut room, &pairs)?;
+        assert!(rt; matches!(tree, Some(_)));
+        let walked = walk(alloc, &mut files, &mut cache, Some(1024))?;
+        assert!(rt; has_pairs(&walked, &pairs));
+    }
+    Ok(())
+}
+
+// An entry whose key has one weight.
+const ENTRY: [u8; 10] = *b"\x00\x02\x02\x01\0\0\0\0\0\0";
+
+fn push_child(page: &mut Vec<u8>, place: u64) -> Result<(), AllocError> {
+    let bytes = (place / 1024).to_be_bytes();
+    page.extend_from_slice(&bytes[1..])
+}
+
+// A page with one entry: a node with two children, or a leaf where both are 0.
+fn page_of(alloc: Global, first: u64, last: u64) -> Result<Vec<u8>, AllocError> {
+    let mut page = Vec::new(alloc);
+    if first == 0 && last == 0 {
+        page.extend_from_slice(b"\0\x0C")?;
+        page.extend_from_slice(&ENTRY)?;
+    } else {
+        page.extend_from_slice(b"\x80\x1A")?;
+        push_child(&mut page, first)?;
+        page.extend_from_slice(&ENTRY)?;
+        push_child(&mut page, last)?;
+    }
+    page.resize(1024, 0)?;
+    Ok(page)
+}
+
+// The first bad place of the walk from the page at 1024.
+fn first_bad(alloc: Global, files: &mut MemFiles) -> Result<Option<u64>, Fail> {
+    let mut cache = cache(alloc)?;
+    match walk(alloc, files, &mut cache, Some(1024)) {
+        Err(TreeFault::Damaged { at }) => Ok(Some(at)),
+        Err(fault) => Err(fault.into()),
+        Ok(_) => Ok(None),
+    }
+}
+
+// The first and the last child of each page from 1024 on, and the first bad place. A node's first child has
+// its leaf at some depth, and the other children have theirs above it, below it, or a page that was met.
+const TREES: [(&'static [(u64, u64)], Option<u64>); 11] = [
+    (&[(0, 0)], None),
+    (&[(2048, 3072), (0, 0), (0, 0)], None),
+    (
+        &[(2048, 3072), (4096, 5120), (0, 0), (0, 0), (0, 0)],
+        Some(3072),
+    ),
+    (
+        &[(2048, 3072), (0, 0), (4096, 5120), (0, 0), (0, 0)],
+        Some(3072),
+    ),
+    (&[(2048, 2048), (0, 0)], Some(2048)),
+    (&[(2048, 1024), (0, 0)], Some(1024)),
+    (&[(1024, 2048), (0, 0)], Some(1024)),
+    (&[(2048, 3072), (0, 0)], Some(3072)),
+    (&[(3072, 2048), (0, 0)], Some(3072)),
+    (
+        &[(2048, 18446744073709550592), (0, 0)],
+        Some(18446744073709550592),
+    ),
+    (
+        &[(18446744073709550592, 2048), (0, 0)],
+        Some(18446744073709550592),
+    ),
+];
+
+#[test]
+fn trees_of_other_shapes_are_damaged(rt: HostRuntime) -> Result<(), Fail> {
+    let alloc = rt.alloc();
+    for (pages, bad) in &TREES {
+        let mut files = index_file(alloc, Vec::new(alloc))?;
+        let mut at: u64 = 1024;
+        for (first, last) in *pages {
+            let page = page_of(alloc, *first, *last)?;
+            files.write_at(INDEX, at, &page)?;
+            at = at.wrapping_add(1024);
+        }
+        assert_eq!(rt; first_bad(alloc, &mut files)?, *bad);
+    }
+    Ok(())
+}
+
+// Paths of so many nodes from 1024 on, each the first child of the one before it, the first child of the last
+// one, and the first bad place.
+const DEEP: [(u64, u64, u64); 6] = [
+    (1, 1024, 1024),
+    (64, 66560, 66560),
+    (65, 67584, 67584),
+    (66, 1024, 1024),
+    (300, 102400, 102400),
+    (300, 409600, 409600),
+];
+
+#[test]
+fn deep_paths_end_at_the_first_bad_place(rt: HostRuntime) -> Result<(), Fail> {
+    let alloc = rt.alloc();
+    for (nodes, last, bad) in &DEEP {
+        let mut files = index_file(alloc, Vec::new(alloc))?;
+        for node in 1..*nodes {
+            let at = node.wrapping_mul(1024);
+            let page = page_of(alloc, at.wrapping_add(1024), 1024)?;
+            files.write_at(INDEX, at, &page)?;
+        }
+        let page = page_of(alloc, *last, 1024)?;
+        files.write_at(INDEX, nodes.wrapping_mul(1024), &page)?;
+        assert_eq!(rt; first_bad(alloc, &mut files)?, Some(*bad));
+    }
+    Ok(())
+}
+
 // What a walk of the tree with its root at 3072 answers after bytes of the index file were changed.
 fn walk_damaged(alloc: Global, at: u64, bytes: &[u8]) -> Result<Option<u64>, Fail> {
     let mut files = index_file(alloc, Vec::new(alloc))?;

@@ -6,16 +6,16 @@ ghost use Rattle.myi_btree.specs.declared.fault.TreeFault.TheVariants.{Damaged, 
 ghost use Rattle.myi_btree.specs.Sizes.{IsPlaced, AreSized, fits_in};
 ghost use Rattle.myi_btree.specs.Laid.{laid, root_of};
 ghost use Rattle.myi_btree.specs.Building.{CanLay, Spares, Lays};
-ghost use Rattle.myi_keycache.specs.Kept.{AllWritten};
-ghost use Rattle.myi_keycache.specs.Caching.{IsCurrent};
-ghost use Rattle.myi_btree.specs.Reading.{node_lent, ReadsOnly};
+ghost use Rattle.myi_keycache.specs.Caching.{IsCurrent, Stays};
+ghost use Rattle.myi_btree.specs.Reading.{node_lent, CanWalk, ReadsOnly};
 ghost use Rattle.myi_btree.specs.Visit.{FindsPairs, FindsBad};
 
 use crate::build::lay_levels;
 use crate::fault::TreeFault;
+use crate::met::Met;
 use crate::pair::Pair;
 use crate::place::{Place, Room};
-use crate::walk::{LEVELS, Met, visit};
+use crate::walk::{climb, descend};
 use myi_io::Files;
 use myi_keycache::KeyCache;
 use std::alloc::Global;
@@ -54,7 +54,8 @@ impl Tree {
     /// the first place on the walk's path where what stands is no page of the tree: no page, or its page has
     /// a byte of one that was met before, or it is a leaf above the depth of the first leaf, or a node at that
     /// depth. What is said of pairs and places holds where the file is as the last call of the cache left it.
-    /// A tree has fewer than 64 levels; where a path goes deeper, the answer is `Memory`.
+    /// Each page is read once, and the stack that a walk takes does not grow with the depth that a file says.
+    /// The cache keeps no unwritten page, or the tree is whole and no other page that is kept meets one of it.
     pub fn walk<F: Files>(
         &self,
         alloc: Global,
@@ -62,7 +63,7 @@ impl Tree {
         cache: &mut KeyCache,
     ) -> Result<Vec<(Pair, u64)>, TreeFault>
         requires placed { IsPlaced self.now }
-        requires written { AllWritten cache.old.pages }
+        requires kept { CanWalk F.writable (F.holds files.old) self.now cache.old }
 
         // The answer is the walk, or the first bad place on its path.
         ensures pairs { IfOk result (λ pairs. (m : Holding) → F.holds files.old ≡ Some m → IsCurrent cache.old m
@@ -71,8 +72,8 @@ impl Tree {
             → FindsBad self.now.block_length (node_lent self.now cache.old m) self.now.root at) }
 
         // Nothing was put, and the same is lent.
-        ensures cache { ReadsOnly (F.holds files.old) cache.old cache.new }
-        ensures holds { F.holds files.new ≡ F.holds files.old }
+        ensures cache { ReadsOnly (F.holds files.old) (F.holds files.new) cache.old cache.new }
+        ensures stays { Told (F.holds files.old) (F.holds files.new) (λ m n. IsCurrent cache.old m → Stays cache.old cache.new m n) }
         ensures cause { HasCause File (F.faults files.old) (F.faults files.new) result }
         ensures reads { F.reads files.old ≤ F.reads files.new }
     {
@@ -80,7 +81,9 @@ impl Tree {
             return Ok(Vec::new(alloc));
         };
         let mut met = Met::new(alloc);
-        visit(alloc, files, cache, self.place, root, LEVELS, &mut met)?;
+        let (path, leaf) = descend(alloc, files, cache, self.place, root, &mut met)?;
+        met.push_leaf(leaf)?;
+        climb(alloc, files, cache, self.place, path, &mut met)?;
         Ok(met.pairs)
     }
 

@@ -1,45 +1,33 @@
 //! Going through a tree, page by page.
 //!
-//! `visit` goes into a page and then, one after the other, into its children; `Met` is what was met so far.
-ghost use Rattle.std.specs.Prelude.{◌≡◌, ◌≢◌, ◌⊎◌, ◌+◌, ◌<◌, ◌≤◌, ◌++◌, ◌∷◌, ℕ, List, [], ◌^◌, Some, None, Ok, Err, length, map, take, drop, IfOk, IfErr, IfSome, OnOk, OnErr};
-ghost use Rattle.std.specs.List.{list_all};
-ghost use Rattle.myi_base.specs.Holding.{Holding};
-ghost use Rattle.myi_base.specs.Ranges.{are_apart};
+//! `descend` goes down the first children to the first leaf, and `climb` goes up again: a page gives its next
+//! pair, and `visit` goes through each further child, whose leaves are to stand as deep as the first one.
+ghost use Rattle.std.specs.Prelude.{◌≡◌, ◌⊎◌, true, IsTrue, ◌+◌, ◌<◌, ◌≤◌, ◌++◌, ◌∷◌, ℕ, List, [], ◌^◌, Some, None, Ok, Err, length, map, take, drop, IfOk, IfErr, OnOk, OnErr};
+ghost use Rattle.myi_base.specs.Holding.{Told};
 ghost use Rattle.myi_base.specs.Causes.{HasCause};
 ghost use Rattle.myi_keycache.specs.Kept.{AllWritten};
-ghost use Rattle.myi_keycache.specs.Caching.{IsCurrent};
+ghost use Rattle.myi_keycache.specs.Caching.{CanGet, Stays};
 ghost use Rattle.myi_btree.specs.declared.fault.TreeFault.TheVariants.{Damaged, File, Memory};
 ghost use Rattle.myi_btree.specs.Walk.{Node};
 ghost use Rattle.myi_btree.specs.Nodes.{node_view};
 ghost use Rattle.myi_btree.specs.Sizes.{IsPlaced};
-ghost use Rattle.myi_btree.specs.Reading.{node_lent, ReadsOnly};
-ghost use Rattle.myi_btree.specs.Visit.{page_range, entered};
-ghost use Rattle.myi_btree.specs.Meeting.{HasMet, Visits, Breaks};
+ghost use Rattle.myi_btree.specs.Reading.{ReadsOnly};
+ghost use Rattle.myi_btree.specs.Serving.{View, shown, Serves, VisitsWithin, EachWithin};
+ghost use Rattle.myi_btree.specs.Visit.{entered, Finds};
+ghost use Rattle.myi_btree.specs.Meeting.{HasMet, Visits, VisitsEach, Breaks, BreaksEach, Descends, IsBelow, left_of, places_of};
 ghost use Rattle.std.specs.Vec.Iter.{into_iter_items};
 
 use crate::fault::TreeFault;
+use crate::met::{Met, OpenPage, is_apart};
 use crate::node::{NodeData, read_node};
-use crate::pair::Pair;
 use crate::place::Place;
 use myi_io::Files;
 use myi_keycache::KeyCache;
-use std::alloc::{AllocError, Global};
-use std::collections::BTreeSet;
-use std::vec::IntoIter;
+use std::alloc::Global;
 
-/// How many levels a walk goes down at most. A tree with more would have more pages than a file has places.
-pub(crate) const LEVELS: u32 = 64;
-
-/// What a walk has met so far.
-#[derive(Drop)]
-pub(crate) struct Met {
-    /// The pairs, each with the place of its page.
-    pub(crate) pairs: Vec<(Pair, u64)>,
-    /// The places of the pages.
-    places: BTreeSet<u64>,
-    /// At which level the leaves stand, once the first one was met.
-    leaves: Option<u32>,
-}
+/// How many pages a walk goes up at most from its first leaf. A page so many levels above its leaves would have
+/// more pages below it than there are places.
+const LEVELS: u32 = 64;
 
 /// The node at a place, as the key cache lends it.
 fn load_node<F: Files>(
@@ -50,13 +38,12 @@ fn load_node<F: Files>(
     at: u64,
 ) -> Result<NodeData, TreeFault>
     requires placed { IsPlaced place }
-    requires written { AllWritten cache.old.pages }
-    ensures node { IfOk result (λ node. (m : Holding) → F.holds files.old ≡ Some m → IsCurrent cache.old m
-        → node_lent place cache.old m at ≡ Some (node_view node)) }
+    requires kept { IsTrue F.writable ⊎ AllWritten cache.old.pages }
+    ensures node { IfOk result (λ node. (v : View) → Serves place v (F.holds files.old) cache.old → v.asked at ≡ true → shown place v at ≡ Some (node_view node)) }
     ensures damaged { IfErr result (λ fault. (p : ℕ) → fault ≡ Damaged p
-        → (p ≡ at) × ((m : Holding) → F.holds files.old ≡ Some m → IsCurrent cache.old m → node_lent place cache.old m at ≡ None)) }
-    ensures cache { ReadsOnly (F.holds files.old) cache.old cache.new }
-    ensures holds { F.holds files.new ≡ F.holds files.old }
+        → (p ≡ at) × ((v : View) → Serves place v (F.holds files.old) cache.old → v.asked at ≡ true → shown place v at ≡ None)) }
+    ensures stays { Told (F.holds files.old) (F.holds files.new) (λ m n. CanGet cache.old m at place.block_length → Stays cache.old cache.new m n) }
+    ensures cache { ReadsOnly (F.holds files.old) (F.holds files.new) cache.old cache.new }
     ensures cause { HasCause File (F.faults files.old) (F.faults files.new) result }
     ensures reads { F.reads files.old ≤ F.reads files.new }
 {
@@ -70,18 +57,7 @@ fn load_node<F: Files>(
     }
 }
 
-// Whether a page there has no byte of one of these.
-fn is_apart(places: &BTreeSet<u64>, at: u64, block_length: u16) -> bool
-    requires some { 0 < block_length }
-    requires end { at + block_length < 2 ^ 64 }
-    ensures { result ≡ list_all (λ p. are_apart (page_range block_length at) (page_range block_length p)) places.now.keys }
-{
-    let block = block_length as u64;
-    let first = (at + 1).saturating_sub(block);
-    places.range(first..at + block).next().is_none()
-}
-
-/// Goes into the page at a place.
+// Goes into the page at a place.
 fn enter<F: Files>(
     alloc: Global,
     files: &mut F,
@@ -89,129 +65,173 @@ fn enter<F: Files>(
     place: Place,
     at: u64,
     met: &mut Met,
-) -> Result<NodeData, TreeFault>
+) -> Result<OpenPage, TreeFault>
     requires placed { IsPlaced place }
-    requires written { AllWritten cache.old.pages }
-    ensures node { IfOk result (λ node. (m : Holding) (seen : List ℕ) → F.holds files.old ≡ Some m → IsCurrent cache.old m → HasMet met.old.places.keys seen
-        → entered place.block_length (node_lent place cache.old m) at seen ≡ Ok (node_view node)) }
-    ensures damaged { IfErr result (λ fault. (p : ℕ) → fault ≡ Damaged p → (m : Holding) (seen : List ℕ) → F.holds files.old ≡ Some m → IsCurrent cache.old m → HasMet met.old.places.keys seen
-        → entered place.block_length (node_lent place cache.old m) at seen ≡ Err p) }
+    requires kept { IsTrue F.writable ⊎ AllWritten cache.old.pages }
+    ensures at { IfOk result (λ page. page.at ≡ at) }
+    ensures node { IfOk result (λ page. (v : View) (seen : List ℕ) → Serves place v (F.holds files.old) cache.old → v.asked at ≡ true → HasMet met.old.places.keys seen
+        → entered place.block_length (shown place v) at seen ≡ Ok (left_of page)) }
+    ensures damaged { IfErr result (λ fault. (p : ℕ) → fault ≡ Damaged p → (v : View) (seen : List ℕ) → Serves place v (F.holds files.old) cache.old → v.asked at ≡ true → HasMet met.old.places.keys seen
+        → entered place.block_length (shown place v) at seen ≡ Err p) }
+    ensures served { (v : View) → Serves place v (F.holds files.old) cache.old → v.asked at ≡ true → Serves place v (F.holds files.new) cache.new }
     ensures met { OnOk result ((seen : List ℕ) → HasMet met.old.places.keys seen → HasMet met.new.places.keys (seen ++ at ∷ [])) }
     ensures pairs { met.new.pairs ≡ met.old.pairs }
-    ensures leaves { met.new.leaves ≡ met.old.leaves }
-    ensures cache { ReadsOnly (F.holds files.old) cache.old cache.new }
-    ensures holds { F.holds files.new ≡ F.holds files.old }
+    ensures cache { ReadsOnly (F.holds files.old) (F.holds files.new) cache.old cache.new }
     ensures cause { HasCause File (F.faults files.old) (F.faults files.new) result }
     ensures reads { F.reads files.old ≤ F.reads files.new }
 {
-    let node = load_node(alloc, files, cache, place, at)?;
-    if at.checked_add(place.block_length as u64).is_none() {
-        return Err(TreeFault::Memory);
-    }
     if !is_apart(&met.places, at, place.block_length) {
         return Err(TreeFault::Damaged { at });
     }
+    let NodeData { pairs, children } = load_node(alloc, files, cache, place, at)?;
     met.places.insert(at)?;
-    Ok(node)
+    Ok(OpenPage {
+        at,
+        pairs: pairs.into_iter(),
+        children: children.into_iter(),
+    })
 }
 
-impl Met {
-    /// Nothing was met yet.
-    pub(crate) fn new(alloc: Global) -> Met
-        ensures pairs { result.pairs.items ≡ [] }
-        ensures places { result.places.keys ≡ [] }
-        ensures leaves { result.leaves ≡ None }
-    {
-        Met {
-            pairs: Vec::new(alloc),
-            places: BTreeSet::new(alloc),
-            leaves: None,
-        }
+/// Goes down the first children from a place to the first leaf: the open pages above it, and the leaf.
+pub(crate) fn descend<F: Files>(
+    alloc: Global,
+    files: &mut F,
+    cache: &mut KeyCache,
+    place: Place,
+    root: u64,
+    met: &mut Met,
+) -> Result<(Vec<OpenPage>, OpenPage), TreeFault>
+    requires placed { IsPlaced place }
+    requires kept { IsTrue F.writable ⊎ AllWritten cache.old.pages }
+    ensures path { IfOk result (λ found. (v : View) (height : ℕ) → Serves place v (F.holds files.old) cache.old → VisitsWithin place v height root [] → HasMet met.old.places.keys []
+        → Descends place.block_length (shown place v) root found.0.items found.1) }
+    ensures met { IfOk result (λ found. HasMet met.old.places.keys [] → HasMet met.new.places.keys (places_of found.0.items ++ found.1.at ∷ [])) }
+    ensures damaged { IfErr result (λ fault. (p : ℕ) → fault ≡ Damaged p → (v : View) (height : ℕ) → Serves place v (F.holds files.old) cache.old → VisitsWithin place v height root [] → HasMet met.old.places.keys []
+        → Finds place.block_length (shown place v) root (Err p)) }
+    ensures served { (v : View) (height : ℕ) → Serves place v (F.holds files.old) cache.old → VisitsWithin place v height root [] → HasMet met.old.places.keys []
+        → Serves place v (F.holds files.new) cache.new }
+    ensures pairs { met.new.pairs ≡ met.old.pairs }
+    ensures cache { ReadsOnly (F.holds files.old) (F.holds files.new) cache.old cache.new }
+    ensures cause { HasCause File (F.faults files.old) (F.faults files.new) result }
+    ensures reads { F.reads files.old ≤ F.reads files.new }
+{
+    let mut path = Vec::new(alloc);
+    let mut at = root;
+    for _ in 0..u64::MAX {
+        let mut page = enter(alloc, files, cache, place, at, met)?;
+        let Some(child) = page.children.next() else {
+            return Ok((path, page));
+        };
+        path.push(page)?;
+        at = child;
     }
-
-    // Appends the pairs of a page.
-    fn push_pairs(&mut self, pairs: Vec<Pair>, at: u64) -> Result<(), AllocError>
-        ensures pairs { OnOk result (self.new.pairs.items ≡ self.old.pairs.items ++ map (λ p. (p, at)) pairs.items) }
-        ensures places { self.new.places ≡ self.old.places }
-        ensures leaves { self.new.leaves ≡ self.old.leaves }
-    {
-        for pair in pairs {
-            self.pairs.push((pair, at))?;
-        }
-        Ok(())
-    }
-
-    // Meets a leaf: the first one says at which level leaves stand.
-    fn push_leaf(&mut self, pairs: Vec<Pair>, at: u64, level: u32) -> Result<(), TreeFault>
-        ensures now { OnOk result (self.new.leaves ≡ Some level) }
-        ensures before { OnOk result ((self.old.leaves ≡ None) ⊎ (self.old.leaves ≡ Some level)) }
-        ensures pairs { OnOk result (self.new.pairs.items ≡ self.old.pairs.items ++ map (λ p. (p, at)) pairs.items) }
-        ensures places { self.new.places ≡ self.old.places }
-        ensures damaged { IfErr result (λ fault. (p : ℕ) → fault ≡ Damaged p → (p ≡ at) × ((l : ℕ) × (self.old.leaves ≡ Some l) × (l ≢ level))) }
-        ensures faults { IfErr result (λ fault. fault ≢ File) }
-    {
-        if let Some(leaves) = self.leaves {
-            if leaves != level {
-                return Err(TreeFault::Damaged { at });
-            }
-        }
-        self.leaves = Some(level);
-        self.push_pairs(pairs, at)?;
-        Ok(())
-    }
-
-    // Appends the next pair of a page, if there is one.
-    fn push_next(&mut self, pairs: &mut IntoIter<Pair>, at: u64) -> Result<(), AllocError>
-        ensures pairs { OnOk result (self.new.pairs.items ≡ self.old.pairs.items ++ map (λ p. (p, at)) (take 1 (into_iter_items pairs.old))) }
-        ensures rest { into_iter_items pairs.new ≡ drop 1 (into_iter_items pairs.old) }
-        ensures places { self.new.places ≡ self.old.places }
-        ensures leaves { self.new.leaves ≡ self.old.leaves }
-    {
-        if let Some(pair) = pairs.next() {
-            self.pairs.push((pair, at))?;
-        }
-        Ok(())
-    }
+    // There are not so many places.
+    Err(TreeFault::Memory)
 }
 
-/// Goes into the page at a place and then into its children, at most so many levels.
-pub(crate) fn visit<F: Files>(
+/// Goes into the page at a place, whose leaves are to stand so many levels below it, and then into its children.
+#[cycle(visit)]
+fn visit<F: Files>(
     alloc: Global,
     files: &mut F,
     cache: &mut KeyCache,
     place: Place,
     at: u64,
-    levels: u32,
+    level: u32,
     met: &mut Met,
 ) -> Result<(), TreeFault>
     requires placed { IsPlaced place }
-    requires written { AllWritten cache.old.pages }
-    requires level { IfSome met.old.leaves (λ l. l ≤ levels) }
-    ensures ok { OnOk result ((m : Holding) (seen : List ℕ) → F.holds files.old ≡ Some m → IsCurrent cache.old m → HasMet met.old.places.keys seen
-        → Visits place.block_length (node_lent place cache.old m) levels at seen met.old met.new) }
-    ensures damaged { IfErr result (λ fault. (p : ℕ) → fault ≡ Damaged p → (m : Holding) (seen : List ℕ) → F.holds files.old ≡ Some m → IsCurrent cache.old m → HasMet met.old.places.keys seen
-        → Breaks place.block_length (node_lent place cache.old m) levels at seen met.old.leaves p) }
-    ensures level { OnOk result (IfSome met.new.leaves (λ l. l ≤ levels)) }
-    ensures cache { ReadsOnly (F.holds files.old) cache.old cache.new }
-    ensures holds { F.holds files.new ≡ F.holds files.old }
+    requires kept { IsTrue F.writable ⊎ AllWritten cache.old.pages }
+    ensures ok { OnOk result ((v : View) (seen : List ℕ) → Serves place v (F.holds files.old) cache.old → VisitsWithin place v level at seen → HasMet met.old.places.keys seen
+        → Visits place.block_length (shown place v) level at seen met.old met.new) }
+    ensures damaged { IfErr result (λ fault. (p : ℕ) → fault ≡ Damaged p → (v : View) (seen : List ℕ) → Serves place v (F.holds files.old) cache.old → VisitsWithin place v level at seen → HasMet met.old.places.keys seen
+        → Breaks place.block_length (shown place v) level at seen p) }
+    ensures served { (v : View) (seen : List ℕ) → Serves place v (F.holds files.old) cache.old → VisitsWithin place v level at seen → HasMet met.old.places.keys seen
+        → Serves place v (F.holds files.new) cache.new }
+    ensures cache { ReadsOnly (F.holds files.old) (F.holds files.new) cache.old cache.new }
     ensures cause { HasCause File (F.faults files.old) (F.faults files.new) result }
     ensures reads { F.reads files.old ≤ F.reads files.new }
 {
-    if levels == 0 {
-        return Err(TreeFault::Memory);
-    }
-    let NodeData { pairs, children } = enter(alloc, files, cache, place, at, met)?;
-    if children.is_empty() {
-        met.push_leaf(pairs, at, levels)?;
+    let page = enter(alloc, files, cache, place, at, met)?;
+    if level == 0 {
+        met.push_leaf(page)?;
         return Ok(());
     }
-    if met.leaves == Some(levels) {
+    if page.children.len() == 0 {
         return Err(TreeFault::Damaged { at });
     }
-    let mut pairs = pairs.into_iter();
-    for child in &children {
-        visit(alloc, files, cache, place, *child, levels - 1, met)?;
+    visit_children(alloc, files, cache, place, page, level - 1, met)
+}
+
+// Goes through the children that a page has left, whose leaves are to stand so many levels below them, with
+// the next pair behind each.
+#[cycle(visit)]
+fn visit_children<F: Files>(
+    alloc: Global,
+    files: &mut F,
+    cache: &mut KeyCache,
+    place: Place,
+    page: OpenPage,
+    level: u32,
+    met: &mut Met,
+) -> Result<(), TreeFault>
+    requires placed { IsPlaced place }
+    requires kept { IsTrue F.writable ⊎ AllWritten cache.old.pages }
+    ensures ok { OnOk result ((v : View) (seen : List ℕ) → Serves place v (F.holds files.old) cache.old → EachWithin place v level (into_iter_items page.children) seen → HasMet met.old.places.keys seen
+        → VisitsEach place.block_length (shown place v) level page.at (left_of page) seen met.old met.new) }
+    ensures damaged { IfErr result (λ fault. (p : ℕ) → fault ≡ Damaged p → (v : View) (seen : List ℕ) → Serves place v (F.holds files.old) cache.old → EachWithin place v level (into_iter_items page.children) seen → HasMet met.old.places.keys seen
+        → BreaksEach place.block_length (shown place v) level (into_iter_items page.children) seen p) }
+    ensures served { (v : View) (seen : List ℕ) → Serves place v (F.holds files.old) cache.old → EachWithin place v level (into_iter_items page.children) seen → HasMet met.old.places.keys seen
+        → Serves place v (F.holds files.new) cache.new }
+    ensures cache { ReadsOnly (F.holds files.old) (F.holds files.new) cache.old cache.new }
+    ensures cause { HasCause File (F.faults files.old) (F.faults files.new) result }
+    ensures reads { F.reads files.old ≤ F.reads files.new }
+{
+    let OpenPage {
+        at,
+        mut pairs,
+        children,
+    } = page;
+    for child in children {
+        visit(alloc, files, cache, place, child, level, met)?;
         met.push_next(&mut pairs, at)?;
     }
     Ok(())
+}
+
+/// Goes up the open pages from the first leaf, which was met: each gives its next pair, and its further
+/// children are gone through.
+pub(crate) fn climb<F: Files>(
+    alloc: Global,
+    files: &mut F,
+    cache: &mut KeyCache,
+    place: Place,
+    path: Vec<OpenPage>,
+    met: &mut Met,
+) -> Result<(), TreeFault>
+    requires placed { IsPlaced place }
+    requires kept { IsTrue F.writable ⊎ AllWritten cache.old.pages }
+    ensures ok { OnOk result ((v : View) (root : ℕ) → Serves place v (F.holds files.old) cache.old → VisitsWithin place v (length path.items) root []
+        → IsBelow place.block_length (shown place v) 0 root path.items met.old
+        → IsBelow place.block_length (shown place v) (length path.items) root [] met.new) }
+    ensures damaged { IfErr result (λ fault. (p : ℕ) → fault ≡ Damaged p → (v : View) (root : ℕ) → Serves place v (F.holds files.old) cache.old → VisitsWithin place v (length path.items) root []
+        → IsBelow place.block_length (shown place v) 0 root path.items met.old
+        → Breaks place.block_length (shown place v) (length path.items) root [] p) }
+    ensures served { (v : View) (root : ℕ) → Serves place v (F.holds files.old) cache.old → VisitsWithin place v (length path.items) root []
+        → IsBelow place.block_length (shown place v) 0 root path.items met.old
+        → Serves place v (F.holds files.new) cache.new }
+    ensures cache { ReadsOnly (F.holds files.old) (F.holds files.new) cache.old cache.new }
+    ensures cause { HasCause File (F.faults files.old) (F.faults files.new) result }
+    ensures reads { F.reads files.old ≤ F.reads files.new }
+{
+    let mut path = path;
+    for level in 0..LEVELS {
+        let Some(mut page) = path.pop() else {
+            return Ok(());
+        };
+        met.push_next(&mut page.pairs, page.at)?;
+        visit_children(alloc, files, cache, place, page, level, met)?;
+    }
+    // Only after 2^64 pages that have no byte in common, and there are not so many places.
+    Err(TreeFault::Memory)
 }

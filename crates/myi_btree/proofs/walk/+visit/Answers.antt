@@ -1,128 +1,201 @@
-use Rattle.std.proofs.Common.{◌≡◌, ◌∙◌, ◌+◌, ◌-◌, ◌<◌, ◌≤◌, ℕ, suc, Some, Ok, Err, List, [], ◌∷◌, ◌++◌, length, map, take, get_or, drop, sym, ap, subst, refl, arith}
+use Rattle.std.proofs.Common.{◌≡◌, ◌∙◌, ◌-◌, ◌<◌, ℕ, suc, List, [], ◌∷◌, ◌++◌, map, take, drop, append_assoc, append-nil, sym, ap, subst, refl, arith}
 use Rattle.std.specs.List.{flat_map}
-use Rattle.std.specs.Prelude.{IfSome}
+use Rattle.std.specs.Vec.Iter.{into_iter_items}
 use Rattle.std.proofs.lemmas.Result.{err_from_is_err_and}
-use Rattle.myi_keycache.specs.Caching.{IsCurrent}
-use Rattle.myi_btree.specs.declared.fault.TreeFault.TheVariants.{Damaged}
 use Rattle.myi_btree.specs.declared.pair.Pair.{Pair}
-use Rattle.myi_btree.specs.Walk.{Node, node_with, Places, Walked}
-use Rattle.myi_btree.specs.Nodes.{node_view}
-use Rattle.myi_btree.specs.Reading.{node_lent, ReadsOnly}
-use Rattle.myi_btree.specs.Meeting.{Visits, Breaks}
-use Rattle.myi_btree.proofs.WalkLaws.{if_err}
-use Rattle.myi_btree.proofs.VisitSteps.{Partly, reads_on, same_reading, cut_at, partly_start, partly_step, partly_end, partly_breaks, entered_breaks, leaf_breaks, leaf_visits, none_of, some_of, below_start, below_next, drop_next}
+use Rattle.myi_btree.specs.Walk.{node_with, Places, Walked}
+use Rattle.myi_btree.specs.Serving.{shown, EachWithin}
+use Rattle.myi_btree.specs.Meeting.{left_of, Visits, VisitsEach, Breaks, BreaksEach}
+use Rattle.myi_btree.proofs.WalkLaws.{same_place, if_err}
+use Rattle.myi_btree.proofs.WalkFinds.{nothing_left, something_left, on_ok, on_err, drop_more}
+use Rattle.myi_btree.proofs.ServeLaws.{reads_none, reads_on}
+use Rattle.myi_btree.proofs.Within.{asked_here, below_within}
+use Rattle.myi_btree.proofs.VisitSteps.{on_way, on_way_next, next_way, child_way, each_stops, entered_breaks, leaf_breaks, deep_breaks, leaf_visits, node_found, node_stops}
 use Rattle.myi_btree.proofs.walk.+visit.Goals as goal
 
-pub returns-in_err-pairs-clause-damaged : goal.returns-in_err-pairs-clause-damaged
-returns-in_err-pairs-clause-damaged g t c =
+pub visit-returns-in_err-page-clause-damaged : goal.visit-returns-in_err-page-clause-damaged
+visit-returns-in_err-page-clause-damaged g t c =
     let e = err_from_is_err_and c.from_residual.result c.from_residual.ensures.1 in
     if_err c.from_residual.result e.0 _ e.1
-    (λ p d m seen held current has.
-    entered_breaks c.args.place.block_length (node_lent c.args.place c.args.cache.now m) c.args.levels c.args.at seen c.args.met.now.leaves p c.requires.level (c.in_err-pairs.ensures.damaged p (sym e.2 ∙ d) m seen held current has))
+    (λ p d v seen s w has.
+    let read : Places = shown c.args.place v in
+    entered_breaks c.args.place.block_length read c.args.level c.args.at seen p (c.in_err-page.ensures.damaged p (sym e.2 ∙ d) v seen s (asked_here c.args.place.block_length read c.args.level c.args.at seen v.asked w) has))
 
-pub returns-in_err-push_leaf-clause-damaged : goal.returns-in_err-push_leaf-clause-damaged
-returns-in_err-push_leaf-clause-damaged g t c =
+pub visit-returns-in_err-page-clause-served : goal.visit-returns-in_err-page-clause-served
+visit-returns-in_err-page-clause-served g t c = λ v seen s w has. c.enter.ensures.served v s (asked_here c.args.place.block_length (shown c.args.place v) c.args.level c.args.at seen v.asked w)
+
+pub visit-returns-in_err-push_leaf-clause-damaged : goal.visit-returns-in_err-push_leaf-clause-damaged
+visit-returns-in_err-push_leaf-clause-damaged g t c =
     let e = err_from_is_err_and c.from_residual-in_err-push_leaf.result c.from_residual-in_err-push_leaf.ensures.1 in
     if_err c.from_residual-in_err-push_leaf.result e.0 _ e.1
-    (λ p d m seen held current has.
-    let s = c.in_err-push_leaf.ensures.damaged p (sym e.2 ∙ d) in
-    let node : Node = node_view c.in_ok-pairs.field-0 in
-    let none : node.children ≡ [] = none_of c.in_ok-pairs.field-0.children.items _ c.in_ok-pairs.field-0.children.ok.0 c.if-is_empty.ensures in
-    subst (λ (q : ℕ). Breaks c.args.place.block_length (node_lent c.args.place c.args.cache.now m) c.args.levels c.args.at seen c.args.met.now.leaves q) (sym s.0)
-    (leaf_breaks c.args.place.block_length (node_lent c.args.place c.args.cache.now m) c.args.levels c.args.at seen node c.args.met.now.leaves s.1.0 c.requires.level (sym c.in_ok-pairs.ensures.leaves ∙ s.1.1) s.1.2 none (c.in_ok-pairs.ensures.node m seen held current has)))
+    (λ p d v seen s w has.
+    let f = c.in_err-push_leaf.ensures.damaged p (sym e.2 ∙ d) in
+    let read : Places = shown c.args.place v in
+    let asked = asked_here c.args.place.block_length read c.args.level c.args.at seen v.asked w in
+    let is : c.args.at ≡ p = sym (f.0 ∙ c.in_ok-page.ensures.at) in
+    subst (λ (q : ℕ). Breaks c.args.place.block_length read c.args.level c.args.at seen q) is
+    (subst (λ (h : ℕ). Breaks c.args.place.block_length read h c.args.at seen c.args.at) (sym c.if-level-eq0.true)
+    (deep_breaks c.args.place.block_length read c.args.at seen (left_of c.in_ok-page.page) f.1 (c.in_ok-page.ensures.node v seen s asked has))))
 
-pub returns-then-is_empty-clause-ok : goal.returns-then-is_empty-clause-ok
-returns-then-is_empty-clause-ok g t c = λ m seen held current has.
-    let node : Node = node_view c.in_ok-pairs.field-0 in
-    let none : node.children ≡ [] = none_of c.in_ok-pairs.field-0.children.items _ c.in_ok-pairs.field-0.children.ok.0 c.if-is_empty.ensures in
-    let h = c.in_ok-push_leaf.ensures in
-    leaf_visits c.args.place.block_length (node_lent c.args.place c.args.cache.now m) c.args.levels c.args.at seen node c.args.met.now c.enter.new.met c.push_leaf.new.self none (c.in_ok-pairs.ensures.node m seen held current has)
-    c.in_ok-pairs.ensures.pairs c.in_ok-pairs.ensures.leaves (c.in_ok-pairs.ensures.met seen has) h.before h.now h.pairs h.places
+pub visit-returns-in_err-push_leaf-clause-served : goal.visit-returns-in_err-push_leaf-clause-served
+visit-returns-in_err-push_leaf-clause-served g t c = λ v seen s w has. c.enter.ensures.served v s (asked_here c.args.place.block_length (shown c.args.place v) c.args.level c.args.at seen v.asked w)
 
-pub loop-child-init : goal.loop-child-init
-loop-child-init g t c =
-    let h = c.in_ok-pairs.ensures in
-    let pairs0 : List Pair = c.in_ok-pairs.field-0.pairs.items in
-    let node : Node = node_with pairs0 c.deref-child-items.result.now in
+pub visit-returns-then-level-eq0-clause-ok : goal.visit-returns-then-level-eq0-clause-ok
+visit-returns-then-level-eq0-clause-ok g t c = λ v seen s w has.
+    let read : Places = shown c.args.place v in
+    let asked = asked_here c.args.place.block_length read c.args.level c.args.at seen v.asked w in
+    let h = c.in_ok-page.ensures in
+    let n = c.in_ok-push_leaf.ensures in
+    let pairs : List Pair = into_iter_items c.in_ok-page.page.pairs in
+    subst (λ (h : ℕ). Visits c.args.place.block_length read h c.args.at seen c.args.met.now c.push_leaf.new.self) (sym c.if-level-eq0.true)
+    (leaf_visits c.args.place.block_length read c.args.at seen (left_of c.in_ok-page.page) c.args.met.now c.enter.new.met c.push_leaf.new.self n.leaf (h.node v seen s asked has) h.pairs (h.met seen has)
+    (n.pairs ∙ ap (λ (q : ℕ). c.enter.new.met.pairs.items ++ map (λ (p : Pair). (p, q)) pairs) h.at) n.places)
+
+pub visit-returns-then-level-eq0-clause-served : goal.visit-returns-then-level-eq0-clause-served
+visit-returns-then-level-eq0-clause-served g t c = λ v seen s w has. c.enter.ensures.served v s (asked_here c.args.place.block_length (shown c.args.place v) c.args.level c.args.at seen v.asked w)
+
+pub visit-returns-then-len-eq0-clause-damaged : goal.visit-returns-then-len-eq0-clause-damaged
+visit-returns-then-len-eq0-clause-damaged g t c = λ p e v seen s w has.
+    let read : Places = shown c.args.place v in
+    let asked = asked_here c.args.place.block_length read c.args.level c.args.at seen v.asked w in
+    let is : c.args.at ≡ p = sym (same_place c.args.at p e) in
+    let none : into_iter_items c.in_ok-page.page.children ≡ [] = nothing_left (into_iter_items c.in_ok-page.page.children) _ c.in_ok-page.page.children.rest.ok.0 (sym c.len.ensures ∙ c.if-len-eq0.true) in
+    subst (λ (q : ℕ). Breaks c.args.place.block_length read c.args.level c.args.at seen q) is
+    (leaf_breaks c.args.place.block_length read c.args.level c.args.at seen (left_of c.in_ok-page.page) (omega (arith, c.if-level-eq0.false)) none (c.in_ok-page.ensures.node v seen s asked has))
+
+pub visit-returns-then-len-eq0-clause-served : goal.visit-returns-then-len-eq0-clause-served
+visit-returns-then-len-eq0-clause-served g t c = λ v seen s w has. c.enter.ensures.served v s (asked_here c.args.place.block_length (shown c.args.place v) c.args.level c.args.at seen v.asked w)
+
+pub visit-returns-clause-ok : goal.visit-returns-clause-ok
+visit-returns-clause-ok g t c = on_ok c.visit_children.result c.visit_children.ensures.ok (λ f v seen s w has.
+    let read : Places = shown c.args.place v in
+    let asked = asked_here c.args.place.block_length read c.args.level c.args.at seen v.asked w in
+    let h = c.in_ok-page.ensures in
+    let entered_it = h.node v seen s asked has in
+    let some = something_left (into_iter_items c.in_ok-page.page.children) _ c.in_ok-page.page.children.rest.ok.0 (λ z. c.if-len-eq0.false (c.len.ensures ∙ z)) in
+    let level : suc (c.args.level - 1) ≡ c.args.level = omega (arith, c.if-level-eq0.false) in
+    let above : 0 < c.args.level = omega (arith, c.if-level-eq0.false) in
+    let below = below_within c.args.place.block_length read c.args.level c.args.at seen (left_of c.in_ok-page.page) v.asked above entered_it w in
+    let x = f v (seen ++ c.args.at ∷ []) (h.served v s asked) below (h.met seen has) in
+    let y : VisitsEach c.args.place.block_length read (c.args.level - 1) c.args.at (left_of c.in_ok-page.page) (seen ++ c.args.at ∷ []) c.enter.new.met c.visit_children.new.met =
+    subst (λ (q : ℕ). VisitsEach c.args.place.block_length read (c.args.level - 1) q (left_of c.in_ok-page.page) (seen ++ c.args.at ∷ []) c.enter.new.met c.visit_children.new.met) h.at x in
+    subst (λ (k : ℕ). Visits c.args.place.block_length read k c.args.at seen c.args.met.now c.visit_children.new.met) level
+    (node_found c.args.place.block_length read (c.args.level - 1) c.args.at seen (left_of c.in_ok-page.page) c.args.met.now c.enter.new.met c.visit_children.new.met some entered_it h.pairs y))
+
+pub visit-returns-clause-damaged : goal.visit-returns-clause-damaged
+visit-returns-clause-damaged g t c = on_err c.visit_children.result _ _ c.visit_children.ensures.damaged (λ fault f p d v seen s w has.
+    let read : Places = shown c.args.place v in
+    let asked = asked_here c.args.place.block_length read c.args.level c.args.at seen v.asked w in
+    let h = c.in_ok-page.ensures in
+    let entered_it = h.node v seen s asked has in
+    let some = something_left (into_iter_items c.in_ok-page.page.children) _ c.in_ok-page.page.children.rest.ok.0 (λ z. c.if-len-eq0.false (c.len.ensures ∙ z)) in
+    let level : suc (c.args.level - 1) ≡ c.args.level = omega (arith, c.if-level-eq0.false) in
+    let above : 0 < c.args.level = omega (arith, c.if-level-eq0.false) in
+    let below = below_within c.args.place.block_length read c.args.level c.args.at seen (left_of c.in_ok-page.page) v.asked above entered_it w in
+    let b = f p d v (seen ++ c.args.at ∷ []) (h.served v s asked) below (h.met seen has) in
+    subst (λ (k : ℕ). Breaks c.args.place.block_length read k c.args.at seen p) level
+    (node_stops c.args.place.block_length read (c.args.level - 1) c.args.at seen (left_of c.in_ok-page.page) p some entered_it b))
+
+pub visit-returns-clause-served : goal.visit-returns-clause-served
+visit-returns-clause-served g t c = λ v seen s w has.
+    let read : Places = shown c.args.place v in
+    let asked = asked_here c.args.place.block_length read c.args.level c.args.at seen v.asked w in
+    let h = c.in_ok-page.ensures in
+    let above : 0 < c.args.level = omega (arith, c.if-level-eq0.false) in
+    let below = below_within c.args.place.block_length read c.args.level c.args.at seen (left_of c.in_ok-page.page) v.asked above (h.node v seen s asked has) w in
+    c.visit_children.ensures.served v (seen ++ c.args.at ∷ []) (h.served v s asked) below (h.met seen has)
+
+pub visit-returns-clause-cache : goal.visit-returns-clause-cache
+visit-returns-clause-cache g t c = reads_on _ _ _ c.args.cache.now c.enter.new.cache c.visit_children.new.cache c.in_ok-page.ensures.cache c.visit_children.ensures.cache
+
+pub visit_children-loop-child-init : goal.visit_children-loop-child-init
+visit_children-loop-child-init g t c =
+    let items = ap into_iter_items (sym c.into_iter-child-iterator.ensures.into_iter_gives) in
     record {
-      pairs0 = pairs0;
-      cache = h.cache;
-      holds = h.holds;
-      faults = h.cause.later;
-      reads = h.reads;
-      pairs = c.into_iter-pairs.ensures.rest;
-      below = below_start c.enter.new.met.leaves c.args.levels (subst (λ o. IfSome o (λ l. l ≤ c.args.levels)) (sym h.leaves) c.requires.level) c.if-eq.ensures;
-      node = λ m seen held current has. rw c.deref-child-items.ensures.value (h.node m seen held current has);
-      partly = λ m seen held current has. partly_start c.args.place.block_length (node_lent c.args.place c.args.cache.now m) c.args.levels c.args.at seen node c.args.met.now c.enter.new.met h.pairs h.leaves (h.met seen has);
+      cache = reads_none (g.F.Files.holds c.args.files.now) c.args.cache.now;
+      faults = omega arith;
+      reads = omega arith;
+      items = items;
+      pairs = refl;
+      served = λ v seen s w has. s;
+      way = λ v seen s w has. on_way c.args.place.block_length (shown c.args.place v) c.args.level c.args.page.at (into_iter_items c.args.page.pairs) (into_iter_items c.into_iter-child-iterator.result) seen v.asked c.args.met.now
+          (subst (λ (t : List ℕ). EachWithin c.args.place v c.args.level t seen) items w) has;
     }
 
-pub returns-in_err-visit-clause-damaged : goal.returns-in_err-visit-clause-damaged
-returns-in_err-visit-clause-damaged g t c =
-    let e = err_from_is_err_and c.from_residual-in_err-visit.result c.from_residual-in_err-visit.ensures.1 in
-    if_err c.from_residual-in_err-visit.result e.0 _ e.1
-    (λ p d m seen held current has.
+pub visit_children-returns-in_err-visit-clause-damaged : goal.visit_children-returns-in_err-visit-clause-damaged
+visit_children-returns-in_err-visit-clause-damaged g t c =
+    let e = err_from_is_err_and c.from_residual.result c.from_residual.ensures.1 in
+    if_err c.from_residual.result e.0 _ e.1
+    (λ p d v seen s w has.
     let i = c.loop-child.invariant in
-    let children : List ℕ = c.deref-child-items.result.now in
-    let node : Node = node_with i.pairs0 children in
-    let index : ℕ = c.loop-child.child-index in
-    let child : ℕ = get_or children index 0 in
-    let read : Places = node_lent c.args.place c.args.cache.now m in
-    let same : node_lent c.args.place c.loop-child.cache m ≡ read = same_reading c.args.place c.args.cache.now c.loop-child.cache m (g.F.Files.holds c.args.files.now) c.requires.written i.cache held current in
-    let now : IsCurrent c.loop-child.cache m = (i.cache.stays m held current).current in
-    let q = i.partly m seen held current has in
-    let met : List ℕ = (seen ++ c.args.at ∷ []) ++ flat_map (λ (w : Walked). w.pages) q.walks in
-    let b = c.in_err-visit.ensures.damaged p (sym e.2 ∙ d) m met (i.holds ∙ held) now q.met_all in
-    partly_breaks c.args.place.block_length read c.args.levels c.args.at seen node index child (drop (suc index) children) c.args.met.now c.loop-child.met p (omega (arith, c.if-levels-eq0.false)) (i.node m seen held current has) (cut_at index children 0 c.loop-child-test.true) q
-    (subst (λ (r : Places). Breaks c.args.place.block_length r (c.args.levels - 1) child met c.loop-child.met.leaves p) same b))
+    let read : Places = shown c.args.place v in
+    let pairs : List Pair = into_iter_items c.args.page.pairs in
+    let left : List ℕ = into_iter_items c.next.new.self in
+    let q = next_way c.args.place.block_length read c.args.level c.args.page.at pairs c.loop-child.yielded (into_iter_items c.loop-child.child-iterator) c.in-Some.child left seen v.asked c.args.met.now c.loop-child.met c.in-Some.ensures.steps.0 (i.way v seen s w has) in
+    let met : List ℕ = seen ++ flat_map (λ (w : Walked). w.pages) q.each.walks in
+    let b = c.in_err-visit.ensures.damaged p (sym e.2 ∙ d) v met (i.served v seen s w has) (child_way c.args.place.block_length read c.args.level c.args.page.at pairs c.loop-child.yielded c.in-Some.child left seen v.asked c.args.met.now c.loop-child.met q) q.each.met_all in
+    let all : into_iter_items c.args.page.children ≡ c.loop-child.yielded ++ c.in-Some.child ∷ left = i.items ∙ ap (λ (t : List ℕ). c.loop-child.yielded ++ t) c.in-Some.ensures.steps.0 in
+    subst (λ (t : List ℕ). BreaksEach c.args.place.block_length read c.args.level t seen p) (sym all)
+    (each_stops c.args.place.block_length read c.args.level c.args.page.at pairs c.loop-child.yielded c.in-Some.child left seen c.args.met.now c.loop-child.met p q.each b))
 
-pub returns-in_err-visit-clause-cache : goal.returns-in_err-visit-clause-cache
-returns-in_err-visit-clause-cache g t c =
+pub visit_children-returns-in_err-visit-clause-served : goal.visit_children-returns-in_err-visit-clause-served
+visit_children-returns-in_err-visit-clause-served g t c = λ v seen s w has.
     let i = c.loop-child.invariant in
-    reads_on (g.F.Files.holds c.args.files.now) c.args.cache.now c.loop-child.cache c.visit.new.cache i.cache
-    (subst (λ h. ReadsOnly h c.loop-child.cache c.visit.new.cache) i.holds c.in_err-visit.ensures.cache)
+    let read : Places = shown c.args.place v in
+    let pairs : List Pair = into_iter_items c.args.page.pairs in
+    let left : List ℕ = into_iter_items c.next.new.self in
+    let q = next_way c.args.place.block_length read c.args.level c.args.page.at pairs c.loop-child.yielded (into_iter_items c.loop-child.child-iterator) c.in-Some.child left seen v.asked c.args.met.now c.loop-child.met c.in-Some.ensures.steps.0 (i.way v seen s w has) in
+    let met : List ℕ = seen ++ flat_map (λ (w : Walked). w.pages) q.each.walks in
+    c.visit.ensures.served v met (i.served v seen s w has) (child_way c.args.place.block_length read c.args.level c.args.page.at pairs c.loop-child.yielded c.in-Some.child left seen v.asked c.args.met.now c.loop-child.met q) q.each.met_all
 
-pub returns-in_err-push_next-clause-cache : goal.returns-in_err-push_next-clause-cache
-returns-in_err-push_next-clause-cache g t c =
-    let i = c.loop-child.invariant in
-    reads_on (g.F.Files.holds c.args.files.now) c.args.cache.now c.loop-child.cache c.visit.new.cache i.cache
-    (subst (λ h. ReadsOnly h c.loop-child.cache c.visit.new.cache) i.holds c.in_ok-visit.ensures.cache)
+pub visit_children-returns-in_err-visit-clause-cache : goal.visit_children-returns-in_err-visit-clause-cache
+visit_children-returns-in_err-visit-clause-cache g t c = reads_on _ _ _ c.args.cache.now c.loop-child.cache c.visit.new.cache c.loop-child.invariant.cache c.in_err-visit.ensures.cache
 
-pub loop-child-preserved : goal.loop-child-preserved
-loop-child-preserved g t c =
+pub visit_children-returns-in_err-push_next-clause-served : goal.visit_children-returns-in_err-push_next-clause-served
+visit_children-returns-in_err-push_next-clause-served g t c = λ v seen s w has.
     let i = c.loop-child.invariant in
-    let children : List ℕ = c.deref-child-items.result.now in
-    let node : Node = node_with i.pairs0 children in
-    let index : ℕ = c.loop-child.child-index in
-    let child : ℕ = get_or children index 0 in
-    let v = c.in_ok-visit.ensures in
+    let read : Places = shown c.args.place v in
+    let pairs : List Pair = into_iter_items c.args.page.pairs in
+    let left : List ℕ = into_iter_items c.next.new.self in
+    let q = next_way c.args.place.block_length read c.args.level c.args.page.at pairs c.loop-child.yielded (into_iter_items c.loop-child.child-iterator) c.in-Some.child left seen v.asked c.args.met.now c.loop-child.met c.in-Some.ensures.steps.0 (i.way v seen s w has) in
+    let met : List ℕ = seen ++ flat_map (λ (w : Walked). w.pages) q.each.walks in
+    c.visit.ensures.served v met (i.served v seen s w has) (child_way c.args.place.block_length read c.args.level c.args.page.at pairs c.loop-child.yielded c.in-Some.child left seen v.asked c.args.met.now c.loop-child.met q) q.each.met_all
+
+pub visit_children-returns-in_err-push_next-clause-cache : goal.visit_children-returns-in_err-push_next-clause-cache
+visit_children-returns-in_err-push_next-clause-cache g t c = reads_on _ _ _ c.args.cache.now c.loop-child.cache c.visit.new.cache c.loop-child.invariant.cache c.in_ok-visit.ensures.cache
+
+pub visit_children-loop-child-preserved : goal.visit_children-loop-child-preserved
+visit_children-loop-child-preserved g t c =
+    let i = c.loop-child.invariant in
+    let child : ℕ = c.in-Some.child in
+    let done : List ℕ = c.loop-child.yielded in
+    let pairs : List Pair = into_iter_items c.args.page.pairs in
+    let left : List ℕ = into_iter_items c.next.new.self in
+    let x = c.in_ok-visit.ensures in
     let n = c.in_ok-push_next.ensures in
-    let some : 0 < c.args.levels = omega (arith, c.if-levels-eq0.false) in
-    let next : suc index ≡ index + 1 = omega arith in
     record {
-      pairs0 = i.pairs0;
-      cache = reads_on (g.F.Files.holds c.args.files.now) c.args.cache.now c.loop-child.cache c.visit.new.cache i.cache (subst (λ h. ReadsOnly h c.loop-child.cache c.visit.new.cache) i.holds v.cache);
-      holds = v.holds ∙ i.holds;
-      faults = omega (arith, i.faults, v.cause.later);
-      reads = omega (arith, i.reads, v.reads);
-      pairs = n.rest ∙ ap (drop 1) i.pairs ∙ drop_next index i.pairs0;
-      below = below_next c.push_next.new.self.leaves c.args.levels some (subst (λ o. IfSome o (λ l. l ≤ c.args.levels - 1)) (sym n.leaves) v.level);
-      node = i.node;
-      partly = λ m seen held current has.
-          let read : Places = node_lent c.args.place c.args.cache.now m in
-          let same : node_lent c.args.place c.loop-child.cache m ≡ read = same_reading c.args.place c.args.cache.now c.loop-child.cache m (g.F.Files.holds c.args.files.now) c.requires.written i.cache held current in
-          let now : IsCurrent c.loop-child.cache m = (i.cache.stays m held current).current in
-          let q = i.partly m seen held current has in
-          let met : List ℕ = (seen ++ c.args.at ∷ []) ++ flat_map (λ (w : Walked). w.pages) q.walks in
-          let b = v.ok m met (i.holds ∙ held) now q.met_all in
-          subst (λ (k : ℕ). Partly c.args.place.block_length read c.args.levels c.args.at seen node k c.args.met.now c.push_next.new.self) next
-          (partly_step c.args.place.block_length read c.args.levels c.args.at seen node index child (drop (suc index) children) c.args.met.now c.loop-child.met c.visit.new.met c.push_next.new.self some (cut_at index children 0 c.loop-child-test.true) q
-          (subst (λ (r : Places). Visits c.args.place.block_length r (c.args.levels - 1) child met c.loop-child.met c.visit.new.met) same b)
-          (n.pairs ∙ ap (λ (t : List Pair). c.visit.new.met.pairs.items ++ map (λ (p : Pair). (p, c.args.at)) (take 1 t)) i.pairs) n.places n.leaves);
+      cache = reads_on _ _ _ c.args.cache.now c.loop-child.cache c.visit.new.cache i.cache x.cache;
+      faults = omega (arith, i.faults, x.cause.later);
+      reads = omega (arith, i.reads, x.reads);
+      items = i.items ∙ ap (λ (t : List ℕ). done ++ t) c.in-Some.ensures.steps.0 ∙ sym (append_assoc done (child ∷ []) left);
+      pairs = n.rest ∙ ap (drop 1) i.pairs ∙ drop_more done child pairs;
+      served = λ v seen s w has.
+          let read : Places = shown c.args.place v in
+          let q = next_way c.args.place.block_length read c.args.level c.args.page.at pairs done (into_iter_items c.loop-child.child-iterator) child left seen v.asked c.args.met.now c.loop-child.met c.in-Some.ensures.steps.0 (i.way v seen s w has) in
+          let met : List ℕ = seen ++ flat_map (λ (w : Walked). w.pages) q.each.walks in
+          x.served v met (i.served v seen s w has) (child_way c.args.place.block_length read c.args.level c.args.page.at pairs done child left seen v.asked c.args.met.now c.loop-child.met q) q.each.met_all;
+      way = λ v seen s w has.
+          let read : Places = shown c.args.place v in
+          let q = next_way c.args.place.block_length read c.args.level c.args.page.at pairs done (into_iter_items c.loop-child.child-iterator) child left seen v.asked c.args.met.now c.loop-child.met c.in-Some.ensures.steps.0 (i.way v seen s w has) in
+          let met : List ℕ = seen ++ flat_map (λ (w : Walked). w.pages) q.each.walks in
+          let b = x.ok v met (i.served v seen s w has) (child_way c.args.place.block_length read c.args.level c.args.page.at pairs done child left seen v.asked c.args.met.now c.loop-child.met q) q.each.met_all in
+          on_way_next c.args.place.block_length read c.args.level c.args.page.at pairs done child left seen v.asked c.args.met.now c.loop-child.met c.visit.new.met c.push_next.new.self q b
+          (n.pairs ∙ ap (λ (t : List Pair). c.visit.new.met.pairs.items ++ map (λ (p : Pair). (p, c.args.page.at)) (take 1 t)) i.pairs) n.places;
     }
 
-pub returns-clause-ok : goal.returns-clause-ok
-returns-clause-ok g t c = λ m seen held current has.
+pub visit_children-returns-clause-ok : goal.visit_children-returns-clause-ok
+visit_children-returns-clause-ok g t c = λ v seen s w has.
     let i = c.loop-child.invariant in
-    let children : List ℕ = c.deref-child-items.result.now in
-    partly_end c.args.place.block_length (node_lent c.args.place c.args.cache.now m) c.args.levels c.args.at seen (node_with i.pairs0 children) c.loop-child.child-index c.args.met.now c.loop-child.met (i.node m seen held current has)
-    (some_of children _ (sym c.deref-child-items.ensures.len) c.if-is_empty.ensures) c.loop-child-test.false i.below (i.partly m seen held current has)
+    let none : into_iter_items c.loop-child.child-iterator ≡ [] = nothing_left (into_iter_items c.loop-child.child-iterator) _ c.loop-child.child-iterator.rest.ok.0 c.in-None.ensures.steps.0 in
+    let all : c.loop-child.yielded ≡ into_iter_items c.args.page.children = sym (i.items ∙ ap (λ (t : List ℕ). c.loop-child.yielded ++ t) none ∙ append-nil c.loop-child.yielded) in
+    subst (λ (t : List ℕ). VisitsEach c.args.place.block_length (shown c.args.place v) c.args.level c.args.page.at (node_with (into_iter_items c.args.page.pairs) t) seen c.args.met.now c.loop-child.met) all (i.way v seen s w has).each

@@ -1,0 +1,87 @@
+-- The cache serves a walk: what it lends at the places that may be asked for stays as it was.
+use Rattle.std.proofs.Common.{◌≡◌, ◌⊎◌, ℕ, ◌%◌, Bool, true, false, cond, eqb, Option, Some, None, List, refl, sym, ap, ◌∙◌, inl, inr}
+use Rattle.std.proofs.lemmas.Option.{same_Some}
+use Rattle.myi_base.specs.Holding.{Holding, Told, bytes_of}
+use Rattle.myi_keycache.specs.Kept.{ChangesNone, AllWritten}
+use Rattle.myi_keycache.specs.Lent.{bytes_at}
+use Rattle.myi_keycache.specs.Caching.{Caching, lends, CanGet, Stays}
+use Rattle.myi_keycache.proofs.LentLemmas.{lends_file, stays_on}
+use Rattle.myi_btree.specs.declared.place.Place.{Place}
+use Rattle.myi_btree.specs.Walk.{◌>>=◌, Node}
+use Rattle.myi_btree.specs.Nodes.{node_in}
+use Rattle.myi_btree.specs.Reading.{node_lent, ReadsOnly}
+use Rattle.myi_btree.specs.Serving.{View, shown, Serves}
+use Rattle.myi_btree.proofs.Frames.{bind_some}
+
+-- ---- calls that put nothing
+
+pub keeps_written : (a b : Caching) → ChangesNone a.pages b.pages → AllWritten a.pages → AllWritten b.pages
+keeps_written a b none written = λ p n u. written p n (none p n u)
+
+pub kept_on : {A : Type 0} (a b : Caching) → ChangesNone a.pages b.pages → A ⊎ AllWritten a.pages → A ⊎ AllWritten b.pages
+kept_on a b none (inl x) = inl x
+kept_on a b none (inr written) = inr (keeps_written a b none written)
+
+pub reads_none : (told : Option Holding) (cache : Caching) → ReadsOnly told told cache cache
+reads_none told cache = record { name = refl; unwritten = λ p n u. u; clean = λ written. refl; others = λ m held. (m, held, λ q other. refl) }
+
+pub reads_on : (one two three : Option Holding) (a b c : Caching) → ReadsOnly one two a b → ReadsOnly two three b c → ReadsOnly one three a c
+reads_on one two three a b c x y = record {
+  name = y.name ∙ x.name;
+  unwritten = λ p n u. x.unwritten p n (y.unwritten p n u);
+  clean = λ written. y.clean (keeps_written a b x.unwritten written) ∙ x.clean written;
+  others = λ m held.
+      let f = x.others m held in
+      let s = y.others f.0 f.1 in
+      (s.0, s.1, λ q other. s.2 q (λ e. other (e ∙ x.name)) ∙ f.2 q other);
+}
+
+-- ---- what is shown
+
+pub can_ask : (place : Place) (v : View) (told : Option Holding) (cache : Caching) (at : ℕ) → (s : Serves place v told cache) → v.asked at ≡ true → CanGet cache s.now at place.block_length
+can_ask place v told cache at s a = record { current = s.stays.current; apart = λ p n u. s.apart at a p n (s.unwritten p n u) }
+
+lent_bytes : (place : Place) (cache : Caching) (m : Holding) (at : ℕ) (node : Node) → node_lent place cache m at ≡ Some node → (bytes : List ℕ) × (lends cache m at place.block_length ≡ Some bytes)
+unfolding node_lent
+lent_bytes place cache m at node e = by (eqb (at % 1024) 0) e
+  where
+    by : (b : Bool) → cond b (lends cache m at place.block_length >>= node_in place.rec_ref) None ≡ Some node → (bytes : List ℕ) × (lends cache m at place.block_length ≡ Some bytes)
+    by true e = let a = bind_some (lends cache m at place.block_length) (node_in place.rec_ref) node e in (a.0, a.1)
+    by false e = absurd cc
+
+same_bytes : (place : Place) (one two : Caching) (m n : Holding) (at : ℕ) → lends one m at place.block_length ≡ lends two n at place.block_length → node_lent place one m at ≡ node_lent place two n at
+unfolding node_lent
+same_bytes place one two m n at e = rw e refl
+
+-- what the cache lends there now is what was shown
+pub shown_now : (place : Place) (v : View) (told : Option Holding) (cache : Caching) (at : ℕ) → (s : Serves place v told cache) → v.asked at ≡ true → node_lent place cache s.now at ≡ shown place v at
+shown_now place v told cache at s a = by s.there
+  where
+    by : AllWritten v.first.pages ⊎ ((at : ℕ) → v.asked at ≡ true → (node : Node) × (shown place v at ≡ Some node)) → node_lent place cache s.now at ≡ shown place v at
+    by (inl written) =
+        let one : lends cache s.now at place.block_length ≡ bytes_at (bytes_of cache.name s.now) at place.block_length = lends_file cache s.now at place.block_length (keeps_written v.first cache s.unwritten written) s.stays.current in
+        let two : lends v.first v.start at place.block_length ≡ bytes_at (bytes_of v.first.name v.start) at place.block_length = lends_file v.first v.start at place.block_length written s.current in
+        same_bytes place cache v.first s.now v.start at
+        (one ∙ ap (λ (n : List ℕ). bytes_at (bytes_of n s.now) at place.block_length) s.name ∙ ap (λ (m : Holding). bytes_at (bytes_of v.first.name m) at place.block_length) (s.same written) ∙ sym two)
+    by (inr there) =
+        let node = there at a in
+        let bytes = lent_bytes place v.first v.start at node.0 node.1 in
+        same_bytes place cache v.first s.now v.start at (s.stays.lent at place.block_length bytes.0 bytes.1 ∙ sym bytes.1)
+
+-- ---- a page is asked for
+
+pub serves_on : (place : Place) (v : View) (told next : Option Holding) (old new : Caching) (at : ℕ) → (s : Serves place v told old) → v.asked at ≡ true → ReadsOnly told next old new
+    → Told told next (λ m n. CanGet old m at place.block_length → Stays old new m n) → Serves place v next new
+serves_on place v told next old new at s a r t =
+    let n = t s.now s.held in
+    record {
+      current = s.current;
+      apart = s.apart;
+      there = s.there;
+      now = n.0;
+      held = n.1;
+      name = r.name ∙ s.name;
+      unwritten = λ p k u. s.unwritten p k (r.unwritten p k u);
+      stays = stays_on v.first old new v.start s.now n.0 s.stays (n.2 (can_ask place v told old at s a));
+      same = λ written. same_Some n.0 s.now (sym n.1 ∙ r.clean (keeps_written v.first old s.unwritten written) ∙ s.held) ∙ s.same written;
+    }

@@ -1,0 +1,137 @@
+-- The cache serves a walk of a tree that may be gone through.
+use Rattle.std.proofs.Common.{◌≡◌, ◌⊎◌, ℕ, zero, suc, Bool, true, false, ◌||◌, eqb, cond, ltb, Option, Some, None, List, [], ◌∷◌, ◌++◌, length, refl, sym, subst, ◌∙◌, inl, inr}
+use Rattle.std.specs.Prelude.{IsTrue}
+use Rattle.std.specs.List.{list_all, list_any, flat_map, AllByRecursion}
+use Rattle.std.proofs.lemmas.Bool.{and_parts, and_from, eq-eqb, eqb-true, cases_Bool}
+use Rattle.std.proofs.lemmas.Option.{same_Some, cond_some}
+use Rattle.myi_base.specs.Holding.{Holding, Told}
+use Rattle.myi_keycache.specs.Kept.{is_kept, NoOtherMeets, AllWritten}
+use Rattle.myi_keycache.specs.Caching.{Caching, IsCurrent, Stays}
+use Rattle.myi_keycache.proofs.LentLemmas.{stays_start}
+use Rattle.myi_keycache.proofs.KeptLemmas.{unwritten_kept}
+use Rattle.myi_btree.specs.declared.place.Place.{Place}
+use Rattle.myi_btree.specs.Walk.{◌>>=◌, Node, Places, Walked, each, at_node, as_leaf, walk_of}
+use Rattle.myi_btree.specs.Visit.{visit}
+use Rattle.myi_btree.specs.Reading.{node_lent, IsClear, CanWalk, ReadsOnly}
+use Rattle.myi_btree.specs.Serving.{view, Serves, IsWithin}
+use Rattle.myi_btree.proofs.Frames.{bind_some}
+use Rattle.myi_btree.proofs.VisitLaws.{leaf_pages}
+use Rattle.myi_btree.proofs.VisitWalks.{walks_found}
+
+-- ---- the pages of a walk
+
+abbrev HasNode : Places → ℕ → Type 0
+HasNode read p = (node : Node) × (read p ≡ Some node)
+
+all_both : (P : ℕ → Type 0) (xs ys : List ℕ) → AllByRecursion P xs → AllByRecursion P ys → AllByRecursion P (xs ++ ys)
+all_both P [] ys a b = b
+all_both P (x ∷ xs) ys a b = (a.0, all_both P xs ys a.1 b)
+
+each_nodes : (read : Places) (h : ℕ) → ((place : ℕ) (w : Walked) → walk_of read h place ≡ Some w → AllByRecursion (HasNode read) w.pages) → (places : List ℕ) (ws : List Walked) → each (walk_of read h) places ≡ Some ws → AllByRecursion (HasNode read) (flat_map (λ (w : Walked). w.pages) ws)
+each_nodes read h ih [] ws e = subst (λ (t : List Walked). AllByRecursion (HasNode read) (flat_map (λ (w : Walked). w.pages) t)) (same_Some [] ws e) tt
+each_nodes read h ih (p ∷ ps) ws e =
+    let a = bind_some (walk_of read h p) (λ y. each (walk_of read h) ps >>= λ ys. Some (y ∷ ys)) ws e in
+    let b = bind_some (each (walk_of read h) ps) (λ ys. Some (a.0 ∷ ys)) ws a.2 in
+    subst (λ (t : List Walked). AllByRecursion (HasNode read) (flat_map (λ (w : Walked). w.pages) t)) (same_Some _ _ b.2)
+    (all_both (HasNode read) a.0.pages (flat_map (λ (w : Walked). w.pages) b.0) (ih p a.0 a.1) (each_nodes read h ih ps b.0 b.1))
+
+walk_nodes : (read : Places) (h place : ℕ) (w : Walked) → walk_of read h place ≡ Some w → AllByRecursion (HasNode read) w.pages
+walk_nodes read zero place w e =
+    let a = bind_some (read place) (λ node. as_leaf place node node.children) w e in
+    subst (λ (t : List ℕ). AllByRecursion (HasNode read) t) (sym (leaf_pages place a.0 a.0.children w a.2)) ((a.0, a.1), tt)
+walk_nodes read (suc h) place w e =
+    let a = bind_some (read place) (λ node. each (walk_of read h) node.children >>= λ ws. cond (ltb 0 (length node.children)) (Some (at_node place node ws)) None) w e in
+    let b = bind_some (each (walk_of read h) a.0.children) (λ ws. cond (ltb 0 (length a.0.children)) (Some (at_node place a.0 ws)) None) w a.2 in
+    let g = cond_some _ _ _ b.2 in
+    subst (λ (t : Walked). AllByRecursion (HasNode read) t.pages) g.1 ((a.0, a.1), each_nodes read h (walk_nodes read h) a.0.children b.0 b.1)
+
+-- ---- whether a place is one of these
+
+is_in : List ℕ → ℕ → Bool
+is_in xs p = list_any (λ x. eqb x p) xs
+
+in_all : (P : ℕ → Type 0) (xs : List ℕ) (p : ℕ) → AllByRecursion P xs → is_in xs p ≡ true → P p
+unfolding is_in
+in_all P [] p all e = absurd cc
+in_all P (x ∷ xs) p all e = elim (cases_Bool (eqb x p)) [
+  | inl is ↦ subst P (eqb-true x p is) all.0
+  | inr other ↦ in_all P xs p all.1 (rw other at e)
+]
+
+or_true : (b : Bool) → (b || true) ≡ true
+or_true true = refl
+or_true false = refl
+
+all_weaker : (t u : ℕ → Bool) → ((p : ℕ) → t p ≡ true → u p ≡ true) → (xs : List ℕ) → list_all t xs ≡ true → list_all u xs ≡ true
+all_weaker t u f [] e = refl
+all_weaker t u f (x ∷ xs) e =
+    let k = and_parts (t x) (list_all t xs) e in
+    and_from (u x) (list_all u xs) (f x k.0) (all_weaker t u f xs k.1)
+
+all_in : (xs : List ℕ) → list_all (is_in xs) xs ≡ true
+unfolding is_in
+all_in [] = refl
+all_in (x ∷ xs) =
+    let here : eqb x x ≡ true = eq-eqb x x refl in
+    and_from (eqb x x || is_in xs x) (list_all (is_in (x ∷ xs)) xs) (rw here refl) (all_weaker (is_in xs) (is_in (x ∷ xs)) (λ p e. rw e (or_true (eqb x p))) xs (all_in xs))
+
+-- ---- where a walk begins
+
+pub record Begins (place : Place) (told : Option Holding) (cache : Caching) (m : Holding) (root : ℕ) : Type 0 where
+  pub asked : ℕ → Bool
+  pub serves : Serves place (view cache m asked) told cache
+  pub height : ℕ
+  pub within : IsWithin asked (visit place.block_length (node_lent place cache m) height root [])
+
+begins_written : (place : Place) (told : Option Holding) (cache : Caching) (m : Holding) (root : ℕ) → told ≡ Some m → IsCurrent cache m → AllWritten cache.pages → Begins place told cache m root
+begins_written place told cache m root held current written = record {
+  asked = λ _. true;
+  serves = record {
+    current = current;
+    apart = λ at a p n u. absurd (written p n u);
+    there = inl written;
+    now = m;
+    held = held;
+    name = refl;
+    unwritten = λ p n u. u;
+    stays = stays_start cache m current;
+    same = λ all. refl;
+  };
+  height = 0;
+  within = inl (λ at. refl);
+}
+
+begins_clear : (place : Place) (told : Option Holding) (cache : Caching) (m : Holding) (root : ℕ) → told ≡ Some m → IsCurrent cache m → IsClear place cache m (Some root) → Begins place told cache m root
+begins_clear place told cache m root held current (w, walk, meets) =
+    let read : Places = node_lent place cache m in
+    let found = walks_found place.block_length read root w walk in
+    record {
+      asked = is_in w.pages;
+      serves = record {
+        current = current;
+        apart = λ at a p n u. in_all (λ at. NoOtherMeets (is_kept cache.pages) at place.block_length) w.pages at meets a p n (unwritten_kept cache.pages p n u);
+        there = inr (λ at a. in_all (HasNode read) w.pages at (walk_nodes read walk.height root w walk.walk) a);
+        now = m;
+        held = held;
+        name = refl;
+        unwritten = λ p n u. u;
+        stays = stays_start cache m current;
+        same = λ all. refl;
+      };
+      height = found.height;
+      within = inr (w, found.is, all_in w.pages);
+    }
+
+pub begins : (writable : Bool) (place : Place) (told : Option Holding) (cache : Caching) (m : Holding) (root : ℕ) → CanWalk writable told place cache → told ≡ Some m → IsCurrent cache m → place.root ≡ Some root → Begins place told cache m root
+begins writable place told cache m root (inl written) held current is = begins_written place told cache m root held current written
+begins writable place told cache m root (inr (w, f)) held current is = begins_clear place told cache m root held current (subst (λ (r : Option ℕ). IsClear place cache m r) is (f m held current))
+
+pub may_get : (writable : Bool) (place : Place) (told : Option Holding) (cache : Caching) → CanWalk writable told place cache → IsTrue writable ⊎ AllWritten cache.pages
+may_get writable place told cache (inl written) = inr written
+may_get writable place told cache (inr (w, f)) = inl w
+
+-- what a walk that the cache served says of the cache
+pub stays_told : (place : Place) (told next : Option Holding) (old new : Caching) → ReadsOnly told next old new → ((m : Holding) → told ≡ Some m → IsCurrent old m → (asked : ℕ → Bool) × Serves place (view old m asked) next new) → Told told next (λ m n. IsCurrent old m → Stays old new m n)
+stays_told place told next old new r serve = λ m held.
+    let f = r.others m held in
+    (f.0, f.1, λ current. let s = serve m held current in subst (λ (n : Holding). Stays old new m n) (same_Some s.1.now f.0 (sym s.1.held ∙ f.1)) s.1.stays)
