@@ -1,0 +1,182 @@
+-- The new index file: its trees, its header and its length.
+use Rattle.std.proofs.Common.{◌≡◌, ℕ, zero, suc, ◌+◌, ◌-◌, ◌*◌, ◌%◌, ◌^◌, ◌<◌, ◌≤◌, Bool, true, List, [], ◌∷◌, ◌++◌, length, map, drop, nat_le, refl, sym, ap, subst, ◌∙◌, arith, length-append}
+use Rattle.std.specs.List.{AllByRecursion}
+use Rattle.std.proofs.lemmas.Bool.{and_parts, leb-true}
+use Rattle.std.proofs.lemmas.List.{drop_at, append-nil, length-map}
+use Rattle.std.proofs.lemmas.Option.{same_Some}
+use Rattle.myi_defs.specs.declared.types.Defs.{Defs}
+use Rattle.myi_defs.specs.Sound.{IsSound}
+use Rattle.myi_defs.specs.Addressable.{is_addressable}
+use Rattle.myi_defs.proofs.SoundLaws.{sound}
+use Rattle.myi_header.specs.declared.state.State.{State}
+use Rattle.myi_header.specs.Layout.{first_page_of}
+use Rattle.myi_header.specs.HeaderOf.{header_of}
+use Rattle.myi_pack.specs.Packed.{Values}
+use Rattle.myi_data.specs.Laid.{stored, laid_file, IsStorable}
+use Rattle.myi_btree.specs.declared.pair.Pair.{Pair}
+use Rattle.myi_btree.specs.Walk.{Node}
+use Rattle.myi_btree.specs.Sizes.{IsPlaced, fits_in}
+use Rattle.myi_btree.specs.Laid.{laid, root_of}
+use Rattle.myi_pair.specs.FirstRows.{numbers_from, key_numbers}
+use Rattle.myi_pair.specs.KeyList.{PlacedRow, key_list}
+use Rattle.myi_pair.specs.Trees.{block_of_key, place_of}
+use Rattle.myi_pair.specs.RecoveredBytes.{kept, new_data, placed_from, LaidTrees, laid_trees, new_trees, recovered_state, new_index}
+use Rattle.myi_pair.specs.Recovered.{IsRepairable}
+use Rattle.myi_pair.proofs.SizedLaws.{placed}
+use Rattle.myi_pair.proofs.KeptLaws.{kept_each}
+use Rattle.myi_pair.proofs.ShorterLaws.{stored_length, length-laid, new_reached, shorter}
+use Rattle.myi_pair.proofs.LaidLaws.{near_from, few_rows}
+use Rattle.myi_pair.proofs.TreesLaws.{trees_of, first_le_end, AreThere, trees_there}
+use Rattle.myi_pair.proofs.FewPages.{trees_short, first_short}
+use Rattle.myi_pair.proofs.HeaderLaws.{RootFits, AreFew, repaired, header_long, new_rest, IsNewIndex, new_header}
+
+-- the numbers of the keys
+
+numbers_count : (k n : ℕ) → length (numbers_from k n) ≡ n
+numbers_count k zero = refl
+numbers_count k (suc n) = ap suc (numbers_count (suc k) n)
+
+numbers_below : (k n m : ℕ) → k + n ≤ m → AllByRecursion (λ i. i < m) (numbers_from k n)
+numbers_below k zero m le = tt
+numbers_below k (suc n) m le = (omega arith, numbers_below (suc k) n m (omega arith))
+
+-- the roots: one for each key, and each a place that eight bytes can have
+
+roots_count : (d : Defs) (first : ℕ) (ks : List ℕ) (lists : List (List Pair)) → length lists ≡ length ks → length (laid_trees d first ks lists).roots ≡ length ks
+roots_count d first [] lists same = refl
+roots_count d first (k ∷ ks) [] same = absurd (omega arith)
+roots_count d first (k ∷ ks) (pairs ∷ lists) same = ap suc (roots_count d (first + block_of_key d k * length (laid (fits_in (place_of d k)) (block_of_key d k) first pairs)) ks lists (omega arith))
+
+root_fits : (block first end : ℕ) (nodes : List Node) → 1024 ≤ block → end < 2 ^ 64 → first + block * length nodes ≤ end → RootFits (root_of block first nodes)
+root_fits block first end [] some small inside = ((λ e. cc), omega arith)
+root_fits block first end (node ∷ nodes) some small inside =
+    let at : ℕ = first + block * length nodes in
+    let less : at + block ≤ end = omega arith in
+    ((λ e. let same : at ≡ 2 ^ 64 - 1 = same_Some at (2 ^ 64 - 1) e in omega arith), omega arith)
+
+roots_fit : (d : Defs) (first : ℕ) (ks : List ℕ) (lists : List (List Pair)) → IsSound d → AllByRecursion (λ k. k < length d.keys) ks → (laid_trees d first ks lists).end < 2 ^ 64 → AllByRecursion RootFits (laid_trees d first ks lists).roots
+roots_fit d first [] lists s inside small = tt
+roots_fit d first (k ∷ ks) [] s inside small = tt
+roots_fit d first (k ∷ ks) (pairs ∷ lists) s inside small =
+    let block : ℕ = block_of_key d k in
+    let nodes : List Node = laid (fits_in (place_of d k)) block first pairs in
+    let next : ℕ = first + block * length nodes in
+    let is_placed : IsPlaced (place_of d k) = placed d s k inside.0 in
+    (root_fits block first (laid_trees d next ks lists).end nodes is_placed.least small (first_le_end d next ks lists), roots_fit d next ks lists s inside.1 small)
+
+-- the new trees
+
+abbrev pub rows_placed : Defs → List Values → List PlacedRow
+rows_placed d rows = placed_from d 0 rows
+
+pub trees_are : (d : Defs) (rows : List Values) → new_trees d rows ≡ trees_of d (first_page_of d) (key_numbers d) (rows_placed d rows)
+unfolding new_trees
+trees_are d rows = refl
+
+new_roots_count : (d : Defs) (rows : List Values) → length (new_trees d rows).roots ≡ length d.keys
+new_roots_count d rows =
+    ap (λ (t : LaidTrees). length t.roots) (trees_are d rows)
+    ∙ roots_count d (first_page_of d) (key_numbers d) (map (λ k. key_list d k (rows_placed d rows)) (key_numbers d)) (length-map (key_numbers d) (λ k. key_list d k (rows_placed d rows)))
+    ∙ numbers_count 0 (length d.keys)
+
+new_roots_fit : (d : Defs) (rows : List Values) → IsSound d → (new_trees d rows).end < 2 ^ 64 → AllByRecursion RootFits (new_trees d rows).roots
+new_roots_fit d rows s small =
+    let is = trees_are d rows in
+    subst (λ (t : LaidTrees). AllByRecursion RootFits t.roots) (sym is)
+    (roots_fit d (first_page_of d) (key_numbers d) (map (λ k. key_list d k (rows_placed d rows)) (key_numbers d)) s (numbers_below 0 (length d.keys) (length d.keys) (omega arith)) (subst (λ (t : LaidTrees). t.end < 2 ^ 64) is small))
+
+whole_first : (d : Defs) → first_page_of d % 1024 ≡ 0
+whole_first d = omega arith
+
+-- the trees stand in each file whose bytes from the first page place on are theirs
+new_there : (d : Defs) (x : List ℕ) (rows : List Values) → IsSound d → AllByRecursion (IsStorable d) rows → is_addressable d (length (laid_file d rows)) ≡ true → (new_trees d rows).end < 2 ^ 64 → drop (first_page_of d) x ≡ (new_trees d rows).bytes
+    → AreThere d x (rows_placed d rows) ((0, first_page_of d) ∷ []) (first_page_of d) (key_numbers d)
+new_there d x rows s all reached small is =
+    let same = trees_are d rows in
+    let first : ℕ = first_page_of d in
+    let there : drop first x ≡ (trees_of d first (key_numbers d) (rows_placed d rows)).bytes ++ [] = is ∙ ap (λ (t : LaidTrees). t.bytes) same ∙ sym (append-nil _) in
+    trees_there d (length (laid_file d rows)) x (rows_placed d rows) ((0, first) ∷ []) first (key_numbers d) [] s reached
+    (near_from d 0 (length (laid_file d rows)) rows all (omega (arith, length-laid d rows)))
+    (numbers_below 0 (length d.keys) (length d.keys) (omega arith)) (whole_first d) (omega arith, tt)
+    (subst (λ (t : LaidTrees). t.end < 2 ^ 64) same small) there
+
+placed_count : (d : Defs) (at : ℕ) (vs : List Values) → length (placed_from d at vs) ≡ length vs
+placed_count d at [] = refl
+placed_count d at (v ∷ vs) = ap suc (placed_count d (at + length (stored d v)) vs)
+
+-- the new index file
+
+short_file : (d : Defs) (n : ℕ) → is_addressable d n ≡ true → n ≤ 2 ^ 40
+unfolding is_addressable
+short_file d n reached = leb-true n (2 ^ 40) (and_parts (nat_le n (2 ^ 40)) _ reached).0
+
+module _ (d : Defs) (extend : Bool) (x : List ℕ) (now : ℕ) (can : IsRepairable d x now) where
+  the_rows : List Values
+  the_rows = kept d extend x
+
+  is_sound : IsSound d
+  is_sound = sound d can.defined
+
+  pub all_stored : AllByRecursion (IsStorable d) (kept d extend x)
+  all_stored = kept_each d extend x can.defined can.bytes
+
+  data_is : new_data d extend x ≡ laid_file d (kept d extend x)
+  unfolding new_data
+  data_is = refl
+
+  pub data_long : length (new_data d extend x) ≡ stored_length d (kept d extend x)
+  data_long = ap (λ (b : List ℕ). length b) data_is ∙ length-laid d (kept d extend x)
+
+  new_near : is_addressable d (length (laid_file d (kept d extend x))) ≡ true
+  new_near = ap (λ (b : List ℕ). is_addressable d (length b)) (sym data_is) ∙ new_reached d extend x can.defined can.bytes can.reached
+
+  pub room : (new_trees d (kept d extend x)).end < 2 ^ 64
+  room =
+      let rows : List Values = kept d extend x in
+      let less = shorter d extend x can.defined can.bytes in
+      let most = short_file d (length x) can.reached in
+      let len : ℕ = length (laid_file d rows) in
+      let few : length (rows_placed d rows) ≤ 2 ^ 40 = omega (arith, placed_count d 0 rows, less, most, data_long, few_rows d rows is_sound all_stored) in
+      let short = trees_short d len (first_page_of d) (key_numbers d) (rows_placed d rows) is_sound new_near (near_from d 0 len rows all_stored (omega (arith, length-laid d rows)))
+      (numbers_below 0 (length d.keys) (length d.keys) (omega arith)) (omega (arith, numbers_count 0 (length d.keys), is_sound.few_keys)) few (first_short d is_sound can.header) in
+      subst (λ (t : LaidTrees). t.end < 2 ^ 64) (sym (trees_are d rows)) short
+
+  pub are_few : AreFew d (length (kept d extend x)) (length (new_data d extend x)) (new_trees d (kept d extend x)).end now (new_trees d (kept d extend x)).roots
+  are_few =
+      let less = shorter d extend x can.defined can.bytes in
+      let most = short_file d (length x) can.reached in
+      record {
+        raw = can.header;
+        few_rows = omega (arith, less, most, data_long, few_rows d (kept d extend x) is_sound all_stored);
+        short_data = omega (arith, less, most);
+        short_index = room;
+        early = can.time;
+        count = new_roots_count d (kept d extend x);
+        fit = new_roots_fit d (kept d extend x) is_sound room;
+      }
+
+  abbrev the_state : State
+  the_state = repaired d (length (kept d extend x)) (length (new_data d extend x)) (new_trees d (kept d extend x)).end now (new_trees d (kept d extend x)).roots
+
+  pub index_is : new_index d extend x now ≡ header_of d the_state ++ (new_trees d (kept d extend x)).bytes
+  unfolding new_index
+  index_is = refl
+
+  front_long : length (header_of d the_state) ≡ first_page_of d
+  front_long = header_long d the_state is_sound (new_roots_count d (kept d extend x)) (new_rest d is_sound)
+
+  pub there : AreThere d (new_index d extend x now) (placed_from d 0 (kept d extend x)) ((0, first_page_of d) ∷ []) (first_page_of d) (key_numbers d)
+  there =
+      let behind : drop (first_page_of d) (new_index d extend x now) ≡ (new_trees d (kept d extend x)).bytes = ap (drop (first_page_of d)) index_is ∙ drop_at (header_of d the_state) (new_trees d (kept d extend x)).bytes (first_page_of d) front_long in
+      new_there d (new_index d extend x now) (kept d extend x) is_sound all_stored new_near room behind
+
+  pub index_long : length (new_index d extend x now) ≡ (new_trees d (kept d extend x)).end
+  index_long =
+      let t : LaidTrees = new_trees d (kept d extend x) in
+      let same = trees_are d (kept d extend x) in
+      ap (λ (b : List ℕ). length b) index_is ∙ length-append (header_of d the_state) t.bytes
+      ∙ omega (arith, front_long, there.long, ap (λ (u : LaidTrees). length u.bytes) same, ap (λ (u : LaidTrees). u.end) same)
+
+  pub index_shows : IsNewIndex d (recovered_state d extend x now) (new_index d extend x now)
+  index_shows =
+      subst (IsNewIndex d the_state) (sym index_is) (new_header d (length (kept d extend x)) (length (new_data d extend x)) (new_trees d (kept d extend x)).end now (new_trees d (kept d extend x)).roots (new_trees d (kept d extend x)).bytes is_sound are_few)

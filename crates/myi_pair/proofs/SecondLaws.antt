@@ -1,0 +1,270 @@
+-- A second repair leaves the files that the first would have left at its time.
+use Rattle.std.proofs.Common.{◌≡◌, ℕ, ◌+◌, ◌-◌, ◌*◌, ◌≤◌, Bool, cond, Option, List, [], ◌∷◌, ◌++◌, length, map, take, drop, replicate, All, Ok, refl, sym, ap, subst, ◌∙◌, arith, append_assoc, length-append, length-drop}
+use Rattle.std.specs.List.{list_any, flat_map}
+use Rattle.std.proofs.lemmas.List.{take_at, drop_at, length-take-le, length-replicate}
+use Rattle.std.proofs.lemmas.List.Elements.{All-from_recursion}
+use Rattle.myi_base.specs.Numbers.{num_at}
+use Rattle.myi_defs.specs.declared.types.RowFormat.{RowFormat}
+use Rattle.myi_defs.specs.declared.types.RowFormat.TheVariants.{Static, Dynamic}
+use Rattle.myi_defs.specs.declared.types.Defs.{Defs}
+use Rattle.myi_defs.specs.Sound.{IsSound}
+use Rattle.myi_defs.specs.ReadDefs.{read_defs}
+use Rattle.myi_defs.proofs.SoundLaws.{sound}
+use Rattle.myi_header.specs.declared.state.Layout.{Layout}
+use Rattle.myi_header.specs.declared.state.State.{State}
+use Rattle.myi_header.specs.Parts.{part}
+use Rattle.myi_header.specs.Layout.{layout_of, page_sizes, first_page_of}
+use Rattle.myi_header.specs.StateOf.{IsPlace, rest_length, state_of, mark}
+use Rattle.myi_header.specs.HeaderOf.{FitsWidths, state_bytes, header_of}
+use Rattle.myi_header.proofs.PrintLaws.{length-state_bytes, behind, here, state_again}
+use Rattle.myi_pack.specs.Packed.{Values}
+use Rattle.myi_pack.specs.Spelling.{spelled_row, spelling}
+use Rattle.myi_data.specs.Readable.{readable}
+use Rattle.myi_data.specs.Laid.{stored_by, stored, laid_file}
+use Rattle.myi_btree.specs.declared.pair.Pair.{Pair}
+use Rattle.myi_btree.specs.Walk.{Node}
+use Rattle.myi_btree.specs.Sizes.{fits_in}
+use Rattle.myi_btree.specs.Laid.{laid}
+use Rattle.myi_pair.specs.FirstRows.{key_numbers, repeats, first_after, first_rows}
+use Rattle.myi_pair.specs.KeyList.{PlacedRow, key_list}
+use Rattle.myi_pair.specs.Trees.{block_of_key, place_of}
+use Rattle.myi_pair.specs.Clean.{values_of}
+use Rattle.myi_pair.specs.RecoveredBytes.{kept, new_data, placed_from, LaidTrees, pages_then, laid_trees, key_lists, new_trees, without_free_pages, new_state, recovered_state, new_index}
+use Rattle.myi_pair.specs.Recovered.{IsRepairable}
+use Rattle.myi_pair.proofs.KeptLaws.{settled}
+use Rattle.myi_pair.proofs.HeaderLaws.{header_long, base_is, rest_long, new_rest, numbers_fit, roots_places}
+use Rattle.myi_pair.proofs.NewIndexLaws.{are_few, index_is}
+use Rattle.myi_pair.proofs.RecoveredLaws.{IsLike, front_number, layout_same, first_same, state_same, header_like, same_defs, recovered}
+use Rattle.myi_pair.proofs.SameDefs.{with_raw, readable_same, values_same, repeats_same, list_same}
+
+-- what definitions with another header say of kept rows, stored rows and trees
+
+module _ (d : Defs) (r : List ℕ) where
+  after_same : (before rows : List Values) → first_after (with_raw d r) before rows ≡ first_after d before rows
+  after_same before [] = refl
+  after_same before (row ∷ rows) =
+      ap (λ (p : Values → Bool). cond (list_any p before) (first_after (with_raw d r) before rows) (row ∷ first_after (with_raw d r) (before ++ row ∷ []) rows)) (repeats_same d r row)
+      ∙ ap (λ rs. cond (list_any (repeats d row) before) rs (row ∷ first_after (with_raw d r) (before ++ row ∷ []) rows)) (after_same before rows)
+      ∙ ap (λ rs. cond (list_any (repeats d row) before) (first_after d before rows) (row ∷ rs)) (after_same (before ++ row ∷ []) rows)
+
+  pub kept_same : (extend : Bool) (x : List ℕ) → kept (with_raw d r) extend x ≡ kept d extend x
+  unfolding kept first_rows
+  kept_same extend x =
+      ap (λ rows. first_after (with_raw d r) [] (map (values_of (with_raw d r)) rows)) (readable_same d r extend x)
+      ∙ ap (first_after (with_raw d r) []) (values_same d r (readable d extend x))
+      ∙ after_same [] (map (values_of d) (readable d extend x))
+
+  spelled_same : (f : RowFormat) (v : Values) → spelled_row f (with_raw d r) v ≡ spelled_row f d v
+  spelled_same Static v = refl
+  spelled_same Dynamic v = refl
+
+  stored_same : (v : Values) → stored (with_raw d r) v ≡ stored d v
+  unfolding spelling
+  stored_same v = ap (stored_by d.format) (spelled_same d.format v)
+
+  laid_same : (vs : List Values) → laid_file (with_raw d r) vs ≡ laid_file d vs
+  unfolding laid_file
+  laid_same [] = refl
+  laid_same (v ∷ vs) = ap (λ b. b ++ flat_map (stored (with_raw d r)) vs) (stored_same v) ∙ ap (λ bs. stored d v ++ bs) (laid_same vs)
+
+  places_same : (at : ℕ) (vs : List Values) → placed_from (with_raw d r) at vs ≡ placed_from d at vs
+  places_same at [] = refl
+  places_same at (v ∷ vs) =
+      ap (λ (b : List ℕ). (at, v) ∷ placed_from (with_raw d r) (at + length b) vs) (stored_same v) ∙ ap (λ (rs : List PlacedRow). (at, v) ∷ rs) (places_same (at + length (stored d v)) vs)
+
+  lists_same : (ks : List ℕ) (rows : List PlacedRow) → map (λ k. key_list (with_raw d r) k rows) ks ≡ map (λ k. key_list d k rows) ks
+  lists_same [] rows = refl
+  lists_same (k ∷ ks) rows = ap (λ (list : List Pair). list ∷ map (λ j. key_list (with_raw d r) j rows) ks) (list_same d r k rows) ∙ ap (λ (lists : List (List Pair)). key_list d k rows ∷ lists) (lists_same ks rows)
+
+  laid_trees_same : (first : ℕ) (ks : List ℕ) (lists : List (List Pair)) → laid_trees (with_raw d r) first ks lists ≡ laid_trees d first ks lists
+  laid_trees_same first [] lists = refl
+  laid_trees_same first (k ∷ ks) [] = refl
+  laid_trees_same first (k ∷ ks) (pairs ∷ lists) =
+      let nodes : List Node = laid (fits_in (place_of d k)) (block_of_key d k) first pairs in
+      ap (pages_then d k first nodes) (laid_trees_same (first + block_of_key d k * length nodes) ks lists)
+
+  trees_with : (rows : List Values) → first_page_of (with_raw d r) ≡ first_page_of d → new_trees (with_raw d r) rows ≡ new_trees d rows
+  unfolding new_trees
+  trees_with rows first =
+      ap (λ at. laid_trees (with_raw d r) at (key_numbers d) (key_lists (with_raw d r) (placed_from (with_raw d r) 0 rows))) first
+      ∙ ap (λ (rs : List PlacedRow). laid_trees (with_raw d r) (first_page_of d) (key_numbers d) (key_lists (with_raw d r) rs)) (places_same 0 rows)
+      ∙ ap (laid_trees (with_raw d r) (first_page_of d) (key_numbers d)) (lists_same (key_numbers d) (placed_from d 0 rows))
+      ∙ laid_trees_same (first_page_of d) (key_numbers d) (key_lists d (placed_from d 0 rows))
+
+-- the header that is read again
+
+-- the parts of a header of definitions
+record Parts (d : Defs) (s : State) (r : List ℕ) : Type 0 where
+  pub base : part (layout_of d).base 94 r ≡ part (layout_of d).base 94 d.raw
+  pub back : drop ((layout_of d).base + 100) r ≡ drop ((layout_of d).base + 100) d.raw
+  pub state : state_of d r ≡ s
+
+-- what the state has to keep to be read again
+record IsKept (d : Defs) (s : State) : Type 0 where
+  pub roots : length s.roots ≡ length d.keys
+  pub rest : length s.rest ≡ rest_length d
+  pub dellink : IsPlace s.dellink
+  pub places : All IsPlace s.roots
+  pub fits : FitsWidths s
+
+-- a header without the zeros behind it
+abbrev front_of : Defs → State → List ℕ
+front_of d s = take 24 d.raw ++ (state_bytes (layout_of d) s ++ (part (layout_of d).base 94 d.raw ++ (mark ++ drop ((layout_of d).base + 100) d.raw)))
+
+with_end : (a b c d e z : List ℕ) → a ++ (b ++ (c ++ (d ++ (e ++ z)))) ≡ (a ++ (b ++ (c ++ (d ++ e)))) ++ z
+with_end a b c d e z = simp append_assoc
+
+front_is : (d : Defs) (s : State) → header_of d s ≡ front_of d s ++ replicate (first_page_of d - length d.raw) 0
+unfolding header_of
+front_is d s =
+    with_end (take 24 d.raw) (state_bytes (layout_of d) s) (part (layout_of d).base 94 d.raw) mark (drop ((layout_of d).base + 100) d.raw) (replicate (first_page_of d - length d.raw) 0)
+
+front_long : (d : Defs) (s : State) → IsSound d → IsKept d s → length (front_of d s) ≡ num_at 6 2 d.raw
+front_long d s sound is =
+    let zeros : List ℕ = replicate (first_page_of d - length d.raw) 0 in
+    let whole : length (front_of d s ++ zeros) ≡ first_page_of d = ap (λ (h : List ℕ). length h) (sym (front_is d s)) ∙ header_long d s sound is.roots is.rest in
+    omega (arith, whole, length-append (front_of d s) zeros, length-replicate {A = ℕ} (first_page_of d - length d.raw) 0, sound.header)
+
+read_again : (d : Defs) (s : State) (t : List ℕ) → IsSound d → IsKept d s → take (num_at 6 2 d.raw) (header_of d s ++ t) ≡ front_of d s
+read_again d s t sound is =
+    let m : ℕ = num_at 6 2 d.raw in
+    let zeros : List ℕ = replicate (first_page_of d - length d.raw) 0 in
+    ap (λ (h : List ℕ). take m (h ++ t)) (front_is d s) ∙ ap (take m) (append_assoc (front_of d s) zeros t) ∙ take_at (front_of d s) (zeros ++ t) m (front_long d s sound is)
+
+parts_again : (d : Defs) (s : State) (r : List ℕ) → IsSound d → IsKept d s → r ≡ front_of d s → Parts d s r
+parts_again d s r sound is front =
+    let b = (layout_of d).base in
+    let F = take 24 d.raw in
+    let S = state_bytes (layout_of d) s in
+    let M = part b 94 d.raw in
+    let E = drop (b + 100) d.raw in
+    let base = base_is d sound in
+    let inside = sound.base_inside in
+    let first : length F ≡ 24 = length-take-le 24 d.raw (omega arith) in
+    let state = length-state_bytes (layout_of d) s (omega (arith, is.rest)) is.fits in
+    let middle : length M ≡ 94 = length-take-le 94 (drop b d.raw) (omega (arith, length-drop b d.raw)) in
+    let d1 : drop 24 r ≡ S ++ (M ++ (mark ++ E)) = ap (drop 24) front ∙ drop_at F (S ++ (M ++ (mark ++ E))) 24 first in
+    let d2 : drop b r ≡ M ++ (mark ++ E) = behind 24 (length S) b r S (M ++ (mark ++ E)) d1 refl (omega (arith, state, is.roots, is.rest)) in
+    let d3 : drop (b + 94) r ≡ mark ++ E = behind b 94 (b + 94) r M (mark ++ E) d2 middle refl in
+    let d4 : drop (b + 100) r ≡ E = behind (b + 94) 6 (b + 100) r mark E d3 refl (omega arith) in
+    record {
+      base = here b 94 r M (mark ++ E) d2 middle;
+      back = d4;
+      state = state_again d s r F (M ++ (mark ++ E)) first is.roots is.rest is.dellink is.places is.fits front;
+    }
+
+-- a header written over it is the one that is written over the first
+
+header_by : List ℕ → Layout → State → List ℕ → List ℕ → ℕ → List ℕ
+header_by front l s base back zeros = front ++ (state_bytes l s ++ (base ++ (mark ++ (back ++ replicate zeros 0))))
+
+header_same : (d : Defs) (r : List ℕ) (s t : State) → IsLike d r → Parts d s r → header_of (with_raw d r) t ≡ header_of d t
+unfolding header_of header_by
+header_same d r s t like parts =
+    let b = (layout_of d).base in
+    let z : ℕ = first_page_of (with_raw d r) - length r in
+    ap (λ (l : Layout). header_by (take 24 r) l t (part l.base 94 r) (drop (l.base + 100) r) z) (layout_same d r like)
+    ∙ ap (λ front. header_by front (layout_of d) t (part b 94 r) (drop (b + 100) r) z) like.front
+    ∙ ap (λ base. header_by (take 24 d.raw) (layout_of d) t base (drop (b + 100) r) z) parts.base
+    ∙ ap (λ back. header_by (take 24 d.raw) (layout_of d) t (part b 94 d.raw) back z) parts.back
+    ∙ ap (λ n. header_by (take 24 d.raw) (layout_of d) t (part b 94 d.raw) (drop (b + 100) d.raw) n) (let same : z ≡ first_page_of d - length d.raw = omega (arith, first_same d r like, like.long) in same)
+
+-- the bytes of the state that are kept
+
+emptied_again : (d : Defs) (rest : List ℕ) → 24 + 8 * page_sizes d ≤ length rest → without_free_pages d (without_free_pages d rest) ≡ without_free_pages d rest
+emptied_again d rest long =
+    let n = 8 * page_sizes d in
+    let T : List ℕ = take 24 rest in
+    let Z : List ℕ = replicate n 255 in
+    let D : List ℕ = drop (24 + n) rest in
+    let first : length T ≡ 24 = length-take-le 24 rest (omega arith) in
+    let count : length (T ++ Z) ≡ 24 + n = omega (arith, first, length-append T Z, length-replicate {A = ℕ} n 255) in
+    let front : take 24 (T ++ (Z ++ D)) ≡ T = take_at T (Z ++ D) 24 first in
+    let back : drop (24 + n) (T ++ (Z ++ D)) ≡ D = ap (drop (24 + n)) (sym (append_assoc T Z D)) ∙ drop_at (T ++ Z) D (24 + n) count in
+    ap (λ a. a ++ (Z ++ drop (24 + n) (T ++ (Z ++ D)))) front ∙ ap (λ b. T ++ (Z ++ b)) back
+
+emptied_same : (d : Defs) (r rest : List ℕ) → IsLike d r → without_free_pages (with_raw d r) rest ≡ without_free_pages d rest
+emptied_same d r rest like = ap (λ sizes. take 24 rest ++ (replicate (8 * sizes) 255 ++ drop (24 + 8 * sizes) rest)) (front_number 21 1 r d.raw (omega arith) like.front)
+
+rest_settles : (d : Defs) (r : List ℕ) → IsSound d → IsLike d r → without_free_pages (with_raw d r) (without_free_pages d (state_of d d.raw).rest) ≡ without_free_pages d (state_of d d.raw).rest
+rest_settles d r s like =
+    emptied_same d r (without_free_pages d (state_of d d.raw).rest) like ∙ emptied_again d (state_of d d.raw).rest (omega (arith, rest_long d s))
+
+-- a state over the state of a repair
+state_settles : (d : Defs) (r : List ℕ) (n long now later end : ℕ) (roots : List (Option ℕ)) → IsSound d → IsLike d r
+    → new_state (with_raw d r) (new_state d (state_of d d.raw) n n long roots end now) n n long roots end later ≡ new_state d (state_of d d.raw) n n long roots end later
+state_settles d r n long now later end roots s like =
+    ap (λ rest. record (new_state d (state_of d d.raw) n n long roots end later) { rest = rest }) (rest_settles d r s like)
+
+-- the second repair
+
+module _ (d : Defs) (extend : Bool) (x : List ℕ) (now : ℕ) (can : IsRepairable d x now) where
+  is_sound : IsSound d
+  is_sound = sound d can.defined
+
+  is_kept : IsKept d (recovered_state d extend x now)
+  is_kept =
+      let few = are_few d extend x now can in
+      record {
+        roots = few.count;
+        rest = new_rest d is_sound;
+        dellink = λ e. cc;
+        places = All-from_recursion IsPlace (new_trees d (kept d extend x)).roots (roots_places (new_trees d (kept d extend x)).roots few.fit);
+        fits = numbers_fit d (length (kept d extend x)) (length (new_data d extend x)) (new_trees d (kept d extend x)).end now (new_trees d (kept d extend x)).roots is_sound few;
+      }
+
+  -- the header of the new index file
+  abbrev header_read : List ℕ
+  header_read = take (num_at 6 2 d.raw) (new_index d extend x now)
+
+  header_is : header_read ≡ front_of d (recovered_state d extend x now)
+  header_is =
+      ap (take (num_at 6 2 d.raw)) (index_is d extend x now can) ∙ read_again d (recovered_state d extend x now) (new_trees d (kept d extend x)).bytes is_sound is_kept
+
+  is_like : IsLike d header_read
+  is_like = header_like d (new_index d extend x now) is_sound (recovered d extend x now can).elsewhere
+
+  parts : Parts d (recovered_state d extend x now) header_read
+  parts = parts_again d (recovered_state d extend x now) header_read is_sound is_kept header_is
+
+  kept_again : (any : Bool) → kept (with_raw d header_read) any (new_data d extend x) ≡ kept d extend x
+  kept_again any = kept_same d header_read any (new_data d extend x) ∙ settled d any extend x can.defined can.bytes
+
+  data_again : (any : Bool) → new_data (with_raw d header_read) any (new_data d extend x) ≡ new_data d extend x
+  unfolding new_data
+  data_again any = ap (laid_file (with_raw d header_read)) (kept_again any) ∙ laid_same d header_read (kept d extend x)
+
+  trees_again : (any : Bool) → new_trees (with_raw d header_read) (kept (with_raw d header_read) any (new_data d extend x)) ≡ new_trees d (kept d extend x)
+  trees_again any = ap (new_trees (with_raw d header_read)) (kept_again any) ∙ trees_with d header_read (kept d extend x) (first_same d header_read is_like)
+
+  read_state_again : state_of (with_raw d header_read) header_read ≡ recovered_state d extend x now
+  read_state_again = state_same d header_read header_read is_like ∙ parts.state
+
+  state_again_of : (any : Bool) (later : ℕ) → recovered_state (with_raw d header_read) any (new_data d extend x) later ≡ recovered_state d extend x later
+  state_again_of any later =
+      let d2 : Defs = with_raw d header_read in
+      let rows : List Values = kept d extend x in
+      let t : LaidTrees = new_trees d rows in
+      let one : State = recovered_state d extend x now in
+      ap (λ (vs : List Values). new_state d2 (state_of d2 header_read) (length vs) (length vs) (length (new_data d2 any (new_data d extend x))) (new_trees d2 (kept d2 any (new_data d extend x))).roots (new_trees d2 (kept d2 any (new_data d extend x))).end later) (kept_again any)
+      ∙ ap (λ (b : List ℕ). new_state d2 (state_of d2 header_read) (length rows) (length rows) (length b) (new_trees d2 (kept d2 any (new_data d extend x))).roots (new_trees d2 (kept d2 any (new_data d extend x))).end later) (data_again any)
+      ∙ ap (λ (u : LaidTrees). new_state d2 (state_of d2 header_read) (length rows) (length rows) (length (new_data d extend x)) u.roots u.end later) (trees_again any)
+      ∙ ap (λ (s : State). new_state d2 s (length rows) (length rows) (length (new_data d extend x)) t.roots t.end later) read_state_again
+      ∙ state_settles d header_read (length rows) (length (new_data d extend x)) now later t.end t.roots is_sound is_like
+
+  index_again : (any : Bool) (later : ℕ) → new_index (with_raw d header_read) any (new_data d extend x) later ≡ new_index d extend x later
+  unfolding new_index
+  index_again any later =
+      let d2 : Defs = with_raw d header_read in
+      ap (λ (s : State). header_of d2 s ++ (new_trees d2 (kept d2 any (new_data d extend x))).bytes) (state_again_of any later)
+      ∙ ap (λ (h : List ℕ). h ++ (new_trees d2 (kept d2 any (new_data d extend x))).bytes) (header_same d header_read (recovered_state d extend x now) (recovered_state d extend x later) is_like parts)
+      ∙ ap (λ (u : LaidTrees). header_of d (recovered_state d extend x later) ++ u.bytes) (trees_again any)
+
+  read_defs_again : (d2 : Defs) → read_defs (new_index d extend x now) ≡ Ok d2 → with_raw d header_read ≡ d2
+  read_defs_again d2 read = same_defs d2 (with_raw d header_read) (new_index d extend x now) read (recovered d extend x now can).definitions
+
+  pub second_data : (d2 : Defs) → read_defs (new_index d extend x now) ≡ Ok d2 → (any : Bool) → new_data d2 any (new_data d extend x) ≡ new_data d extend x
+  second_data d2 read any = subst (λ (e : Defs). new_data e any (new_data d extend x) ≡ new_data d extend x) (read_defs_again d2 read) (data_again any)
+
+  pub second_index : (d2 : Defs) → read_defs (new_index d extend x now) ≡ Ok d2 → (any : Bool) (later : ℕ) → new_index d2 any (new_data d extend x) later ≡ new_index d extend x later
+  second_index d2 read any later = subst (λ (e : Defs). new_index e any (new_data d extend x) later ≡ new_index d extend x later) (read_defs_again d2 read) (index_again any later)

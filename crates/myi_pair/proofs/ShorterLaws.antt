@@ -1,0 +1,210 @@
+-- A repaired data file is no longer than the one before.
+use Rattle.std.proofs.Common.{◌≡◌, ℕ, zero, suc, ◌+◌, ◌-◌, ◌*◌, ◌/◌, ◌^◌, ◌<◌, ◌≤◌, min, Bool, true, false, cond, ◌⊎◌, inl, inr, List, [], ◌∷◌, ◌++◌, length, map, nat_le, nat_lt, sum_by, refl, sym, ap, subst, ◌∙◌, arith, length-append, div-mul-le_self, le-div_iff_mul-le}
+use Rattle.std.specs.List.{list_any, flat_map, AllByRecursion}
+use Rattle.std.proofs.lemmas.Bool.{and_parts, and_from, or_cases, or_left, or_right, leb-true, leb-false, le-leb, ltb-true, lt-ltb}
+use Rattle.std.proofs.lemmas.List.Folds.{list_all-append}
+use Rattle.std.proofs.lemmas.List.Sums.{sum_by-cons, sum_by-append}
+use Rattle.myi_base.specs.Numbers.{AreBytes}
+use Rattle.myi_base.specs.Ranges.{Range, are_apart, is_apart, AreDisjoint}
+use Rattle.myi_defs.specs.declared.types.RowFormat.{RowFormat}
+use Rattle.myi_defs.specs.declared.types.RowFormat.TheVariants.{Static, Dynamic}
+use Rattle.myi_defs.specs.declared.types.Defs.{Defs}
+use Rattle.myi_defs.specs.Sound.{IsSound}
+use Rattle.myi_defs.specs.Addressable.{pointers, is_addressable}
+use Rattle.myi_defs.specs.ReadDefs.{AreDefs}
+use Rattle.myi_defs.proofs.SoundLaws.{sound}
+use Rattle.myi_frames.specs.Sizes.{least_size}
+use Rattle.myi_frames.specs.Writing.{whole_spec}
+use Rattle.myi_frames.proofs.WriteLemmas.{length-block}
+use Rattle.myi_frames.proofs.SizeLemmas.{least-writable}
+use Rattle.myi_pack.specs.Packed.{Values, IsStaticRow, IsRow}
+use Rattle.myi_pack.specs.Spelling.{spelling}
+use Rattle.myi_pack.proofs.RowSpelling.{row-spelled, row-least}
+use Rattle.myi_chain.specs.Chain.{AreApart}
+use Rattle.myi_chain.specs.Readable.{Row}
+use Rattle.myi_chain.specs.Meeting.{ranges_of}
+use Rattle.myi_data.specs.Readable.{readable}
+use Rattle.myi_data.specs.Laid.{stored_by, stored, laid_file, IsStorable}
+use Rattle.myi_data.proofs.SpellingLemmas.{spelling_some}
+use Rattle.myi_data.proofs.RowsLemmas.{rows_apart}
+use Rattle.myi_pair.specs.FirstRows.{repeats, first_after, first_rows}
+use Rattle.myi_pair.specs.Trees.{total}
+use Rattle.myi_pair.specs.Clean.{values_of}
+use Rattle.myi_pair.specs.RecoveredBytes.{kept, new_data}
+use Rattle.myi_pair.proofs.ReadLaws.{HasRoom, IsFine, readable_fine}
+use Rattle.myi_pair.proofs.KeptLaws.{packs_values, values_storable}
+
+-- ranges that are apart have no more bytes than the file
+
+abbrev pub filled : ℕ → List Range → ℕ
+filled n [] = 0
+filled n (r ∷ rs) = (min r.1 n - r.0) + filled n rs
+
+untouched : (n : ℕ) (r : Range) (rs : List Range) → r.0 ≤ n → n < r.1 → is_apart r rs ≡ true → filled (n + 1) rs ≡ filled n rs
+untouched n r [] low high apart = refl
+untouched n r (s ∷ rs) low high apart =
+    let both = and_parts (are_apart r s) (is_apart r rs) apart in
+    let others = untouched n r rs low high both.1 in
+    by (or_cases (nat_le r.1 s.0) (nat_le s.1 r.0) both.0) others
+  where
+    by : (nat_le r.1 s.0 ≡ true) ⊎ (nat_le s.1 r.0 ≡ true) → filled (n + 1) rs ≡ filled n rs → (min s.1 (n + 1) - s.0) + filled (n + 1) rs ≡ (min s.1 n - s.0) + filled n rs
+    by (inl before) others = omega (arith, leb-true _ _ before)
+    by (inr after) others = omega (arith, leb-true _ _ after)
+
+one_more : (n : ℕ) (rs : List Range) → AreDisjoint rs → filled (n + 1) rs ≤ filled n rs + 1
+one_more n [] apart = omega arith
+one_more n (r ∷ rs) apart = by (leb_cases r.0 n) (leb_cases r.1 n) (one_more n rs apart.1)
+  where
+    leb_cases : (a b : ℕ) → (a ≤ b) ⊎ (b < a)
+    leb_cases a b = cases (nat_le a b) refl
+      where
+        cases : (t : Bool) → nat_le a b ≡ t → (a ≤ b) ⊎ (b < a)
+        cases true is = inl (leb-true a b is)
+        cases false is = inr (leb-false a b is)
+
+    by : (r.0 ≤ n) ⊎ (n < r.0) → (r.1 ≤ n) ⊎ (n < r.1) → filled (n + 1) rs ≤ filled n rs + 1 → (min r.1 (n + 1) - r.0) + filled (n + 1) rs ≤ (min r.1 n - r.0) + filled n rs + 1
+    by (inl low) (inl short) others = omega arith
+    by (inl low) (inr high) others = omega (arith, untouched n r rs low high apart.0)
+    by (inr above) short others = omega arith
+
+none_yet : (rs : List Range) → filled 0 rs ≡ 0
+none_yet [] = refl
+none_yet (r ∷ rs) = omega (arith, none_yet rs)
+
+few_bytes : (n : ℕ) (rs : List Range) → AreDisjoint rs → filled n rs ≤ n
+few_bytes zero rs apart = omega (arith, none_yet rs)
+few_bytes (suc n) rs apart =
+    let e : suc n ≡ n + 1 = omega arith in
+    subst (λ m. filled m rs ≤ m) (sym e) (omega (arith, one_more n rs apart, few_bytes n rs apart))
+
+abbrev pub Inside : ℕ → List Range → Type 0
+Inside len rs = AllByRecursion (λ (r : Range). r.1 ≤ len) rs
+
+total_filled : (len : ℕ) (rs : List Range) → Inside len rs → total rs ≡ filled len rs
+total_filled len [] inside = refl
+total_filled len (r ∷ rs) inside = sum_by-cons (λ (r : Range). r.1 - r.0) r rs ∙ omega (arith, inside.0, total_filled len rs inside.1)
+
+-- each range apart from those before it is each apart from those behind it
+
+turned : (r s : Range) → are_apart r s ≡ true → are_apart s r ≡ true
+turned r s apart = by (or_cases (nat_le r.1 s.0) (nat_le s.1 r.0) apart)
+  where
+    by : (nat_le r.1 s.0 ≡ true) ⊎ (nat_le s.1 r.0 ≡ true) → are_apart s r ≡ true
+    by (inl before) = or_right (nat_le s.1 r.0) (nat_le r.1 s.0) before
+    by (inr after) = or_left (nat_le s.1 r.0) (nat_le r.1 s.0) after
+
+apart_behind : (u : Range) (used rs : List Range) → AreApart used rs → ((s : Range) → is_apart s used ≡ true → are_apart u s ≡ true) → is_apart u rs ≡ true
+apart_behind u used [] apart one = refl
+apart_behind u used (r ∷ rs) apart one =
+    and_from (are_apart u r) (is_apart u rs) (one r apart.0)
+    (apart_behind u (used ++ r ∷ []) rs apart.1 (λ s free. one s (and_parts (is_apart s used) (is_apart s (r ∷ [])) (sym (list_all-append (are_apart s) used (r ∷ [])) ∙ free)).0))
+
+pub disjoint : (used rs : List Range) → AreApart used rs → AreDisjoint rs
+disjoint used [] apart = tt
+disjoint used (r ∷ rs) apart = (
+  apart_behind r (used ++ r ∷ []) rs apart.1
+      (λ s free.
+      let last = (and_parts (is_apart s used) (is_apart s (r ∷ [])) (sym (list_all-append (are_apart s) used (r ∷ [])) ∙ free)).1 in
+      turned s r (and_parts (are_apart s r) true last).0),
+  disjoint (used ++ r ∷ []) rs apart.1,
+)
+
+pub few_in : (len : ℕ) (rs : List Range) → AreApart [] rs → Inside len rs → total rs ≤ len
+few_in len rs apart inside = omega (arith, total_filled len rs inside, few_bytes len rs (disjoint [] rs apart))
+
+-- how long a stored row is
+
+pub length-slot : (d : Defs) (v : Values) → IsSound d → d.format ≡ Static → IsStorable d v → length (stored d v) ≡ d.slot_length
+length-slot d v s static can =
+    let is : IsStaticRow d.fields d.slot_length v (spelling d v) = subst (λ (f : RowFormat). IsRow f d v (spelling d v)) static (row-spelled d v s can.fits) in
+    ap (λ f. length (stored_by f (spelling d v))) static ∙ is.slot
+
+pub length-own : (d : Defs) (v : Values) → d.format ≡ Dynamic → IsStorable d v → length (stored d v) ≡ least_size (length (spelling d v))
+length-own d v dynamic can =
+    let n : ℕ = length (spelling d v) in
+    ap (λ f. length (stored_by f (spelling d v))) dynamic ∙ length-block (whole_spec n) (spelling d v) (least_size n) (least-writable n (can.short dynamic)).0
+
+stored_room : (d : Defs) (len : ℕ) (r : Row) → AreDefs d → IsFine d.format d len r → length (stored d (values_of d r)) ≤ total r.blocks
+stored_room d len r are fine = of_format d.format refl
+  where
+    s : IsSound d
+    s = sound d are
+
+    v : Values
+    v = values_of d r
+
+    can : IsStorable d v
+    can = values_storable d len r are fine
+
+    of_format : (f : RowFormat) → d.format ≡ f → length (stored d v) ≤ total r.blocks
+    of_format Static is =
+        let room : HasRoom Static d r = subst (λ f. HasRoom f d r) is fine.room in
+        omega (arith, room, length-slot d v s is can)
+    of_format Dynamic is =
+        let room : HasRoom Dynamic d r = subst (λ f. HasRoom f d r) is fine.room in
+        let few : length (spelling d v) ≤ length r.bytes = row-least d v r.bytes s (packs_values d len r s fine) in
+        omega (arith, room (length (spelling d v)) (spelling_some d v s can.fits) few, length-own d v is can)
+
+-- all rows together
+
+abbrev pub stored_length : Defs → List Values → ℕ
+stored_length d vs = sum_by (λ v. length (stored d v)) vs
+
+pub length-laid : (d : Defs) (vs : List Values) → length (laid_file d vs) ≡ stored_length d vs
+unfolding laid_file
+length-laid d [] = refl
+length-laid d (v ∷ vs) = length-append (stored d v) (flat_map (stored d) vs) ∙ omega (arith, length-laid d vs, sum_by-cons (λ v. length (stored d v)) v vs)
+
+rows_room : (d : Defs) (len : ℕ) (rows : List Row) → AreDefs d → AllByRecursion (IsFine d.format d len) rows → stored_length d (map (values_of d) rows) ≤ total (ranges_of rows)
+rows_room d len [] are fine = omega arith
+rows_room d len (r ∷ rows) are fine =
+    let here = stored_room d len r are fine.0 in
+    let there = rows_room d len rows are fine.1 in
+    omega (arith, here, there, sum_by-cons (λ v. length (stored d v)) (values_of d r) (map (values_of d) rows), sum_by-append (λ (a : Range). a.1 - a.0) r.blocks (ranges_of rows))
+
+inside-append : (len : ℕ) (rs ss : List Range) → Inside len rs → Inside len ss → Inside len (rs ++ ss)
+inside-append len [] ss left right = right
+inside-append len (r ∷ rs) ss left right = (left.0, inside-append len rs ss left.1 right)
+
+rows_inside : (f : RowFormat) (d : Defs) (len : ℕ) (rows : List Row) → AllByRecursion (IsFine f d len) rows → Inside len (ranges_of rows)
+rows_inside f d len [] fine = tt
+rows_inside f d len (r ∷ rows) fine = inside-append len r.blocks (ranges_of rows) fine.0.inside (rows_inside f d len rows fine.1)
+
+-- leaving rows out makes them no longer
+
+first_after_less : (d : Defs) (before rows : List Values) → stored_length d (first_after d before rows) ≤ stored_length d rows
+first_after_less d before [] = omega arith
+first_after_less d before (row ∷ rows) = choose (list_any (repeats d row) before) (first_after_less d before rows) (first_after_less d (before ++ row ∷ []) rows)
+  where
+    choose : (b : Bool) → stored_length d (first_after d before rows) ≤ stored_length d rows → stored_length d (first_after d (before ++ row ∷ []) rows) ≤ stored_length d rows → stored_length d (cond b (first_after d before rows) (row ∷ first_after d (before ++ row ∷ []) rows)) ≤ stored_length d (row ∷ rows)
+    choose true dropped added = omega (arith, sum_by-cons (λ v. length (stored d v)) row rows)
+    choose false dropped added = omega (arith, sum_by-cons (λ v. length (stored d v)) row rows, sum_by-cons (λ v. length (stored d v)) row (first_after d (before ++ row ∷ []) rows))
+
+pub shorter : (d : Defs) (extend : Bool) (x : List ℕ) → AreDefs d → AreBytes x → length (new_data d extend x) ≤ length x
+unfolding new_data kept first_rows
+shorter d extend x are bytes =
+    let rows : List Row = readable d extend x in
+    let fine : AllByRecursion (IsFine d.format d (length x)) rows = readable_fine d extend x bytes in
+    let few = few_in (length x) (ranges_of rows) (rows_apart d extend x (sound d are)) (rows_inside d.format d (length x) rows fine) in
+    omega (arith, few, rows_room d (length x) rows are fine, length-laid d (first_after d [] (map (values_of d) rows)), first_after_less d [] (map (values_of d) rows))
+
+-- a file that is no longer is within reach too
+
+fewer_pointers : (f : RowFormat) (slot n m most : ℕ) → m ≤ n → (f ≡ Static → 0 < slot) → pointers f slot n < most → pointers f slot m < most
+fewer_pointers Static slot n m most less some few =
+    let s : 0 < slot = some refl in
+    let whole : m / slot * slot ≤ m = div-mul-le_self m slot in
+    let fewer : m / slot ≤ n / slot = (le-div_iff_mul-le s).1 (omega arith) in
+    omega arith
+fewer_pointers Dynamic slot n m most less some few = omega arith
+
+pub reach_less : (d : Defs) (n m : ℕ) → IsSound d → m ≤ n → is_addressable d n ≡ true → is_addressable d m ≡ true
+unfolding is_addressable
+reach_less d n m s less reached =
+    let most : ℕ = 256 ^ d.rec_ref - 1 in
+    let both = and_parts (nat_le n (2 ^ 40)) (nat_lt (pointers d.format d.slot_length n) most) reached in
+    let long : m ≤ 2 ^ 40 = omega (arith, leb-true n (2 ^ 40) both.0) in
+    and_from _ _ (le-leb m (2 ^ 40) long) (lt-ltb _ _ (fewer_pointers d.format d.slot_length n m most less (λ static. omega (arith, s.slot_pointer static)) (ltb-true _ _ both.1)))
+
+pub new_reached : (d : Defs) (extend : Bool) (x : List ℕ) → AreDefs d → AreBytes x → is_addressable d (length x) ≡ true → is_addressable d (length (new_data d extend x)) ≡ true
+new_reached d extend x are bytes reached = reach_less d (length x) (length (new_data d extend x)) (sound d are) (shorter d extend x are bytes) reached

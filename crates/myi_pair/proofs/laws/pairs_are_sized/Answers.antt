@@ -1,0 +1,11 @@
+use Rattle.myi_pair.proofs.SizedLaws as laws
+use Rattle.myi_pair.proofs.laws.pairs_are_sized.Goals as goal
+
+pub returns : goal.returns
+returns c = record {
+  placed = laws.placed;
+  keys = laws.is_key;
+  pair = λ d k at len row s inside fit reached le. laws.sized d s k inside at row fit (laws.pointer_near d at len s reached le);
+  pairs = laws.pairs_sized;
+  list = laws.list_sized;
+}

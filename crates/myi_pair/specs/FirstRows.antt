@@ -1,0 +1,63 @@
+-- The first rows of unique keys (MySQL Reference Manual, "CREATE TABLE": the values of a UNIQUE index are distinct, but
+-- NULL may stand several times). A row is kept unless it has, in a unique key, the complete key of a row that is kept
+-- before it. A row that is not kept takes none away.
+use Rattle.std.specs.Prelude.{◌≡◌, ◌&&◌, ℕ, zero, suc, Bool, false, if◌then◌else◌, List, [], ◌∷◌, ◌++◌, length, slice_get}
+use Rattle.std.specs.List.{list_any}
+use Rattle.std.specs.Option.{option_map_or}
+use Rattle.std.specs.Ordering.{is_eq}
+use Rattle.std.specs.Str.{bytes_eq}
+use Rattle.myi_defs.specs.declared.types.Defs.{Defs}
+use Rattle.myi_pack.specs.Packed.{Values}
+use Rattle.myi_keys.specs.declared.values.KeySeg.{KeySeg}
+use Rattle.myi_keys.specs.Codes.{key_code}
+use Rattle.myi_keys.specs.Limits.{is_complete}
+use Rattle.myi_keys.specs.Order.{key_cmp}
+use Rattle.myi_data.specs.Keys.{key_of}
+
+-- so many numbers from one on
+abbrev pub numbers_from : ℕ → ℕ → List ℕ
+numbers_from k zero = []
+numbers_from k (suc n) = k ∷ numbers_from (suc k) n
+
+-- the numbers of the keys, from 0
+abbrev pub key_numbers : Defs → List ℕ
+key_numbers d = numbers_from 0 (length d.keys)
+
+abbrev pub is_unique : Defs → ℕ → Bool
+is_unique d k = option_map_or (λ key. key.unique) (slice_get d.keys k) false
+
+-- both keys are complete and equal
+abbrev pub is_same_key : List KeySeg → List KeySeg → Bool
+is_same_key key other = is_complete key && is_eq (key_cmp key other)
+
+-- the row has the complete key of the other in the unique key of that number
+abbrev pub repeats_key : Defs → Values → Values → ℕ → Bool
+repeats_key d row other k = is_unique d k && is_same_key (key_of d k row) (key_of d k other)
+
+-- the row has the complete key of the other in a unique key
+unfoldable pub repeats : Defs → Values → Values → Bool
+repeats d row other = list_any (repeats_key d row other) (key_numbers d)
+
+-- the rows of a list that are kept, behind those that are kept already
+abbrev pub first_after : Defs → List Values → List Values → List Values
+first_after d kept [] = []
+first_after d kept (row ∷ rows) = if list_any (repeats d row) kept then first_after d kept rows else row ∷ first_after d (kept ++ row ∷ []) rows
+
+-- the rows of a list that are kept
+unfoldable pub first_rows : Defs → List Values → List Values
+first_rows d rows = first_after d [] rows
+
+-- no row of the list repeats one before it, or one of those before the list
+abbrev pub AreDistinct : Defs → List Values → List Values → Type 0
+AreDistinct d before [] = Unit {0}
+AreDistinct d before (row ∷ rows) = (list_any (repeats d row) before ≡ false) × AreDistinct d (before ++ row ∷ []) rows
+
+-- ---- looked up by the codes of keys
+
+-- the row has a complete key of that code in the unique key of that number
+abbrev pub has_code : Defs → ℕ → List ℕ → Values → Bool
+has_code d k code row = is_unique d k && (is_complete (key_of d k row) && bytes_eq (key_code (key_of d k row)) code)
+
+-- the row has a complete key in the unique key of that number, whose code one of these rows has
+abbrev pub repeats_code : Defs → List Values → Values → ℕ → Bool
+repeats_code d rows row k = is_unique d k && (is_complete (key_of d k row) && list_any (has_code d k (key_code (key_of d k row))) rows)

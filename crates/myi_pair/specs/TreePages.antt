@@ -1,0 +1,50 @@
+-- The pages of a tree: the walk that goes over them, and where they stand in a file that ends where they begin.
+use Rattle.std.specs.Prelude.{◌≡◌, ◌≤◌, ◌<◌, ◌+◌, ◌*◌, ◌%◌, ◌^◌, ℕ, suc, List, length, drop}
+use Rattle.std.specs.List.{flat_map, AllByRecursion}
+use Rattle.myi_keys.specs.Limits.{IsKey}
+use Rattle.myi_btree.specs.declared.pair.Pair.{Pair}
+use Rattle.myi_btree.specs.declared.place.Place.{Place}
+use Rattle.myi_btree.specs.Walk.{Node, Places, Walked, content}
+use Rattle.myi_btree.specs.Visit.{HasWalk}
+use Rattle.myi_btree.specs.Sizes.{IsPlaced, AreSized, fits_in}
+use Rattle.myi_btree.specs.Laid.{laid}
+use Rattle.myi_btree.specs.Building.{page_for, laid_over}
+
+-- the nodes of the tree of these pairs, from a place on
+abbrev pub tree_nodes : Place → ℕ → List Pair → List Node
+tree_nodes place first pairs = laid (fits_in place) place.block_length first pairs
+
+-- the bytes of their pages, and the place behind them
+abbrev pub tree_pages : Place → ℕ → List Pair → List ℕ
+tree_pages place first pairs = flat_map (page_for place) (tree_nodes place first pairs)
+
+abbrev pub tree_end : Place → ℕ → List Pair → ℕ
+tree_end place first pairs = first + place.block_length * length (tree_nodes place first pairs)
+
+-- a file over which these pages were written
+abbrev pub with_tree : Place → ℕ → List Pair → List ℕ → List ℕ
+with_tree place first pairs file = laid_over place first (tree_nodes place first pairs) file
+
+-- the tree of these pairs can be laid from a place on
+pub record CanBeLaid (place : Place) (first : ℕ) (pairs : List Pair) : Type 0 where
+  pub placed : IsPlaced place
+  pub at : first % 1024 ≡ 0
+  pub sized : AreSized place pairs
+  pub keys : AllByRecursion (λ p. IsKey p.key) pairs
+  pub room : tree_end place first pairs < 2 ^ 64
+
+-- A file has these bytes behind a place, and ends with them; before the place there may be fewer bytes.
+pub record HasBehind (first end : ℕ) (bytes file : List ℕ) : Type 0 where
+  pub behind : drop first file ≡ bytes
+  pub long : end ≡ first + length bytes
+  pub short : length file ≤ end
+
+-- From the last of so many pages there is a walk with these pairs, which goes over each page once.
+pub record WalksOnce (read : Places) (block first total : ℕ) (pairs : List Pair) : Type 0 where
+  pub before : ℕ
+  pub last : total ≡ suc before
+  pub walked : Walked
+  pub walk : HasWalk block read (first + block * before) walked
+  pub content : content walked ≡ pairs
+  pub count : length walked.pages ≡ total
+  pub between : AllByRecursion (λ p. (first ≤ p) × (p + block ≤ first + block * total)) walked.pages

@@ -1,0 +1,157 @@
+//! Laws over pairs of files. Each is the contract of a function that does nothing, so that it is proved
+//! with the crate and stands for the crates above.
+ghost use Rattle.std.specs.Prelude.{◌≡◌, ◌+◌, ◌^◌, ◌<◌, ◌≤◌, ℕ, Bool, true, false, List, [], ◌∷◌, ◌++◌, length, map, Ok, All, IsPermutation, IsSorted};
+ghost use Rattle.std.specs.List.{list_any, AllByRecursion};
+ghost use Rattle.myi_base.specs.Numbers.{AreBytes};
+ghost use Rattle.myi_base.specs.Ranges.{Range};
+ghost use Rattle.myi_defs.specs.declared.types.Defs.{Defs};
+ghost use Rattle.myi_defs.specs.ReadDefs.{read_defs, AreDefs};
+ghost use Rattle.myi_defs.specs.Sound.{IsSound};
+ghost use Rattle.myi_defs.specs.Addressable.{is_addressable};
+ghost use Rattle.myi_header.specs.Layout.{first_page_of};
+ghost use Rattle.myi_pack.specs.Packed.{Values};
+ghost use Rattle.myi_pack.specs.Spelling.{fits};
+ghost use Rattle.myi_keys.specs.Limits.{IsKey};
+ghost use Rattle.myi_data.specs.Readable.{readable};
+ghost use Rattle.myi_data.specs.Keys.{key_of};
+ghost use Rattle.myi_data.specs.Laid.{IsStorable, laid_rows};
+ghost use Rattle.myi_btree.specs.declared.place.Place.{Place};
+ghost use Rattle.myi_btree.specs.Walk.{Places};
+ghost use Rattle.myi_btree.specs.Laid.{Fits, laid, Stands};
+ghost use Rattle.myi_btree.specs.Nodes.{entry_of};
+ghost use Rattle.myi_btree.specs.Sizes.{IsPlaced, IsSized, AreSized};
+ghost use Rattle.myi_pair.specs.FirstRows.{key_numbers, repeats, repeats_code, first_rows, AreDistinct};
+ghost use Rattle.myi_pair.specs.KeyList.{PlacedRow, pair_cmp, pair_of, pairs_of, sorted, key_list};
+ghost use Rattle.myi_pair.specs.Trees.{place_of, HaveTrees, total};
+ghost use Rattle.myi_pair.specs.TreePages.{tree_pages, tree_end, with_tree, CanBeLaid, HasBehind, WalksOnce};
+ghost use Rattle.myi_pair.specs.Clean.{values_of, IsClean};
+ghost use Rattle.myi_pair.specs.RecoveredBytes.{kept, new_data, placed_from, new_trees, new_index};
+ghost use Rattle.myi_pair.specs.Recovered.{IsRepairable, Recovered};
+
+use myi_btree::Pair;
+
+/// Of the first rows of unique keys none repeats one before it, and where no row of a list repeats one
+/// before it, all of them are kept. A row repeats one of a list exactly where, in a unique key, its key is
+/// complete and has the code of a complete key of theirs.
+pub fn first_rows_are_distinct()
+    ensures distinct { (d : Defs) (rows : List Values) → AreDistinct d [] (first_rows d rows) }
+    ensures all { (d : Defs) (rows : List Values) → AreDistinct d [] rows → first_rows d rows ≡ rows }
+    ensures noted { (d : Defs) (rows : List Values) (row : Values)
+        → list_any (repeats d row) rows ≡ list_any (repeats_code d rows row) (key_numbers d) }
+{}
+
+/// Sorting pairs keeps them and puts them in order, and there is one list in order with these pairs: what
+/// any other way of sorting leaves is the same list, also by the order that pairs have as a type.
+pub fn key_lists_are_sorted()
+    ensures permuted { (pairs : List Pair) → IsPermutation pairs (sorted pairs) }
+    ensures ascending { (pairs : List Pair) → IsSorted pair_cmp (sorted pairs) }
+    ensures once { (pairs list : List Pair) → IsPermutation pairs list → IsSorted pair_cmp list
+        → list ≡ sorted pairs }
+    ensures own { (pairs list : List Pair) → IsPermutation pairs list → IsSorted ⟦<Pair as Ord>⟧.cmp list
+        → list ≡ sorted pairs }
+{}
+
+/// Each readable row of a file of bytes can be stored in one block or one slot, and so can each that a
+/// repair keeps. The new data file is read as the kept rows, whether every place is tried or not.
+pub fn kept_rows_are_stored()
+    ensures rows { (d : Defs) (extend : Bool) (x : List ℕ) → AreDefs d → AreBytes x
+        → AllByRecursion (λ r. IsStorable d (values_of d r)) (readable d extend x) }
+    ensures storable { (d : Defs) (extend : Bool) (x : List ℕ) → AreDefs d → AreBytes x
+        → All (IsStorable d) (kept d extend x) }
+    ensures laid { (d : Defs) (any extend : Bool) (x : List ℕ) → AreDefs d → AreBytes x
+        → readable d any (new_data d extend x) ≡ laid_rows d 0 (kept d extend x) }
+    ensures values { (d : Defs) (any extend : Bool) (x : List ℕ) → AreDefs d → AreBytes x
+        → map (values_of d) (readable d any (new_data d extend x)) ≡ kept d extend x }
+{}
+
+/// A repair of a data file that a repair left keeps all its rows, and writes the same file.
+pub fn repairs_settle()
+    ensures kept { (d : Defs) (any extend : Bool) (x : List ℕ) → AreDefs d → AreBytes x
+        → kept d any (new_data d extend x) ≡ kept d extend x }
+    ensures data_file { (d : Defs) (any extend : Bool) (x : List ℕ) → AreDefs d → AreBytes x
+        → new_data d any (new_data d extend x) ≡ new_data d extend x }
+{}
+
+/// The pairs of rows that fit, at places of a data file within reach, can be laid on the pages of their
+/// key: the key is one, two entries fit into each page, and a row pointer has its bytes.
+pub fn pairs_are_sized()
+    ensures placed { (d : Defs) → IsSound d → (k : ℕ) → k < length d.keys → IsPlaced (place_of d k) }
+    ensures keys { (d : Defs) → IsSound d → (k : ℕ) → k < length d.keys → (row : Values) → fits d row ≡ true
+        → IsKey (key_of d k row) }
+    ensures pair { (d : Defs) (k at len : ℕ) (row : Values) → IsSound d → k < length d.keys
+        → fits d row ≡ true → is_addressable d len ≡ true → at ≤ len
+        → IsSized (place_of d k) (entry_of (pair_of d k (at, row))) }
+    ensures pairs { (d : Defs) (k len : ℕ) (rows : List PlacedRow) → IsSound d → k < length d.keys
+        → is_addressable d len ≡ true → AllByRecursion (λ r. (r.0 ≤ len) × (fits d r.1 ≡ true)) rows
+        → AreSized (place_of d k) (pairs_of d k rows) × AllByRecursion (λ p. IsKey p.key) (pairs_of d k rows) }
+    ensures list { (d : Defs) (k len : ℕ) (rows : List PlacedRow) → IsSound d → k < length d.keys
+        → is_addressable d len ≡ true → AllByRecursion (λ r. (r.0 ≤ len) × (fits d r.1 ≡ true)) rows
+        → AreSized (place_of d k) (key_list d k rows) × AllByRecursion (λ p. IsKey p.key) (key_list d k rows) }
+{}
+
+/// A repaired data file is no longer than the one before, and within reach where that was: one block of
+/// the least size is no longer than the blocks that held the row. Whatever is no longer than a file within
+/// reach is within reach.
+pub fn repaired_files_are_shorter()
+    ensures shorter { (d : Defs) (extend : Bool) (x : List ℕ) → AreDefs d → AreBytes x
+        → length (new_data d extend x) ≤ length x }
+    ensures addressable { (d : Defs) (extend : Bool) (x : List ℕ) → AreDefs d → AreBytes x
+        → is_addressable d (length x) ≡ true → is_addressable d (length (new_data d extend x)) ≡ true }
+    ensures less { (d : Defs) (longer shorter : ℕ) → IsSound d → shorter ≤ longer
+        → is_addressable d longer ≡ true → is_addressable d shorter ≡ true }
+{}
+
+/// The walk of laid pages goes over each of them once: no byte belongs to two of its pages, which are as
+/// many as were laid and lie where they were laid.
+pub fn laid_pages_are_met_once()
+    ensures { (read : Places) (fits : Fits) (block first : ℕ) (pair : Pair) (pairs : List Pair) → 0 < block
+        → Stands read block first (laid fits block first (pair ∷ pairs))
+        → WalksOnce read block first (length (laid fits block first (pair ∷ pairs))) (pair ∷ pairs) }
+{}
+
+/// The pages of a tree that are written from the end of a file on stand behind what the file has from a
+/// place on, which may lie past its end.
+pub fn laid_pages_stand_behind()
+    ensures long { (place : Place) (first : ℕ) (pairs : List Pair) → CanBeLaid place first pairs
+        → first + length (tree_pages place first pairs) ≡ tree_end place first pairs }
+    ensures behind { (place : Place) (first : ℕ) (pairs : List Pair) → CanBeLaid place first pairs
+        → (base : ℕ) (bytes file : List ℕ) → HasBehind base first bytes file
+        → HasBehind base (tree_end place first pairs) (bytes ++ tree_pages place first pairs) (with_tree place first pairs file) }
+{}
+
+/// In the new index file each key has the tree of its key list, and the pages of all trees, which have no
+/// byte in common, fill the file behind the header. The file's length is a number of eight bytes.
+pub fn new_trees_stand()
+    ensures room { (d : Defs) (extend : Bool) (x : List ℕ) (now : ℕ) → IsRepairable d x now
+        → (new_trees d (kept d extend x)).end < 2 ^ 64 }
+    ensures long { (d : Defs) (extend : Bool) (x : List ℕ) (now : ℕ) → IsRepairable d x now
+        → length (new_index d extend x now) ≡ (new_trees d (kept d extend x)).end }
+    ensures trees { (d : Defs) (extend : Bool) (x : List ℕ) (now : ℕ) → IsRepairable d x now
+        → (pages : List Range)
+        × HaveTrees d (new_index d extend x now) (placed_from d 0 (kept d extend x)) ((0, first_page_of d) ∷ [])
+        (key_numbers d) (new_trees d (kept d extend x)).roots pages
+        × (first_page_of d + total pages ≡ length (new_index d extend x now)) }
+{}
+
+/// The two files that a repair leaves are what a repair is to leave.
+pub fn recovered_bytes_recover()
+    ensures { (d : Defs) (extend : Bool) (x : List ℕ) (now : ℕ) → IsRepairable d x now
+        → Recovered d extend x now (new_data d extend x) (new_index d extend x now) }
+{}
+
+/// A repair of a clean table keeps all its rows.
+pub fn clean_tables_keep_all()
+    ensures { (defs : Defs) (d x : List ℕ) → read_defs x ≡ Ok defs → IsClean d x
+        → kept defs false d ≡ map (values_of defs) (readable defs false d) }
+{}
+
+/// A second repair, by the definitions that the new index file has, writes the files that the first one
+/// would have written at the time of the second.
+pub fn second_repairs_change_nothing()
+    ensures data_file { (d : Defs) (extend : Bool) (x : List ℕ) (now : ℕ) → IsRepairable d x now
+        → (again : Defs) → read_defs (new_index d extend x now) ≡ Ok again
+        → (any : Bool) → new_data again any (new_data d extend x) ≡ new_data d extend x }
+    ensures index_file { (d : Defs) (extend : Bool) (x : List ℕ) (now : ℕ) → IsRepairable d x now
+        → (again : Defs) → read_defs (new_index d extend x now) ≡ Ok again
+        → (any : Bool) (later : ℕ) → new_index again any (new_data d extend x) later ≡ new_index d extend x later }
+{}
