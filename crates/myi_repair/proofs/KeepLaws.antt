@@ -1,0 +1,202 @@
+-- What is kept once one more row has come.
+use Rattle.std.proofs.Common.{◌≡◌, ◌⊎◌, inl, inr, ℕ, ◌+◌, ◌^◌, ◌<◌, ◌≤◌, Bool, true, false, List, [], ◌∷◌, ◌++◌, length, get_or, Some, None, unwrap_or, refl, sym, ap, subst, ◌∙◌, arith, eqb, ltb, length-append}
+use Rattle.std.specs.Prelude.{◌&&◌, ◌||◌, map, replicate, slice_get}
+use Rattle.std.specs.List.{list_any}
+use Rattle.std.specs.Option.{option_map_or}
+use Rattle.std.specs.Ordering.{is_eq, nat_cmp, ordering_then}
+use Rattle.std.specs.Str.{bytes_eq}
+use Rattle.std.specs.BTreeSet.{BTreeSet, contains}
+use Rattle.std.proofs.lemmas.List.Folds.{list_any-append}
+use Rattle.std.proofs.lemmas.Option.{slice_get_cases}
+use Rattle.std.proofs.lemmas.Bool.{ltb-false, leb-true, and_parts, eq-eqb, ne_eqb}
+use Rattle.std.proofs.lemmas.Bool.Decides.{same_from_decides}
+use Rattle.std.proofs.lemmas.Cmp.{nat_cmp_total, tied_itself}
+use Rattle.std.proofs.lemmas.Map.Lookups.{exact_unsigned}
+use Rattle.std.proofs.lemmas.Map.Text.{is_eq-slice_cmp}
+use Rattle.std.proofs.lemmas.Slice.Eq.{bytes_eq-Decides}
+use Rattle.std.specs.declared.cmp.Ordering.{Ordering}
+use Rattle.std.specs.declared.cmp.Ordering.TheVariants.{Less, Equal, Greater}
+use Rattle.std.specs.Cmp.Lexicographic.{slice_cmp}
+use Rattle.myi_defs.specs.declared.types.Key.{Key}
+use Rattle.myi_defs.specs.declared.types.Defs.{Defs}
+use Rattle.myi_keys.specs.declared.values.KeySeg.{KeySeg}
+use Rattle.myi_keys.specs.Limits.{is_complete}
+use Rattle.myi_keys.specs.Codes.{key_code}
+use Rattle.myi_pack.specs.Packed.{Values}
+use Rattle.myi_data.specs.Keys.{key_of}
+use Rattle.myi_base.specs.Holding.{Holding, overwritten, Writes}
+use Rattle.myi_defs.specs.declared.types.RowFormat.{RowFormat}
+use Rattle.myi_defs.specs.declared.types.RowFormat.TheVariants.{Static, Dynamic}
+use Rattle.myi_defs.specs.Addressable.{is_addressable}
+use Rattle.myi_defs.specs.ReadDefs.{AreDefs}
+use Rattle.myi_defs.proofs.SoundLaws.{sound}
+use Rattle.myi_pack.specs.Spelling.{fits, spelling}
+use Rattle.myi_data.specs.Laid.{stored_by, stored, laid_file, IsStorable}
+use Rattle.myi_pair.proofs.WidthLaws.{spelling_short}
+use Rattle.myi_pair.proofs.ShorterLaws.{length-slot}
+use Rattle.myi_pair.proofs.SizedLaws.{pointer_near}
+use Rattle.myi_repair.specs.Sized.{AreSizedPairs}
+use Rattle.myi_repair.proofs.FilesLaws.{appended}
+use Rattle.myi_pair.specs.FirstRows.{key_numbers, is_unique, repeats, has_code}
+use Rattle.myi_pair.specs.KeyList.{pointer}
+use Rattle.myi_pair.proofs.FirstRowsLaws.{noted}
+use Rattle.myi_repair.specs.declared.unique.UniqueKey.{UniqueKey}
+use Rattle.myi_repair.specs.declared.kept.KeptRows.{KeptRows}
+use Rattle.myi_repair.specs.Keeping.{is_noted, unique_cmp, AreNoted, row_keys, unique_codes, by_code, lists_in, with_pairs, AreCounted, HasKept, kept_with}
+use Rattle.myi_repair.proofs.UniqueLaws.{any_code, any_number, any_same, any_map}
+use Rattle.myi_repair.proofs.PairLaws.{laid_more, row_pairs_more, no_pairs, sized_with}
+
+-- none is kept
+pub kept_none : (d : Defs) (keys : ℕ) (k : KeptRows) → length d.keys ≡ keys → k.kept ≡ 0 → k.end ≡ 0 → lists_in k ≡ replicate keys [] → k.seen.keys ≡ [] → HasKept d [] k
+unfolding laid_file
+kept_none d keys k count kept end lists seen = record {
+  kept = kept;
+  end = end;
+  pairs = lists ∙ ap (λ n. replicate n []) (sym count) ∙ sym (no_pairs d);
+  noted = λ number code. ap (is_noted number code) seen;
+}
+
+-- a row that repeats one is left out
+pub kept_same : (d : Defs) (rows : List Values) (row : Values) (k l : KeptRows) → list_any (repeats d row) rows ≡ true → l.kept ≡ k.kept → l.end ≡ k.end → lists_in l ≡ lists_in k → l.seen.keys ≡ k.seen.keys → HasKept d rows k → HasKept d (kept_with d rows row) l
+kept_same d rows row k l repeat kept end lists seen has =
+    rw repeat (record { kept = kept ∙ has.kept; end = end ∙ has.end; pairs = lists ∙ has.pairs; noted = λ number code. ap (is_noted number code) seen ∙ has.noted number code })
+
+-- ---- the keys of the row
+
+not_unique : (d : Defs) (n : ℕ) → length d.keys ≤ n → is_unique d n ≡ false
+not_unique d n past = by (slice_get_cases d.keys n).1
+  where
+    by : ((x : Key) × (n < length d.keys) × (slice_get d.keys n ≡ Some x) × (get_or d.keys n x ≡ x)) ⊎ ((length d.keys ≤ n) × (slice_get d.keys n ≡ None)) → is_unique d n ≡ false
+    by (inl there) = absurd (omega (arith, there.1))
+    by (inr gone) = ap (λ o. option_map_or (λ (key : Key). key.unique) o false) gone.1
+
+-- by the codes of a row's keys a number is looked up
+pub noted_of_row : (d : Defs) (row : Values) (us : List UniqueKey) → map by_code us ≡ unique_codes d.keys 0 (row_keys d row) → (n : ℕ) (code : List ℕ) → is_noted n code us ≡ has_code d n code row
+noted_of_row d row us are n code =
+    any_map by_code (λ (c : ℕ × List ℕ). eqb c.0 n && bytes_eq c.1 code) us
+    ∙ ap (list_any (λ (c : ℕ × List ℕ). eqb c.0 n && bytes_eq c.1 code)) are
+    ∙ any_code d.keys (λ k. key_of d k row) (λ k c. eqb k n && bytes_eq c code) 0 (length d.keys)
+    ∙ any_same (λ k. is_unique d k && (is_complete (key_of d k row) && (eqb k n && bytes_eq (key_code (key_of d k row)) code))) (λ k. eqb k n && has_code d k code row) (λ k. turned (is_unique d k) (is_complete (key_of d k row)) (eqb k n) (bytes_eq (key_code (key_of d k row)) code)) (key_numbers d)
+    ∙ any_number (λ k. has_code d k code row) n 0 (length d.keys) (omega arith)
+    ∙ by (ltb n (0 + length d.keys)) refl
+  where
+    turned : (u c e b : Bool) → (u && (c && (e && b))) ≡ (e && (u && (c && b)))
+    turned true true e b = refl
+    turned true false true b = refl
+    turned true false false b = refl
+    turned false c true b = refl
+    turned false c false b = refl
+
+    by : (inside : Bool) → ltb n (0 + length d.keys) ≡ inside → (inside && has_code d n code row) ≡ has_code d n code row
+    by true e = refl
+    by false e = sym (ap (λ u. u && (is_complete (key_of d n row) && bytes_eq (key_code (key_of d n row)) code)) (not_unique d n (omega (arith, ltb-false n (0 + length d.keys) e))))
+
+-- a set has a key where it is noted
+contained : (u k : UniqueKey) → is_eq (unique_cmp u k) ≡ (eqb k.number u.number && bytes_eq k.code.items u.code.items)
+contained u k = is_eq_then (nat_cmp u.number k.number) (slice_cmp nat_cmp u.code.items k.code.items) ∙ ap (λ b. b && is_eq (slice_cmp nat_cmp u.code.items k.code.items)) (number_same u.number k.number) ∙ ap (λ b. eqb k.number u.number && b) (is_eq-slice_cmp u.code.items k.code.items ∙ flip u.code.items k.code.items)
+  where
+    is_eq_then : (a b : Ordering) → is_eq (ordering_then a b) ≡ (is_eq a && is_eq b)
+    is_eq_then Less b = refl
+    is_eq_then Equal b = refl
+    is_eq_then Greater b = refl
+
+    number_same : (x y : ℕ) → is_eq (nat_cmp x y) ≡ eqb y x
+    number_same x y = by (nat_cmp x y) refl
+      where
+        by : (o : Ordering) → nat_cmp x y ≡ o → is_eq o ≡ eqb y x
+        by Equal e = sym (eq-eqb y x (sym (exact_unsigned x y e)))
+        by Less e = sym (ne_eqb y x (λ same. absurd (let t = sym e ∙ ap (nat_cmp x) same ∙ tied_itself nat_cmp_total x in cc)))
+        by Greater e = sym (ne_eqb y x (λ same. absurd (let t = sym e ∙ ap (nat_cmp x) same ∙ tied_itself nat_cmp_total x in cc)))
+
+    flip : (xs ys : List ℕ) → bytes_eq xs ys ≡ bytes_eq ys xs
+    flip xs ys = same_from_decides _ _ (bytes_eq-Decides xs ys) ((λ e. sym ((bytes_eq-Decides ys xs).0 e)), (λ p. (bytes_eq-Decides ys xs).1 (sym p)))
+
+-- whether any key of a row is noted is whether it repeats a row
+pub noted_repeats : (d : Defs) (rows : List Values) (row : Values) (seen : BTreeSet UniqueKey) (us : List UniqueKey) → AreNoted d rows seen.keys → map by_code us ≡ unique_codes d.keys 0 (row_keys d row)
+    → list_any (λ u. contains unique_cmp seen u) us ≡ list_any (repeats d row) rows
+noted_repeats d rows row seen us are codes =
+    any_same (λ (u : UniqueKey). contains unique_cmp seen u) (λ u. list_any (has_code d u.number u.code.items) rows)
+    (λ u. any_same (λ k. is_eq (unique_cmp u k)) (λ k. eqb k.number u.number && bytes_eq k.code.items u.code.items) (contained u) seen.keys ∙ are u.number u.code.items) us
+    ∙ any_map by_code (λ (c : ℕ × List ℕ). list_any (has_code d c.0 c.1) rows) us
+    ∙ ap (list_any (λ (c : ℕ × List ℕ). list_any (has_code d c.0 c.1) rows)) codes
+    ∙ any_code d.keys (λ k. key_of d k row) (λ k c. list_any (has_code d k c) rows) 0 (length d.keys)
+    ∙ sym (noted d rows row)
+
+-- ---- a row that repeats none is kept
+
+pub kept_new : (d : Defs) (rows : List Values) (row : Values) (k l : KeptRows) (us : List UniqueKey) → list_any (repeats d row) rows ≡ false → l.kept ≡ k.kept + 1 → l.end ≡ k.end + length (stored d row)
+    → lists_in l ≡ with_pairs (pointer d k.end) (row_keys d row) (lists_in k) → ((n : ℕ) (code : List ℕ) → is_noted n code l.seen.keys ≡ (is_noted n code k.seen.keys || is_noted n code us)) → map by_code us ≡ unique_codes d.keys 0 (row_keys d row)
+    → HasKept d rows k → HasKept d (kept_with d rows row) l
+kept_new d rows row k l us new kept end lists seen codes has =
+    rw new (record {
+      kept = kept ∙ omega (arith, has.kept, length-append rows (row ∷ []));
+      end = end ∙ omega (arith, has.end, ap (λ (x : List ℕ). length x) (laid_more d rows row), length-append (laid_file d rows) (stored d row));
+      pairs = lists ∙ ap (with_pairs (pointer d k.end) (row_keys d row)) has.pairs ∙ row_pairs_more d rows row k.end has.end;
+      noted = λ n code. seen n code ∙ ap (λ b. b || is_noted n code us) (has.noted n code) ∙ ap (λ b. list_any (has_code d n code) rows || b) (noted_of_row d row us codes n code ∙ or_none (has_code d n code row)) ∙ sym (list_any-append (has_code d n code) rows (row ∷ []));
+    })
+  where
+    or_none : (b : Bool) → b ≡ (b || false)
+    or_none true = refl
+    or_none false = refl
+
+-- ---- its spelling
+
+-- a row that fits is spelled in few bytes
+pub row_short : (d : Defs) (v : Values) → AreDefs d → fits d v ≡ true → length (spelling d v) < 2 ^ 24
+row_short d v are fit = by d.format refl
+  where
+    by : (f : RowFormat) → d.format ≡ f → length (spelling d v) < 2 ^ 24
+    by Dynamic e = spelling_short d are e v fit
+    by Static e =
+        let s = sound d are in
+        let can : IsStorable d v = record { fits = fit; short = λ dynamic. absurd (let both = sym e ∙ dynamic in cc) } in
+        omega (arith, length-slot d v s e can, ap (λ f. length (stored_by f (spelling d v))) e, s.short_slot e)
+
+-- ---- the file
+
+pub put_at_end : (file end_bytes row : List ℕ) (end : ℕ) (m n : Holding) → m file ≡ Some end_bytes → end ≡ length end_bytes → Writes file end row m n → n file ≡ Some (end_bytes ++ row)
+put_at_end file end_bytes row end m n here is wrote =
+    wrote.here ∙ ap (λ b. Some (overwritten end row (unwrap_or b []))) here ∙ ap (λ e. Some (overwritten e row end_bytes)) is ∙ ap Some (appended end_bytes row)
+
+pub written_new : (d : Defs) (rows : List Values) (row : Values) (k : KeptRows) (file : List ℕ) (m n : Holding) → list_any (repeats d row) rows ≡ false → HasKept d rows k → m file ≡ Some (laid_file d rows) → Writes file k.end (stored d row) m n → n file ≡ Some (laid_file d (kept_with d rows row))
+written_new d rows row k file m n new has here wrote =
+    rw new (put_at_end file (laid_file d rows) (stored d row) k.end m n here has.end wrote ∙ ap Some (sym (laid_more d rows row)))
+
+pub written_same : (d : Defs) (rows : List Values) (row : Values) (file : List ℕ) (m : Holding) → list_any (repeats d row) rows ≡ true → m file ≡ Some (laid_file d rows) → m file ≡ Some (laid_file d (kept_with d rows row))
+written_same d rows row file m repeat here = rw repeat here
+
+-- ---- the steps of a row together
+
+-- what the set answers of a row's keys
+pub decided : (d : Defs) (rows : List Values) (row : Values) (seen : BTreeSet UniqueKey) (us given : List UniqueKey) (keys : List (List KeySeg)) (defs : List Key) (b : Bool) → AreNoted d rows seen.keys → map by_code us ≡ unique_codes defs 0 keys → defs ≡ d.keys → keys ≡ row_keys d row → given ≡ us
+    → b ≡ list_any (λ u. contains unique_cmp seen u) given → list_any (repeats d row) rows ≡ b
+decided d rows row seen us given keys defs b are codes keyed rowed same answer =
+    sym (noted_repeats d rows row seen us are (codes ∙ ap (λ ds. unique_codes ds 0 keys) keyed ∙ ap (unique_codes d.keys 0) rowed))
+    ∙ ap (list_any (λ u. contains unique_cmp seen u)) (sym same) ∙ sym answer
+
+abbrev pub with_row : Defs → Values → KeptRows → KeptRows
+with_row d row k = record k { kept = k.kept + 1; split = k.split + 1; end = k.end + length (stored d row) }
+
+pub kept_next : (d : Defs) (rows : List Values) (row : Values) (k p l : KeptRows) (us : List UniqueKey) (keys : List (List KeySeg)) (defs : List Key) (ptr : ℕ) → list_any (repeats d row) rows ≡ false → p ≡ with_row d row k → ptr ≡ pointer d k.end → keys ≡ row_keys d row → defs ≡ d.keys
+    → map by_code us ≡ unique_codes defs 0 keys → lists_in l ≡ with_pairs ptr keys (lists_in p) → l.kept ≡ p.kept → l.end ≡ p.end → ((n : ℕ) (code : List ℕ) → is_noted n code l.seen.keys ≡ (is_noted n code p.seen.keys || is_noted n code us))
+    → HasKept d rows k → HasKept d (kept_with d rows row) l
+kept_next d rows row k p l us keys defs ptr new put pointed rowed keyed codes lists kept end noted has =
+    kept_new d rows row k l us new (kept ∙ ap (λ q. q.kept) put) (end ∙ ap (λ q. q.end) put)
+    (lists ∙ ap (λ q. with_pairs ptr keys (lists_in q)) put ∙ ap (λ x. with_pairs x keys (lists_in k)) pointed ∙ ap (λ ks. with_pairs (pointer d k.end) ks (lists_in k)) rowed)
+    (λ n code. noted n code ∙ ap (λ q. is_noted n code q.seen.keys || is_noted n code us) put)
+    (codes ∙ ap (λ ds. unique_codes ds 0 keys) keyed ∙ ap (unique_codes d.keys 0) rowed) has
+
+pub short_enough : (d : Defs) (n : ℕ) → is_addressable d n ≡ true → n ≤ 2 ^ 40
+unfolding is_addressable
+short_enough d n reached = leb-true n (2 ^ 40) (and_parts _ _ reached).0
+
+pub counted_next : (d : Defs) (row : Values) (k p l : KeptRows) (keys : List (List KeySeg)) (ptr : ℕ) → AreDefs d → fits d row ≡ true → AreCounted d k → is_addressable d (k.end + length (stored d row)) ≡ true → p ≡ with_row d row k → ptr ≡ pointer d k.end → keys ≡ row_keys d row
+    → lists_in l ≡ with_pairs ptr keys (lists_in p) → l.kept ≡ p.kept → l.split ≡ p.split → l.end ≡ p.end → AreCounted d l
+counted_next d row k p l keys ptr are fit was reached put pointed rowed lists kept split end =
+    let s = sound d are in
+    let all : lists_in l ≡ with_pairs (pointer d k.end) (row_keys d row) (lists_in k) = lists ∙ ap (λ q. with_pairs ptr keys (lists_in q)) put ∙ ap (λ x. with_pairs x keys (lists_in k)) pointed ∙ ap (λ ks. with_pairs (pointer d k.end) ks (lists_in k)) rowed in
+    record {
+      split = split ∙ ap (λ q. q.split) put ∙ ap (λ n. n + 1) was.split ∙ sym (kept ∙ ap (λ q. q.kept) put);
+      short = omega (arith, short_enough d (k.end + length (stored d row)) reached, end, ap (λ q. q.end) put);
+      pairs = subst (AreSizedPairs d) (sym all) (sized_with d row k.end (lists_in k) s fit (pointer_near d k.end (k.end + length (stored d row)) s reached (omega arith)) was.pairs);
+    }

@@ -1,0 +1,10 @@
+pub mod OpenLaws
+pub mod FilesLaws
+pub mod StateLaws
+pub mod UniqueLaws
+pub mod PairLaws
+pub mod KeepLaws
+pub mod TreeLaws
+pub mod RowsLaws
+pub mod GatherLaws
+pub mod RepairLaws

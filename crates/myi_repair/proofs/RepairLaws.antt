@@ -1,0 +1,120 @@
+-- The new index file that is finished is the one of the recovered bytes.
+use Rattle.std.proofs.Common.{◌≡◌, ℕ, suc, ◌+◌, ◌-◌, ◌*◌, ◌^◌, ◌<◌, Bool, List, [], ◌∷◌, ◌++◌, length, drop, Option, refl, sym, ap, subst, ◌∙◌, arith, length-append}
+use Rattle.std.specs.Prelude.{map}
+use Rattle.std.proofs.lemmas.List.{append-nil, take_all, length-map}
+use Rattle.myi_base.specs.Holding.{Holding, bytes_of, resized, overwritten}
+use Rattle.myi_defs.specs.declared.types.Defs.{Defs}
+use Rattle.myi_defs.specs.Sound.{IsSound}
+use Rattle.myi_header.specs.Layout.{first_page_of}
+use Rattle.myi_header.specs.StateOf.{state_of}
+use Rattle.myi_header.specs.HeaderOf.{header_of}
+use Rattle.myi_pack.specs.Packed.{Values}
+use Rattle.myi_btree.specs.declared.pair.Pair.{Pair}
+use Rattle.myi_btree.specs.Laid.{laid}
+use Rattle.myi_btree.specs.Sizes.{fits_in}
+use Rattle.myi_pair.specs.FirstRows.{key_numbers}
+use Rattle.myi_pair.specs.KeyList.{PlacedRow, pairs_of, sorted, key_list}
+use Rattle.myi_pair.specs.Trees.{place_of, block_of_key}
+use Rattle.myi_pair.specs.TreePages.{HasBehind}
+use Rattle.myi_pair.specs.RecoveredBytes.{laid_trees, kept, new_data, placed_from, row_pairs, new_trees, new_state, recovered_state, new_index}
+use Rattle.myi_pair.specs.Recovered.{IsRepairable}
+use Rattle.myi_pair.proofs.HeaderLaws.{header_long, new_rest}
+use Rattle.myi_pair.proofs.RecoveredLaws.{recovered}
+use Rattle.myi_base.specs.Numbers.{AreBytes}
+use Rattle.myi_defs.specs.ReadDefs.{AreDefs}
+use Rattle.myi_repair.proofs.OpenLaws.{is_opened}
+use Rattle.myi_repair.specs.declared.report.Report.{Report}
+use Rattle.myi_repair.specs.declared.gathering.Gathered.{Gathered}
+use Rattle.myi_repair.specs.Names.{FourNames, names_for, Holds, KeepsBoth}
+use Rattle.myi_repair.specs.Gathering.{IsGathered, Gathers}
+use Rattle.myi_repair.specs.Repairs.{Repairs, Completes}
+use Rattle.myi_repair.specs.Building.{trees_of, Builds}
+use Rattle.myi_repair.specs.Finishing.{state_set, finished_index, IsWhole, Finishes, FinishesPart}
+use Rattle.myi_repair.proofs.FilesLaws.{resized_none, whole_before}
+use Rattle.myi_repair.proofs.PairLaws.{length-numbers}
+
+-- ---- the trees
+
+pub trees_same : (d : Defs) (rows : List Values) → trees_of d (row_pairs d (placed_from d 0 rows)) ≡ new_trees d rows
+unfolding new_trees key_list
+trees_same d rows = ap (laid_trees d (first_page_of d) (key_numbers d)) (each (placed_from d 0 rows) (key_numbers d))
+  where
+    each : (placed : List PlacedRow) (ks : List ℕ) → map sorted (map (λ k. pairs_of d k placed) ks) ≡ map (λ k. key_list d k placed) ks
+    each placed [] = refl
+    each placed (k ∷ ks) = ap (λ ls. sorted (pairs_of d k placed) ∷ ls) (each placed ks)
+
+roots_count : (d : Defs) (first : ℕ) (ks : List ℕ) (lists : List (List Pair)) → length lists ≡ length ks → length (laid_trees d first ks lists).roots ≡ length ks
+roots_count d first [] lists same = refl
+roots_count d first (k ∷ ks) [] same = absurd (omega arith)
+roots_count d first (k ∷ ks) (pairs ∷ lists) same = ap suc (roots_count d (first + block_of_key d k * length (laid (fits_in (place_of d k)) (block_of_key d k) first pairs)) ks lists (omega arith))
+
+pub count_roots : (d : Defs) (lists : List (List Pair)) → length lists ≡ length d.keys → length (trees_of d lists).roots ≡ length d.keys
+count_roots d lists same =
+    let numbers = length-numbers 0 (length d.keys) in
+    roots_count d (first_page_of d) (key_numbers d) (map sorted lists) (omega (arith, length-map lists sorted, numbers)) ∙ numbers
+
+-- ---- the file
+
+resized_same : (n : ℕ) (x : List ℕ) → length x ≡ n → resized n x ≡ x
+resized_same n x long =
+    let none : n - length x ≡ 0 = omega arith in
+    rw (none, take_all n x (omega arith)) (append-nil x)
+
+-- a header written over the front of a file, and the file made as long as its pages reach
+pub over_front : (first end : ℕ) (header bytes index : List ℕ) → length header ≡ first → HasBehind first end bytes index → resized end (overwritten 0 header index) ≡ header ++ bytes
+over_front first end header bytes index long is =
+    let whole : overwritten 0 header index ≡ header ++ bytes =
+    ap (λ x. x ++ header ++ drop (0 + length header) index) (resized_none index) ∙ ap (λ n. header ++ drop n index) (omega (arith, long)) ∙ ap (λ b. header ++ b) is.behind in
+    ap (resized end) whole ∙ resized_same end (header ++ bytes) (length-append header bytes ∙ omega (arith, long, is.long))
+
+abbrev pub without_pairs : Gathered → Gathered
+without_pairs g = record g { pairs = [] }
+
+pub finished_is : (t : FourNames) (extend : Bool) (d : List ℕ) (g h : Gathered) (now end : ℕ) (roots : List (Option ℕ)) (m n : Holding) → IsSound g.defs → h ≡ without_pairs g → length g.pairs ≡ length g.defs.keys → IsGathered t extend d g m
+    → roots ≡ (trees_of g.defs g.pairs).roots → end ≡ (trees_of g.defs g.pairs).end → Builds g.defs g.pairs t.new_index m n → finished_index h roots end now (bytes_of t.new_index n) ≡ new_index g.defs extend d now
+unfolding new_index
+finished_is t extend d g h now end roots m n s left counted is rooted ended built =
+    let defs = g.defs in
+    let trees : trees_of defs g.pairs ≡ new_trees defs (kept defs extend d) = ap (trees_of defs) is.pairs ∙ trees_same defs (kept defs extend d) in
+    let many : length roots ≡ length defs.keys = ap (λ (rs : List (Option ℕ)). length rs) rooted ∙ count_roots defs g.pairs counted in
+    let set : state_set g roots end now ≡ recovered_state defs extend d now =
+    ap (λ (r : Report). new_state defs (state_of defs defs.raw) r.kept g.split r.new_length roots end now) is.report
+    ∙ ap (λ x. new_state defs (state_of defs defs.raw) (length (kept defs extend d)) x (length (new_data defs extend d)) roots end now) is.split
+    ∙ ap (λ rs. new_state defs (state_of defs defs.raw) (length (kept defs extend d)) (length (kept defs extend d)) (length (new_data defs extend d)) rs end now) (rooted ∙ ap (λ u. u.roots) trees)
+    ∙ ap (λ e. new_state defs (state_of defs defs.raw) (length (kept defs extend d)) (length (kept defs extend d)) (length (new_data defs extend d)) (new_trees defs (kept defs extend d)).roots e now) (ended ∙ ap (λ u. u.end) trees) in
+    let long : length (header_of defs (state_set g roots end now)) ≡ first_page_of defs = header_long defs (state_set g roots end now) s many (new_rest defs s) in
+    let behind : HasBehind (first_page_of defs) end (trees_of defs g.pairs).bytes (bytes_of t.new_index n) = subst (λ e. HasBehind (first_page_of defs) e (trees_of defs g.pairs).bytes (bytes_of t.new_index n)) (sym ended) built in
+    ap (λ k. finished_index k roots end now (bytes_of t.new_index n)) left
+    ∙ over_front (first_page_of defs) end (header_of defs (state_set g roots end now)) (trees_of defs g.pairs).bytes (bytes_of t.new_index n) long behind
+    ∙ ap (λ s. header_of defs s ++ (trees_of defs g.pairs).bytes) set ∙ ap (λ u. header_of defs (recovered_state defs extend d now) ++ u.bytes) trees
+
+-- ---- the steps together
+
+pub completed : (t u : FourNames) (extend : Bool) (d : List ℕ) (g h : Gathered) (now end : ℕ) (roots : List (Option ℕ)) (m n o : Holding) → IsSound g.defs → u ≡ t → h ≡ without_pairs g → length g.pairs ≡ length g.defs.keys → IsGathered t extend d g m
+    → roots ≡ (trees_of g.defs g.pairs).roots → end ≡ (trees_of g.defs g.pairs).end → Builds g.defs g.pairs u.new_index m n → n u.new_rows ≡ m u.new_rows → Finishes t h roots end now n o → Holds t (new_data g.defs extend d) (new_index g.defs extend d now) o
+completed t u extend d g h now end roots m n o s named left counted is rooted ended built rows done =
+    let index = finished_is t extend d g h now end roots m n s left counted is rooted ended (subst (λ v. Builds g.defs g.pairs v.new_index m n) named built) in
+    let there : n t.new_rows ≡ m t.new_rows = subst (λ v. n v.new_rows ≡ m v.new_rows) named rows in
+    subst (λ x. Holds t (new_data g.defs extend d) x o) index (done (new_data g.defs extend d) (there ∙ is.written))
+
+pub completed_part : (t u : FourNames) (extend : Bool) (d : List ℕ) (g h : Gathered) (now end : ℕ) (roots : List (Option ℕ)) (m n o : Holding) → IsSound g.defs → u ≡ t → h ≡ without_pairs g → length g.pairs ≡ length g.defs.keys → IsGathered t extend d g m
+    → roots ≡ (trees_of g.defs g.pairs).roots → end ≡ (trees_of g.defs g.pairs).end → Builds g.defs g.pairs u.new_index m n → n u.new_rows ≡ m u.new_rows → KeepsBoth u m n → FinishesPart t h roots end now n o → IsWhole t (new_data g.defs extend d) (new_index g.defs extend d now) m o
+completed_part t u extend d g h now end roots m n o s named left counted is rooted ended built rows both part =
+    let index = finished_is t extend d g h now end roots m n s left counted is rooted ended (subst (λ v. Builds g.defs g.pairs v.new_index m n) named built) in
+    let there : n t.new_rows ≡ m t.new_rows = subst (λ v. n v.new_rows ≡ m v.new_rows) named rows in
+    whole_before t (new_data g.defs extend d) (new_index g.defs extend d now) m n o (subst (λ v. KeepsBoth v m n) named both)
+    (subst (λ x. IsWhole t (new_data g.defs extend d) x n o) index (part (new_data g.defs extend d) (there ∙ is.written)))
+
+pub repaired : (name : List ℕ) (extend : Bool) (now : ℕ) (g : Gathered) (said : Report) (m n o : Holding) → AreDefs g.defs → AreBytes g.defs.raw → now < 2 ^ 64 → Gathers (names_for name) extend g m n → said ≡ g.report → Completes (names_for name) g now n o → Repairs name extend now said m o
+repaired name extend now g said m n o are header early gathered same done =
+    let d : List ℕ = gathered.0 in
+    let is = gathered.2 in
+    let open_table = is_opened (names_for name) g.defs d m gathered.1 in
+    let can : IsRepairable g.defs d now = record {
+      defined = are;
+      header = header;
+      bytes = is.bytes;
+      reached = open_table.reached;
+      time = early;
+    } in
+    (g.defs, d, gathered.1, record { holds = done extend d is; recovered = recovered g.defs extend d now can; report = same ∙ is.report })

@@ -1,0 +1,13 @@
+use Rattle.std.proofs.Common.{arith}
+use Rattle.std.proofs.lemmas.Result.{IfOk-weaker}
+use Rattle.myi_repair.proofs.OpenLaws.{both_ok}
+use Rattle.myi_repair.proofs.RepairLaws.{repaired}
+use Rattle.myi_repair.proofs.repair.recover.Goals as goal
+
+pub returns-clause-repaired : goal.returns-clause-repaired
+returns-clause-repaired g c =
+    IfOk-weaker c.complete.result _ _ (λ said all m told.
+    let gathered = c.in_ok-gathered.ensures.gathered m told in
+    let done = all.0 gathered.0 gathered.1 in
+    (done.0, done.1, repaired c.args.name.now c.args.extend c.args.now c.in_ok-gathered.gathered said m gathered.0 done.0 c.in_ok-gathered.ensures.defs c.in_ok-gathered.ensures.header (omega arith) gathered.2 all.1 done.2))
+    (both_ok c.complete.result _ _ c.complete.ensures.done c.complete.ensures.said)

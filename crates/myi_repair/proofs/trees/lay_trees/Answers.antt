@@ -1,0 +1,77 @@
+use Rattle.std.proofs.Common.{◌≡◌, ◌∙◌, ℕ, Option, ◌+◌, ◌^◌, ◌<◌, List, [], ◌∷◌, ◌++◌, length, ap, sym, subst, arith}
+use Rattle.std.proofs.lemmas.List.{length_push}
+use Rattle.std.proofs.lemmas.Iterator.Adapters.{YieldsList-from_vec}
+use Rattle.std.proofs.lemmas.Iterator.Consumers.{YieldsList-turn, YieldsList-end}
+use Rattle.std.specs.List.{AllByRecursion}
+use Rattle.myi_keys.specs.Limits.{IsKey}
+use Rattle.myi_btree.specs.declared.pair.Pair.{Pair}
+use Rattle.myi_btree.specs.Sizes.{AreSized}
+use Rattle.myi_pair.specs.KeyList.{sorted}
+use Rattle.myi_pair.specs.Trees.{place_of}
+use Rattle.myi_pair.specs.TreePages.{tree_end, CanBeLaid}
+use Rattle.myi_pair.proofs.SizedLaws.{placed}
+use Rattle.myi_repair.proofs.TreeLaws.{AreLaidTo, LaysTo, sorted_sized, sorted_keys, item_is, laid_next, lays_next, laid_all, lays_all}
+use Rattle.myi_repair.proofs.trees.lay_trees.Goals as goal
+
+pub loop-pairs-preserved : goal.loop-pairs-preserved
+loop-pairs-preserved g c =
+    let was = c.loop-pairs.invariant in
+    let d = c.args.defs.now in
+    let lists = c.args.pairs.items in
+    let i = length c.loop-pairs.yielded in
+    let ps = c.in-Some.pairs in
+    let end = c.loop-pairs.room.end in
+    let given = c.into_iter-pairs-iterator.ensures.into_iter_gives in
+    let turn = YieldsList-turn (YieldsList-from_vec {s = c.into_iter-pairs-iterator.result} lists given.0 (omega (arith, given.1, c.args.pairs.ok.0))) c.loop-pairs.yielded c.loop-pairs.pairs-iterator c.loop-pairs.yielded_by c.next.result c.next.new.self ps c.in-Some.is c.next.ensures.steps in
+    let keyed : i < length d.keys = omega (arith, turn.0, c.requires.pairs.all) in
+    let number : c.len-in-loop-pairs.result ≡ i = omega (arith, c.len-in-loop-pairs.ensures, was.count, c.loop-pairs.trees.roots.ok.0) in
+    let place : c.place_of-place.result ≡ place_of d i = c.place_of-place.ensures ∙ ap (place_of d) number in
+    let one = c.in_ok-root.ensures in
+    let root = rw place at one.root in
+    let ended : c.build_tree.new.room.end ≡ tree_end (place_of d i) end (sorted ps) = rw place at one.end in
+    let more : length (c.loop-pairs.yielded ++ ps ∷ []) ≡ i + 1 = length_push c.loop-pairs.yielded ps in
+    let short : c.build_tree.new.room.end < 2 ^ 64 = c.push.ensures.fits in
+    let can : CanBeLaid (place_of d i) end (sorted ps) = record {
+      placed = placed d c.requires.sound i keyed;
+      at = was.laid.whole;
+      sized = sorted_sized (place_of d i) ps (subst (AreSized (place_of d i)) (item_is lists i ps turn.0 turn.1) (c.requires.pairs.sized i keyed));
+      keys = sorted_keys ps (subst (λ (qs : List Pair). AllByRecursion (λ (p : Pair). IsKey p.key) qs) (item_is lists i ps turn.0 turn.1) (c.requires.pairs.keys i keyed));
+      room = omega (arith, short, ended);
+    } in
+    record {
+      count = ap (λ (rs : List (Option ℕ)). length rs) c.in_ok-push.ensures.roots ∙ length_push c.loop-pairs.trees.roots.items c.in_ok-root.root ∙ omega (arith, more, was.count);
+      end = c.in_ok-push.ensures.end;
+      laid = subst (λ n. AreLaidTo d lists n c.build_tree.new.room.end c.push.new.self.roots.items) (sym more)
+          (subst (AreLaidTo d lists (i + 1) c.build_tree.new.room.end) (sym c.in_ok-push.ensures.roots)
+          (laid_next d lists i end ps turn.0 c.requires.pairs.all turn.1 c.build_tree.new.room.end c.in_ok-root.root c.loop-pairs.trees.roots.items can.placed ended short root was.laid));
+      told = λ m told.
+          let before = was.told m told in
+          let laid = one.laid before.0 before.1 in (
+            laid.0,
+            laid.1,
+            subst (λ n. LaysTo d lists n c.build_tree.new.room.end c.args.cache.now c.build_tree.new.cache m laid.0) (sym more)
+                (lays_next d lists i end ps turn.0 c.requires.pairs.all turn.1 c.build_tree.new.room.end c.args.cache.now c.loop-pairs.cache c.build_tree.new.cache m before.0 laid.0 can ended was.name (rw place at laid.2) before.2),
+          );
+      name = one.name ∙ was.name;
+      later = omega (arith, was.later, one.cause.later);
+    }
+
+pub returns-clause-laid : goal.returns-clause-laid
+returns-clause-laid g c m told =
+    let was = c.loop-pairs.invariant in
+    let d = c.args.defs.now in
+    let lists = c.args.pairs.items in
+    let given = c.into_iter-pairs-iterator.ensures.into_iter_gives in
+    let all = YieldsList-end (YieldsList-from_vec {s = c.into_iter-pairs-iterator.result} lists given.0 (omega (arith, given.1, c.args.pairs.ok.0))) c.loop-pairs.yielded c.loop-pairs.pairs-iterator c.loop-pairs.yielded_by c.next.result c.next.new.self c.in-None.is c.next.ensures.steps in
+    let before = was.told m told in
+    (before.0, before.1, lays_all d lists (length c.loop-pairs.yielded) c.loop-pairs.room.end c.args.cache.now c.loop-pairs.cache m before.0 all.1 c.requires.pairs.all (laid_all d lists (length c.loop-pairs.yielded) c.loop-pairs.room.end c.loop-pairs.trees.roots.items all.1 c.requires.pairs.all was.laid).1 before.2)
+
+pub returns-clause-trees : goal.returns-clause-trees
+returns-clause-trees g c =
+    let was = c.loop-pairs.invariant in
+    let d = c.args.defs.now in
+    let lists = c.args.pairs.items in
+    let given = c.into_iter-pairs-iterator.ensures.into_iter_gives in
+    let all = YieldsList-end (YieldsList-from_vec {s = c.into_iter-pairs-iterator.result} lists given.0 (omega (arith, given.1, c.args.pairs.ok.0))) c.loop-pairs.yielded c.loop-pairs.pairs-iterator c.loop-pairs.yielded_by c.next.result c.next.new.self c.in-None.is c.next.ensures.steps in
+    let whole = laid_all d lists (length c.loop-pairs.yielded) c.loop-pairs.room.end c.loop-pairs.trees.roots.items all.1 c.requires.pairs.all was.laid in
+    record { roots = whole.0; end = was.end ∙ whole.1 }

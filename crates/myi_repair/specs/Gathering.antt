@@ -1,0 +1,72 @@
+-- What gathering leaves and answers.
+use Rattle.std.specs.Prelude.{◌≡◌, ◌+◌, ℕ, Bool, true, false, List, [], ◌∷◌, length, map, take, Some, None}
+use Rattle.myi_base.specs.Holding.{Holding, bytes_of}
+use Rattle.myi_base.specs.Numbers.{AreBytes}
+use Rattle.myi_defs.specs.declared.types.Defs.{Defs}
+use Rattle.myi_pack.specs.Packed.{Values}
+use Rattle.myi_chain.specs.Readable.{Row}
+use Rattle.myi_data.specs.Laid.{laid_file}
+use Rattle.myi_data.specs.Readable.{packs}
+use Rattle.myi_data.specs.Scanning.{TableScan, rows_left}
+use Rattle.myi_pair.specs.Clean.{values_of}
+use Rattle.myi_pair.specs.FirstRows.{first_rows}
+use Rattle.myi_pair.specs.RecoveredBytes.{kept, repeat_count, new_data, placed_from, row_pairs}
+use Rattle.myi_repair.specs.declared.report.Report.{Report}
+use Rattle.myi_repair.specs.declared.kept.KeptRows.{KeptRows}
+use Rattle.myi_repair.specs.declared.gathering.Gathered.{Gathered}
+use Rattle.myi_repair.specs.Names.{FourNames}
+use Rattle.myi_repair.specs.Opening.{IsTable}
+use Rattle.myi_repair.specs.Keeping.{HasKept, kept_with}
+
+-- what is said of a repair of this data file
+abbrev pub report_of : Defs → Bool → List ℕ → Report
+report_of defs extend d = record {
+  kept = length (kept defs extend d);
+  repeats = repeat_count defs extend d;
+  old_length = length d;
+  new_length = length (new_data defs extend d);
+}
+
+-- this was gathered of a data file, and the working data file holds its kept rows
+pub record IsGathered (t : FourNames) (extend : Bool) (d : List ℕ) (g : Gathered) (n : Holding) : Type 0 where
+  pub bytes : AreBytes d
+  pub written : n t.new_rows ≡ Some (new_data g.defs extend d)
+  pub report : g.report ≡ report_of g.defs extend d
+  pub split : g.split ≡ length (kept g.defs extend d)
+  pub pairs : g.pairs ≡ row_pairs g.defs (placed_from g.defs 0 (kept g.defs extend d))
+
+-- this was gathered of the table
+abbrev pub Gathers : FourNames → Bool → Gathered → Holding → Holding → Type 0
+Gathers t extend g m n = (d : List ℕ) × IsTable t g.defs d m × IsGathered t extend d g n
+
+-- ---- the rows of a scan
+
+-- the values of the rows that a scan has left
+abbrev pub values_left : TableScan → Holding → List Values
+values_left s m = map (values_of s.test) (rows_left s m)
+
+-- the first row that was left was taken, where it packs one
+pub record TakesRow (d : Defs) (file : List ℕ) (s t : TableScan) (k l : KeptRows) (m n : Holding) : Type 0 where
+  pub row : Row
+  pub rest : List Row
+  pub left : rows_left s m ≡ row ∷ rest
+  pub behind : rows_left t n ≡ rest
+  pub counted : packs d row.bytes ≡ true → l.kept + l.repeats ≡ k.kept + k.repeats + 1
+  pub kept : packs d row.bytes ≡ true → (rows : List Values) → HasKept d rows k → HasKept d (kept_with d rows (values_of d row)) l
+  pub written : packs d row.bytes ≡ true → (rows : List Values) → HasKept d rows k → m file ≡ Some (laid_file d rows) → n file ≡ Some (laid_file d (kept_with d rows (values_of d row)))
+
+-- a row was taken, or none was left
+abbrev pub TakesIf : Bool → Defs → List ℕ → TableScan → TableScan → KeptRows → KeptRows → Holding → Holding → Type 0
+TakesIf true d file s t k l m n = TakesRow d file s t k l m n
+TakesIf false d file s t k l m n = (rows_left s m ≡ []) × (l ≡ k) × (n ≡ m)
+
+-- what a scan reads first is bytes
+abbrev pub ReadsBytes : TableScan → Holding → Type 0
+ReadsBytes s m = s.left ≡ None → AreBytes (take s.end (bytes_of s.name m))
+
+-- the first rows of those that a scan had left are kept, and the file holds them
+pub record GathersRows (s : TableScan) (file : List ℕ) (k : KeptRows) (m n : Holding) : Type 0 where
+  pub bytes : AreBytes (take s.end (bytes_of s.name m))
+  pub kept : HasKept s.test (first_rows s.test (values_left s m)) k
+  pub counted : k.kept + k.repeats ≡ length (rows_left s m)
+  pub written : n file ≡ Some (laid_file s.test (first_rows s.test (values_left s m)))

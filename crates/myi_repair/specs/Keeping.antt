@@ -1,0 +1,83 @@
+-- The rows that are kept so far, by what is kept of them.
+use Rattle.std.specs.Prelude.{◌≡◌, ◌≤◌, ◌==◌, ◌&&◌, ◌^◌, ℕ, suc, Bool, false, List, [], ◌∷◌, ◌++◌, length, map, slice_get, Vec, if◌then◌else◌}
+use Rattle.std.specs.List.{list_any}
+use Rattle.std.specs.Option.{option_map_or}
+use Rattle.std.specs.Ordering.{nat_cmp, ordering_then}
+use Rattle.std.specs.declared.cmp.Ordering.{Ordering}
+use Rattle.std.specs.Cmp.Lexicographic.{slice_cmp}
+use Rattle.std.specs.Str.{bytes_eq}
+use Rattle.myi_defs.specs.declared.types.Key.{Key}
+use Rattle.myi_defs.specs.declared.types.Defs.{Defs}
+use Rattle.myi_keys.specs.declared.values.KeySeg.{KeySeg}
+use Rattle.myi_keys.specs.Limits.{is_complete}
+use Rattle.myi_keys.specs.Codes.{key_code}
+use Rattle.myi_pack.specs.Packed.{Values}
+use Rattle.myi_data.specs.Keys.{key_of}
+use Rattle.myi_data.specs.Laid.{laid_file}
+use Rattle.myi_btree.specs.declared.pair.Pair.{Pair}
+use Rattle.myi_pair.specs.FirstRows.{key_numbers, repeats, has_code}
+use Rattle.myi_pair.specs.RecoveredBytes.{placed_from, row_pairs}
+use Rattle.myi_repair.specs.declared.unique.UniqueKey.{UniqueKey}
+use Rattle.myi_repair.specs.declared.kept.KeptRows.{KeptRows}
+use Rattle.myi_repair.specs.Sized.{AreSizedPairs}
+
+-- ---- keys that no other row may have
+
+-- the complete key of that number, with that code, is among these
+abbrev pub is_noted : ℕ → List ℕ → List UniqueKey → Bool
+is_noted number code keys = list_any (λ (k : UniqueKey). (k.number == number) && bytes_eq k.code.items code) keys
+
+-- by number and then by code
+abbrev pub unique_cmp : UniqueKey → UniqueKey → Ordering
+unique_cmp a b = ordering_then (nat_cmp a.number b.number) (slice_cmp nat_cmp a.code.items b.code.items)
+
+-- noted are the complete keys of these rows in unique keys
+abbrev pub AreNoted : Defs → List Values → List UniqueKey → Type 0
+AreNoted d rows keys = (number : ℕ) (code : List ℕ) → is_noted number code keys ≡ list_any (has_code d number code) rows
+
+-- the keys of a row, one for each key of the table
+abbrev pub row_keys : Defs → Values → List (List KeySeg)
+row_keys d row = map (λ k. key_of d k row) (key_numbers d)
+
+abbrev pub unique_at : List Key → ℕ → Bool
+unique_at keys k = option_map_or (λ key. key.unique) (slice_get keys k) false
+
+-- the complete ones of keys in unique keys, each by its number and its code; the first has a number
+abbrev pub unique_codes : List Key → ℕ → List (List KeySeg) → List (ℕ × List ℕ)
+unique_codes defs number [] = []
+unique_codes defs number (key ∷ keys) = if unique_at defs number && is_complete key then (number, key_code key) ∷ unique_codes defs (suc number) keys else unique_codes defs (suc number) keys
+
+abbrev pub by_code : UniqueKey → ℕ × List ℕ
+by_code k = (k.number, k.code.items)
+
+-- ---- the rows that are kept
+
+-- the pairs, a list for each key
+abbrev pub lists_of : {A : Type 0} → List (Vec Pair A) → List (List Pair)
+lists_of lists = map (λ v. v.items) lists
+
+abbrev pub lists_in : KeptRows → List (List Pair)
+lists_in k = lists_of k.pairs.items
+
+-- each list with one more pair: the key of that list, and the pointer
+abbrev pub with_pairs : ℕ → List (List KeySeg) → List (List Pair) → List (List Pair)
+with_pairs row [] lists = lists
+with_pairs row (key ∷ keys) [] = []
+with_pairs row (key ∷ keys) (pairs ∷ lists) = (pairs ++ record { key = key; row = row } ∷ []) ∷ with_pairs row keys lists
+
+-- what holds of rows that are kept, whatever the files tell
+pub record AreCounted (d : Defs) (k : KeptRows) : Type 0 where
+  pub split : k.split ≡ k.kept
+  pub short : k.end ≤ 2 ^ 40
+  pub pairs : AreSizedPairs d (lists_in k)
+
+-- these rows are the ones that are kept
+pub record HasKept (d : Defs) (rows : List Values) (k : KeptRows) : Type 0 where
+  pub kept : k.kept ≡ length rows
+  pub end : k.end ≡ length (laid_file d rows)
+  pub pairs : lists_in k ≡ row_pairs d (placed_from d 0 rows)
+  pub noted : AreNoted d rows k.seen.keys
+
+-- the rows that are kept once one more has come
+abbrev pub kept_with : Defs → List Values → Values → List Values
+kept_with d rows row = if list_any (repeats d row) rows then rows else rows ++ row ∷ []

@@ -1,0 +1,9 @@
+pub mod Faults
+pub mod Names
+pub mod Opening
+pub mod Sized
+pub mod Keeping
+pub mod Gathering
+pub mod Building
+pub mod Finishing
+pub mod Repairs

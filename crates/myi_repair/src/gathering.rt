@@ -1,0 +1,203 @@
+//! Gathering: the rows that are kept, in the working data file, and the pairs of their keys.
+ghost use Rattle.std.specs.Prelude.{◌≡◌, ◌≢◌, ◌⊎◌, ◌≤◌, ◌<◌, ◌+◌, ◌-◌, ◌^◌, ℕ, List, [], true, None, Some, Err, length, IfOk, IfErr, OnOk, IsTrue};
+ghost use Rattle.myi_base.specs.Holding.{Holding, Told};
+ghost use Rattle.myi_base.specs.Causes.{HasCause};
+ghost use Rattle.myi_base.specs.Numbers.{AreBytes};
+ghost use Rattle.myi_defs.specs.ReadDefs.{AreDefs};
+ghost use Rattle.myi_defs.specs.Sound.{IsSound};
+ghost use Rattle.myi_chain.specs.Scanning.{IsSameScan};
+ghost use Rattle.myi_repair.specs.Names.{names_of, names_for, AreApart, KeepsOthers, KeepsBut, KeepsBoth};
+ghost use Rattle.myi_repair.specs.Opening.{opened, IsTable, CutsOff};
+ghost use Rattle.myi_repair.specs.Sized.{AreSizedPairs};
+ghost use Rattle.myi_repair.specs.Keeping.{lists_in, AreCounted};
+ghost use Rattle.myi_repair.specs.Gathering.{Gathers, GathersRows, TakesIf, ReadsBytes};
+
+use crate::fault::RepairFault;
+use crate::kept::KeptRows;
+use crate::names::TableFiles;
+use crate::opening::{Opened, open_table};
+use crate::report::Report;
+use myi_base::Sequence;
+use myi_btree::Pair;
+use myi_data::{DataFile, DataScan};
+use myi_defs::Defs;
+use myi_header::stored_state;
+use myi_io::Files;
+use myi_pack::view;
+use std::alloc::{AllocError, Global};
+
+/// What gathering found in a table.
+#[derive(Drop)]
+pub struct Gathered {
+    pub defs: Defs,
+    pub report: Report,
+    /// The number of blocks of the new data file.
+    pub split: u64,
+    /// For each key the pairs of the kept rows, in the order of the rows, with their new pointers.
+    pub pairs: Sequence<Sequence<Pair>>,
+}
+
+/// Writes the rows of a table that a repair keeps into its working data file, `NAME.TMD`, which is made
+/// anew. `extend` has every position of a dynamic table tried. After a refusal the table's two files are
+/// as before.
+pub fn gather<F: Files>(
+    alloc: Global,
+    files: &mut F,
+    name: &str,
+    extend: bool,
+) -> Result<Gathered, RepairFault>
+    requires { IsTrue F.writable }
+
+    // What was gathered, and what the working data file holds then.
+    ensures gathered { IfOk result (λ g. Told (F.holds files.old) (F.holds files.new) (Gathers (names_for name.now) extend g)) }
+    ensures defs { IfOk result (λ g. AreDefs g.defs) }
+    ensures header { IfOk result (λ g. AreBytes g.defs.raw) }
+    ensures pairs { IfOk result (λ g. AreSizedPairs g.defs g.pairs) }
+
+    // Why a table is refused; nothing is changed then.
+    ensures refused { IfErr result (λ f. CutsOff f ⊎ ((m : Holding) → F.holds files.old ≡ Some m → opened (names_for name.now) m ≡ Err f)) }
+    ensures unchanged { IfErr result (λ f. CutsOff f ⊎ (F.holds files.new ≡ F.holds files.old)) }
+
+    // The table's two files are as before.
+    ensures both { Told (F.holds files.old) (F.holds files.new) (KeepsBoth (names_for name.now)) }
+    ensures others { Told (F.holds files.old) (F.holds files.new) (KeepsBut (names_for name.now)) }
+    ensures cause { HasCause RepairFault.File (F.faults files.old) (F.faults files.new) result }
+{
+    let table = TableFiles::of(alloc, name)?;
+    let opened = open_table(alloc, files, &table)?;
+    match gather_opened(alloc, files, &table, opened, extend) {
+        Ok(gathered) => Ok(gathered),
+        Err(fault) => {
+            table.clear(files);
+            Err(fault)
+        }
+    }
+}
+
+// Gathers the rows of a table that can be repaired.
+fn gather_opened<F: Files>(
+    alloc: Global,
+    files: &mut F,
+    table: &TableFiles,
+    opened: Opened,
+    extend: bool,
+) -> Result<Gathered, RepairFault>
+    requires writable { IsTrue F.writable }
+    requires apart { AreApart (names_of table.now) }
+    requires defs { AreDefs opened.defs }
+    requires header { AreBytes opened.defs.raw }
+    requires table { (m : Holding) → F.holds files.old ≡ Some m → (d : List ℕ) × IsTable (names_of table.now) opened.defs d m × (opened.length ≡ length d) }
+    ensures gathered { IfOk result (λ g. Told (F.holds files.old) (F.holds files.new) (Gathers (names_of table.now) extend g)) }
+    ensures defs { IfOk result (λ g. AreDefs g.defs) }
+    ensures header { IfOk result (λ g. AreBytes g.defs.raw) }
+    ensures pairs { IfOk result (λ g. AreSizedPairs g.defs g.pairs) }
+    ensures cut { IfErr result CutsOff }
+    ensures others { Told (F.holds files.old) (F.holds files.new) (KeepsOthers (names_of table.now).new_rows) }
+    ensures cause { HasCause RepairFault.File (F.faults files.old) (F.faults files.new) result }
+{
+    let Opened { defs, length } = opened;
+    let mut scan = scan_of(alloc, table, &defs, length, extend)?;
+    let rows = take_rows(alloc, files, &mut scan, table.new_rows.as_str(), &defs)?;
+    Ok(into_gathered(alloc, defs, length, rows)?)
+}
+
+fn into_gathered(
+    alloc: Global,
+    defs: Defs,
+    old_length: u64,
+    rows: KeptRows,
+) -> Result<Gathered, AllocError>
+    ensures { IfOk result (λ g. g ≡ record {
+      defs = defs;
+      report = record { kept = rows.kept; repeats = rows.repeats; old_length = old_length; new_length = rows.end };
+      split = rows.split;
+      pairs = lists_in rows;
+    }) }
+{
+    Ok(Gathered {
+        defs,
+        report: rows.report(old_length),
+        split: rows.split(),
+        pairs: rows.into_pairs(alloc)?,
+    })
+}
+
+// Writes the rows that a scan has left, as far as they are kept, into a file, which is made anew.
+fn take_rows<F: Files>(
+    alloc: Global,
+    files: &mut F,
+    scan: &mut DataScan,
+    file: &str,
+    defs: &Defs,
+) -> Result<KeptRows, RepairFault>
+    requires writable { IsTrue F.writable }
+    requires apart { scan.old.name ≢ file.now }
+    requires fresh { scan.old.left ≡ None }
+    requires test { scan.old.test ≡ defs.now }
+    requires defs { AreDefs defs.now }
+    ensures gathered { IfOk result (λ k. Told (F.holds files.old) (F.holds files.new) (GathersRows scan.old file.now k)) }
+    ensures counted { IfOk result (λ k. AreCounted defs.now k) }
+    ensures cut { IfErr result CutsOff }
+    ensures others { Told (F.holds files.old) (F.holds files.new) (KeepsOthers file.now) }
+    ensures cause { HasCause RepairFault.File (F.faults files.old) (F.faults files.new) result }
+{
+    files.cut(file, 0)?;
+    let mut rows = KeptRows::new(alloc, defs.keys.as_slice().len())?;
+    for _turn in 0..u64::MAX {
+        if !take_next(alloc, files, scan, file, defs, &mut rows)? {
+            return Ok(rows);
+        }
+    }
+    Err(RepairFault::Memory)
+}
+
+// Takes the next row of a scan, and says whether there was one.
+fn take_next<F: Files>(
+    alloc: Global,
+    files: &mut F,
+    scan: &mut DataScan,
+    file: &str,
+    defs: &Defs,
+    rows: &mut KeptRows,
+) -> Result<bool, RepairFault>
+    requires writable { IsTrue F.writable }
+    requires apart { scan.old.name ≢ file.now }
+    requires test { scan.old.test ≡ defs.now }
+    requires defs { AreDefs defs.now }
+    requires counted { AreCounted defs.now rows.old }
+    requires few { rows.old.kept + rows.old.repeats < 2 ^ 64 - 1 }
+    ensures same { OnOk result (IsSameScan scan.old scan.new) }
+    ensures counted { OnOk result (AreCounted defs.now rows.new) }
+    ensures most { OnOk result (rows.new.kept + rows.new.repeats ≤ rows.old.kept + rows.old.repeats + 1) }
+    ensures took { IfOk result (λ more. Told (F.holds files.old) (F.holds files.new) (TakesIf more defs.now file.now scan.old scan.new rows.old rows.new)) }
+    ensures bytes { OnOk result ((m : Holding) → F.holds files.old ≡ Some m → ReadsBytes scan.old m) }
+    ensures cut { IfErr result CutsOff }
+    ensures others { Told (F.holds files.old) (F.holds files.new) (KeepsOthers file.now) }
+    ensures cause { HasCause RepairFault.File (F.faults files.old) (F.faults files.new) result }
+{
+    let Some((_, piece)) = scan.next_row(files)? else {
+        return Ok(false);
+    };
+    // A scan answers nothing else than rows of the table.
+    let Some(row) = view(defs, piece.bytes()) else {
+        return Ok(true);
+    };
+    rows.take(alloc, files, file, defs, &row)?;
+    Ok(true)
+}
+
+fn scan_of(
+    alloc: Global,
+    table: &TableFiles,
+    defs: &Defs,
+    end: u64,
+    extend: bool,
+) -> Result<DataScan, AllocError>
+    requires { IsSound defs.now }
+    ensures { IfOk result (λ scan. scan ≡ record { name = (names_of table.now).rows; test = defs.now; extend = extend; end = end; left = None; blocks = [] }) }
+{
+    let mut state = stored_state(alloc, defs)?;
+    state.data_file_length = end;
+    let file = DataFile::new(alloc, table.rows.as_str(), defs, &state)?;
+    file.scan(extend)
+}

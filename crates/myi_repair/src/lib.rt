@@ -1,0 +1,32 @@
+//! Repairing a table: a new data file with its readable rows, less those that repeat a unique key, and
+//! a new index file with the trees of their keys.
+//!
+//! What a repair leaves is defined over the bytes of the two files before it (`Rattle.myi_pair.specs`,
+//! `RecoveredBytes` and `Recovered`); what the calls here do to the files of a table is in `specs/`.
+//!
+//! `recover` is made of three parts: `gather` reads the rows and writes those that are kept, each by
+//! `put_row`, into the working data file, and answers the pairs of their keys; the trees are built in
+//! the working index file; `finish` writes the header and gives both working files the names of the old
+//! ones.
+#![tactic(auto)]
+
+mod fault;
+mod finishing;
+mod gathering;
+mod kept;
+mod names;
+mod opening;
+mod repair;
+mod report;
+#[cfg(test)]
+mod tests;
+mod trees;
+mod unique;
+mod writing;
+
+pub use fault::{RepairFault, TableFile};
+pub use finishing::finish;
+pub use gathering::{Gathered, gather};
+pub use repair::recover;
+pub use report::Report;
+pub use writing::put_row;

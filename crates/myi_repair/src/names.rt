@@ -1,0 +1,45 @@
+//! `TableFiles`: the names of a table's two files and of their working files.
+ghost use Rattle.std.specs.Prelude.{IsTrue};
+
+use myi_io::Files;
+use std::alloc::{AllocError, Global};
+
+/// The names of a table's files.
+#[derive(Drop)]
+pub(crate) struct TableFiles {
+    pub(crate) rows: String,
+    pub(crate) index: String,
+    /// The new data file, until it is whole.
+    pub(crate) new_rows: String,
+    /// The new index file, until it is whole.
+    pub(crate) new_index: String,
+}
+
+impl TableFiles {
+    ghost use Rattle.std.specs.Prelude.{◌≡◌, ◌≤◌, IfOk, IsTrue};
+    ghost use Rattle.myi_base.specs.Holding.{Told};
+    ghost use Rattle.myi_repair.specs.Names.{names_of, names_for, AreApart, KeepsBut, KeepsBoth};
+
+    pub(crate) fn of(alloc: Global, name: &str) -> Result<TableFiles, AllocError>
+        ensures { IfOk result (λ t. names_of t ≡ names_for name.now) }
+    {
+        Ok(TableFiles {
+            rows: format!(in alloc; "{name}.MYD")?,
+            index: format!(in alloc; "{name}.MYI")?,
+            new_rows: format!(in alloc; "{name}.TMD")?,
+            new_index: format!(in alloc; "{name}.TMI")?,
+        })
+    }
+
+    /// Takes the working files away, as far as that succeeds.
+    pub(crate) fn clear<F: Files>(&self, files: &mut F)
+        requires writable { IsTrue F.writable }
+        requires apart { AreApart (names_of self.now) }
+        ensures both { Told (F.holds files.old) (F.holds files.new) (KeepsBoth (names_of self.now)) }
+        ensures others { Told (F.holds files.old) (F.holds files.new) (KeepsBut (names_of self.now)) }
+        ensures later { F.faults files.old ≤ F.faults files.new }
+    {
+        let _ = files.remove(self.new_rows.as_str());
+        let _ = files.remove(self.new_index.as_str());
+    }
+}

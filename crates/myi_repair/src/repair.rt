@@ -1,0 +1,108 @@
+//! Repairing a table.
+ghost use Rattle.std.specs.Prelude.{◌≡◌, ◌⊎◌, ◌<◌, ◌^◌, [], Some, Err, All, IfOk, IfErr, OnOk, IsTrue};
+ghost use Rattle.myi_base.specs.Holding.{Holding, Told};
+ghost use Rattle.myi_base.specs.Causes.{HasCause};
+ghost use Rattle.myi_defs.specs.ReadDefs.{AreDefs};
+ghost use Rattle.myi_header.specs.StateOf.{IsPlace};
+ghost use Rattle.myi_repair.specs.Names.{names_of, names_for, AreApart, KeepsBoth, KeepsBut};
+ghost use Rattle.myi_repair.specs.Opening.{opened, CutsOff};
+ghost use Rattle.myi_repair.specs.Sized.{AreSizedPairs};
+ghost use Rattle.myi_repair.specs.Building.{trees_of, AreTrees, Builds};
+ghost use Rattle.myi_repair.specs.Repairs.{Repairs, OldOrNew, Completes, CompletesPart};
+
+use crate::fault::RepairFault;
+use crate::finishing::finish;
+use crate::gathering::{Gathered, gather};
+use crate::names::TableFiles;
+use crate::report::Report;
+use crate::trees::{Trees, build_trees};
+use myi_base::Sequence;
+use myi_io::Files;
+use std::alloc::Global;
+use std::mem;
+
+/// Repairs a table: its readable rows, less those that repeat a unique key of one kept before, go into a
+/// new data file, and the trees of their keys into a new index file. `extend` has every position of a
+/// dynamic table tried; `now` is the moment, in seconds since 1970.
+pub fn recover<F: Files>(
+    alloc: Global,
+    files: &mut F,
+    name: &str,
+    extend: bool,
+    now: u64,
+) -> Result<Report, RepairFault>
+    requires { IsTrue F.writable }
+
+    // The two files are the recovered bytes, which are recovered; the report says how many rows and bytes.
+    ensures repaired { IfOk result (λ said. Told (F.holds files.old) (F.holds files.new) (Repairs name.now extend now said)) }
+
+    // Why a table is refused; nothing is changed then.
+    ensures refused { IfErr result (λ f. CutsOff f ⊎ ((m : Holding) → F.holds files.old ≡ Some m → opened (names_for name.now) m ≡ Err f)) }
+    ensures unchanged { IfErr result (λ f. CutsOff f ⊎ (F.holds files.new ≡ F.holds files.old)) }
+
+    // At every outcome the table's files are the old ones or whole new ones, and other files stay.
+    ensures files { Told (F.holds files.old) (F.holds files.new) (OldOrNew name.now extend now) }
+    ensures others { Told (F.holds files.old) (F.holds files.new) (KeepsBut (names_for name.now)) }
+    ensures cause { HasCause RepairFault.File (F.faults files.old) (F.faults files.new) result }
+{
+    let gathered = gather(alloc, files, name, extend)?;
+    complete(alloc, files, name, gathered, now)
+}
+
+// Builds the trees of what was gathered, and puts the new files in the place of the old ones.
+fn complete<F: Files>(
+    alloc: Global,
+    files: &mut F,
+    name: &str,
+    mut gathered: Gathered,
+    now: u64,
+) -> Result<Report, RepairFault>
+    requires writable { IsTrue F.writable }
+    requires defs { AreDefs gathered.defs }
+    requires pairs { AreSizedPairs gathered.defs gathered.pairs }
+    ensures done { OnOk result (Told (F.holds files.old) (F.holds files.new) (Completes (names_for name.now) gathered now)) }
+    ensures said { IfOk result (λ said. said ≡ gathered.report) }
+    ensures whole { Told (F.holds files.old) (F.holds files.new) (CompletesPart (names_for name.now) gathered now) }
+    ensures cut { IfErr result CutsOff }
+    ensures others { Told (F.holds files.old) (F.holds files.new) (KeepsBut (names_for name.now)) }
+    ensures cause { HasCause RepairFault.File (F.faults files.old) (F.faults files.new) result }
+{
+    let table = TableFiles::of(alloc, name)?;
+    let trees = build(alloc, files, &table, &mut gathered)?;
+    finish(alloc, files, name, &gathered, &trees.roots, trees.end, now)?;
+    Ok(gathered.report)
+}
+
+// Builds the trees of the pairs in the working index file, and takes the working files away where that is
+// refused.
+fn build<F: Files>(
+    alloc: Global,
+    files: &mut F,
+    table: &TableFiles,
+    gathered: &mut Gathered,
+) -> Result<Trees, RepairFault>
+    requires writable { IsTrue F.writable }
+    requires apart { AreApart (names_of table.now) }
+    requires defs { AreDefs gathered.old.defs }
+    requires pairs { AreSizedPairs gathered.old.defs gathered.old.pairs }
+    ensures left { gathered.new ≡ record gathered.old { pairs = [] } }
+    ensures built { OnOk result (Told (F.holds files.old) (F.holds files.new) (Builds gathered.old.defs gathered.old.pairs (names_of table.now).new_index)) }
+    ensures rows { OnOk result (Told (F.holds files.old) (F.holds files.new) (λ m n. n (names_of table.now).new_rows ≡ m (names_of table.now).new_rows)) }
+    ensures trees { IfOk result (AreTrees gathered.old.defs gathered.old.pairs) }
+    ensures places { IfOk result (λ trees. All IsPlace trees.roots.items) }
+    ensures both { Told (F.holds files.old) (F.holds files.new) (KeepsBoth (names_of table.now)) }
+    ensures cut { IfErr result CutsOff }
+    ensures others { Told (F.holds files.old) (F.holds files.new) (KeepsBut (names_of table.now)) }
+    ensures cause { HasCause RepairFault.File (F.faults files.old) (F.faults files.new) result }
+{
+    let none = Sequence::new(Vec::new(alloc));
+    let pairs = mem::replace(&mut gathered.pairs, none).into_vec();
+    let index = table.new_index.as_str();
+    match build_trees(alloc, files, index, &gathered.defs, pairs) {
+        Ok(trees) => Ok(trees),
+        Err(fault) => {
+            table.clear(files);
+            Err(fault)
+        }
+    }
+}

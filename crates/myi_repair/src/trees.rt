@@ -1,0 +1,187 @@
+//! The trees of the new index file.
+ghost use Rattle.std.specs.Prelude.{◌≡◌, ◌⊎◌, ◌+◌, ◌*◌, ◌%◌, ◌≤◌, ◌<◌, length, All, IfOk, IfErr, OnOk, IsTrue};
+ghost use Rattle.myi_base.specs.Holding.{Told};
+ghost use Rattle.myi_base.specs.Causes.{HasCause};
+ghost use Rattle.myi_defs.specs.ReadDefs.{AreDefs};
+ghost use Rattle.myi_defs.specs.Sound.{IsSound};
+ghost use Rattle.myi_header.specs.StateOf.{IsPlace};
+ghost use Rattle.myi_header.specs.Layout.{first_page_of};
+ghost use Rattle.myi_keycache.specs.Caching.{OthersStay};
+ghost use Rattle.myi_btree.specs.Sizes.{IsPlaced, AreSized, fits_in};
+ghost use Rattle.myi_btree.specs.Laid.{laid, root_of};
+ghost use Rattle.myi_btree.specs.Building.{CanLay, Lays};
+ghost use Rattle.myi_pair.specs.KeyList.{sorted};
+ghost use Rattle.myi_pair.specs.Trees.{place_of};
+ghost use Rattle.myi_repair.specs.Names.{KeepsOthers};
+ghost use Rattle.myi_repair.specs.Opening.{CutsOff};
+ghost use Rattle.myi_repair.specs.Faults.{of_tree, of_cache};
+ghost use Rattle.myi_repair.specs.Sized.{AreSizedPairs};
+ghost use Rattle.myi_repair.specs.Building.{AreTrees, Builds, LaysTrees};
+
+use crate::fault::RepairFault;
+use myi_base::Sequence;
+use myi_btree::{Pair, Place, Room, Tree, TreeFault};
+use myi_defs::Defs;
+use myi_header::first_page;
+use myi_io::Files;
+use myi_keycache::{CacheFault, CacheSetup, KeyCache};
+use std::alloc::{AllocError, Global};
+
+/// How a repair keeps index pages.
+const SETUP: CacheSetup = CacheSetup {
+    blocks: 64,
+    division: 100,
+    age: 300,
+};
+
+/// The roots of the trees, and the place behind their pages.
+#[derive(Drop)]
+pub(crate) struct Trees {
+    pub(crate) roots: Vec<Option<u64>>,
+    pub(crate) end: u64,
+}
+
+impl Trees {
+    ghost use Rattle.std.specs.Prelude.{◌≡◌, ◌<◌, ◌^◌, [], ◌∷◌, ◌++◌, OnOk};
+
+    // Adds a tree with that root, whose pages end there.
+    fn push(&mut self, root: Option<u64>, end: u64) -> Result<(), AllocError>
+        ensures roots { OnOk result (self.new.roots.items ≡ self.old.roots.items ++ root ∷ []) }
+        ensures end { OnOk result (self.new.end ≡ end) }
+        ensures fits { end < 2 ^ 64 }
+    {
+        self.roots.push(root)?;
+        self.end = end;
+        Ok(())
+    }
+}
+
+/// Builds the trees of these pairs, one list for each key, in the file of that name, which is made anew.
+/// The pages stand from the first page place on, key after key.
+pub(crate) fn build_trees<F: Files>(
+    alloc: Global,
+    files: &mut F,
+    file: &str,
+    defs: &Defs,
+    pairs: Vec<Sequence<Pair>>,
+) -> Result<Trees, RepairFault>
+    requires writable { IsTrue F.writable }
+    requires defs { AreDefs defs.now }
+    requires pairs { AreSizedPairs defs.now pairs.items }
+    ensures built { OnOk result (Told (F.holds files.old) (F.holds files.new) (Builds defs.now pairs.items file.now)) }
+    ensures trees { IfOk result (AreTrees defs.now pairs.items) }
+    ensures places { IfOk result (λ trees. All IsPlace trees.roots.items) }
+    ensures cut { IfErr result CutsOff }
+    ensures others { Told (F.holds files.old) (F.holds files.new) (KeepsOthers file.now) }
+    ensures cause { HasCause RepairFault.File (F.faults files.old) (F.faults files.new) result }
+{
+    files.cut(file, 0)?;
+    let mut cache = KeyCache::new(alloc, file, SETUP)?;
+    let trees = lay_trees(alloc, files, &mut cache, defs, pairs)?;
+    match cache.flush(files) {
+        Ok(()) => Ok(trees),
+        Err(fault) => Err(of_flush(fault)),
+    }
+}
+
+// Puts the pages of the trees, key after key.
+fn lay_trees<F: Files>(
+    alloc: Global,
+    files: &mut F,
+    cache: &mut KeyCache,
+    defs: &Defs,
+    pairs: Vec<Sequence<Pair>>,
+) -> Result<Trees, RepairFault>
+    requires writable { IsTrue F.writable }
+    requires sound { IsSound defs.now }
+    requires pairs { AreSizedPairs defs.now pairs.items }
+    ensures laid { OnOk result (Told (F.holds files.old) (F.holds files.new) (LaysTrees defs.now pairs.items cache.old cache.new)) }
+    ensures trees { IfOk result (AreTrees defs.now pairs.items) }
+    ensures places { IfOk result (λ trees. All IsPlace trees.roots.items) }
+    ensures name { cache.new.name ≡ cache.old.name }
+    ensures cut { IfErr result CutsOff }
+    ensures others { Told (F.holds files.old) (F.holds files.new) (λ m n. CanLay cache.old m (first_page_of defs.now) → OthersStay cache.old.name m n) }
+    ensures cause { HasCause RepairFault.File (F.faults files.old) (F.faults files.new) result }
+{
+    let mut room = Room {
+        end: first_page(defs),
+        free: Sequence::new(Vec::new(alloc)),
+    };
+    let mut trees = Trees {
+        roots: Vec::with_capacity(alloc, pairs.len())?,
+        end: room.end,
+    };
+    for pairs in pairs {
+        let place = place_of(defs, trees.roots.len());
+        let root = build_tree(alloc, files, cache, place, &mut room, pairs)?;
+        trees.push(root, room.end)?;
+    }
+    Ok(trees)
+}
+
+// How the pages of the key of that number are made.
+fn place_of(defs: &Defs, key: usize) -> Place
+    requires { key < length defs.now.keys }
+    ensures { result ≡ place_of defs.now key }
+{
+    Place {
+        block_length: defs.keys.as_slice()[key].block_length,
+        rec_ref: defs.rec_ref,
+        root: None,
+    }
+}
+
+// Sorts the pairs, builds their tree, and answers its root.
+fn build_tree<F: Files>(
+    alloc: Global,
+    files: &mut F,
+    cache: &mut KeyCache,
+    place: Place,
+    room: &mut Room,
+    pairs: Sequence<Pair>,
+) -> Result<Option<u64>, RepairFault>
+    requires writable { IsTrue F.writable }
+    requires placed { IsPlaced place }
+    requires end { room.old.end % 1024 ≡ 0 }
+    requires sized { AreSized place pairs }
+    ensures laid { OnOk result (Told (F.holds files.old) (F.holds files.new) (λ m n.
+        CanLay cache.old m room.old.end
+        → Lays place room.old.end (laid (fits_in place) place.block_length room.old.end (sorted pairs)) cache.old cache.new m n)) }
+    ensures root { IfOk result (λ root. root ≡ root_of place.block_length room.old.end (laid (fits_in place) place.block_length room.old.end (sorted pairs))) }
+    ensures end { OnOk result (room.new.end ≡ room.old.end + place.block_length * length (laid (fits_in place) place.block_length room.old.end (sorted pairs))) }
+    ensures name { cache.new.name ≡ cache.old.name }
+    ensures cut { IfErr result CutsOff }
+    ensures others { Told (F.holds files.old) (F.holds files.new) (λ m n. CanLay cache.old m room.old.end → OthersStay cache.old.name m n) }
+    ensures cause { HasCause RepairFault.File (F.faults files.old) (F.faults files.new) result }
+{
+    let mut pairs = pairs.into_vec();
+    pairs.sort_unstable();
+    match Tree::build(alloc, files, cache, place, room, &pairs) {
+        Ok(tree) => Ok(tree.root()),
+        Err(fault) => Err(of_build(fault)),
+    }
+}
+
+fn of_build(fault: TreeFault) -> RepairFault
+    requires { (fault ≡ TreeFault.File) ⊎ (fault ≡ TreeFault.Memory) }
+    ensures { result ≡ of_tree fault }
+{
+    match fault {
+        TreeFault::File => RepairFault::File,
+        TreeFault::Memory => RepairFault::Memory,
+        // Building meets no damage.
+        TreeFault::Damaged { .. } => unreachable!(),
+    }
+}
+
+fn of_flush(fault: CacheFault) -> RepairFault
+    requires { (fault ≡ CacheFault.File) ⊎ (fault ≡ CacheFault.Memory) }
+    ensures { result ≡ of_cache fault }
+{
+    match fault {
+        CacheFault::File => RepairFault::File,
+        CacheFault::Memory => RepairFault::Memory,
+        // Nor does a flush read.
+        CacheFault::Short { .. } => unreachable!(),
+    }
+}
