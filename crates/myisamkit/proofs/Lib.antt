@@ -1,6 +1,1 @@
-pub mod GatherLaws
-pub mod PutLaws
-pub mod RebuildLaws
-pub mod OpenLaws
-pub mod RecoverLaws
-pub mod RecoveredLaws
+pub mod SinkLaws

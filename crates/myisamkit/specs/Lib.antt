@@ -1,11 +1,5 @@
-pub mod Names
 pub mod Words
-pub mod Rebuilt
-pub mod Recovered
 pub mod Lines
 pub mod Runs
 pub mod Stops
 pub mod Plans
-pub mod Finished
-pub mod Opened
-pub mod Gathered

@@ -1,7 +1,13 @@
 -- The lines that a command prints (the texts are this project's own).
-use Rattle.std.specs.Prelude.{ℕ, List, ◌++◌, codes, decimal}
+use Rattle.std.specs.Prelude.{ℕ, List, [], ◌++◌, codes, decimal}
 use Rattle.myi_defs.specs.declared.types.DefFault.{DefFault}
 use Rattle.myi_defs.specs.declared.types.DefFault.TheVariants as fault
+use Rattle.myi_repair.specs.declared.report.Report.{Report}
+use Rattle.myi_repair.specs.declared.fault.TableFile.{TableFile}
+use Rattle.myi_repair.specs.declared.fault.TableFile.TheVariants as file
+use Rattle.myi_repair.specs.declared.fault.RepairFault.{RepairFault}
+use Rattle.myi_repair.specs.declared.fault.RepairFault.TheVariants as repair
+use Rattle.myi_repair.specs.Names.{rows_file, index_file}
 
 abbrev pub usage_line : List ℕ
 usage_line = codes "usage: kit chk|create|shell|dump|make\n"
@@ -32,13 +38,23 @@ reason_of fault.WideBlob = codes "15 WideBlob"
 reason_of fault.KeyTooLong = codes "16 KeyTooLong"
 reason_of fault.Memory = codes "17 Memory"
 
-abbrev pub not_built : List ℕ
-not_built = codes "not built"
-
 abbrev pub too_long : List ℕ
 too_long = codes "too long"
 
--- a table was repaired: how many rows are kept, and the data file's lengths before and after
-abbrev pub recovered_line : List ℕ → ℕ → ℕ → ℕ → List ℕ
-recovered_line name rows before after =
-    name ++ (codes ": recovered " ++ (decimal rows ++ (codes " rows, dropped 0 repeats, data " ++ (decimal before ++ (codes " to " ++ (decimal after ++ codes " bytes\n"))))))
+-- a table was repaired: how many rows are kept, how many repeat others, and the data file's lengths before and after
+abbrev pub recovered_line : List ℕ → Report → List ℕ
+recovered_line name r =
+    name ++ (codes ": recovered " ++ (decimal r.kept ++ (codes " rows, dropped " ++ (decimal r.repeats ++ (codes " repeats, data " ++ (decimal r.old_length ++ (codes " to " ++ (decimal r.new_length ++ codes " bytes\n"))))))))
+
+-- the file of a table that is not there
+abbrev pub file_of : TableFile → List ℕ → List ℕ
+file_of file.Index name = index_file name
+file_of file.Data name = rows_file name
+
+-- why a table is not repaired; the faults that cut a repair off have no line
+abbrev pub fault_line : List ℕ → RepairFault → List ℕ
+fault_line name (repair.Absent f) = absent_line (file_of f name)
+fault_line name (repair.Def f) = refused_line name (reason_of f)
+fault_line name repair.TooLong = refused_line name too_long
+fault_line name repair.File = []
+fault_line name repair.Memory = []

@@ -5,4 +5,4 @@ use Rattle.myisamkit.specs.Words.{Request, usage, recover}
 
 abbrev pub asked : Plan → Request
 asked plan.Usage = usage
-asked (plan.Recover name) = recover name.now
+asked (plan.Recover name extend) = recover extend name.now

@@ -1,13 +1,13 @@
 -- What the words of a command line ask for (MySQL Reference Manual, "myisamchk"; the commands are this
 -- project's own).
-use Rattle.std.specs.Prelude.{◌-◌, ◌&&◌, ◌==◌, not, nat_lt, nat_le, ℕ, Bool, List, [], ◌∷◌, length, take, drop, slice_index, if◌then◌else◌, codes}
+use Rattle.std.specs.Prelude.{◌-◌, ◌&&◌, ◌||◌, true, false, ◌==◌, not, nat_lt, nat_le, ℕ, Bool, List, [], ◌∷◌, length, take, drop, slice_index, if◌then◌else◌, codes}
 use Rattle.std.specs.List.{list_all}
 use Rattle.std.specs.Str.{bytes_eq}
 
--- one command with its options and names, or a refusal
+-- One command with its options and names, or a refusal. A repair of a table has every position tried or not.
 pub data Request : Type 0 where
   usage : Request
-  recover : List ℕ → Request
+  recover : Bool → List ℕ → Request
 
 -- an option: a word that begins with a dash and is longer than it
 abbrev pub is_option : List ℕ → Bool
@@ -25,11 +25,20 @@ names_index word = nat_lt 4 (length word) && bytes_eq (drop (length word - 4) wo
 abbrev pub table_name : List ℕ → List ℕ
 table_name word = if names_index word then take (length word - 4) word else word
 
+-- the word asks for a repair
+abbrev pub is_recover : List ℕ → Bool
+is_recover word = bytes_eq word (codes "--recover") || bytes_eq word (codes "-r")
+
+-- the word asks for every position to be tried
+abbrev pub is_extend : List ℕ → Bool
+is_extend word = bytes_eq word (codes "--extend-check") || bytes_eq word (codes "-e")
+
 -- the one command that there is
-abbrev pub plan_three : List ℕ → List ℕ → List ℕ → Request
-plan_three command mode word =
-    if bytes_eq command (codes "chk") && (bytes_eq mode (codes "--recover") && is_name word) then recover (table_name word) else usage
+abbrev pub plan_recover : Bool → List ℕ → List ℕ → List ℕ → Request
+plan_recover extend command mode word =
+    if bytes_eq command (codes "chk") && (is_recover mode && is_name word) then recover extend (table_name word) else usage
 
 abbrev pub plan : List (List ℕ) → Request
-plan (command ∷ mode ∷ word ∷ []) = plan_three command mode word
+plan (command ∷ mode ∷ word ∷ []) = plan_recover false command mode word
+plan (command ∷ mode ∷ option ∷ word ∷ []) = if is_extend option then plan_recover true command mode word else usage
 plan words = usage

@@ -3,16 +3,11 @@
 //!
 //! `kit` is the top call. What the words ask for is a `Plan`; what a run says and does is defined over
 //! what the files hold before it (`Runs`), and the files that a repair leaves over the bytes of the
-//! two files before it (`Rebuilt`, `Recovered`). The one command that is built is `chk --recover NAME`,
-//! on static tables without keys whose fields are all NORMAL; other tables are refused by name.
+//! two files before it (`Rattle.myi_pair.specs`, `RecoveredBytes` and `Recovered`). The one command that
+//! is built is `chk --recover NAME`, also as `-r`, with `-e` or `--extend-check` before the name.
 #![tactic(auto)]
 
-mod files;
-mod gather;
-mod laws;
 mod lines;
-mod open;
-mod rebuild;
 mod recover;
 mod status;
 #[cfg(test)]
@@ -20,7 +15,6 @@ mod tests;
 mod top;
 mod words;
 
-pub use laws::repairs_settle;
 pub use status::{Status, Stop};
 pub use top::kit;
 pub use words::{Plan, read_words};

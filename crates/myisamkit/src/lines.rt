@@ -3,6 +3,7 @@ ghost use Rattle.std.specs.Prelude.{◌≡◌, string_bytes, IfOk};
 ghost use Rattle.myisamkit.specs.Lines as spec;
 
 use myi_defs::DefFault;
+use myi_repair::{Report, TableFile};
 use std::alloc::{AllocError, Global};
 
 pub(crate) fn usage_line() -> &'static str
@@ -11,9 +12,20 @@ pub(crate) fn usage_line() -> &'static str
     "usage: kit chk|create|shell|dump|make\n"
 }
 
-pub(crate) fn absent_line(alloc: Global, file: &str) -> Result<String, AllocError>
-    ensures { IfOk result (λ line. string_bytes line ≡ spec.absent_line file.now) }
+// The name of a file of a table.
+fn file_of(alloc: Global, name: &str, file: TableFile) -> Result<String, AllocError>
+    ensures { IfOk result (λ text. string_bytes text ≡ spec.file_of file name.now) }
 {
+    match file {
+        TableFile::Index => format!(in alloc; "{name}.MYI"),
+        TableFile::Data => format!(in alloc; "{name}.MYD"),
+    }
+}
+
+pub(crate) fn absent_line(alloc: Global, name: &str, file: TableFile) -> Result<String, AllocError>
+    ensures { IfOk result (λ line. string_bytes line ≡ spec.absent_line (spec.file_of file name.now)) }
+{
+    let file = file_of(alloc, name, file)?;
     format!(in alloc; "{file}: absent\n")
 }
 
@@ -51,13 +63,17 @@ pub(crate) fn reason_of(fault: DefFault) -> &'static str
 pub(crate) fn recovered_line(
     alloc: Global,
     name: &str,
-    rows: u64,
-    before: u64,
-    after: u64,
+    report: Report,
 ) -> Result<String, AllocError>
-    ensures { IfOk result (λ line. string_bytes line ≡ spec.recovered_line name.now rows before after) }
+    ensures { IfOk result (λ line. string_bytes line ≡ spec.recovered_line name.now report) }
 {
+    let Report {
+        kept,
+        repeats,
+        old_length,
+        new_length,
+    } = report;
     format!(in alloc;
-        "{name}: recovered {rows} rows, dropped 0 repeats, data {before} to {after} bytes\n"
+        "{name}: recovered {kept} rows, dropped {repeats} repeats, data {old_length} to {new_length} bytes\n"
     )
 }

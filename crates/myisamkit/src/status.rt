@@ -2,8 +2,7 @@
 ghost use Rattle.std.specs.Prelude.{◌≡◌};
 ghost use Rattle.myisamkit.specs.declared.status.Stop.TheVariants.{Memory};
 
-use myi_chain::ScanFault;
-use myi_io::{FileErr, SinkErr};
+use myi_io::SinkErr;
 use std::alloc::AllocError;
 
 /// What a run answers; the program's status is its number in this order, from 0.
@@ -37,34 +36,6 @@ impl From<AllocError> for Stop {
 
     fn from(_: AllocError) -> Self {
         Stop::Memory
-    }
-}
-
-impl From<FileErr> for Stop {
-    ghost use Rattle.std.specs.Prelude.{◌≡◌};
-    ghost use Rattle.myisamkit.specs.Stops.{stop_of_file};
-
-    ghost from_gives = { λ e s. s ≡ stop_of_file e };
-
-    fn from(error: FileErr) -> Self {
-        match error {
-            FileErr::Failed => Stop::File,
-            FileErr::Memory => Stop::Memory,
-        }
-    }
-}
-
-impl From<ScanFault> for Stop {
-    ghost use Rattle.std.specs.Prelude.{◌≡◌};
-    ghost use Rattle.myisamkit.specs.Stops.{stop_of_scan};
-
-    ghost from_gives = { λ e s. s ≡ stop_of_scan e };
-
-    fn from(fault: ScanFault) -> Self {
-        match fault {
-            ScanFault::File => Stop::File,
-            ScanFault::Memory => Stop::Memory,
-        }
     }
 }
 

@@ -4,6 +4,8 @@ use myi_io::{Files, MemFiles, MemSink};
 use std::alloc::{AllocError, Global};
 use std::test::Fail;
 
+mod worked;
+
 const MOMENT: u64 = 1_700_000_000;
 
 // The header of a static table with fields of 1, 4 and 3 bytes, before and after the repair at that moment. Zeros
@@ -207,7 +209,7 @@ fn what_is_not_taken_is_refused_by_name(rt: HostRuntime) -> Result<(), Fail> {
     let alloc = rt.alloc();
     let cases = [
         (0, 0, "a: refused: 2 Magic\n"),
-        (5, 1, "a: refused: not built\n"),
+        (22, 1, "a: refused: 6 Fulltext\n"),
         (5, 4, "a: refused: 4 Packed\n"),
         (5, 32, "a: refused: 5 Checksum\n"),
         (13, 177, "a: refused: 3 Lengths\n"),

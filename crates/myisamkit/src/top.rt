@@ -67,6 +67,6 @@ fn work<F: Files>(
 {
     match read_words(words) {
         Plan::Usage => Ok((Status::Usage, String::from_str(alloc, usage_line())?)),
-        Plan::Recover(name) => Ok(recover_table(alloc, files, name, now)?),
+        Plan::Recover { name, extend } => Ok(recover_table(alloc, files, name, extend, now)?),
     }
 }

@@ -9,8 +9,8 @@ ghost use Rattle.myisamkit.specs.Plans.{asked};
 pub enum Plan<'a> {
     /// The words are refused.
     Usage,
-    /// `chk --recover` of one table.
-    Recover(&'a str),
+    /// A repair of one table, with every position of its data file tried or not.
+    Recover { name: &'a str, extend: bool },
 }
 
 /// Reads the words after the program's name.
@@ -18,19 +18,39 @@ pub fn read_words(words: &[String]) -> Plan<'_>
     ensures { asked result ≡ spec.plan (map (λ w. string_bytes w) words.now) }
 {
     match words {
-        [command, mode, word] => plan_three(command.as_str(), mode.as_str(), word.as_str()),
+        [command, mode, word] => {
+            plan_recover(command.as_str(), mode.as_str(), word.as_str(), false)
+        }
+        [command, mode, option, word] if is_extend(option.as_str()) => {
+            plan_recover(command.as_str(), mode.as_str(), word.as_str(), true)
+        }
         _ => Plan::Usage,
     }
 }
 
-fn plan_three<'a>(command: &str, mode: &str, word: &'a str) -> Plan<'a>
-    ensures { asked result ≡ spec.plan_three command.now mode.now word.now }
+fn plan_recover<'a>(command: &str, mode: &str, word: &'a str, extend: bool) -> Plan<'a>
+    ensures { asked result ≡ spec.plan_recover extend command.now mode.now word.now }
 {
-    if command == "chk" && mode == "--recover" && is_name(word) {
-        Plan::Recover(table_name(word))
+    if command == "chk" && is_recover(mode) && is_name(word) {
+        Plan::Recover {
+            name: table_name(word),
+            extend,
+        }
     } else {
         Plan::Usage
     }
+}
+
+fn is_recover(word: &str) -> bool
+    ensures { result ≡ spec.is_recover word.now }
+{
+    word == "--recover" || word == "-r"
+}
+
+fn is_extend(word: &str) -> bool
+    ensures { result ≡ spec.is_extend word.now }
+{
+    word == "--extend-check" || word == "-e"
 }
 
 fn is_name(word: &str) -> bool

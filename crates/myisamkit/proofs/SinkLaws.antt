@@ -1,0 +1,22 @@
+-- What is said where the output failed.
+use Rattle.std.proofs.Common.{◌≡◌, ℕ, List, ◌++◌, take, Option, Some, sym, subst, ap, ◌∙◌, inl}
+use Rattle.myi_base.specs.Holding.{Holding}
+use Rattle.myi_io.specs.declared.sink.SinkErr.{SinkErr}
+use Rattle.myi_io.specs.declared.sink.SinkErr.TheVariants as sink
+use Rattle.myisamkit.specs.declared.status.Status.{Status}
+use Rattle.myisamkit.specs.Words.{Request}
+use Rattle.myisamkit.specs.Stops.{status_of_sink}
+use Rattle.myisamkit.specs.Runs.{text, IsFault, SaysPart, Says}
+
+-- the statuses of output that failed cut a run off
+output_faults : (e : SinkErr) → IsFault (status_of_sink e)
+output_faults sink.Failed = tt
+output_faults sink.Memory = tt
+
+-- a front of the line was written
+pub says_part : (request : Request) (files : Option Holding) (old new : Option (List ℕ)) (e : SinkErr) (s : Status) (line : List ℕ) → s ≡ status_of_sink e
+    → ((m : Holding) → files ≡ Some m → line ≡ text request m)
+    → ((w : List ℕ) → old ≡ Some w → (k : ℕ) × (new ≡ Some (w ++ take k line)))
+    → Says request files old new s
+says_part request files old new e s line is said wrote =
+    inl (subst IsFault (sym is) (output_faults e), λ m w told was. let part = wrote w was in (part.0, part.1 ∙ ap (λ l. Some (w ++ take part.0 l)) (said m told)))
