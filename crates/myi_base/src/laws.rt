@@ -32,3 +32,8 @@ pub fn items_read_back()
     ensures length { (ws vs : List ℕ) → Fit ws vs → length (spelling ws vs) ≡ total_width ws }
     ensures same { (at k : ℕ) (ws x y : List ℕ) → at + total_width ws ≤ k → take k x ≡ take k y → numbers at ws x ≡ numbers at ws y }
 {}
+
+/// A slice of bytes holds bytes, whatever else is known of it.
+pub fn slices_are_bytes(bytes: &[u8])
+    ensures { AreBytes bytes.now }
+{}

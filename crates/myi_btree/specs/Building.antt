@@ -1,10 +1,10 @@
 -- What building a tree does to a key cache and the files.
 use Rattle.std.specs.Prelude.{◌≡◌, ◌⊎◌, ℕ, ◌+◌, ◌*◌, ◌<◌, ◌≤◌, true, List, [], ◌∷◌, length, Some}
-use Rattle.myi_base.specs.Holding.{Holding, overwritten}
+use Rattle.myi_base.specs.Holding.{Holding, overwritten, OthersStay}
 use Rattle.myi_keypage.specs.Page.{Page as IndexPage, page_bytes}
 use Rattle.myi_keypage.specs.Writing.{filled_up}
 use Rattle.myi_keycache.specs.Kept.{Page, is_kept}
-use Rattle.myi_keycache.specs.Caching.{Caching, lends, contents, IsCurrent, OthersStay, Puts, PutsPart}
+use Rattle.myi_keycache.specs.Caching.{Caching, lends, contents, IsCurrent, Puts, PutsPart}
 use Rattle.myi_btree.specs.declared.place.Place.{Place}
 use Rattle.myi_btree.specs.declared.level.Level.{Level as LaidLevel}
 use Rattle.myi_btree.specs.Walk.{Node}

@@ -2,9 +2,9 @@
 -- what that does to the cache.
 use Rattle.std.specs.Prelude.{◌≡◌, ◌⊎◌, ℕ, ◌%◌, ◌==◌, Bool, List, Option, Some, None, IsTrue, if◌then◌else◌}
 use Rattle.std.specs.List.{AllByRecursion}
-use Rattle.myi_base.specs.Holding.{Holding, Told}
+use Rattle.myi_base.specs.Holding.{Holding, Told, OthersStay}
 use Rattle.myi_keycache.specs.Kept.{is_kept, NoOtherMeets, ChangesNone, AllWritten}
-use Rattle.myi_keycache.specs.Caching.{Caching, lends, IsCurrent, OthersStay}
+use Rattle.myi_keycache.specs.Caching.{Caching, lends, IsCurrent}
 use Rattle.myi_btree.specs.declared.place.Place.{Place}
 use Rattle.myi_btree.specs.Walk.{◌>>=◌, Places, Walked}
 use Rattle.myi_btree.specs.Nodes.{node_in}

@@ -19,6 +19,7 @@ use crate::chain::block_at;
 use crate::piece::{Accepts, Item, Piece, ScanFault, ScanSetup};
 use crate::step::{Found, advance, advance_row};
 use crate::used::Used;
+use myi_base::slices_are_bytes;
 use myi_io::{Files, read_front};
 use std::alloc::{AllocError, Global};
 use std::marker::Model;
@@ -47,11 +48,6 @@ fn bytes_at(bytes: &[u8], at: u64) -> &[u8]
         None => &[],
     }
 }
-
-/// Nothing is done: it states that a slice of bytes holds bytes.
-fn state_bytes(bytes: &[u8])
-    ensures { AreBytes bytes.now }
-{}
 
 fn is_lent(blocks: &[(u64, u32)]) -> bool
     ensures { result ≡ is_lent (ranges_at blocks.now) }
@@ -152,7 +148,7 @@ impl<A: Accepts> Scan<A> {
         }
         let alloc = *self.held.bytes.allocator();
         self.held.bytes = read_front(alloc, files, self.name.as_str(), self.end)?;
-        state_bytes(&self.held.bytes);
+        slices_are_bytes(&self.held.bytes);
         self.used = Used::new(alloc);
         self.place = 0;
         self.is_read = true;

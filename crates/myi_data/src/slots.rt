@@ -13,6 +13,7 @@ ghost use Rattle.myi_data.specs.Readable.{packs};
 ghost use Rattle.myi_data.specs.NextSlot.{IsNextSlot, IsNextRow};
 
 use crate::row_test::RowTest;
+use myi_base::slices_are_bytes;
 use myi_chain::{Accepts, Item, Piece, ScanFault, ScanSetup};
 use myi_io::{Files, read_front};
 use std::alloc::{AllocError, Global};
@@ -63,11 +64,6 @@ fn next_row_place(bytes: &[u8], test: &RowTest, from: usize, size: usize) -> Opt
     }
     None
 }
-
-/// Nothing is done: it states that a slice of bytes holds bytes.
-fn state_bytes(bytes: &[u8])
-    ensures { AreBytes bytes.now }
-{}
 
 /// A slot at a place, and nothing where there is none.
 fn slot_at(bytes: &[u8], at: usize, size: usize) -> &[u8]
@@ -153,7 +149,7 @@ impl SlotScan {
         }
         let alloc = *self.bytes.allocator();
         self.bytes = read_front(alloc, files, self.name.as_str(), self.end)?;
-        state_bytes(&self.bytes);
+        slices_are_bytes(&self.bytes);
         self.at = 0;
         self.is_read = true;
         Ok(())

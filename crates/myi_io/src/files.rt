@@ -100,10 +100,12 @@ pub trait Files {
         ensures cause { HasCause Failed (faults self.old) (faults self.new) result };
 
     /// Takes a file away. A name that is not there is no failure. After a failure the file is as before.
+    /// Want of memory counts as a failure here.
     fn remove(&mut self, name: &str) -> Result<(), FileErr>
         requires { IsTrue writable }
         ensures ok { OnOk result (Told (holds self.old) (holds self.new) (Removes name.now)) }
         ensures err { OnErr result (Told (holds self.old) (holds self.new) Keeps) }
+        ensures failed { IfErr result (λ e. e ≡ Failed) }
         ensures reads { reads self.new ≡ reads self.old }
         ensures cause { HasCause Failed (faults self.old) (faults self.new) result };
 

@@ -251,8 +251,11 @@ impl<R: rt::Files<File = File>> Disk<R> {
         if_there(self.rt.rename(from, to))
     }
 
+    // Writes to that file which are gathered are given up with it.
     fn take_away(&mut self, name: &str) -> io::Result<()> {
-        self.settle(name)?;
+        if self.pending.name.as_str() == name {
+            self.pending.bytes.clear();
+        }
         self.forget(name);
         if_there(self.rt.remove_file(name))
     }

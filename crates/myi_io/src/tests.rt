@@ -104,7 +104,9 @@ fn real_files_in_a_folder(rt: HostRuntime) -> Result<(), Fail> {
     let inside = format!(in alloc; "{b}/inside")?;
     assert_eq!(rt; files.cut(inside.as_str(), 1), Err(FileErr::Failed));
     assert_eq!(rt; files.fault_count(), 1);
+    assert_eq!(rt; files.write_at(b, 5, b"f"), Ok(()));
     assert_eq!(rt; files.remove(b), Ok(()));
+    assert_eq!(rt; files.flush(), Ok(()));
     assert_eq!(rt; files.length(b), Ok(None));
     Ok(())
 }

@@ -4,13 +4,13 @@ use Rattle.std.specs.Prelude.{unwrap_or, if◌then◌else◌}
 use Rattle.std.proofs.lemmas.Bool.{le-leb, lt-leb, leb-true, or_cases, or_left, or_right}
 use Rattle.std.proofs.lemmas.List.{length-take, drop_all, append-nil}
 use Rattle.myi_base.specs.Ranges.{are_apart}
-use Rattle.myi_base.specs.Holding.{Holding, bytes_of, filled, overwritten, Told, Writes, WritesPart}
+use Rattle.myi_base.specs.Holding.{Holding, bytes_of, filled, overwritten, Told, Writes, WritesPart, OthersStay}
 use Rattle.myi_base.specs.Causes.{HasCause}
 use Rattle.myi_keycache.specs.declared.setup.Counters.{Counters}
 use Rattle.myi_keycache.specs.Kept.{kept, is_kept, unwritten_count, is_unwritten, AddsOnly, SameKept, ChangesNone, AllWritten}
 use Rattle.myi_keycache.specs.Counts.{raised, writes_after}
 use Rattle.myi_keycache.specs.Lent.{bytes_at, lent, flushed}
-use Rattle.myi_keycache.specs.Caching.{Caching, lends, contents, IsCurrent, CanPut, CanGet, OthersStay, Stays, Puts, PutsPart, Flushes, Gets}
+use Rattle.myi_keycache.specs.Caching.{Caching, lends, contents, IsCurrent, CanPut, CanGet, Stays, Puts, PutsPart, Flushes, Gets}
 use Rattle.myi_keycache.proofs.KeptLemmas.{none_kept}
 use Rattle.myi_keycache.proofs.LentLemmas.{all_written, written_none}
 use Rattle.myi_keycache.proofs.RangeLemmas.{taken, written_read, apart_read}

@@ -1,7 +1,7 @@
 -- A key cache over one file, what the files hold beside it, and how a call changes both.
 use Rattle.std.specs.Prelude.{◌≡◌, ◌≢◌, ◌⊎◌, ◌≤◌, ◌+◌, ℕ, true, false, List, length, take, All, AllPairs, Option, Some, Result, OnErr}
 use Rattle.myi_base.specs.Ranges.{are_apart}
-use Rattle.myi_base.specs.Holding.{Holding, bytes_of, overwritten, Told}
+use Rattle.myi_base.specs.Holding.{Holding, bytes_of, overwritten, Told, OthersStay}
 use Rattle.myi_keycache.specs.declared.setup.Counters.{Counters}
 use Rattle.myi_keycache.specs.Kept.{Page, range_of, is_kept, is_unwritten, NoOtherMeets, AddsOnly, SameKept, ChangesNone}
 use Rattle.myi_keycache.specs.Lent.{bytes_at, lent, flushed}
@@ -52,10 +52,6 @@ SameLent old m new n = (p len : ℕ) (x : List ℕ) → lends old m p len ≡ So
 abbrev pub SameApart : ℕ → ℕ → Caching → Holding → Caching → Holding → Type 0
 SameApart at size old m new n = (p len : ℕ) (x : List ℕ) → are_apart (p, p + len) (at, at + size) ≡ true
     → lends old m p len ≡ Some x → lends new n p len ≡ Some x
-
--- the files of other names hold what they held
-abbrev pub OthersStay : List ℕ → Holding → Holding → Type 0
-OthersStay name m n = (q : List ℕ) → q ≢ name → n q ≡ m q
 
 -- nothing was put: the same is lent, and the file with all puts is the same
 pub record Stays (old new : Caching) (m n : Holding) : Type 0 where

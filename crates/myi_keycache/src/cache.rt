@@ -74,13 +74,13 @@ impl KeyCache {
     ghost use Rattle.std.specs.Prelude.{◌≡◌, ◌≤◌, ◌⊎◌, ◌+◌, ℕ, [], Some, None, true, length, IfOk, IfErr, IsOk, IsTrue, OnOk, OnErr};
     ghost use Rattle.std.specs.Borrow.{sem};
     ghost use Rattle.std.specs.Io.BufRead.{Rests};
-    ghost use Rattle.myi_base.specs.Holding.{Holding, Told};
+    ghost use Rattle.myi_base.specs.Holding.{Holding, Told, OthersStay};
     ghost use Rattle.myi_base.specs.Causes.{HasCause};
     ghost use Rattle.myi_keycache.specs.declared.setup.CacheFault.TheVariants.{Short, File, Memory};
     ghost use Rattle.myi_keycache.specs.Setup.{IsSetup};
     ghost use Rattle.myi_keycache.specs.Kept.{is_kept, AddsOnly, SameKept, AllWritten};
     ghost use Rattle.myi_keycache.specs.Counts.{puts_counted, flushes_counted};
-    ghost use Rattle.myi_keycache.specs.Caching.{Caching, lends, IsCurrent, CanGet, CanPut, OthersStay, Puts, PutsPart, Stays, Flushes, Gets};
+    ghost use Rattle.myi_keycache.specs.Caching.{Caching, lends, IsCurrent, CanGet, CanPut, Puts, PutsPart, Stays, Flushes, Gets};
     ghost use Rattle.myi_keycache.specs.contracts.cache.KeyCache.{the_row};
 
     /// A cache of the file of that name, which keeps no page yet. Any file is current for it.

@@ -1,9 +1,9 @@
 //! A table's two files beside each other: what a clean pair is, and what a repair leaves.
 //!
 //! The model is in `specs/`: the first rows of unique keys (`FirstRows`), the key list of a key
-//! (`KeyList`), the trees of an index file (`Trees`), a clean pair (`Clean`), and the files that a repair
-//! leaves, as bytes (`RecoveredBytes`) and in what holds of them (`Recovered`). The laws over them are the
-//! contracts of the functions in `laws`.
+//! (`KeyList`), the trees of an index file (`Trees`) and the pages of one (`TreePages`), a clean pair
+//! (`Clean`), and the files that a repair leaves, as bytes (`RecoveredBytes`) and in what holds of them
+//! (`Recovered`). The laws over them are the contracts of the functions in `laws`.
 #![tactic(auto)]
 
 mod laws;

@@ -2,8 +2,8 @@
 use Rattle.std.proofs.Common.{◌≡◌, ◌≢◌, ◌⊎◌, ℕ, ◌+◌, ◌-◌, ◌≤◌, List, [], ◌++◌, length, get_or, Option, Some, unwrap_or, refl, sym, ap, subst, ◌∙◌, arith, inl, inr}
 use Rattle.std.specs.Prelude.{codes}
 use Rattle.std.proofs.lemmas.List.{append_cancel_left, append-nil, take_all, drop_all}
-use Rattle.myi_base.specs.Holding.{Holding, resized, overwritten}
-use Rattle.myi_repair.specs.Names.{FourNames, names_for, AreApart, KeepsOthers, KeepsBoth}
+use Rattle.myi_base.specs.Holding.{Holding, resized, overwritten, OthersStay}
+use Rattle.myi_repair.specs.Names.{FourNames, names_for, AreApart, KeepsBoth}
 use Rattle.myi_repair.specs.Finishing.{IsWhole}
 
 -- two ends of a name that differ in a byte
@@ -62,7 +62,7 @@ whole_before t d x m n p stays (inr replaced) = inr (record { rows = replaced.ro
     index_before (inl same) = inl (same ∙ stays.index)
     index_before (inr new) = inr new
 
-pub both_new_rows : (t : FourNames) (m n : Holding) → AreApart t → KeepsOthers t.new_rows m n → KeepsBoth t m n
+pub both_new_rows : (t : FourNames) (m n : Holding) → AreApart t → OthersStay t.new_rows m n → KeepsBoth t m n
 both_new_rows t m n apart keeps = record { rows = keeps t.rows apart.rows-new_rows; index = keeps t.index apart.index-new_rows }
 
 pub both_after : (t : FourNames) (m n p : Holding) → KeepsBoth t n p → KeepsBoth t m n → KeepsBoth t m p

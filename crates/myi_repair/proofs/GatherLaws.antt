@@ -3,7 +3,7 @@ use Rattle.std.proofs.Common.{◌≡◌, ◌⊎◌, ℕ, ◌+◌, Bool, true, fa
 use Rattle.std.specs.Prelude.{map, if◌then◌else◌}
 use Rattle.std.specs.List.{list_any}
 use Rattle.std.proofs.lemmas.List.{append-nil, take_all}
-use Rattle.myi_base.specs.Holding.{Holding, bytes_of}
+use Rattle.myi_base.specs.Holding.{Holding, bytes_of, OthersStay}
 use Rattle.myi_base.specs.Numbers.{AreBytes}
 use Rattle.myi_defs.specs.declared.types.Defs.{Defs}
 use Rattle.myi_pack.specs.Packed.{Values}
@@ -22,7 +22,7 @@ use Rattle.myi_pair.specs.FirstRows.{repeats, first_after, first_rows}
 use Rattle.myi_repair.specs.declared.kept.KeptRows.{KeptRows}
 use Rattle.myi_pair.specs.RecoveredBytes.{kept, repeat_count, new_data}
 use Rattle.myi_repair.specs.declared.gathering.Gathered.{Gathered}
-use Rattle.myi_repair.specs.Names.{FourNames, KeepsOthers}
+use Rattle.myi_repair.specs.Names.{FourNames}
 use Rattle.myi_repair.specs.Opening.{IsTable}
 use Rattle.myi_repair.specs.Keeping.{lists_in, AreCounted, HasKept, kept_with}
 use Rattle.myi_repair.specs.Gathering.{Gathers, values_left, TakesRow, ReadsBytes, GathersRows}
@@ -54,9 +54,9 @@ pub record Gathering (start now : TableScan) (file : List ℕ) (k : KeptRows) (m
   pub counted : k.kept + k.repeats + length (rows_left now n) ≡ length (rows_left start m)
   pub accepted : AreAccepted start.test (rows_left now n)
   pub read : (now ≡ start) ⊎ AreBytes (take start.end (bytes_of start.name m))
-  pub others : KeepsOthers file m n
+  pub others : OthersStay file m n
 
-pub gathering_none : (start : TableScan) (file : List ℕ) (k : KeptRows) (m n : Holding) → start.left ≡ None → bytes_of start.name n ≡ bytes_of start.name m → HasKept start.test [] k → k.kept + k.repeats ≡ 0 → n file ≡ Some [] → KeepsOthers file m n → Gathering start start file k m n
+pub gathering_none : (start : TableScan) (file : List ℕ) (k : KeptRows) (m n : Holding) → start.left ≡ None → bytes_of start.name n ≡ bytes_of start.name m → HasKept start.test [] k → k.kept + k.repeats ≡ 0 → n file ≡ Some [] → OthersStay file m n → Gathering start start file k m n
 unfolding laid_file first_rows readable
 gathering_none start file k m n fresh same kept none here others =
     let rows : rows_left start n ≡ rows_left start m = ap (λ b. rows_of (left_or start.left (items_in start.test start.extend (take start.end b)))) same in
@@ -75,7 +75,7 @@ gathering_none start file k m n fresh same kept none here others =
     fresh_accepted d extend x = rows_accepted d extend x
 
 -- a row that was taken is kept or repeats one
-pub gathering_more : (start old new : TableScan) (file : List ℕ) (k l : KeptRows) (m n o : Holding) → IsSameScan start old → bytes_of start.name n ≡ bytes_of start.name m → Gathering start old file k m n → ReadsBytes old n → (start.left ≡ None) → TakesRow start.test file old new k l n o → KeepsOthers file n o
+pub gathering_more : (start old new : TableScan) (file : List ℕ) (k l : KeptRows) (m n o : Holding) → IsSameScan start old → bytes_of start.name n ≡ bytes_of start.name m → Gathering start old file k m n → ReadsBytes old n → (start.left ≡ None) → TakesRow start.test file old new k l n o → OthersStay file n o
     → old.test ≡ start.test → new.test ≡ start.test → Gathering start new file l m o
 gathering_more start old new file k l m n o same bytes so_far reads fresh takes others tested next_tested =
     let d = start.test in
@@ -140,7 +140,7 @@ took_row d file h old new k l m n found view bytes told answered shows read one 
     }
 
 -- a file of another name keeps its bytes
-pub same_name : (file name : List ℕ) (m n : Holding) → (name ≡ file → ⊥) → KeepsOthers file m n → bytes_of name n ≡ bytes_of name m
+pub same_name : (file name : List ℕ) (m n : Holding) → (name ≡ file → ⊥) → OthersStay file m n → bytes_of name n ≡ bytes_of name m
 same_name file name m n apart keeps = ap (λ o. unwrap_or o []) (keeps name apart)
 
 -- ---- what was gathered of a table

@@ -105,8 +105,10 @@ completed_part t u extend d g h now end roots m n o s named left counted is root
     whole_before t (new_data g.defs extend d) (new_index g.defs extend d now) m n o (subst (λ v. KeepsBoth v m n) named both)
     (subst (λ x. IsWhole t (new_data g.defs extend d) x n o) index (part (new_data g.defs extend d) (there ∙ is.written)))
 
-pub repaired : (name : List ℕ) (extend : Bool) (now : ℕ) (g : Gathered) (said : Report) (m n o : Holding) → AreDefs g.defs → AreBytes g.defs.raw → now < 2 ^ 64 → Gathers (names_for name) extend g m n → said ≡ g.report → Completes (names_for name) g now n o → Repairs name extend now said m o
-repaired name extend now g said m n o are header early gathered same done =
+pub repaired : (name : List ℕ) (t : FourNames) (extend : Bool) (now : ℕ) (g : Gathered) (said : Report) (m n o : Holding) → t ≡ names_for name → AreDefs g.defs → AreBytes g.defs.raw → now < 2 ^ 64 → Gathers t extend g m n → said ≡ g.report → Completes t g now n o → Repairs name extend now said m o
+repaired name t extend now g said m n o named are header early gathers same completes =
+    let gathered : Gathers (names_for name) extend g m n = subst (λ u. Gathers u extend g m n) named gathers in
+    let done : Completes (names_for name) g now n o = subst (λ u. Completes u g now n o) named completes in
     let d : List ℕ = gathered.0 in
     let is = gathered.2 in
     let open_table = is_opened (names_for name) g.defs d m gathered.1 in

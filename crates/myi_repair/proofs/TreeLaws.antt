@@ -7,14 +7,14 @@ use Rattle.std.proofs.lemmas.List.{length-map, append-nil, drop_all, get_or_defa
 use Rattle.std.proofs.lemmas.List.Elements.{All-push}
 use Rattle.std.proofs.lemmas.List.Sorted.{All-permutation}
 use Rattle.std.proofs.lemmas.List.Elements.{All-from_recursion, recursion_from_All}
-use Rattle.myi_base.specs.Holding.{Holding, bytes_of, Cuts}
+use Rattle.myi_base.specs.Holding.{Holding, bytes_of, Cuts, OthersStay}
 use Rattle.myi_defs.specs.declared.types.Defs.{Defs}
 use Rattle.myi_header.specs.StateOf.{IsPlace}
 use Rattle.myi_header.specs.Layout.{first_page_of}
 use Rattle.myi_keys.specs.Limits.{IsKey}
 use Rattle.myi_keycache.specs.Kept.{kept}
 use Rattle.myi_keycache.specs.Lent.{flushed}
-use Rattle.myi_keycache.specs.Caching.{Caching, contents, IsCurrent, OthersStay}
+use Rattle.myi_keycache.specs.Caching.{Caching, contents, IsCurrent}
 use Rattle.myi_btree.specs.declared.pair.Pair.{Pair}
 use Rattle.myi_btree.specs.declared.place.Place.{Place}
 use Rattle.myi_btree.specs.Walk.{Node}

@@ -131,14 +131,6 @@ noted_more cmp is number code before seen after done k step so_far =
     ∙ or_later (is_noted number code done) (is_noted number code seen) (is_noted number code before) one so_far
     ∙ ap (λ b. is_noted number code before || b) (sym (list_any-append (λ (u : UniqueKey). eqb u.number number && bytes_eq u.code.items code) done (k ∷ [])))
 
-pub and_false_left : (a b : Bool) → a ≡ false → (a && b) ≡ false
-and_false_left true b is = absurd cc
-and_false_left false b is = refl
-
-pub and_false_right : (a b : Bool) → b ≡ false → (a && b) ≡ false
-and_false_right true b is = is
-and_false_right false b is = refl
-
 -- ---- what is noted of a row's keys
 
 pub any_same : {A : Type 0} (p q : A → Bool) → ((x : A) → p x ≡ q x) → (xs : List A) → list_any p xs ≡ list_any q xs

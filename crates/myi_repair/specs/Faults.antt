@@ -1,4 +1,5 @@
--- The fault of a repair that the fault of a layer below stands for.
+-- The fault of a repair that the fault of a layer below stands for, and how many faults of the files a call met.
+use Rattle.std.specs.Prelude.{◌≤◌, ◌<◌, ◌+◌, ◌-◌, ◌^◌, ℕ}
 use Rattle.myi_io.specs.declared.files.FileErr.{FileErr}
 use Rattle.myi_io.specs.declared.files.FileErr.TheVariants as file
 use Rattle.myi_chain.specs.declared.piece.ScanFault.{ScanFault}
@@ -29,3 +30,15 @@ abbrev pub of_cache : CacheFault → RepairFault
 of_cache (cache.Short at) = repair.Memory
 of_cache cache.File = repair.File
 of_cache cache.Memory = repair.Memory
+
+-- how many faults of the files an answer tells of
+abbrev pub faults_told : RepairFault → ℕ
+faults_told (repair.Absent f) = 0
+faults_told (repair.Def f) = 0
+faults_told repair.TooLong = 0
+faults_told repair.File = 1
+faults_told repair.Memory = 0
+
+-- in a call the files' count of faults rose by no more than this, and not to the end of its type
+abbrev pub RoseAtMost : ℕ → ℕ → ℕ → Type 0
+RoseAtMost n before now = (now ≤ before + n) × (now < 2 ^ 64 - 1)

@@ -1,6 +1,6 @@
 -- The files of a table (MySQL Reference Manual, "The MyISAM Storage Engine"; the working files are named as myisamchk
 -- names its own), and which of them stay as they are.
-use Rattle.std.specs.Prelude.{◌≡◌, ◌≢◌, ℕ, List, ◌++◌, codes, Some, None, string_bytes}
+use Rattle.std.specs.Prelude.{◌≡◌, ◌≢◌, ◌⊎◌, ℕ, List, ◌++◌, codes, Some, None, string_bytes}
 use Rattle.myi_base.specs.Holding.{Holding}
 use Rattle.myi_repair.specs.declared.names.TableFiles.{TableFiles}
 
@@ -39,10 +39,6 @@ pub record AreApart (t : FourNames) : Type 0 where
   pub index-new_index : t.index ≢ t.new_index
   pub new_rows-new_index : t.new_rows ≢ t.new_index
 
--- only the file of that name may change
-abbrev pub KeepsOthers : List ℕ → Holding → Holding → Type 0
-KeepsOthers name m n = (q : List ℕ) → q ≢ name → n q ≡ m q
-
 -- names that are none of the four keep what they hold
 abbrev pub KeepsBut : FourNames → Holding → Holding → Type 0
 KeepsBut t m n = (q : List ℕ) → q ≢ t.rows → q ≢ t.index → q ≢ t.new_rows → q ≢ t.new_index → n q ≡ m q
@@ -52,9 +48,17 @@ pub record KeepsBoth (t : FourNames) (m n : Holding) : Type 0 where
   pub rows : n t.rows ≡ m t.rows
   pub index : n t.index ≡ m t.index
 
+-- the working files are not there
+pub record NoWorking (t : FourNames) (n : Holding) : Type 0 where
+  pub new_rows : n t.new_rows ≡ None
+  pub new_index : n t.new_index ≡ None
+
+-- nothing changed, or the working files are gone
+abbrev pub Clears : FourNames → Holding → Holding → Type 0
+Clears t m n = (n ≡ m) ⊎ NoWorking t n
+
 -- both files hold these bytes, and the working files are gone
 pub record Holds (t : FourNames) (d x : List ℕ) (n : Holding) : Type 0 where
   pub rows : n t.rows ≡ Some d
   pub index : n t.index ≡ Some x
-  pub no_new_rows : n t.new_rows ≡ None
-  pub no_new_index : n t.new_index ≡ None
+  pub working : NoWorking t n

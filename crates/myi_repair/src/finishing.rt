@@ -1,13 +1,14 @@
 //! The end of a repair: the header of the new index file, and the new files in the place of the old.
-ghost use Rattle.std.specs.Prelude.{◌≡◌, ◌≤◌, ◌+◌, ◌-◌, ◌*◌, ◌^◌, ◌++◌, All, length, take, drop, replicate, IfOk, OnOk, IsTrue};
-ghost use Rattle.myi_base.specs.Holding.{Told, Sets, bytes_of, resized, overwritten};
+ghost use Rattle.std.specs.Prelude.{◌≡◌, ◌≤◌, ◌+◌, ◌-◌, ◌*◌, ◌^◌, ◌++◌, All, length, take, drop, replicate, IfOk, IfErr, OnOk, IsTrue};
+ghost use Rattle.myi_base.specs.Holding.{Told, Sets, bytes_of, resized, overwritten, OthersStay};
 ghost use Rattle.myi_base.specs.Causes.{HasCause};
 ghost use Rattle.myi_io.specs.declared.files.FileErr.TheVariants.{Failed};
 ghost use Rattle.myi_defs.specs.ReadDefs.{AreDefs};
 ghost use Rattle.myi_defs.specs.Sound.{IsSound};
 ghost use Rattle.myi_header.specs.StateOf.{IsPlace, rest_length};
 ghost use Rattle.myi_header.specs.HeaderOf.{header_of};
-ghost use Rattle.myi_repair.specs.Names.{names_of, names_for, AreApart, KeepsBut, KeepsOthers};
+ghost use Rattle.myi_repair.specs.Faults.{of_file, faults_told, RoseAtMost};
+ghost use Rattle.myi_repair.specs.Names.{names_of, names_for, AreApart, KeepsBut, Clears, NoWorking};
 ghost use Rattle.myi_repair.specs.Finishing.{state_set, Finishes, FinishesPart};
 
 use crate::gathering::Gathered;
@@ -23,7 +24,8 @@ const REPAIRED: u8 = 40;
 
 /// Writes the header, with the mark and the state that a repair sets, to the front of the working index
 /// file, `NAME.TMI`, makes that file `index_length` bytes long, and gives first the working data file and
-/// then the working index file the name of the old one. `now` is the moment, in seconds since 1970.
+/// then the working index file the name of the old one. `now` is the moment, in seconds since 1970. After a
+/// refusal the working files are taken away.
 pub fn finish<F: Files>(
     alloc: Global,
     files: &mut F,
@@ -39,11 +41,36 @@ pub fn finish<F: Files>(
     requires places { All IsPlace roots.now }
     ensures done { OnOk result (Told (F.holds files.old) (F.holds files.new) (Finishes (names_for name.now) gathered.now roots.now index_length now)) }
     ensures whole { Told (F.holds files.old) (F.holds files.new) (FinishesPart (names_for name.now) gathered.now roots.now index_length now) }
+    ensures cleared { IfErr result (λ e. RoseAtMost (faults_told (of_file e)) (F.faults files.old) (F.faults files.new) → Told (F.holds files.old) (F.holds files.new) (Clears (names_for name.now))) }
     ensures others { Told (F.holds files.old) (F.holds files.new) (KeepsBut (names_for name.now)) }
     ensures cause { HasCause Failed (F.faults files.old) (F.faults files.new) result }
 {
     let table = TableFiles::of(alloc, name)?;
-    match replace(alloc, files, &table, gathered, roots, index_length, now) {
+    finish_table(alloc, files, &table, gathered, roots, index_length, now)
+}
+
+/// The same for the table of these files, whose working files are gone after a refusal.
+pub(crate) fn finish_table<F: Files>(
+    alloc: Global,
+    files: &mut F,
+    table: &TableFiles,
+    gathered: &Gathered,
+    roots: &[Option<u64>],
+    index_length: u64,
+    now: u64,
+) -> Result<(), FileErr>
+    requires writable { IsTrue F.writable }
+    requires apart { AreApart (names_of table.now) }
+    requires sound { IsSound gathered.now.defs }
+    requires roots { length roots.now ≡ length gathered.now.defs.keys }
+    requires places { All IsPlace roots.now }
+    ensures done { OnOk result (Told (F.holds files.old) (F.holds files.new) (Finishes (names_of table.now) gathered.now roots.now index_length now)) }
+    ensures whole { Told (F.holds files.old) (F.holds files.new) (FinishesPart (names_of table.now) gathered.now roots.now index_length now) }
+    ensures cleared { IfErr result (λ e. RoseAtMost (faults_told (of_file e)) (F.faults files.old) (F.faults files.new) → Told (F.holds files.old) (F.holds files.new) (λ _ n. NoWorking (names_of table.now) n)) }
+    ensures others { Told (F.holds files.old) (F.holds files.new) (KeepsBut (names_of table.now)) }
+    ensures cause { HasCause Failed (F.faults files.old) (F.faults files.new) result }
+{
+    match replace(alloc, files, table, gathered, roots, index_length, now) {
         Ok(()) => Ok(()),
         Err(error) => {
             table.clear(files);
@@ -87,7 +114,7 @@ fn put_header<F: Files>(
 ) -> Result<(), FileErr>
     requires { IsTrue F.writable }
     ensures done { OnOk result (Told (F.holds files.old) (F.holds files.new) (λ m n. Sets file.now (resized file_length (overwritten 0 header.now (bytes_of file.now m))) m n)) }
-    ensures others { Told (F.holds files.old) (F.holds files.new) (KeepsOthers file.now) }
+    ensures others { Told (F.holds files.old) (F.holds files.new) (OthersStay file.now) }
     ensures cause { HasCause Failed (F.faults files.old) (F.faults files.new) result }
 {
     files.write_at(file, 0, header)?;

@@ -1,12 +1,13 @@
 //! Gathering: the rows that are kept, in the working data file, and the pairs of their keys.
 ghost use Rattle.std.specs.Prelude.{◌≡◌, ◌≢◌, ◌⊎◌, ◌≤◌, ◌<◌, ◌+◌, ◌-◌, ◌^◌, ℕ, List, [], true, None, Some, Err, length, IfOk, IfErr, OnOk, IsTrue};
-ghost use Rattle.myi_base.specs.Holding.{Holding, Told};
+ghost use Rattle.myi_base.specs.Holding.{Holding, Told, OthersStay};
 ghost use Rattle.myi_base.specs.Causes.{HasCause};
 ghost use Rattle.myi_base.specs.Numbers.{AreBytes};
 ghost use Rattle.myi_defs.specs.ReadDefs.{AreDefs};
 ghost use Rattle.myi_defs.specs.Sound.{IsSound};
 ghost use Rattle.myi_chain.specs.Scanning.{IsSameScan};
-ghost use Rattle.myi_repair.specs.Names.{names_of, names_for, AreApart, KeepsOthers, KeepsBut, KeepsBoth};
+ghost use Rattle.myi_repair.specs.Faults.{faults_told, RoseAtMost};
+ghost use Rattle.myi_repair.specs.Names.{names_of, names_for, AreApart, KeepsBut, KeepsBoth, Clears};
 ghost use Rattle.myi_repair.specs.Opening.{opened, IsTable, CutsOff};
 ghost use Rattle.myi_repair.specs.Sized.{AreSizedPairs};
 ghost use Rattle.myi_repair.specs.Keeping.{lists_in, AreCounted};
@@ -39,7 +40,7 @@ pub struct Gathered {
 
 /// Writes the rows of a table that a repair keeps into its working data file, `NAME.TMD`, which is made
 /// anew. `extend` has every position of a dynamic table tried. After a refusal the table's two files are
-/// as before.
+/// as before, and the working file is taken away.
 pub fn gather<F: Files>(
     alloc: Global,
     files: &mut F,
@@ -58,14 +59,40 @@ pub fn gather<F: Files>(
     ensures refused { IfErr result (λ f. CutsOff f ⊎ ((m : Holding) → F.holds files.old ≡ Some m → opened (names_for name.now) m ≡ Err f)) }
     ensures unchanged { IfErr result (λ f. CutsOff f ⊎ (F.holds files.new ≡ F.holds files.old)) }
 
+    // Where no other file call failed, a refusal leaves all as it was, or no working files.
+    ensures cleared { IfErr result (λ f. RoseAtMost (faults_told f) (F.faults files.old) (F.faults files.new) → Told (F.holds files.old) (F.holds files.new) (Clears (names_for name.now))) }
+
     // The table's two files are as before.
     ensures both { Told (F.holds files.old) (F.holds files.new) (KeepsBoth (names_for name.now)) }
     ensures others { Told (F.holds files.old) (F.holds files.new) (KeepsBut (names_for name.now)) }
     ensures cause { HasCause RepairFault.File (F.faults files.old) (F.faults files.new) result }
 {
     let table = TableFiles::of(alloc, name)?;
-    let opened = open_table(alloc, files, &table)?;
-    match gather_opened(alloc, files, &table, opened, extend) {
+    gather_table(alloc, files, &table, extend)
+}
+
+/// The same for the table of these files.
+pub(crate) fn gather_table<F: Files>(
+    alloc: Global,
+    files: &mut F,
+    table: &TableFiles,
+    extend: bool,
+) -> Result<Gathered, RepairFault>
+    requires writable { IsTrue F.writable }
+    requires apart { AreApart (names_of table.now) }
+    ensures gathered { IfOk result (λ g. Told (F.holds files.old) (F.holds files.new) (Gathers (names_of table.now) extend g)) }
+    ensures defs { IfOk result (λ g. AreDefs g.defs) }
+    ensures header { IfOk result (λ g. AreBytes g.defs.raw) }
+    ensures pairs { IfOk result (λ g. AreSizedPairs g.defs g.pairs) }
+    ensures refused { IfErr result (λ f. CutsOff f ⊎ ((m : Holding) → F.holds files.old ≡ Some m → opened (names_of table.now) m ≡ Err f)) }
+    ensures unchanged { IfErr result (λ f. CutsOff f ⊎ (F.holds files.new ≡ F.holds files.old)) }
+    ensures cleared { IfErr result (λ f. RoseAtMost (faults_told f) (F.faults files.old) (F.faults files.new) → Told (F.holds files.old) (F.holds files.new) (Clears (names_of table.now))) }
+    ensures both { Told (F.holds files.old) (F.holds files.new) (KeepsBoth (names_of table.now)) }
+    ensures others { Told (F.holds files.old) (F.holds files.new) (KeepsBut (names_of table.now)) }
+    ensures cause { HasCause RepairFault.File (F.faults files.old) (F.faults files.new) result }
+{
+    let opened = open_table(alloc, files, table)?;
+    match gather_opened(alloc, files, table, opened, extend) {
         Ok(gathered) => Ok(gathered),
         Err(fault) => {
             table.clear(files);
@@ -92,7 +119,7 @@ fn gather_opened<F: Files>(
     ensures header { IfOk result (λ g. AreBytes g.defs.raw) }
     ensures pairs { IfOk result (λ g. AreSizedPairs g.defs g.pairs) }
     ensures cut { IfErr result CutsOff }
-    ensures others { Told (F.holds files.old) (F.holds files.new) (KeepsOthers (names_of table.now).new_rows) }
+    ensures others { Told (F.holds files.old) (F.holds files.new) (OthersStay (names_of table.now).new_rows) }
     ensures cause { HasCause RepairFault.File (F.faults files.old) (F.faults files.new) result }
 {
     let Opened { defs, length } = opened;
@@ -138,7 +165,7 @@ fn take_rows<F: Files>(
     ensures gathered { IfOk result (λ k. Told (F.holds files.old) (F.holds files.new) (GathersRows scan.old file.now k)) }
     ensures counted { IfOk result (λ k. AreCounted defs.now k) }
     ensures cut { IfErr result CutsOff }
-    ensures others { Told (F.holds files.old) (F.holds files.new) (KeepsOthers file.now) }
+    ensures others { Told (F.holds files.old) (F.holds files.new) (OthersStay file.now) }
     ensures cause { HasCause RepairFault.File (F.faults files.old) (F.faults files.new) result }
 {
     files.cut(file, 0)?;
@@ -172,7 +199,7 @@ fn take_next<F: Files>(
     ensures took { IfOk result (λ more. Told (F.holds files.old) (F.holds files.new) (TakesIf more defs.now file.now scan.old scan.new rows.old rows.new)) }
     ensures bytes { OnOk result ((m : Holding) → F.holds files.old ≡ Some m → ReadsBytes scan.old m) }
     ensures cut { IfErr result CutsOff }
-    ensures others { Told (F.holds files.old) (F.holds files.new) (KeepsOthers file.now) }
+    ensures others { Told (F.holds files.old) (F.holds files.new) (OthersStay file.now) }
     ensures cause { HasCause RepairFault.File (F.faults files.old) (F.faults files.new) result }
 {
     let Some((_, piece)) = scan.next_row(files)? else {

@@ -35,7 +35,7 @@ pub(crate) struct KeptRows {
 
 impl KeptRows {
     ghost use Rattle.std.specs.Prelude.{◌≡◌, ◌≤◌, ◌<◌, ◌+◌, ◌-◌, ◌^◌, ◌||◌, ℕ, List, [], true, Some, length, IfOk, IfErr, OnOk, IsTrue};
-    ghost use Rattle.myi_base.specs.Holding.{Told, Writes};
+    ghost use Rattle.myi_base.specs.Holding.{Told, Writes, OthersStay};
     ghost use Rattle.myi_base.specs.Causes.{HasCause};
     ghost use Rattle.myi_defs.specs.declared.types.Defs.{Defs};
     ghost use Rattle.myi_defs.specs.Addressable.{is_addressable};
@@ -43,7 +43,6 @@ impl KeptRows {
     ghost use Rattle.myi_pack.specs.Packed.{Values};
     ghost use Rattle.myi_pack.specs.Spelling.{fits};
     ghost use Rattle.myi_data.specs.Laid.{stored, laid_file};
-    ghost use Rattle.myi_repair.specs.Names.{KeepsOthers};
     ghost use Rattle.myi_repair.specs.Opening.{CutsOff};
     ghost use Rattle.myi_repair.specs.Keeping.{lists_in, with_pairs, is_noted, AreCounted, HasKept, kept_with};
 
@@ -82,7 +81,7 @@ impl KeptRows {
         ensures kept { OnOk result ((rows : List Values) → HasKept defs.now rows self.old → HasKept defs.now (kept_with defs.now rows row.now) self.new) }
         ensures written { OnOk result (Told (F.holds files.old) (F.holds files.new) (λ m n. (rows : List Values) → HasKept defs.now rows self.old → m file.now ≡ Some (laid_file defs.now rows) → n file.now ≡ Some (laid_file defs.now (kept_with defs.now rows row.now)))) }
         ensures cut { IfErr result CutsOff }
-        ensures others { Told (F.holds files.old) (F.holds files.new) (KeepsOthers file.now) }
+        ensures others { Told (F.holds files.old) (F.holds files.new) (OthersStay file.now) }
         ensures cause { HasCause RepairFault.File (F.faults files.old) (F.faults files.new) result }
     {
         let keys = keys_of(alloc, defs, row)?;
@@ -120,7 +119,7 @@ impl KeptRows {
         ensures reached { OnOk result (is_addressable defs.now (self.old.end + length (stored defs.now row.now)) ≡ true) }
         ensures written { OnOk result (Told (F.holds files.old) (F.holds files.new) (Writes file.now self.old.end (stored defs.now row.now))) }
         ensures cut { IfErr result CutsOff }
-        ensures others { Told (F.holds files.old) (F.holds files.new) (KeepsOthers file.now) }
+        ensures others { Told (F.holds files.old) (F.holds files.new) (OthersStay file.now) }
         ensures cause { HasCause RepairFault.File (F.faults files.old) (F.faults files.new) result }
     {
         let spelled = pack(alloc, defs, &unpack(alloc, row)?)?;

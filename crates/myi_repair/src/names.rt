@@ -18,7 +18,8 @@ pub(crate) struct TableFiles {
 impl TableFiles {
     ghost use Rattle.std.specs.Prelude.{◌≡◌, ◌≤◌, IfOk, IsTrue};
     ghost use Rattle.myi_base.specs.Holding.{Told};
-    ghost use Rattle.myi_repair.specs.Names.{names_of, names_for, AreApart, KeepsBut, KeepsBoth};
+    ghost use Rattle.myi_repair.specs.Faults.{RoseAtMost};
+    ghost use Rattle.myi_repair.specs.Names.{names_of, names_for, AreApart, KeepsBut, KeepsBoth, NoWorking};
 
     pub(crate) fn of(alloc: Global, name: &str) -> Result<TableFiles, AllocError>
         ensures { IfOk result (λ t. names_of t ≡ names_for name.now) }
@@ -31,10 +32,11 @@ impl TableFiles {
         })
     }
 
-    /// Takes the working files away, as far as that succeeds.
+    /// Takes the working files away, each as far as that succeeds.
     pub(crate) fn clear<F: Files>(&self, files: &mut F)
         requires writable { IsTrue F.writable }
         requires apart { AreApart (names_of self.now) }
+        ensures gone { RoseAtMost 0 (F.faults files.old) (F.faults files.new) → Told (F.holds files.old) (F.holds files.new) (λ _ n. NoWorking (names_of self.now) n) }
         ensures both { Told (F.holds files.old) (F.holds files.new) (KeepsBoth (names_of self.now)) }
         ensures others { Told (F.holds files.old) (F.holds files.new) (KeepsBut (names_of self.now)) }
         ensures later { F.faults files.old ≤ F.faults files.new }

@@ -4,15 +4,16 @@ ghost use Rattle.myi_base.specs.Holding.{Holding, Told};
 ghost use Rattle.myi_base.specs.Causes.{HasCause};
 ghost use Rattle.myi_defs.specs.ReadDefs.{AreDefs};
 ghost use Rattle.myi_header.specs.StateOf.{IsPlace};
-ghost use Rattle.myi_repair.specs.Names.{names_of, names_for, AreApart, KeepsBoth, KeepsBut};
+ghost use Rattle.myi_repair.specs.Faults.{faults_told, RoseAtMost};
+ghost use Rattle.myi_repair.specs.Names.{names_of, names_for, AreApart, KeepsBoth, KeepsBut, Clears, NoWorking};
 ghost use Rattle.myi_repair.specs.Opening.{opened, CutsOff};
 ghost use Rattle.myi_repair.specs.Sized.{AreSizedPairs};
 ghost use Rattle.myi_repair.specs.Building.{trees_of, AreTrees, Builds};
 ghost use Rattle.myi_repair.specs.Repairs.{Repairs, OldOrNew, Completes, CompletesPart};
 
 use crate::fault::RepairFault;
-use crate::finishing::finish;
-use crate::gathering::{Gathered, gather};
+use crate::finishing::finish_table;
+use crate::gathering::{Gathered, gather_table};
 use crate::names::TableFiles;
 use crate::report::Report;
 use crate::trees::{Trees, build_trees};
@@ -40,36 +41,42 @@ pub fn recover<F: Files>(
     ensures refused { IfErr result (λ f. CutsOff f ⊎ ((m : Holding) → F.holds files.old ≡ Some m → opened (names_for name.now) m ≡ Err f)) }
     ensures unchanged { IfErr result (λ f. CutsOff f ⊎ (F.holds files.new ≡ F.holds files.old)) }
 
+    // Where no other file call failed, a refusal leaves all as it was, or no working files.
+    ensures cleared { IfErr result (λ f. RoseAtMost (faults_told f) (F.faults files.old) (F.faults files.new) → Told (F.holds files.old) (F.holds files.new) (Clears (names_for name.now))) }
+
     // At every outcome the table's files are the old ones or whole new ones, and other files stay.
     ensures files { Told (F.holds files.old) (F.holds files.new) (OldOrNew name.now extend now) }
     ensures others { Told (F.holds files.old) (F.holds files.new) (KeepsBut (names_for name.now)) }
     ensures cause { HasCause RepairFault.File (F.faults files.old) (F.faults files.new) result }
 {
-    let gathered = gather(alloc, files, name, extend)?;
-    complete(alloc, files, name, gathered, now)
+    let table = TableFiles::of(alloc, name)?;
+    let gathered = gather_table(alloc, files, &table, extend)?;
+    complete(alloc, files, &table, gathered, now)
 }
 
-// Builds the trees of what was gathered, and puts the new files in the place of the old ones.
+// Builds the trees of what was gathered, and puts the new files in the place of the old ones. After a refusal
+// the working files are gone.
 fn complete<F: Files>(
     alloc: Global,
     files: &mut F,
-    name: &str,
+    table: &TableFiles,
     mut gathered: Gathered,
     now: u64,
 ) -> Result<Report, RepairFault>
     requires writable { IsTrue F.writable }
+    requires apart { AreApart (names_of table.now) }
     requires defs { AreDefs gathered.defs }
     requires pairs { AreSizedPairs gathered.defs gathered.pairs }
-    ensures done { OnOk result (Told (F.holds files.old) (F.holds files.new) (Completes (names_for name.now) gathered now)) }
+    ensures done { OnOk result (Told (F.holds files.old) (F.holds files.new) (Completes (names_of table.now) gathered now)) }
     ensures said { IfOk result (λ said. said ≡ gathered.report) }
-    ensures whole { Told (F.holds files.old) (F.holds files.new) (CompletesPart (names_for name.now) gathered now) }
+    ensures whole { Told (F.holds files.old) (F.holds files.new) (CompletesPart (names_of table.now) gathered now) }
+    ensures cleared { IfErr result (λ f. RoseAtMost (faults_told f) (F.faults files.old) (F.faults files.new) → Told (F.holds files.old) (F.holds files.new) (λ _ n. NoWorking (names_of table.now) n)) }
     ensures cut { IfErr result CutsOff }
-    ensures others { Told (F.holds files.old) (F.holds files.new) (KeepsBut (names_for name.now)) }
+    ensures others { Told (F.holds files.old) (F.holds files.new) (KeepsBut (names_of table.now)) }
     ensures cause { HasCause RepairFault.File (F.faults files.old) (F.faults files.new) result }
 {
-    let table = TableFiles::of(alloc, name)?;
-    let trees = build(alloc, files, &table, &mut gathered)?;
-    finish(alloc, files, name, &gathered, &trees.roots, trees.end, now)?;
+    let trees = build(alloc, files, table, &mut gathered)?;
+    finish_table(alloc, files, table, &gathered, &trees.roots, trees.end, now)?;
     Ok(gathered.report)
 }
 
@@ -91,6 +98,7 @@ fn build<F: Files>(
     ensures trees { IfOk result (AreTrees gathered.old.defs gathered.old.pairs) }
     ensures places { IfOk result (λ trees. All IsPlace trees.roots.items) }
     ensures both { Told (F.holds files.old) (F.holds files.new) (KeepsBoth (names_of table.now)) }
+    ensures cleared { IfErr result (λ f. RoseAtMost (faults_told f) (F.faults files.old) (F.faults files.new) → Told (F.holds files.old) (F.holds files.new) (λ _ n. NoWorking (names_of table.now) n)) }
     ensures cut { IfErr result CutsOff }
     ensures others { Told (F.holds files.old) (F.holds files.new) (KeepsBut (names_of table.now)) }
     ensures cause { HasCause RepairFault.File (F.faults files.old) (F.faults files.new) result }

@@ -1,18 +1,16 @@
 //! The trees of the new index file.
 ghost use Rattle.std.specs.Prelude.{◌≡◌, ◌⊎◌, ◌+◌, ◌*◌, ◌%◌, ◌≤◌, ◌<◌, length, All, IfOk, IfErr, OnOk, IsTrue};
-ghost use Rattle.myi_base.specs.Holding.{Told};
+ghost use Rattle.myi_base.specs.Holding.{Told, OthersStay};
 ghost use Rattle.myi_base.specs.Causes.{HasCause};
 ghost use Rattle.myi_defs.specs.ReadDefs.{AreDefs};
 ghost use Rattle.myi_defs.specs.Sound.{IsSound};
 ghost use Rattle.myi_header.specs.StateOf.{IsPlace};
 ghost use Rattle.myi_header.specs.Layout.{first_page_of};
-ghost use Rattle.myi_keycache.specs.Caching.{OthersStay};
 ghost use Rattle.myi_btree.specs.Sizes.{IsPlaced, AreSized, fits_in};
 ghost use Rattle.myi_btree.specs.Laid.{laid, root_of};
 ghost use Rattle.myi_btree.specs.Building.{CanLay, Lays};
 ghost use Rattle.myi_pair.specs.KeyList.{sorted};
 ghost use Rattle.myi_pair.specs.Trees.{place_of};
-ghost use Rattle.myi_repair.specs.Names.{KeepsOthers};
 ghost use Rattle.myi_repair.specs.Opening.{CutsOff};
 ghost use Rattle.myi_repair.specs.Faults.{of_tree, of_cache};
 ghost use Rattle.myi_repair.specs.Sized.{AreSizedPairs};
@@ -72,7 +70,7 @@ pub(crate) fn build_trees<F: Files>(
     ensures trees { IfOk result (AreTrees defs.now pairs.items) }
     ensures places { IfOk result (λ trees. All IsPlace trees.roots.items) }
     ensures cut { IfErr result CutsOff }
-    ensures others { Told (F.holds files.old) (F.holds files.new) (KeepsOthers file.now) }
+    ensures others { Told (F.holds files.old) (F.holds files.new) (OthersStay file.now) }
     ensures cause { HasCause RepairFault.File (F.faults files.old) (F.faults files.new) result }
 {
     files.cut(file, 0)?;

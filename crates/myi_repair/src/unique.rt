@@ -1,8 +1,9 @@
 //! `UniqueKey`: the keys of kept rows that no other row may have.
-ghost use Rattle.std.specs.Prelude.{◌≡◌, ◌≤◌, ◌||◌, ℕ, true, List, [], length, map, IfOk, OnOk};
+ghost use Rattle.std.specs.Prelude.{◌≡◌, ◌≤◌, ◌&&◌, ◌||◌, ℕ, true, List, [], length, map, IfOk, OnOk};
 ghost use Rattle.std.specs.BTreeSet.{contains};
 ghost use Rattle.std.specs.List.{list_any};
 ghost use Rattle.myi_defs.specs.Sound.{IsSound};
+ghost use Rattle.myi_keys.specs.Limits.{is_complete};
 ghost use Rattle.myi_pack.specs.Spelling.{fits};
 ghost use Rattle.myi_repair.specs.Keeping.{is_noted, unique_cmp, row_keys, unique_codes, by_code};
 
@@ -38,6 +39,13 @@ pub(crate) fn keys_of(
     Ok(keys)
 }
 
+// Whether no other row may have that key of a row: it is a complete one of a unique key.
+fn is_distinct(defs: &Key, key: &KeyVal) -> bool
+    ensures { result ≡ (defs.now.unique && is_complete key.now) }
+{
+    defs.unique && key.is_complete()
+}
+
 /// Those of the keys that no other row may have: complete ones in unique keys.
 pub(crate) fn unique_keys(
     alloc: Global,
@@ -50,7 +58,7 @@ pub(crate) fn unique_keys(
 {
     let mut unique = Vec::new(alloc);
     for (number, key) in keys.iter().enumerate() {
-        if defs[number].unique && key.is_complete() {
+        if is_distinct(&defs[number], key) {
             unique.push(UniqueKey {
                 number: number as u8,
                 code: encode(alloc, key)?,

@@ -6,7 +6,7 @@ use Rattle.myi_io.specs.declared.sink.SinkErr.TheVariants as sink
 use Rattle.myisamkit.specs.declared.status.Status.{Status}
 use Rattle.myisamkit.specs.Words.{Request}
 use Rattle.myisamkit.specs.Stops.{status_of_sink}
-use Rattle.myisamkit.specs.Runs.{text, IsFault, SaysPart, Says}
+use Rattle.myisamkit.specs.Runs.{text, IsFault, Says}
 
 -- the statuses of output that failed cut a run off
 output_faults : (e : SinkErr) → IsFault (status_of_sink e)

@@ -3,7 +3,7 @@ use Rattle.std.specs.Prelude.{◌≡◌, ◌⊎◌, ℕ, Bool, List, ◌++◌, t
 use Rattle.myi_base.specs.Holding.{Holding}
 use Rattle.myi_repair.specs.declared.fault.RepairFault.{RepairFault}
 use Rattle.myi_repair.specs.declared.fault.RepairFault.TheVariants as repair
-use Rattle.myi_repair.specs.Names.{names_for, KeepsBut}
+use Rattle.myi_repair.specs.Names.{names_for, KeepsBut, Clears}
 use Rattle.myi_repair.specs.Opening.{Table, opened}
 use Rattle.myi_repair.specs.Gathering.{report_of}
 use Rattle.myi_repair.specs.Repairs.{Repaired, OldOrNew}
@@ -48,6 +48,22 @@ IsFault status.Findings = ⊥
 IsFault status.Usage = ⊥
 IsFault status.Refused = ⊥
 IsFault status.Absent = ⊥
+
+-- how many faults of the files a status tells of
+abbrev pub faults_told : Status → ℕ
+faults_told status.FileFault = 1
+faults_told status.SinkFault = 0
+faults_told status.Memory = 0
+faults_told status.Ok = 0
+faults_told status.Findings = 0
+faults_told status.Usage = 0
+faults_told status.Refused = 0
+faults_told status.Absent = 0
+
+-- nothing changed, or no working file of the table is left
+abbrev pub LeavesNoWorking : Request → Holding → Holding → Type 0
+LeavesNoWorking usage m n = n ≡ m
+LeavesNoWorking (recover extend name) m n = Clears (names_for name) m n
 
 -- at every status a table's files are the old ones or whole new ones, and other files keep what they hold
 abbrev pub LeavesWhole : Request → ℕ → Holding → Holding → Type 0

@@ -3,9 +3,12 @@ ghost use Rattle.std.specs.Prelude.{◌≡◌, ◌≢◌, ◌⊎◌, Err, Some, 
 ghost use Rattle.myi_base.specs.Holding.{Holding, Told};
 ghost use Rattle.myi_base.specs.Causes.{HasCause};
 ghost use Rattle.myi_repair.specs.Opening.{CutsOff};
+ghost use Rattle.myi_repair.specs.Faults as repair;
+ghost use Rattle.myi_repair.specs.Names.{names_for, Clears};
 ghost use Rattle.myisamkit.specs.Words.{recover};
+ghost use Rattle.myisamkit.specs.Stops.{status_of_stop};
 ghost use Rattle.myisamkit.specs.Lines as spec;
-ghost use Rattle.myisamkit.specs.Runs.{text, status_of, fault_status, IsFault, LeavesWhole, Does};
+ghost use Rattle.myisamkit.specs.Runs.{text, status_of, fault_status, faults_told, IsFault, LeavesWhole, Does};
 
 use crate::lines::{absent_line, reason_of, recovered_line, refused_line};
 use crate::status::{Status, Stop};
@@ -27,6 +30,7 @@ pub(crate) fn recover_table<F: Files>(
     ensures plain { IfOk result (λ r. IsFault r.0 → ⊥) }
     ensures usage { IfOk result (λ r. r.0 ≢ Status.Usage) }
     ensures files { Told (F.holds files.old) (F.holds files.new) (LeavesWhole (recover extend name.now) now) }
+    ensures cleared { IfErr result (λ s. repair.RoseAtMost (faults_told (status_of_stop s)) (F.faults files.old) (F.faults files.new) → Told (F.holds files.old) (F.holds files.new) (Clears (names_for name.now))) }
     ensures done { OnOk result (Told (F.holds files.old) (F.holds files.new) (Does (recover extend name.now) now)) }
     ensures cause { HasCause Stop.File (F.faults files.old) (F.faults files.new) result }
 {
@@ -42,6 +46,7 @@ fn not_repaired(alloc: Global, name: &str, fault: RepairFault) -> Result<(Status
     ensures status { IfOk result (λ r. r.0 ≡ fault_status fault) }
     ensures refusal { IfOk result (λ r. CutsOff fault → ⊥) }
     ensures file { IfErr result (λ s. s ≡ Stop.File → fault ≡ RepairFault.File) }
+    ensures told { IfErr result (λ s. faults_told (status_of_stop s) ≡ repair.faults_told fault) }
 {
     match fault {
         RepairFault::Absent(file) => Ok((Status::Absent, absent_line(alloc, name, file)?)),

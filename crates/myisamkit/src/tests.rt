@@ -150,6 +150,8 @@ fn a_fault_leaves_the_old_rows_or_the_new_ones(rt: HostRuntime) -> Result<(), Fa
         assert_eq!(rt; status, Status::FileFault);
         assert_eq!(rt; out.written(), b"".as_slice());
         assert!(rt; holds(&files, "a.MYD", ROWS) || holds(&files, "a.MYD", KEPT));
+        assert!(rt; files.get("a.TMD").is_none());
+        assert!(rt; files.get("a.TMI").is_none());
         let again = kit(alloc, &asked, &mut files, &mut out, MOMENT);
         assert_eq!(rt; again, Status::Ok);
         assert!(rt; holds(&files, "a.MYD", KEPT));
@@ -234,5 +236,83 @@ fn what_is_not_taken_is_refused_by_name(rt: HostRuntime) -> Result<(), Fail> {
         assert!(rt; holds(&files, "a.MYD", ROWS));
         assert!(rt; holds(&files, "a.MYI", &header));
     }
+    Ok(())
+}
+
+#[test]
+fn an_index_file_of_ten_bytes_is_refused(rt: HostRuntime) -> Result<(), Fail> {
+    let alloc = rt.alloc();
+    let mut short = index(alloc, BEFORE)?;
+    short.truncate(10);
+    let given = vec![in alloc;
+        (text(alloc, "a.MYI")?, short.clone()?),
+        (text(alloc, "a.MYD")?, Vec::from_slice(alloc, ROWS)?),
+    ]?;
+    let mut files = MemFiles::new(alloc, given, Vec::new(alloc))?;
+    let mut out = MemSink::new(alloc, Vec::new(alloc))?;
+    let asked = words(alloc, &["chk", "--recover", "a"])?;
+    assert_eq!(rt;
+        kit(alloc, &asked, &mut files, &mut out, MOMENT),
+        Status::Refused
+    );
+    assert_eq!(rt; out.written(), b"a: refused: 1 Short\n".as_slice());
+    assert!(rt; holds(&files, "a.MYD", ROWS));
+    assert!(rt; holds(&files, "a.MYI", &short));
+    Ok(())
+}
+
+// Row pointers of two bytes reach 65,534 slots of eight bytes.
+#[test]
+fn slots_that_no_pointer_reaches_are_too_long(rt: HostRuntime) -> Result<(), Fail> {
+    let alloc = rt.alloc();
+    let asked = words(alloc, &["chk", "--recover", "a"])?;
+    let cases = [
+        (
+            524_272,
+            Status::Ok,
+            "a: recovered 65534 rows, dropped 0 repeats, data 524272 to 524272 bytes\n",
+        ),
+        (524_280, Status::Refused, "a: refused: too long\n"),
+    ];
+    for (length, status, line) in cases {
+        let mut header = index(alloc, BEFORE)?;
+        if let Some(pointer_size) = header.get_mut(248) {
+            *pointer_size = 2;
+        }
+        let mut rows = Vec::new(alloc);
+        rows.resize(length, 0xFF)?;
+        let given = vec![in alloc;
+            (text(alloc, "a.MYI")?, header),
+            (text(alloc, "a.MYD")?, rows.clone()?),
+        ]?;
+        let mut files = MemFiles::new(alloc, given, Vec::new(alloc))?;
+        let mut out = MemSink::new(alloc, Vec::new(alloc))?;
+        assert_eq!(rt; kit(alloc, &asked, &mut files, &mut out, MOMENT), status);
+        assert_eq!(rt; out.written(), line.as_bytes());
+        assert!(rt; holds(&files, "a.MYD", &rows));
+    }
+    Ok(())
+}
+
+#[test]
+fn working_files_that_a_crash_left_are_made_anew(rt: HostRuntime) -> Result<(), Fail> {
+    let alloc = rt.alloc();
+    let given = vec![in alloc;
+        (text(alloc, "a.MYI")?, index(alloc, BEFORE)?),
+        (text(alloc, "a.MYD")?, Vec::from_slice(alloc, ROWS)?),
+        (text(alloc, "a.TMD")?, Vec::from_slice(alloc, SERVER_ROWS)?),
+        (text(alloc, "a.TMI")?, Vec::from_slice(alloc, ROWS)?),
+    ]?;
+    let mut files = MemFiles::new(alloc, given, Vec::new(alloc))?;
+    let mut out = MemSink::new(alloc, Vec::new(alloc))?;
+    let asked = words(alloc, &["chk", "--recover", "a"])?;
+    assert_eq!(rt;
+        kit(alloc, &asked, &mut files, &mut out, MOMENT),
+        Status::Ok
+    );
+    assert!(rt; holds(&files, "a.MYD", KEPT));
+    assert!(rt; holds(&files, "a.MYI", &index(alloc, AFTER)?));
+    assert!(rt; files.get("a.TMD").is_none());
+    assert!(rt; files.get("a.TMI").is_none());
     Ok(())
 }

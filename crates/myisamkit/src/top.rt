@@ -1,9 +1,11 @@
 //! The top call.
-ghost use Rattle.std.specs.Prelude.{◌≡◌, ◌≢◌, ◌⊎◌, ◌↔◌, Some, map, string_bytes, IfOk, OnOk, IsTrue};
+ghost use Rattle.std.specs.Prelude.{◌≡◌, ◌≢◌, ◌⊎◌, ◌↔◌, Some, map, string_bytes, IfOk, IfErr, OnOk, IsTrue};
 ghost use Rattle.myi_base.specs.Holding.{Holding, Told};
 ghost use Rattle.myi_base.specs.Causes.{Rose, HasCause};
+ghost use Rattle.myi_repair.specs.Faults.{RoseAtMost};
 ghost use Rattle.myisamkit.specs.Words.{plan, usage};
-ghost use Rattle.myisamkit.specs.Runs.{text, status_of, IsFault, Says, LeavesWhole, Does};
+ghost use Rattle.myisamkit.specs.Stops.{status_of_stop};
+ghost use Rattle.myisamkit.specs.Runs.{text, status_of, faults_told, IsFault, Says, LeavesWhole, LeavesNoWorking, Does};
 
 use crate::lines::usage_line;
 use crate::recover::recover_table;
@@ -32,6 +34,9 @@ pub fn kit<F: Files, O: Sink>(
 
     // At each status a table's files are the old ones or whole new ones, and other files stay.
     ensures files { Told (F.holds files.old) (F.holds files.new) (LeavesWhole (plan (map (λ w. string_bytes w) words.now)) now) }
+
+    // Where no file call failed but the one that the status tells of, no working file is left.
+    ensures cleared { RoseAtMost (faults_told result) (F.faults files.old) (F.faults files.new) → Told (F.holds files.old) (F.holds files.new) (LeavesNoWorking (plan (map (λ w. string_bytes w) words.now))) }
 
     // Where no fault cuts the work off, the work is done. A fault of the output comes after it.
     ensures done { (result ≡ Status.FileFault) ⊎ ((result ≡ Status.Memory) ⊎ Told (F.holds files.old) (F.holds files.new) (Does (plan (map (λ w. string_bytes w) words.now)) now)) }
@@ -62,6 +67,7 @@ fn work<F: Files>(
     ensures plain { IfOk result (λ r. IsFault r.0 → ⊥) }
     ensures usage { IfOk result (λ r. (plan (map (λ w. string_bytes w) words.now) ≡ usage) ↔ (r.0 ≡ Status.Usage)) }
     ensures files { Told (F.holds files.old) (F.holds files.new) (LeavesWhole (plan (map (λ w. string_bytes w) words.now)) now) }
+    ensures cleared { IfErr result (λ s. RoseAtMost (faults_told (status_of_stop s)) (F.faults files.old) (F.faults files.new) → Told (F.holds files.old) (F.holds files.new) (LeavesNoWorking (plan (map (λ w. string_bytes w) words.now)))) }
     ensures done { OnOk result (Told (F.holds files.old) (F.holds files.new) (Does (plan (map (λ w. string_bytes w) words.now)) now)) }
     ensures cause { HasCause Stop.File (F.faults files.old) (F.faults files.new) result }
 {

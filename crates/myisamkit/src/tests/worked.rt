@@ -157,6 +157,14 @@ const REPAIRS: &[Repair] = &[
         pages: &[],
     },
     Repair {
+        header: TEXT,
+        extend: false,
+        rows: "03001000fe010000000a6162636465666768696a010011fe020000000b6162636465666768696a6b",
+        line: "t: recovered 2 rows, dropped 0 repeats, data 40 to 40 bytes\n",
+        kept: "03001000fe010000000a6162636465666768696a010011fe020000000b6162636465666768696a6b",
+        pages: &[],
+    },
+    Repair {
         header: ZEROS,
         extend: false,
         rows: "0300090702fe0100000002616200000000000000",

@@ -1,6 +1,5 @@
 use Rattle.std.proofs.Common.{◌≡◌, ◌∙◌, length, Some, [], refl, sym, ap, subst, arith}
-use Rattle.myi_base.specs.Holding.{bytes_of}
-use Rattle.myi_repair.specs.Names.{KeepsOthers}
+use Rattle.myi_base.specs.Holding.{bytes_of, OthersStay}
 use Rattle.myi_repair.specs.Keeping.{HasKept}
 use Rattle.myi_repair.specs.Gathering.{TakesIf}
 use Rattle.myi_repair.proofs.FilesLaws.{same_holding, resized_none}
@@ -42,7 +41,7 @@ loop-turn-preserved g c =
           let before = was.so_far m told in
           let next = took.took before.0 before.1 in
           let kept = took.others before.0 before.1 in
-          let others = subst (KeepsOthers file before.0) (same_holding _ kept.0 next.0 kept.1 next.1) kept.2 in
+          let others = subst (OthersStay file before.0) (same_holding _ kept.0 next.0 kept.1 next.1) kept.2 in
           let row = subst (λ b. TakesIf b start.test file c.loop-turn.scan c.take_next.new.scan c.loop-turn.rows c.take_next.new.rows before.0 next.0) c.if-not-branch.false (subst (λ d. TakesIf c.in_ok-take_next.field-0 d file c.loop-turn.scan c.take_next.new.scan c.loop-turn.rows c.take_next.new.rows before.0 next.0) (sym c.requires.test) next.2) in
           (next.0, next.1, gathering_more start c.loop-turn.scan c.take_next.new.scan file c.loop-turn.rows c.take_next.new.rows m before.0 next.0 was.same (same_name file start.name m before.0 c.requires.apart before.2.others) before.2 (took.bytes before.0 before.1) c.requires.fresh row others was.same.test (took.same.test ∙ was.same.test));
     }

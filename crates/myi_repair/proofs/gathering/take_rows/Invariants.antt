@@ -1,7 +1,6 @@
 use Rattle.std.proofs.Common.{◌≤◌, ◌+◌}
-use Rattle.myi_base.specs.Holding.{Told}
+use Rattle.myi_base.specs.Holding.{Told, OthersStay}
 use Rattle.myi_chain.specs.Scanning.{IsSameScan}
-use Rattle.myi_repair.specs.Names.{KeepsOthers}
 use Rattle.myi_repair.specs.Keeping.{AreCounted}
 use Rattle.myi_repair.proofs.GatherLaws.{Gathering}
 use Rattle.myi_repair.proofs.gathering.take_rows.Given as goal
@@ -12,6 +11,6 @@ invariant-loop-turn g l = record {
   counted : AreCounted l.defs l.rows;
   few : l.rows.kept + l.rows.repeats ≤ l._turn;
   later : g.F.Files.faults l.fn.files ≤ g.F.Files.faults l.files;
-  others : Told (g.F.Files.holds l.fn.files) (g.F.Files.holds l.files) (KeepsOthers l.file);
+  others : Told (g.F.Files.holds l.fn.files) (g.F.Files.holds l.files) (OthersStay l.file);
   so_far : Told (g.F.Files.holds l.fn.files) (g.F.Files.holds l.files) (Gathering l.fn.scan l.scan l.file l.rows);
 }

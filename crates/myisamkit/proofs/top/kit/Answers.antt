@@ -1,4 +1,4 @@
-use Rattle.std.proofs.Common.{rules, inr, ◌∙◌}
+use Rattle.std.proofs.Common.{inr, ◌∙◌}
 use Rattle.myisamkit.proofs.SinkLaws.{says_part}
 use Rattle.myisamkit.proofs.top.kit.Goals as goal
 

@@ -19,4 +19,4 @@ returns-then-self-clause-bytes g c = bytes_known _ c.args.self.now _ _ _ _ _ _ _
 pub returns-clause-bytes : goal.returns-clause-bytes
 returns-clause-bytes g c =
     let i = c.self.inside in
-    bytes_now _ c.args.self.now _ _ _ _ _ _ _ c.self.view_is (λ m held. c.in_ok-self-inside.ensures.told m held ∙ ap (λ name. take i.end (bytes_of name m)) c.as_str.ensures.value) (subst AreBytes c.deref.ensures.value c.state_bytes.ensures)
+    bytes_now _ c.args.self.now _ _ _ _ _ _ _ c.self.view_is (λ m held. c.in_ok-self-inside.ensures.told m held ∙ ap (λ name. take i.end (bytes_of name m)) c.as_str.ensures.value) (subst AreBytes c.deref.ensures.value c.slices_are_bytes.ensures)

@@ -1,5 +1,5 @@
 use Rattle.std.proofs.Common.{arith}
-use Rattle.myi_chain.proofs.scan.state_bytes.Goals as goal
+use Rattle.myi_base.proofs.laws.slices_are_bytes.Goals as goal
 
 pub returns : goal.returns
 returns c = λ i. omega (arith, c.type_inv.bytes i)
