@@ -227,3 +227,25 @@ module _ (read : Reading) (len : ℕ) (stands : IsReading read len) where
     pub rest_fine : (p : ℕ) (used : List Range) → Fine p used (rest extend read len accepts p used)
     unfolding rest
     rest_fine p used = items_fine (len - p) p used
+
+-- ---- the bytes of each row pack a row
+
+module _ (extend : Bool) (read : Reading) (len : ℕ) (accepts : List ℕ → Bool) where
+  abbrev pub AreAccepted : List Row → Type 0
+  AreAccepted rows = AllByRecursion (λ r. accepts r.bytes ≡ true) rows
+
+  accepted_more : (p : ℕ) (used : List Range) (o : Option Item) (now : List Range) (is : List Item) → Meets read accepts p used o now → AreAccepted (rows_of is) → AreAccepted (rows_of (option_to_list o ++ is))
+  accepted_more p used None now is m rows = rows
+  accepted_more p used (Some (row r)) now is m rows = (ap accepts (ap (λ (x : Row). x.bytes) m.2) ∙ m.3, rows)
+  accepted_more p used (Some (free a)) now is m rows = rows
+
+  items_accepted : (fuel p : ℕ) (used : List Range) → AreAccepted (rows_of (items extend read len accepts fuel p used))
+  unfolding items
+  items_accepted zero p used = tt
+  items_accepted (suc fuel) p used =
+      let s = step_of extend read accepts p used in
+      either_way (λ (is : List Item). AreAccepted (rows_of is)) (nat_le len p) _ _ (λ _. tt) (accepted_more p used s.item s.used _ (step_meets read accepts extend p used) (items_accepted fuel s.to s.used))
+
+  pub rest_accepted : (p : ℕ) (used : List Range) → AreAccepted (rows_of (rest extend read len accepts p used))
+  unfolding rest
+  rest_accepted p used = items_accepted (len - p) p used

@@ -6,6 +6,7 @@ use Rattle.myi_base.specs.Ranges.{Range}
 use Rattle.myi_base.specs.Holding.{Holding, bytes_of}
 use Rattle.myi_frames.specs.Block.{block_of}
 use Rattle.myi_chain.specs.declared.piece.Piece.{Piece}
+use Rattle.myi_chain.specs.declared.piece.Piece.TheVariants as piece
 use Rattle.myi_chain.specs.declared.piece.Item.{Item as Answer}
 use Rattle.myi_chain.specs.declared.piece.Item.TheVariants as item
 use Rattle.myi_chain.specs.declared.step.Found.{Found}
@@ -14,7 +15,9 @@ use Rattle.myi_chain.specs.Chain.{Reading}
 use Rattle.myi_chain.specs.Readable.{Item, row, free, Row, rest, items_in, rows_of}
 use Rattle.myi_chain.specs.Walk.{ranges_at, behind_row, IsFound, IsFoundRow, IsRowOfBlocks}
 use Rattle.myi_chain.specs.Scanning.{Scanning, left_or, items_left, IsSameScan, IsRead, IsKept, IsEnded, IsAnswered, IsRowAnswered, IsFirst, IsFirstRow, IsPiece}
+use Rattle.myi_chain.specs.Pieces.{shown}
 use Rattle.myi_chain.proofs.CodeLemmas.{placed_ranges}
+use Rattle.myi_chain.proofs.ReadableLemmas.{AreAccepted, rest_accepted}
 
 module _ {A : Type 0} (gives : A → List ℕ → Bool) (h : Option Holding) where
   -- a scan, by its fields
@@ -202,3 +205,14 @@ pub next_found : (extend : Bool) (accepts : List ℕ → Bool) (place : ℕ) (us
 next_found extend accepts place used next now taken held joined f d bytes at same blocks is t =
     let s = subst (FoundRowIn extend accepts place used next now taken joined (Some at)) same (subst (λ (f : Option ℕ). FoundRowIn extend accepts place used next now taken joined f d) is t) in
     (s.0, s.1, s.2, subst (λ (b : List (ℕ × ℕ)). IsRowOfBlocks (block_of bytes) at b joined s.0) (sym blocks) s.3)
+
+-- the bytes that are shown of a row are its own
+pub shown_bytes : (r : Row) (p : Piece) → IsPiece r p → shown p ≡ r.bytes
+shown_bytes r (piece.Lent bytes) is = is.0
+shown_bytes r (piece.Joined bytes) is = is.0
+
+-- the bytes that are shown of the first row that was to come pack a row
+pub first_packs : (extend : Bool) (accepts : List ℕ → Bool) (place : ℕ) (used : List Range) (bytes : List ℕ) (r : Row) (rows : List Row) (p : Piece) → rows_of (rest extend (block_of bytes) (length bytes) accepts place used) ≡ r ∷ rows → IsPiece r p → accepts (shown p) ≡ true
+first_packs extend accepts place used bytes r rows p first is =
+    let all = subst (AreAccepted extend (block_of bytes) (length bytes) accepts) first (rest_accepted extend (block_of bytes) (length bytes) accepts place used) in
+    ap accepts (shown_bytes r p is) ∙ all.0

@@ -10,6 +10,7 @@ use Rattle.myi_chain.specs.declared.piece.ScanFault.{ScanFault}
 use Rattle.myi_chain.specs.Readable.{Row, row, free, rows_of, items_in}
 use Rattle.myi_chain.specs.Readable as readable
 use Rattle.myi_chain.specs.Walk.{ranges_at, behind_row}
+use Rattle.myi_chain.specs.Pieces.{shown}
 
 -- A scan of a file up to its end, with a test of what packs a row. What is left is known once the file was
 -- read. The blocks are those of the row that was answered last, by place and size.
@@ -53,6 +54,11 @@ IsItem (row r) (item.Row at p) = (r.at ≡ at) × IsPiece r p
 IsItem (row r) (item.Free at size) = ⊥
 IsItem (free a) (item.Row at p) = ⊥
 IsItem (free a) (item.Free at size) = a ≡ (at, at + size)
+
+-- the bytes of an answered row pass the test
+abbrev pub Passes : (List ℕ → Bool) → Item → Type 0
+Passes accepts (item.Row at p) = accepts (shown p) ≡ true
+Passes accepts (item.Free at size) = Unit {0}
 
 -- the answer is the first of these items
 abbrev pub IsFirst : List readable.Item → Option Item → Type 0

@@ -157,7 +157,7 @@ impl<A: Accepts> Scan<A> {
 }
 
 impl<A: Accepts> Scan<A> {
-    ghost use Rattle.std.specs.Prelude.{◌≡◌, Option, Some, None, take, IfOk, IfSome, OnOk};
+    ghost use Rattle.std.specs.Prelude.{◌≡◌, true, Option, Some, None, take, IfOk, IfSome, OnOk};
     ghost use Rattle.std.specs.Borrow.{sem};
     ghost use Rattle.std.specs.Io.BufRead.{Rests};
     ghost use Rattle.myi_base.specs.Numbers.{AreBytes};
@@ -165,13 +165,15 @@ impl<A: Accepts> Scan<A> {
     ghost use Rattle.myi_base.specs.Causes.{HasCause};
     ghost use Rattle.myi_chain.specs.declared.piece.ScanFault.TheVariants.{File};
     ghost use Rattle.myi_chain.specs.Readable.{rows_of};
-    ghost use Rattle.myi_chain.specs.Scanning.{Scanning, items_left, IsFirst, IsFirstRow, Leaves, LeavesRows};
+    ghost use Rattle.myi_chain.specs.Pieces.{shown};
+    ghost use Rattle.myi_chain.specs.Scanning.{Scanning, items_left, IsFirst, IsFirstRow, Passes, Leaves, LeavesRows};
     ghost use Rattle.myi_chain.specs.contracts.scan.Scan.{the_row};
 
-    /// The next row or deleted block, and None where none is left. After an error the next call answers
-    /// as this one would have.
+    /// The next row or deleted block, and None where none is left. The bytes of a row pass the test. After
+    /// an error the next call answers as this one would have.
     pub fn next_item<F: Files>(&mut self, files: &mut F) -> Result<Option<Item<'_>>, ScanFault>
         ensures item { IfOk result (λ found. (m : Holding) → F.holds files.old ≡ Some m → IsFirst (items_left A.accepts_gives self.old m) found) }
+        ensures packs { IfOk result (λ found. IfSome found (Passes (A.accepts_gives self.old.test))) }
         ensures bytes { OnOk result ((m : Holding) → F.holds files.old ≡ Some m → self.old.left ≡ None → AreBytes (take self.old.end (bytes_of self.old.name m))) }
         ensures holds { F.holds files.new ≡ F.holds files.old }
         ensures cause { HasCause File (F.faults files.old) (F.faults files.new) result }
@@ -202,13 +204,14 @@ impl<A: Accepts> Scan<A> {
         }
     }
 
-    /// The next row with its position, and None where no row is left. Deleted blocks before it are
-    /// passed. After an error the next call answers as this one would have.
+    /// The next row with its position, and None where no row is left. Its bytes pass the test. Deleted
+    /// blocks before it are passed. After an error the next call answers as this one would have.
     pub fn next_row<F: Files>(
         &mut self,
         files: &mut F,
     ) -> Result<Option<(u64, Piece<'_>)>, ScanFault>
         ensures row { IfOk result (λ found. (m : Holding) → F.holds files.old ≡ Some m → IsFirstRow (rows_of (items_left A.accepts_gives self.old m)) found) }
+        ensures packs { IfOk result (λ found. IfSome found (λ r. A.accepts_gives self.old.test (shown r.1) ≡ true)) }
         ensures bytes { OnOk result ((m : Holding) → F.holds files.old ≡ Some m → self.old.left ≡ None → AreBytes (take self.old.end (bytes_of self.old.name m))) }
         ensures holds { F.holds files.new ≡ F.holds files.old }
         ensures cause { HasCause File (F.faults files.old) (F.faults files.new) result }

@@ -53,6 +53,21 @@ slots_packed d (suc n) at size xs s are =
     let behind : ArePacked d (rows_of more) = slots_packed d n (at + size) size (drop size xs) s (bytes-drop size xs are) in
     slot_cases (λ (is : List Item). ArePacked d (rows_of (is ++ more))) (packs d) slot (λ _. behind) (λ is. (packs_row d (take size xs) s (bytes-take size xs are) is, behind)) behind
 
+-- the bytes in the slot of a row pass the test
+abbrev pub AreAccepted : (List ℕ → Bool) → List Row → Type 0
+AreAccepted accepts rows = AllByRecursion (λ r. accepts r.bytes ≡ true) rows
+
+slots_accepted : (accepts : List ℕ → Bool) (n at size : ℕ) (xs : List ℕ) → AreAccepted accepts (rows_of (flat_map (slot_items accepts) (slots n at size xs)))
+slots_accepted accepts zero at size xs = tt
+slots_accepted accepts (suc n) at size xs =
+    let more : List Item = flat_map (slot_items accepts) (slots n (at + size) size (drop size xs)) in
+    let behind : AreAccepted accepts (rows_of more) = slots_accepted accepts n (at + size) size (drop size xs) in
+    slot_cases (λ (is : List Item). AreAccepted accepts (rows_of (is ++ more))) accepts (record { at = at; bytes = take size xs }) (λ _. behind) (λ is. (is, behind)) behind
+
+pub items_accepted : (accepts : List ℕ → Bool) (size at : ℕ) (xs : List ℕ) → AreAccepted accepts (rows_of (items_at accepts size at xs))
+unfolding items_at
+items_accepted accepts size at xs = slots_accepted accepts _ at size xs
+
 bytes-append : (x y : List ℕ) → AreBytes x → AreBytes y → AreBytes (x ++ y)
 bytes-append [] y left right i = right i
 bytes-append (b ∷ x) y left right zero = left zero

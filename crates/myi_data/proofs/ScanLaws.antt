@@ -14,10 +14,12 @@ use Rattle.myi_chain.specs.Readable.{Row, Item, row, free, rows_of}
 use Rattle.myi_chain.specs.Pieces.{shown}
 use Rattle.myi_chain.specs.Scanning.{left_or, IsSameScan, IsEnded, IsPiece, IsFirst, IsFirstRow}
 use Rattle.myi_data.specs.Readable.{packs, items_at, items_by, items_in}
-use Rattle.myi_data.specs.Scanning.{TableScan, items_left, rows_left, most_of, most_left, ComesFirst, IsRead, IsAnswered, IsRowAnswered, IsSlotOf}
+use Rattle.myi_data.specs.Scanning.{TableScan, items_left, rows_left, most_of, most_left, ComesFirst, IsRead, IsAnswered, IsRowAnswered, PacksRow, IsSlotOf}
 use Rattle.myi_data.specs.declared.slots.NextSlot.{NextSlot}
 use Rattle.myi_data.specs.declared.slots.NextSlot.TheVariants as next
 use Rattle.myi_data.specs.NextSlot.{row_in_slot, IsNextSlot, IsNextRow}
+use Rattle.myi_chain.proofs.ScanLemmas.{shown_bytes}
+use Rattle.myi_data.proofs.RowsLemmas.{AreAccepted, items_accepted}
 use Rattle.myi_data.proofs.SlotLaws.{drop_none}
 use Rattle.myi_data.proofs.SlotLemmas.{few_items, long_here, fewer_behind}
 
@@ -178,6 +180,9 @@ module _ (h : Option Holding) where
     slot_of at p long inside static =
         (long ∙ ap (λ (d : Defs). d.slot_length) o.same_test, subst (λ e. at + old.test.slot_length ≤ e) o.same_end (subst (λ (d : Defs). at + d.slot_length ≤ end) o.same_test inside))
 
+    pub packs_of : (at : ℕ) (p : Piece) (r : Row) → IsPiece r p → packs test r.bytes ≡ true → PacksRow old (at, p)
+    packs_of at p r is accepted = subst (λ d. packs d (shown p) ≡ true) o.same_test (ap (packs test) (shown_bytes r p is) ∙ accepted)
+
     pub none_first : items ≡ [] → (m : Holding) → h ≡ Some m → IsFirst (items_left old m) None
     none_first none m held = subst (λ (is : List Item). IsFirst is None) (sym (o.told m held ∙ none)) tt
 
@@ -239,6 +244,14 @@ module _ (accepts : List ℕ → Bool) (size long at : ℕ) (d bytes : List ℕ)
   pub slot_shown : (p : ℕ) (b : List ℕ) → p + size ≤ length bytes → (p + size ≤ length d → b ≡ take size (drop p d)) → b ≡ take long (drop p bytes)
   slot_shown p b inside f =
       f (subst (λ x. p + size ≤ length x) (sym same) inside) ∙ ap (λ s. take s (drop p d)) length_is ∙ ap (λ x. take long (drop p x)) same
+
+-- the bytes of the slot that comes next pass the test, where it is a row
+pub slot_packs : (accepts : List ℕ → Bool) (size at p : ℕ) (bytes : List ℕ) (left : List Item) → items_at accepts size at (drop at bytes) ≡ row (row_in_slot size bytes p) ∷ left → accepts (row_in_slot size bytes p).bytes ≡ true
+slot_packs accepts size at p bytes left first = (subst (AreAccepted accepts) (ap rows_of first) (items_accepted accepts size at (drop at bytes))).0
+
+-- the bytes of the next row pass the test
+pub place_packs : (accepts : List ℕ → Bool) (size at p : ℕ) (bytes : List ℕ) (left : List Item) → ComesFirst (row_in_slot size bytes p) left (items_at accepts size at (drop at bytes)) → accepts (row_in_slot size bytes p).bytes ≡ true
+place_packs accepts size at p bytes left first = (subst (AreAccepted accepts) first.rows (items_accepted accepts size at (drop at bytes))).0
 
 -- the range of a slot
 pub slot_blocks : (long p size : ℕ) (bytes : List ℕ) → size ≡ long → p + size ≤ length bytes → (row_in_slot long bytes p).blocks ≡ (p, p + size) ∷ []

@@ -1,5 +1,5 @@
 -- What a scan of a table's data file has still to answer.
-use Rattle.std.specs.Prelude.{◌≡◌, ◌⊎◌, ◌≤◌, ◌<◌, ◌+◌, ◌/◌, ℕ, List, ◌∷◌, length, take, Option, Some, None, Result, Ok, Err}
+use Rattle.std.specs.Prelude.{◌≡◌, ◌⊎◌, ◌≤◌, ◌<◌, ◌+◌, ◌/◌, ℕ, true, List, ◌∷◌, length, take, Option, Some, None, Result, Ok, Err}
 use Rattle.myi_base.specs.Holding.{Holding, bytes_of}
 use Rattle.myi_defs.specs.declared.types.RowFormat.TheVariants.{Static}
 use Rattle.myi_defs.specs.declared.types.Defs.{Defs}
@@ -10,8 +10,8 @@ use Rattle.myi_chain.specs.Readable.{Row, rows_of}
 use Rattle.myi_chain.specs.Readable as chains
 use Rattle.myi_chain.specs.Pieces.{shown}
 use Rattle.myi_chain.specs.Walk.{ranges_at, behind_row}
-use Rattle.myi_chain.specs.Scanning.{Scanning, left_or, IsPiece, IsItem, IsSameScan, AreBlocks, IsEnded}
-use Rattle.myi_data.specs.Readable.{items_in}
+use Rattle.myi_chain.specs.Scanning.{Scanning, left_or, IsPiece, IsItem, Passes, IsSameScan, AreBlocks, IsEnded}
+use Rattle.myi_data.specs.Readable.{packs, items_in}
 
 -- A scan of a table's data file up to its end: its `test` is the definitions of the table.
 abbrev pub TableScan : Type 0
@@ -32,6 +32,13 @@ most_of (Some left) most = length left
 -- no more is left of a static table than this: what is known to be left, or the slots of the file
 abbrev pub most_left : TableScan → ℕ
 most_left s = most_of s.left (s.end / s.test.slot_length)
+
+-- the bytes of an answered row pack a row of the table
+abbrev pub PacksItem : TableScan → Item → Type 0
+PacksItem s found = Passes (packs s.test) found
+
+abbrev pub PacksRow : TableScan → ℕ × Piece → Type 0
+PacksRow s r = packs s.test (shown r.1) ≡ true
 
 -- an answered row of a static table is a slot of the file
 abbrev pub IsSlotOf : TableScan → ℕ × Piece → Type 0

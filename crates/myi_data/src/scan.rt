@@ -12,7 +12,7 @@ ghost use Rattle.myi_base.specs.Causes.{HasCause};
 ghost use Rattle.myi_chain.specs.declared.piece.ScanFault.TheVariants.{File};
 ghost use Rattle.myi_chain.specs.Readable.{rows_of};
 ghost use Rattle.myi_chain.specs.Scanning.{IsFirst, IsFirstRow};
-ghost use Rattle.myi_data.specs.Scanning.{TableScan, items_left, rows_left, IsSlotOf, Leaves, LeavesRows};
+ghost use Rattle.myi_data.specs.Scanning.{TableScan, items_left, rows_left, PacksItem, PacksRow, IsSlotOf, Leaves, LeavesRows};
 
 use crate::blocks::BlockScan;
 use crate::row_test::RowTest;
@@ -55,7 +55,7 @@ impl DataScan {
     ghost use Rattle.myi_base.specs.Causes.{HasCause};
     ghost use Rattle.myi_chain.specs.declared.piece.ScanFault.TheVariants.{File};
     ghost use Rattle.myi_chain.specs.Scanning.{IsFirst, IsFirstRow};
-    ghost use Rattle.myi_data.specs.Scanning.{items_left, rows_left, IsSlotOf, Leaves, LeavesRows};
+    ghost use Rattle.myi_data.specs.Scanning.{items_left, rows_left, PacksItem, PacksRow, IsSlotOf, Leaves, LeavesRows};
     ghost use Rattle.myi_data.specs.contracts.scan.DataScan.{the_row};
 
     /// A scan of the file of that name, of a table that the test is for. Nothing is read yet.
@@ -75,6 +75,7 @@ impl DataScan {
     /// row's block meets. After an error the next call answers as this one would have.
     pub fn next_item<F: Files>(&mut self, files: &mut F) -> Result<Option<Item<'_>>, ScanFault>
         ensures item { IfOk result (λ found. (m : Holding) → F.holds files.old ≡ Some m → IsFirst (items_left self.old m) found) }
+        ensures packs { IfOk result (λ found. IfSome found (PacksItem self.old)) }
         ensures bytes { OnOk result ((m : Holding) → F.holds files.old ≡ Some m → self.old.left ≡ None → AreBytes (take self.old.end (bytes_of self.old.name m))) }
         ensures holds { F.holds files.new ≡ F.holds files.old }
         ensures cause { HasCause File (F.faults files.old) (F.faults files.new) result }
@@ -94,6 +95,7 @@ impl DataScan {
         files: &mut F,
     ) -> Result<Option<(u64, Piece<'_>)>, ScanFault>
         ensures row { IfOk result (λ found. (m : Holding) → F.holds files.old ≡ Some m → IsFirstRow (rows_left self.old m) found) }
+        ensures packs { IfOk result (λ found. IfSome found (PacksRow self.old)) }
         ensures slot { IfOk result (λ found. IfSome found (IsSlotOf self.old)) }
         ensures bytes { OnOk result ((m : Holding) → F.holds files.old ≡ Some m → self.old.left ≡ None → AreBytes (take self.old.end (bytes_of self.old.name m))) }
         ensures holds { F.holds files.new ≡ F.holds files.old }

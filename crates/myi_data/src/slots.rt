@@ -165,7 +165,7 @@ impl SlotScan {
     ghost use Rattle.myi_base.specs.Causes.{HasCause};
     ghost use Rattle.myi_chain.specs.declared.piece.ScanFault.TheVariants.{File};
     ghost use Rattle.myi_chain.specs.Scanning.{IsFirst, IsFirstRow};
-    ghost use Rattle.myi_data.specs.Scanning.{items_left, rows_left, IsSlotOf, Leaves, LeavesRows};
+    ghost use Rattle.myi_data.specs.Scanning.{items_left, rows_left, PacksItem, PacksRow, IsSlotOf, Leaves, LeavesRows};
     ghost use Rattle.myi_data.specs.contracts.slots.SlotScan.{the_row};
 
     /// The next row or deleted slot, and None where none is left.
@@ -174,6 +174,7 @@ impl SlotScan {
         files: &mut F,
     ) -> Result<Option<Item<'_>>, ScanFault>
         ensures item { IfOk result (λ found. (m : Holding) → F.holds files.old ≡ Some m → IsFirst (items_left self.old m) found) }
+        ensures packs { IfOk result (λ found. IfSome found (PacksItem self.old)) }
         ensures bytes { OnOk result ((m : Holding) → F.holds files.old ≡ Some m → self.old.left ≡ None → AreBytes (take self.old.end (bytes_of self.old.name m))) }
         ensures holds { F.holds files.new ≡ F.holds files.old }
         ensures cause { HasCause File (F.faults files.old) (F.faults files.new) result }
@@ -213,6 +214,7 @@ impl SlotScan {
         files: &mut F,
     ) -> Result<Option<(u64, Piece<'_>)>, ScanFault>
         ensures row { IfOk result (λ found. (m : Holding) → F.holds files.old ≡ Some m → IsFirstRow (rows_left self.old m) found) }
+        ensures packs { IfOk result (λ found. IfSome found (PacksRow self.old)) }
         ensures slot { IfOk result (λ found. IfSome found (IsSlotOf self.old)) }
         ensures bytes { OnOk result ((m : Holding) → F.holds files.old ≡ Some m → self.old.left ≡ None → AreBytes (take self.old.end (bytes_of self.old.name m))) }
         ensures holds { F.holds files.new ≡ F.holds files.old }

@@ -1,6 +1,6 @@
 -- What the loop that gathers rows keeps.
 use Rattle.std.proofs.Common.{◌≡◌, ◌⊎◌, ℕ, ◌+◌, Bool, true, false, List, [], ◌∷◌, ◌++◌, length, take, Option, Some, None, Result, Ok, unwrap_or, refl, sym, ap, subst, ◌∙◌, arith, inl, inr, append_assoc}
-use Rattle.std.specs.Prelude.{map, if◌then◌else◌}
+use Rattle.std.specs.Prelude.{map, is_some, MatchOption, if◌then◌else◌}
 use Rattle.std.specs.List.{list_any}
 use Rattle.std.proofs.lemmas.List.{append-nil, take_all}
 use Rattle.myi_base.specs.Holding.{Holding, bytes_of, OthersStay}
@@ -9,11 +9,10 @@ use Rattle.myi_defs.specs.declared.types.Defs.{Defs}
 use Rattle.myi_pack.specs.Packed.{Values}
 use Rattle.myi_pack.specs.Reading.{row_of}
 use Rattle.myi_chain.specs.declared.piece.Piece.{Piece}
-use Rattle.myi_chain.specs.declared.piece.Piece.TheVariants.{Lent, Joined}
 use Rattle.myi_chain.specs.declared.piece.ScanFault.{ScanFault}
 use Rattle.myi_chain.specs.Readable.{Row, Item, rows_of}
 use Rattle.myi_chain.specs.Pieces.{shown}
-use Rattle.myi_chain.specs.Scanning.{IsPiece, IsSameScan, left_or}
+use Rattle.myi_chain.specs.Scanning.{IsSameScan, left_or}
 use Rattle.myi_data.specs.Laid.{laid_file}
 use Rattle.myi_data.specs.Readable.{packs, items_in, readable}
 use Rattle.myi_data.specs.Scanning.{TableScan, rows_left, IsRowAnswered, LeavesRows}
@@ -26,18 +25,22 @@ use Rattle.myi_repair.specs.Names.{FourNames}
 use Rattle.myi_repair.specs.Opening.{IsTable}
 use Rattle.myi_repair.specs.Keeping.{lists_in, AreCounted, HasKept, kept_with}
 use Rattle.myi_repair.specs.Gathering.{Gathers, values_left, TakesRow, ReadsBytes, GathersRows}
+use Rattle.myi_chain.proofs.ScanLemmas.{shown_bytes}
 use Rattle.myi_repair.proofs.OpenLaws.{is_opened}
-use Rattle.myi_repair.proofs.RowsLaws.{AreAccepted, rows_accepted}
 
 -- ---- one row
+
+pub match_some : {A : Type 0} (o : Option A) (x : A) (N : Type 0) (P : A → Type 0) → o ≡ Some x → MatchOption o N P → P x
+match_some o x N P is m = subst (λ q. MatchOption q N P) is m
+
+-- bytes that pack a row are seen as one
+pub viewed : (r o : Option Values) → MatchOption r (o ≡ None) (λ row. o ≡ Some row) → is_some o ≡ true → is_some r ≡ true
+viewed (Some row) o found packs = refl
+viewed None o found packs = ap is_some (sym found) ∙ packs
 
 -- an answer with a row leaves the rows behind it
 pub answered_of : (h : Option Holding) (old new : TableScan) (r : Result (Option (ℕ × Piece)) ScanFault) (o : Option (ℕ × Piece)) (x : ℕ × Piece) → r ≡ Ok o → o ≡ Some x → LeavesRows h old r new → IsRowAnswered h old x new
 answered_of h old new r o x ok some leaves = subst (λ o. LeavesRows h old (Ok o) new) some (subst (λ r. LeavesRows h old r new) ok leaves)
-
-pub piece_bytes : (r : Row) (p : Piece) → IsPiece r p → r.bytes ≡ shown p
-piece_bytes r (Lent bytes) is = sym is.0
-piece_bytes r (Joined bytes) is = sym is.0
 
 -- once what is left is known, it does not depend on the files
 pub left_known : (new : TableScan) (n : Holding) (items : List Item) → new.left ≡ Some items → rows_left new n ≡ rows_of items
@@ -52,7 +55,6 @@ pub record Gathering (start now : TableScan) (file : List ℕ) (k : KeptRows) (m
   pub here : n file ≡ Some (laid_file start.test rows)
   pub all : rows ++ first_after start.test rows (values_left now n) ≡ first_rows start.test (values_left start m)
   pub counted : k.kept + k.repeats + length (rows_left now n) ≡ length (rows_left start m)
-  pub accepted : AreAccepted start.test (rows_left now n)
   pub read : (now ≡ start) ⊎ AreBytes (take start.end (bytes_of start.name m))
   pub others : OthersStay file m n
 
@@ -66,30 +68,24 @@ gathering_none start file k m n fresh same kept none here others =
       here = here;
       all = ap (λ (rs : List Row). first_after start.test [] (map (values_of start.test) rs)) rows;
       counted = omega (arith, none, ap (λ (rs : List Row). length rs) rows);
-      accepted = subst (λ l. AreAccepted start.test (rows_of (left_or l (items_in start.test start.extend (take start.end (bytes_of start.name n)))))) (sym fresh) (fresh_accepted start.test start.extend (take start.end (bytes_of start.name n)));
       read = inl refl;
       others = others;
     }
-  where
-    fresh_accepted : (d : Defs) (extend : Bool) (x : List ℕ) → AreAccepted d (rows_of (items_in d extend x))
-    fresh_accepted d extend x = rows_accepted d extend x
 
 -- a row that was taken is kept or repeats one
 pub gathering_more : (start old new : TableScan) (file : List ℕ) (k l : KeptRows) (m n o : Holding) → IsSameScan start old → bytes_of start.name n ≡ bytes_of start.name m → Gathering start old file k m n → ReadsBytes old n → (start.left ≡ None) → TakesRow start.test file old new k l n o → OthersStay file n o
     → old.test ≡ start.test → new.test ≡ start.test → Gathering start new file l m o
 gathering_more start old new file k l m n o same bytes so_far reads fresh takes others tested next_tested =
     let d = start.test in
-    let packed : packs d takes.row.bytes ≡ true = (subst (AreAccepted d) takes.left so_far.accepted).0 in
     let row : Values = values_of d takes.row in
     let values : values_left old n ≡ row ∷ map (values_of d) takes.rest = ap (λ (rs : List Row). map (values_of old.test) rs) takes.left ∙ ap (λ t. map (values_of t) (takes.row ∷ takes.rest)) tested in
     let left : values_left new o ≡ map (values_of d) takes.rest = ap (λ (rs : List Row). map (values_of new.test) rs) takes.behind ∙ ap (λ t. map (values_of t) takes.rest) next_tested in
     record {
       rows = kept_with d so_far.rows row;
-      kept = takes.kept packed so_far.rows so_far.kept;
-      here = takes.written packed so_far.rows so_far.kept so_far.here;
+      kept = takes.kept so_far.rows so_far.kept;
+      here = takes.written so_far.rows so_far.kept so_far.here;
       all = ap (λ vs. kept_with d so_far.rows row ++ first_after d (kept_with d so_far.rows row) vs) left ∙ step d so_far.rows row (map (values_of d) takes.rest) ∙ ap (λ vs. so_far.rows ++ first_after d so_far.rows vs) (sym values) ∙ so_far.all;
-      counted = omega (arith, takes.counted packed, so_far.counted, ap (λ (rs : List Row). length rs) takes.left, ap (λ (rs : List Row). length rs) takes.behind);
-      accepted = subst (AreAccepted d) (sym takes.behind) (subst (AreAccepted d) takes.left so_far.accepted).1;
+      counted = omega (arith, takes.counted, so_far.counted, ap (λ (rs : List Row). length rs) takes.left, ap (λ (rs : List Row). length rs) takes.behind);
       read = inr (read_now so_far.read);
       others = λ q differs. others q differs ∙ so_far.others q differs;
     }
@@ -128,15 +124,15 @@ pub took_row : (d : Defs) (file : List ℕ) (h : Option Holding) (old new : Tabl
     → ((rows : List Values) → HasKept d rows k → m file ≡ Some (laid_file d rows) → n file ≡ Some (laid_file d (kept_with d rows view))) → TakesRow d file old new k l m n
 took_row d file h old new k l m n found view bytes told answered shows read one kept written =
     let row = answered.first in
-    let values : values_of d row ≡ view = ap (λ b. unwrap_or (row_of d b) []) (piece_bytes row found.1 answered.piece ∙ sym shows) ∙ ap (λ o. unwrap_or o []) read in
+    let values : values_of d row ≡ view = ap (λ b. unwrap_or (row_of d b) []) (sym (shown_bytes row found.1 answered.piece) ∙ sym shows) ∙ ap (λ o. unwrap_or o []) read in
     record {
       row = row;
       rest = rows_of answered.rest;
       left = (answered.told m told).rows;
       behind = left_known new n answered.rest answered.left;
-      counted = λ packed. one;
-      kept = λ packed rows has. subst (λ v. HasKept d (kept_with d rows v) l) (sym values) (kept rows has);
-      written = λ packed rows has here. subst (λ v. n file ≡ Some (laid_file d (kept_with d rows v))) (sym values) (written rows has here);
+      counted = one;
+      kept = λ rows has. subst (λ v. HasKept d (kept_with d rows v) l) (sym values) (kept rows has);
+      written = λ rows has here. subst (λ v. n file ≡ Some (laid_file d (kept_with d rows v))) (sym values) (written rows has here);
     }
 
 -- a file of another name keeps its bytes

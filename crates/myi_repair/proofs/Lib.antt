@@ -5,6 +5,5 @@ pub mod UniqueLaws
 pub mod PairLaws
 pub mod KeepLaws
 pub mod TreeLaws
-pub mod RowsLaws
 pub mod GatherLaws
 pub mod RepairLaws

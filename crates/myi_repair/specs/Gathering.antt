@@ -6,7 +6,6 @@ use Rattle.myi_defs.specs.declared.types.Defs.{Defs}
 use Rattle.myi_pack.specs.Packed.{Values}
 use Rattle.myi_chain.specs.Readable.{Row}
 use Rattle.myi_data.specs.Laid.{laid_file}
-use Rattle.myi_data.specs.Readable.{packs}
 use Rattle.myi_data.specs.Scanning.{TableScan, rows_left}
 use Rattle.myi_pair.specs.Clean.{values_of}
 use Rattle.myi_pair.specs.FirstRows.{first_rows}
@@ -45,15 +44,15 @@ Gathers t extend g m n = (d : List ℕ) × IsTable t g.defs d m × IsGathered t 
 abbrev pub values_left : TableScan → Holding → List Values
 values_left s m = map (values_of s.test) (rows_left s m)
 
--- the first row that was left was taken, where it packs one
+-- the first row that was left was taken
 pub record TakesRow (d : Defs) (file : List ℕ) (s t : TableScan) (k l : KeptRows) (m n : Holding) : Type 0 where
   pub row : Row
   pub rest : List Row
   pub left : rows_left s m ≡ row ∷ rest
   pub behind : rows_left t n ≡ rest
-  pub counted : packs d row.bytes ≡ true → l.kept + l.repeats ≡ k.kept + k.repeats + 1
-  pub kept : packs d row.bytes ≡ true → (rows : List Values) → HasKept d rows k → HasKept d (kept_with d rows (values_of d row)) l
-  pub written : packs d row.bytes ≡ true → (rows : List Values) → HasKept d rows k → m file ≡ Some (laid_file d rows) → n file ≡ Some (laid_file d (kept_with d rows (values_of d row)))
+  pub counted : l.kept + l.repeats ≡ k.kept + k.repeats + 1
+  pub kept : (rows : List Values) → HasKept d rows k → HasKept d (kept_with d rows (values_of d row)) l
+  pub written : (rows : List Values) → HasKept d rows k → m file ≡ Some (laid_file d rows) → n file ≡ Some (laid_file d (kept_with d rows (values_of d row)))
 
 -- a row was taken, or none was left
 abbrev pub TakesIf : Bool → Defs → List ℕ → TableScan → TableScan → KeptRows → KeptRows → Holding → Holding → Type 0

@@ -205,10 +205,7 @@ fn take_next<F: Files>(
     let Some((_, piece)) = scan.next_row(files)? else {
         return Ok(false);
     };
-    // A scan answers nothing else than rows of the table.
-    let Some(row) = view(defs, piece.bytes()) else {
-        return Ok(true);
-    };
+    let row = view(defs, piece.bytes()).unwrap();
     rows.take(alloc, files, file, defs, &row)?;
     Ok(true)
 }

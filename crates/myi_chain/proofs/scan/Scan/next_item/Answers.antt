@@ -1,9 +1,11 @@
-use Rattle.std.proofs.Common.{◌∙◌, sym, ap, refl, subst}
+use Rattle.std.proofs.Common.{◌≡◌, ◌∙◌, sym, ap, refl, subst, true}
 use Rattle.std.specs.Prelude.{Some}
 use Rattle.myi_frames.specs.Block.{block_of}
 use Rattle.myi_chain.specs.declared.piece.Item.TheVariants as item
+use Rattle.myi_chain.specs.Readable.{rows_of}
+use Rattle.myi_chain.specs.Pieces.{shown}
 use Rattle.myi_chain.specs.Scanning.{IsFirst}
-use Rattle.myi_chain.proofs.ScanLemmas.{opened, answered_free, answered_row, row_found, free_found}
+use Rattle.myi_chain.proofs.ScanLemmas.{opened, answered_free, answered_row, row_found, free_found, first_packs}
 use Rattle.myi_chain.proofs.scan.Scan.next_item.Goals as goal
 
 pub returns-in-Row : goal.returns-in-Row
@@ -18,6 +20,7 @@ returns-in-Row g c =
       (refl, λ _. tt, answer),
       record {
         item = λ m held. subst (λ is. IsFirst is (Some (item.Row c.in-Row.at c.piece_at.result))) (sym (answer.told m held)) answer.item;
+        packs = subst (λ t. gives t (shown c.piece_at.result) ≡ true) open_scan.same_test (first_packs i.extend (gives i.test) i.place i.used i.held.bytes.items t.0 _ c.piece_at.result (ap rows_of t.1) piece);
         bytes = c.in_ok-read.ensures.bytes;
         holds = c.read.ensures.holds;
         cause = record { later = c.read.ensures.cause.later; cause = λ e. absurd cc };
@@ -36,6 +39,7 @@ returns-in-Free g c =
       (refl, λ _. tt, answer),
       record {
         item = λ m held. subst (λ is. IsFirst is (Some (item.Free c.in-Free.at c.in-Free.size))) (sym (answer.told m held)) answer.item;
+        packs = tt;
         bytes = c.in_ok-read.ensures.bytes;
         holds = c.read.ensures.holds;
         cause = record { later = c.read.ensures.cause.later; cause = λ e. absurd cc };

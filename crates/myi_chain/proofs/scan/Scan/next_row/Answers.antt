@@ -1,8 +1,9 @@
-use Rattle.std.proofs.Common.{sym, ap, refl, subst}
+use Rattle.std.proofs.Common.{◌≡◌, sym, ap, refl, subst, true}
 use Rattle.std.specs.Prelude.{Some}
 use Rattle.myi_frames.specs.Block.{block_of}
 use Rattle.myi_chain.specs.Scanning.{IsFirstRow}
-use Rattle.myi_chain.proofs.ScanLemmas.{opened, answered_next, next_found}
+use Rattle.myi_chain.specs.Pieces.{shown}
+use Rattle.myi_chain.proofs.ScanLemmas.{opened, answered_next, next_found, first_packs}
 use Rattle.myi_chain.proofs.scan.Scan.next_row.Goals as goal
 
 pub returns : goal.returns
@@ -17,6 +18,7 @@ returns g c =
       (refl, λ _. tt, answer),
       record {
         row = λ m held. subst (λ rows. IsFirstRow rows (Some (c.in-Some.at, c.piece_at.result))) (sym (answer.told m held).0) (answer.at, answer.piece);
+        packs = subst (λ t. gives t (shown c.piece_at.result) ≡ true) open_scan.same_test (first_packs i.extend (gives i.test) i.place i.used i.held.bytes.items t.0 _ c.piece_at.result t.1 piece);
         bytes = c.in_ok-read.ensures.bytes;
         holds = c.read.ensures.holds;
         cause = record { later = c.read.ensures.cause.later; cause = λ e. absurd cc };

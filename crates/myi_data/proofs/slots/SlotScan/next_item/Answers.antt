@@ -6,7 +6,7 @@ use Rattle.myi_chain.specs.Scanning.{IsFirst}
 use Rattle.myi_data.specs.Readable.{packs}
 use Rattle.myi_data.specs.NextSlot.{row_in_slot}
 use Rattle.myi_data.proofs.SlotLemmas.{items_none}
-use Rattle.myi_data.proofs.ScanLaws.{opened, ended, none_first, answered_free, answered_row, few_at, slot_none, slot_free, slot_row_found, slot_shown, slot_blocks, lent_slot, joined_slot}
+use Rattle.myi_data.proofs.ScanLaws.{opened, ended, none_first, answered_free, answered_row, few_at, slot_none, slot_free, slot_row_found, slot_packs, packs_of, slot_shown, slot_blocks, lent_slot, joined_slot}
 use Rattle.myi_data.proofs.slots.SlotScan.next_item.Goals as goal
 
 pub returns-in_default : goal.returns-in_default
@@ -17,6 +17,7 @@ returns-in_default g c =
       (refl, λ _. tt, ended _ _ _ _ _ _ _ _ _ open_scan _ (items_none (packs i.test) i.test.slot_length c.len-self-inside.result i.bytes.items (omega arith) (omega (arith, c.self.invariant.1)))),
       record {
         item = none_first _ _ _ _ _ _ _ _ _ open_scan none;
+        packs = tt;
         bytes = c.in_ok-read.ensures.bytes;
         holds = c.read.ensures.holds;
         cause = record { later = c.read.ensures.cause.later; cause = λ e. absurd cc };
@@ -34,6 +35,7 @@ returns-in-Free g c =
       (refl, λ _. tt, answer),
       record {
         item = λ m held. subst (λ is. IsFirst is (Some (item.Free c.in-Free.at c.slot_length-size.result))) (sym (answer.told m held)) answer.item;
+        packs = tt;
         bytes = c.in_ok-read.ensures.bytes;
         holds = c.read.ensures.holds;
         cause = record { later = c.read.ensures.cause.later; cause = λ e. absurd cc };
@@ -55,6 +57,7 @@ returns-then-size-gt-WINDOW g c =
       (refl, λ _. tt, answer),
       record {
         item = λ m held. subst (λ is. IsFirst is (Some (item.Row at (Joined c.slot_at.result)))) (sym (answer.told m held)) answer.item;
+        packs = packs_of _ _ _ _ _ _ _ _ _ open_scan at (Joined c.slot_at.result) (row_in_slot i.test.slot_length i.bytes.items at) piece (slot_packs (packs i.test) i.test.slot_length i.at at i.bytes.items _ t.1);
         bytes = c.in_ok-read.ensures.bytes;
         holds = c.read.ensures.holds;
         cause = record { later = c.read.ensures.cause.later; cause = λ e. absurd cc };
@@ -76,6 +79,7 @@ returns-else-size-gt-WINDOW g c =
       (refl, λ _. tt, answer),
       record {
         item = λ m held. subst (λ is. IsFirst is (Some (item.Row at (Lent c.slot_at-in-Row.result)))) (sym (answer.told m held)) answer.item;
+        packs = packs_of _ _ _ _ _ _ _ _ _ open_scan at (Lent c.slot_at-in-Row.result) (row_in_slot i.test.slot_length i.bytes.items at) piece (slot_packs (packs i.test) i.test.slot_length i.at at i.bytes.items _ t.1);
         bytes = c.in_ok-read.ensures.bytes;
         holds = c.read.ensures.holds;
         cause = record { later = c.read.ensures.cause.later; cause = λ e. absurd cc };

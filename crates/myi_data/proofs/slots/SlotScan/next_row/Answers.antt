@@ -5,7 +5,7 @@ use Rattle.myi_chain.specs.Scanning.{IsFirstRow}
 use Rattle.myi_data.specs.Readable.{packs}
 use Rattle.myi_data.specs.NextSlot.{row_in_slot}
 use Rattle.myi_data.proofs.SlotLemmas.{items_none, long_here}
-use Rattle.myi_data.proofs.ScanLaws.{opened, ended, none_first_row, answered_next, few_at, place_none, place_found, slot_shown, slot_blocks, slot_of, lent_slot, joined_slot}
+use Rattle.myi_data.proofs.ScanLaws.{opened, ended, none_first_row, answered_next, few_at, place_none, place_found, place_packs, packs_of, slot_shown, slot_blocks, slot_of, lent_slot, joined_slot}
 use Rattle.myi_data.proofs.slots.SlotScan.next_row.Goals as goal
 
 pub returns-in_default : goal.returns-in_default
@@ -16,6 +16,7 @@ returns-in_default g c =
       (refl, λ _. tt, ended _ _ _ _ _ _ _ _ _ open_scan _ (items_none (packs i.test) i.test.slot_length c.len-self-inside.result i.bytes.items (omega arith) (omega (arith, c.self.invariant.1)))),
       record {
         row = none_first_row _ _ _ _ _ _ _ _ _ open_scan none;
+        packs = tt;
         slot = tt;
         bytes = c.in_ok-read.ensures.bytes;
         holds = c.read.ensures.holds;
@@ -38,6 +39,7 @@ returns-then-size-gt-WINDOW g c =
       (refl, λ _. tt, answer),
       record {
         row = λ m held. subst (λ rows. IsFirstRow rows (Some (at, Joined c.slot_at.result))) (sym (answer.told m held).rows) (answer.at, answer.piece);
+        packs = packs_of _ _ _ _ _ _ _ _ _ open_scan at (Joined c.slot_at.result) (row_in_slot i.test.slot_length i.bytes.items at) piece (place_packs (packs i.test) i.test.slot_length i.at at i.bytes.items _ t.1);
         slot = slot_of _ _ _ _ _ _ _ _ _ open_scan at (Joined c.slot_at.result) (ap (λ b. length b) bytes ∙ long_here (packs i.test) i.test.slot_length at i.bytes.items (omega (arith, t.0, c.slot_length-size.ensures))) (omega (arith, t.0, c.slot_length-size.ensures, c.self.invariant.2));
         bytes = c.in_ok-read.ensures.bytes;
         holds = c.read.ensures.holds;
@@ -60,6 +62,7 @@ returns g c =
       (refl, λ _. tt, answer),
       record {
         row = λ m held. subst (λ rows. IsFirstRow rows (Some (at, Lent c.slot_at-2.result))) (sym (answer.told m held).rows) (answer.at, answer.piece);
+        packs = packs_of _ _ _ _ _ _ _ _ _ open_scan at (Lent c.slot_at-2.result) (row_in_slot i.test.slot_length i.bytes.items at) piece (place_packs (packs i.test) i.test.slot_length i.at at i.bytes.items _ t.1);
         slot = slot_of _ _ _ _ _ _ _ _ _ open_scan at (Lent c.slot_at-2.result) (ap (λ b. length b) bytes ∙ long_here (packs i.test) i.test.slot_length at i.bytes.items (omega (arith, t.0, c.slot_length-size.ensures))) (omega (arith, t.0, c.slot_length-size.ensures, c.self.invariant.2));
         bytes = c.in_ok-read.ensures.bytes;
         holds = c.read.ensures.holds;
