@@ -65,19 +65,11 @@ fn text(alloc: Global, text: &str) -> Result<String, AllocError> {
     String::from_str(alloc, text)
 }
 
-fn words(alloc: Global, words: &[&str]) -> Result<Vec<String>, AllocError> {
-    let mut all = Vec::new(alloc);
-    for word in words {
-        all.push(text(alloc, word)?)?;
-    }
-    Ok(all)
-}
-
-fn table(alloc: Global, fail: &[u64]) -> Result<MemFiles, Fail> {
+// The two files of the table `a`, of which the listed calls fail.
+fn table(alloc: Global, header: Vec<u8>, rows: &[u8], fail: &[u64]) -> Result<MemFiles, Fail> {
     let files = vec![in alloc;
-        (text(alloc, "a.MYI")?, index(alloc, BEFORE)?),
-        (text(alloc, "a.MYD")?, Vec::from_slice(alloc, ROWS)?),
-        (text(alloc, "b.MYD")?, Vec::new(alloc)),
+        (text(alloc, "a.MYI")?, header),
+        (text(alloc, "a.MYD")?, Vec::from_slice(alloc, rows)?),
     ]?;
     Ok(MemFiles::new(alloc, files, Vec::from_slice(alloc, fail)?)?)
 }
@@ -89,22 +81,40 @@ fn holds(files: &MemFiles, name: &str, bytes: &[u8]) -> bool {
     }
 }
 
+fn has_no_working_files(files: &MemFiles) -> bool {
+    files.get("a.TMD").is_none() && files.get("a.TMI").is_none()
+}
+
+// Runs the program on these words; the output has its first write fail where that is asked.
+fn run_with(
+    alloc: Global,
+    files: &mut MemFiles,
+    asked: &[&str],
+    fail: &[u64],
+) -> Result<(Status, MemSink), Fail> {
+    let mut words = Vec::new(alloc);
+    for word in asked {
+        words.push(text(alloc, word)?)?;
+    }
+    let mut out = MemSink::new(alloc, Vec::from_slice(alloc, fail)?)?;
+    let status = kit(alloc, &words, files, &mut out, MOMENT);
+    Ok((status, out))
+}
+
+fn run(alloc: Global, files: &mut MemFiles, asked: &[&str]) -> Result<(Status, MemSink), Fail> {
+    run_with(alloc, files, asked, &[])
+}
+
 #[test]
 fn recovers_a_table(rt: HostRuntime) -> Result<(), Fail> {
     let alloc = rt.alloc();
-    let mut files = table(alloc, &[])?;
-    let mut out = MemSink::new(alloc, Vec::new(alloc))?;
-    let asked = words(alloc, &["chk", "--recover", "a.MYI"])?;
-    assert_eq!(rt;
-        kit(alloc, &asked, &mut files, &mut out, MOMENT),
-        Status::Ok
-    );
+    let mut files = table(alloc, index(alloc, BEFORE)?, ROWS, &[])?;
+    let (status, out) = run(alloc, &mut files, &["chk", "--recover", "a.MYI"])?;
+    assert_eq!(rt; status, Status::Ok);
     assert_eq!(rt; out.written(), LINE);
     assert!(rt; holds(&files, "a.MYD", KEPT));
-    let after = index(alloc, AFTER)?;
-    assert!(rt; holds(&files, "a.MYI", &after));
-    assert!(rt; files.get("a.TMD").is_none());
-    assert!(rt; files.get("a.TMI").is_none());
+    assert!(rt; holds(&files, "a.MYI", &index(alloc, AFTER)?));
+    assert!(rt; has_no_working_files(&files));
     assert_eq!(rt; files.fault_count(), 0);
     Ok(())
 }
@@ -112,23 +122,15 @@ fn recovers_a_table(rt: HostRuntime) -> Result<(), Fail> {
 #[test]
 fn recovers_a_table_of_a_server(rt: HostRuntime) -> Result<(), Fail> {
     let alloc = rt.alloc();
-    let given = vec![in alloc;
-        (text(alloc, "t.MYI")?, index(alloc, SERVER_BEFORE)?),
-        (text(alloc, "t.MYD")?, Vec::from_slice(alloc, SERVER_ROWS)?),
-    ]?;
-    let mut files = MemFiles::new(alloc, given, Vec::new(alloc))?;
-    let mut out = MemSink::new(alloc, Vec::new(alloc))?;
-    let asked = words(alloc, &["chk", "--recover", "t"])?;
-    assert_eq!(rt;
-        kit(alloc, &asked, &mut files, &mut out, MOMENT),
-        Status::Ok
-    );
+    let mut files = table(alloc, index(alloc, SERVER_BEFORE)?, SERVER_ROWS, &[])?;
+    let (status, out) = run(alloc, &mut files, &["chk", "--recover", "a"])?;
+    assert_eq!(rt; status, Status::Ok);
     assert_eq!(rt;
         out.written(),
-        b"t: recovered 2 rows, dropped 0 repeats, data 18 to 18 bytes\n".as_slice()
+        b"a: recovered 2 rows, dropped 0 repeats, data 18 to 18 bytes\n".as_slice()
     );
-    assert!(rt; holds(&files, "t.MYD", SERVER_ROWS));
-    assert!(rt; holds(&files, "t.MYI", &index(alloc, SERVER_AFTER)?));
+    assert!(rt; holds(&files, "a.MYD", SERVER_ROWS));
+    assert!(rt; holds(&files, "a.MYI", &index(alloc, SERVER_AFTER)?));
     Ok(())
 }
 
@@ -136,12 +138,11 @@ fn recovers_a_table_of_a_server(rt: HostRuntime) -> Result<(), Fail> {
 #[test]
 fn a_fault_leaves_the_old_rows_or_the_new_ones(rt: HostRuntime) -> Result<(), Fail> {
     let alloc = rt.alloc();
-    let asked = words(alloc, &["chk", "--recover", "a"])?;
+    let asked = ["chk", "--recover", "a"];
     let mut done = false;
     for call in 1..40 {
-        let mut files = table(alloc, &[call])?;
-        let mut out = MemSink::new(alloc, Vec::new(alloc))?;
-        let status = kit(alloc, &asked, &mut files, &mut out, MOMENT);
+        let mut files = table(alloc, index(alloc, BEFORE)?, ROWS, &[call])?;
+        let (status, out) = run(alloc, &mut files, &asked)?;
         if files.fault_count() == 0 {
             done = true;
             assert_eq!(rt; status, Status::Ok);
@@ -150,11 +151,11 @@ fn a_fault_leaves_the_old_rows_or_the_new_ones(rt: HostRuntime) -> Result<(), Fa
         assert_eq!(rt; status, Status::FileFault);
         assert_eq!(rt; out.written(), b"".as_slice());
         assert!(rt; holds(&files, "a.MYD", ROWS) || holds(&files, "a.MYD", KEPT));
-        assert!(rt; files.get("a.TMD").is_none());
-        assert!(rt; files.get("a.TMI").is_none());
-        let again = kit(alloc, &asked, &mut files, &mut out, MOMENT);
+        assert!(rt; has_no_working_files(&files));
+        let (again, _) = run(alloc, &mut files, &asked)?;
         assert_eq!(rt; again, Status::Ok);
         assert!(rt; holds(&files, "a.MYD", KEPT));
+        assert!(rt; holds(&files, "a.MYI", &index(alloc, AFTER)?));
     }
     assert!(rt; done);
     Ok(())
@@ -163,13 +164,9 @@ fn a_fault_leaves_the_old_rows_or_the_new_ones(rt: HostRuntime) -> Result<(), Fa
 #[test]
 fn a_fault_of_the_output_comes_after_the_work(rt: HostRuntime) -> Result<(), Fail> {
     let alloc = rt.alloc();
-    let mut files = table(alloc, &[])?;
-    let mut out = MemSink::new(alloc, vec![in alloc; 1]?)?;
-    let asked = words(alloc, &["chk", "--recover", "a"])?;
-    assert_eq!(rt;
-        kit(alloc, &asked, &mut files, &mut out, MOMENT),
-        Status::SinkFault
-    );
+    let mut files = table(alloc, index(alloc, BEFORE)?, ROWS, &[])?;
+    let (status, _) = run_with(alloc, &mut files, &["chk", "--recover", "a"], &[1])?;
+    assert_eq!(rt; status, Status::SinkFault);
     assert!(rt; holds(&files, "a.MYD", KEPT));
     Ok(())
 }
@@ -177,29 +174,21 @@ fn a_fault_of_the_output_comes_after_the_work(rt: HostRuntime) -> Result<(), Fai
 #[test]
 fn what_cannot_be_done_is_said(rt: HostRuntime) -> Result<(), Fail> {
     let alloc = rt.alloc();
+    let usage = "usage: kit chk|create|shell|dump|make\n";
     let cases = [
         (["chk", "--recover", "b"], Status::Absent, "b.MYI: absent\n"),
-        (
-            ["chk", "--check", "a"],
-            Status::Usage,
-            "usage: kit chk|create|shell|dump|make\n",
-        ),
-        (
-            ["chk", "--recover", "-x"],
-            Status::Usage,
-            "usage: kit chk|create|shell|dump|make\n",
-        ),
-        (
-            ["chk", "--recover", ""],
-            Status::Usage,
-            "usage: kit chk|create|shell|dump|make\n",
-        ),
+        (["chk", "--recover", "c"], Status::Absent, "c.MYD: absent\n"),
+        (["chk", "--check", "a"], Status::Usage, usage),
+        (["chk", "--recover", "-x"], Status::Usage, usage),
+        (["chk", "--recover", ""], Status::Usage, usage),
     ];
     for (asked, status, line) in cases {
-        let mut files = table(alloc, &[])?;
-        let mut out = MemSink::new(alloc, Vec::new(alloc))?;
-        let asked = words(alloc, &asked)?;
-        assert_eq!(rt; kit(alloc, &asked, &mut files, &mut out, MOMENT), status);
+        let mut files = table(alloc, index(alloc, BEFORE)?, ROWS, &[])?;
+        // `b` has no index file and `c` no data file.
+        assert_eq!(rt; files.write_at("b.MYD", 0, ROWS), Ok(()));
+        assert_eq!(rt; files.write_at("c.MYI", 0, &index(alloc, BEFORE)?), Ok(()));
+        let (said, out) = run(alloc, &mut files, &asked)?;
+        assert_eq!(rt; said, status);
         assert_eq!(rt; out.written(), line.as_bytes());
         assert!(rt; holds(&files, "a.MYD", ROWS));
     }
@@ -221,17 +210,9 @@ fn what_is_not_taken_is_refused_by_name(rt: HostRuntime) -> Result<(), Fail> {
         if let Some(at) = header.get_mut(place) {
             *at = byte;
         }
-        let given = vec![in alloc;
-            (text(alloc, "a.MYI")?, header.clone()?),
-            (text(alloc, "a.MYD")?, Vec::from_slice(alloc, ROWS)?),
-        ]?;
-        let mut files = MemFiles::new(alloc, given, Vec::new(alloc))?;
-        let mut out = MemSink::new(alloc, Vec::new(alloc))?;
-        let asked = words(alloc, &["chk", "--recover", "a"])?;
-        assert_eq!(rt;
-            kit(alloc, &asked, &mut files, &mut out, MOMENT),
-            Status::Refused
-        );
+        let mut files = table(alloc, header.clone()?, ROWS, &[])?;
+        let (status, out) = run(alloc, &mut files, &["chk", "--recover", "a"])?;
+        assert_eq!(rt; status, Status::Refused);
         assert_eq!(rt; out.written(), line.as_bytes());
         assert!(rt; holds(&files, "a.MYD", ROWS));
         assert!(rt; holds(&files, "a.MYI", &header));
@@ -244,17 +225,9 @@ fn an_index_file_of_ten_bytes_is_refused(rt: HostRuntime) -> Result<(), Fail> {
     let alloc = rt.alloc();
     let mut short = index(alloc, BEFORE)?;
     short.truncate(10);
-    let given = vec![in alloc;
-        (text(alloc, "a.MYI")?, short.clone()?),
-        (text(alloc, "a.MYD")?, Vec::from_slice(alloc, ROWS)?),
-    ]?;
-    let mut files = MemFiles::new(alloc, given, Vec::new(alloc))?;
-    let mut out = MemSink::new(alloc, Vec::new(alloc))?;
-    let asked = words(alloc, &["chk", "--recover", "a"])?;
-    assert_eq!(rt;
-        kit(alloc, &asked, &mut files, &mut out, MOMENT),
-        Status::Refused
-    );
+    let mut files = table(alloc, short.clone()?, ROWS, &[])?;
+    let (status, out) = run(alloc, &mut files, &["chk", "--recover", "a"])?;
+    assert_eq!(rt; status, Status::Refused);
     assert_eq!(rt; out.written(), b"a: refused: 1 Short\n".as_slice());
     assert!(rt; holds(&files, "a.MYD", ROWS));
     assert!(rt; holds(&files, "a.MYI", &short));
@@ -265,7 +238,6 @@ fn an_index_file_of_ten_bytes_is_refused(rt: HostRuntime) -> Result<(), Fail> {
 #[test]
 fn slots_that_no_pointer_reaches_are_too_long(rt: HostRuntime) -> Result<(), Fail> {
     let alloc = rt.alloc();
-    let asked = words(alloc, &["chk", "--recover", "a"])?;
     let cases = [
         (
             524_272,
@@ -281,13 +253,9 @@ fn slots_that_no_pointer_reaches_are_too_long(rt: HostRuntime) -> Result<(), Fai
         }
         let mut rows = Vec::new(alloc);
         rows.resize(length, 0xFF)?;
-        let given = vec![in alloc;
-            (text(alloc, "a.MYI")?, header),
-            (text(alloc, "a.MYD")?, rows.clone()?),
-        ]?;
-        let mut files = MemFiles::new(alloc, given, Vec::new(alloc))?;
-        let mut out = MemSink::new(alloc, Vec::new(alloc))?;
-        assert_eq!(rt; kit(alloc, &asked, &mut files, &mut out, MOMENT), status);
+        let mut files = table(alloc, header, &rows, &[])?;
+        let (said, out) = run(alloc, &mut files, &["chk", "--recover", "a"])?;
+        assert_eq!(rt; said, status);
         assert_eq!(rt; out.written(), line.as_bytes());
         assert!(rt; holds(&files, "a.MYD", &rows));
     }
@@ -297,22 +265,13 @@ fn slots_that_no_pointer_reaches_are_too_long(rt: HostRuntime) -> Result<(), Fai
 #[test]
 fn working_files_that_a_crash_left_are_made_anew(rt: HostRuntime) -> Result<(), Fail> {
     let alloc = rt.alloc();
-    let given = vec![in alloc;
-        (text(alloc, "a.MYI")?, index(alloc, BEFORE)?),
-        (text(alloc, "a.MYD")?, Vec::from_slice(alloc, ROWS)?),
-        (text(alloc, "a.TMD")?, Vec::from_slice(alloc, SERVER_ROWS)?),
-        (text(alloc, "a.TMI")?, Vec::from_slice(alloc, ROWS)?),
-    ]?;
-    let mut files = MemFiles::new(alloc, given, Vec::new(alloc))?;
-    let mut out = MemSink::new(alloc, Vec::new(alloc))?;
-    let asked = words(alloc, &["chk", "--recover", "a"])?;
-    assert_eq!(rt;
-        kit(alloc, &asked, &mut files, &mut out, MOMENT),
-        Status::Ok
-    );
+    let mut files = table(alloc, index(alloc, BEFORE)?, ROWS, &[])?;
+    assert_eq!(rt; files.write_at("a.TMD", 0, SERVER_ROWS), Ok(()));
+    assert_eq!(rt; files.write_at("a.TMI", 0, ROWS), Ok(()));
+    let (status, _) = run(alloc, &mut files, &["chk", "--recover", "a"])?;
+    assert_eq!(rt; status, Status::Ok);
     assert!(rt; holds(&files, "a.MYD", KEPT));
     assert!(rt; holds(&files, "a.MYI", &index(alloc, AFTER)?));
-    assert!(rt; files.get("a.TMD").is_none());
-    assert!(rt; files.get("a.TMI").is_none());
+    assert!(rt; has_no_working_files(&files));
     Ok(())
 }

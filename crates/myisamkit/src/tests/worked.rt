@@ -1,8 +1,8 @@
 //! Repairs of tables of each form: what is printed, and what the new files hold. The bytes were worked out
 //! outside this program.
-use super::{MOMENT, holds, index, text, words};
-use crate::{Status, kit};
-use myi_io::{MemFiles, MemSink};
+use super::{holds, index, run, table};
+use crate::Status;
+use myi_io::MemFiles;
 use std::alloc::Global;
 use std::test::Fail;
 
@@ -128,7 +128,7 @@ const REPAIRS: &[Repair] = &[
         header: TWO_NUMBERS,
         extend: false,
         rows: "",
-        line: "t: recovered 0 rows, dropped 0 repeats, data 0 to 0 bytes\n",
+        line: "a: recovered 0 rows, dropped 0 repeats, data 0 to 0 bytes\n",
         kept: "",
         pages: &[],
     },
@@ -136,7 +136,7 @@ const REPAIRS: &[Repair] = &[
         header: TEXT,
         extend: false,
         rows: "0500100007000000000000000061626364656667",
-        line: "t: recovered 0 rows, dropped 0 repeats, data 20 to 0 bytes\n",
+        line: "a: recovered 0 rows, dropped 0 repeats, data 20 to 0 bytes\n",
         kept: "",
         pages: &[],
     },
@@ -144,7 +144,7 @@ const REPAIRS: &[Repair] = &[
         header: TEXT,
         extend: false,
         rows: "05001800070000000000000028fe01000000126105001800070000000000000028fe02000000127a07001162636465666768696a6b6c6d6e6f707172",
-        line: "t: recovered 1 rows, dropped 0 repeats, data 60 to 28 bytes\n",
+        line: "a: recovered 1 rows, dropped 0 repeats, data 60 to 28 bytes\n",
         kept: "03001800fe01000000126162636465666768696a6b6c6d6e6f707172",
         pages: &[],
     },
@@ -152,7 +152,7 @@ const REPAIRS: &[Repair] = &[
         header: TEXT,
         extend: false,
         rows: "03000907fe01000000036162630000000000000005001800070000000000000400fe03000000126103000907fe02000000036162630000000000000003000907fe",
-        line: "t: recovered 2 rows, dropped 0 repeats, data 65 to 40 bytes\n",
+        line: "a: recovered 2 rows, dropped 0 repeats, data 65 to 40 bytes\n",
         kept: "03000907fe01000000036162630000000000000003000907fe020000000361626300000000000000",
         pages: &[],
     },
@@ -160,7 +160,7 @@ const REPAIRS: &[Repair] = &[
         header: TEXT,
         extend: false,
         rows: "03001000fe010000000a6162636465666768696a010011fe020000000b6162636465666768696a6b",
-        line: "t: recovered 2 rows, dropped 0 repeats, data 40 to 40 bytes\n",
+        line: "a: recovered 2 rows, dropped 0 repeats, data 40 to 40 bytes\n",
         kept: "03001000fe010000000a6162636465666768696a010011fe020000000b6162636465666768696a6b",
         pages: &[],
     },
@@ -168,7 +168,7 @@ const REPAIRS: &[Repair] = &[
         header: ZEROS,
         extend: false,
         rows: "0300090702fe0100000002616200000000000000",
-        line: "t: recovered 0 rows, dropped 0 repeats, data 20 to 0 bytes\n",
+        line: "a: recovered 0 rows, dropped 0 repeats, data 20 to 0 bytes\n",
         kept: "",
         pages: &[],
     },
@@ -176,7 +176,7 @@ const REPAIRS: &[Repair] = &[
         header: ZEROS,
         extend: false,
         rows: "0300090700fe01000000026162000000000000000300050b01fe0261620000000000000000000000",
-        line: "t: recovered 2 rows, dropped 0 repeats, data 40 to 40 bytes\n",
+        line: "a: recovered 2 rows, dropped 0 repeats, data 40 to 40 bytes\n",
         kept: "0300090700fe01000000026162000000000000000300050b01fe0261620000000000000000000000",
         pages: &[],
     },
@@ -184,7 +184,7 @@ const REPAIRS: &[Repair] = &[
         header: TWO_NUMBERS,
         extend: false,
         rows: "ff010000000a000000ff0100000014000000ff0200000014000000",
-        line: "t: recovered 2 rows, dropped 1 repeats, data 27 to 18 bytes\n",
+        line: "a: recovered 2 rows, dropped 1 repeats, data 27 to 18 bytes\n",
         kept: "ff010000000a000000ff0200000014000000",
         pages: &[
             "001800050580000001000000000000040102000000000001",
@@ -195,7 +195,7 @@ const REPAIRS: &[Repair] = &[
         header: NUMBER_OR_NONE,
         extend: false,
         rows: "ff000000000a000000ff0000000014000000fd010000001e000000",
-        line: "t: recovered 3 rows, dropped 0 repeats, data 27 to 27 bytes\n",
+        line: "a: recovered 3 rows, dropped 0 repeats, data 27 to 27 bytes\n",
         kept: "ff000000000a000000ff0000000014000000fd010000001e000000",
         pages: &[
             "0020000100000000000000010000000000000100050580000001000000000002",
@@ -206,7 +206,7 @@ const REPAIRS: &[Repair] = &[
         header: SWEDISH,
         extend: false,
         rows: "0300030dfe0161000000000000000000000000000300050bfe036120200000000000000000000000",
-        line: "t: recovered 1 rows, dropped 1 repeats, data 40 to 20 bytes\n",
+        line: "a: recovered 1 rows, dropped 1 repeats, data 40 to 20 bytes\n",
         kept: "0300030dfe016100000000000000000000000000",
         pages: &["000c00020241"],
     },
@@ -214,7 +214,7 @@ const REPAIRS: &[Repair] = &[
         header: BINARY,
         extend: false,
         rows: "0300030dfe0161000000000000000000000000000300050bfe036120200000000000000000000000",
-        line: "t: recovered 2 rows, dropped 0 repeats, data 40 to 40 bytes\n",
+        line: "a: recovered 2 rows, dropped 0 repeats, data 40 to 40 bytes\n",
         kept: "0300030dfe0161000000000000000000000000000300050bfe036120200000000000000000000000",
         pages: &["001800020261000000000000000404612020000000000014"],
     },
@@ -222,7 +222,7 @@ const REPAIRS: &[Repair] = &[
         header: SERVER,
         extend: false,
         rows: "01001100fc0100000003416e6e050068656c6c6f0300070901ff0200000000000000000000000000",
-        line: "t: recovered 2 rows, dropped 0 repeats, data 40 to 40 bytes\n",
+        line: "a: recovered 2 rows, dropped 0 repeats, data 40 to 40 bytes\n",
         kept: "01001100fc0100000003416e6e050068656c6c6f0300070901ff0200000000000000000000000000",
         pages: &[
             "001800050580000001000000000000040102000000000014",
@@ -233,7 +233,7 @@ const REPAIRS: &[Repair] = &[
         header: TEXT,
         extend: false,
         rows: "00000028ffffffffffffffffffffffffffffffff03000907fe010000000361626300000000000000",
-        line: "t: recovered 0 rows, dropped 0 repeats, data 40 to 0 bytes\n",
+        line: "a: recovered 0 rows, dropped 0 repeats, data 40 to 0 bytes\n",
         kept: "",
         pages: &[],
     },
@@ -241,7 +241,7 @@ const REPAIRS: &[Repair] = &[
         header: TEXT,
         extend: true,
         rows: "00000028ffffffffffffffffffffffffffffffff03000907fe010000000361626300000000000000",
-        line: "t: recovered 1 rows, dropped 0 repeats, data 40 to 20 bytes\n",
+        line: "a: recovered 1 rows, dropped 0 repeats, data 40 to 20 bytes\n",
         kept: "03000907fe010000000361626300000000000000",
         pages: &[],
     },
@@ -249,7 +249,7 @@ const REPAIRS: &[Repair] = &[
         header: TEXT,
         extend: false,
         rows: "05000700070000000000000014fe0100000001610900001000000000000000000000000000000000",
-        line: "t: recovered 0 rows, dropped 0 repeats, data 40 to 0 bytes\n",
+        line: "a: recovered 0 rows, dropped 0 repeats, data 40 to 0 bytes\n",
         kept: "",
         pages: &[],
     },
@@ -257,7 +257,7 @@ const REPAIRS: &[Repair] = &[
         header: PADDED,
         extend: false,
         rows: "0300050b01fe0261620000000000000000000000",
-        line: "t: recovered 1 rows, dropped 0 repeats, data 20 to 20 bytes\n",
+        line: "a: recovered 1 rows, dropped 0 repeats, data 20 to 20 bytes\n",
         kept: "0300050b01fe0261620000000000000000000000",
         pages: &[],
     },
@@ -265,7 +265,7 @@ const REPAIRS: &[Repair] = &[
         header: PADDED,
         extend: false,
         rows: "03000c0400fe6162202020202020202000000000",
-        line: "t: recovered 1 rows, dropped 0 repeats, data 20 to 20 bytes\n",
+        line: "a: recovered 1 rows, dropped 0 repeats, data 20 to 20 bytes\n",
         kept: "0300050b01fe0261620000000000000000000000",
         pages: &[],
     },
@@ -273,7 +273,7 @@ const REPAIRS: &[Repair] = &[
         header: PADDED,
         extend: false,
         rows: "03000c0401fe0961626364656667686900000000",
-        line: "t: recovered 1 rows, dropped 0 repeats, data 20 to 20 bytes\n",
+        line: "a: recovered 1 rows, dropped 0 repeats, data 20 to 20 bytes\n",
         kept: "03000c0400fe6162636465666768692000000000",
         pages: &[],
     },
@@ -281,7 +281,7 @@ const REPAIRS: &[Repair] = &[
         header: LED,
         extend: false,
         rows: "0300070900fe2020202037000000000000000000",
-        line: "t: recovered 1 rows, dropped 0 repeats, data 20 to 20 bytes\n",
+        line: "a: recovered 1 rows, dropped 0 repeats, data 20 to 20 bytes\n",
         kept: "0300040c01fe0137000000000000000000000000",
         pages: &[],
     },
@@ -289,19 +289,11 @@ const REPAIRS: &[Repair] = &[
         header: LED,
         extend: false,
         rows: "0300070900fe8000072020000000000000000000",
-        line: "t: recovered 1 rows, dropped 0 repeats, data 20 to 20 bytes\n",
+        line: "a: recovered 1 rows, dropped 0 repeats, data 20 to 20 bytes\n",
         kept: "0300070900fe8000072020000000000000000000",
         pages: &[],
     },
 ];
-
-fn table(alloc: Global, repair: &Repair) -> Result<MemFiles, Fail> {
-    let given = vec![in alloc;
-        (text(alloc, "t.MYI")?, index(alloc, repair.header)?),
-        (text(alloc, "t.MYD")?, hex::decode(alloc, repair.rows)?),
-    ]?;
-    Ok(MemFiles::new(alloc, given, Vec::new(alloc))?)
-}
 
 // Whether the index file ends with these pages of 1024 bytes, behind a header of as many.
 fn has_pages(
@@ -313,7 +305,7 @@ fn has_pages(
     for page in pages {
         all.extend_from_slice(&index(alloc, page)?)?;
     }
-    match files.get("t.MYI") {
+    match files.get("a.MYI") {
         None => Ok(false),
         Some(found) => Ok(found.len() == 1024 + all.len() && found.ends_with(&all)),
     }
@@ -323,17 +315,16 @@ fn has_pages(
 fn recovers_tables_of_each_form(rt: HostRuntime) -> Result<(), Fail> {
     let alloc = rt.alloc();
     for repair in REPAIRS {
-        let mut files = table(alloc, repair)?;
-        let mut out = MemSink::new(alloc, Vec::new(alloc))?;
-        let asked = if repair.extend {
-            words(alloc, &["chk", "-r", "-e", "t"])?
+        let rows = hex::decode(alloc, repair.rows)?;
+        let mut files = table(alloc, index(alloc, repair.header)?, &rows, &[])?;
+        let (status, out) = if repair.extend {
+            run(alloc, &mut files, &["chk", "-r", "-e", "a"])?
         } else {
-            words(alloc, &["chk", "--recover", "t"])?
+            run(alloc, &mut files, &["chk", "--recover", "a"])?
         };
-        let status = kit(alloc, &asked, &mut files, &mut out, MOMENT);
         assert_eq!(rt; status, Status::Ok);
         assert_eq!(rt; out.written(), repair.line.as_bytes());
-        assert!(rt; holds(&files, "t.MYD", &hex::decode(alloc, repair.kept)?));
+        assert!(rt; holds(&files, "a.MYD", &hex::decode(alloc, repair.kept)?));
         assert!(rt; has_pages(alloc, &files, repair.pages)?);
     }
     Ok(())
