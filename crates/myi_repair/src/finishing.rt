@@ -24,8 +24,8 @@ const REPAIRED: u8 = 40;
 
 /// Writes the header, with the mark and the state that a repair sets, to the front of the working index
 /// file, `NAME.TMI`, makes that file `index_length` bytes long, and gives first the working data file and
-/// then the working index file the name of the old one. `now` is the moment, in seconds since 1970. After a
-/// refusal the working files are taken away.
+/// then the working index file the name of the old one. `now` is the moment, in seconds since 1970. Where
+/// that is cut off, the working files are taken away.
 pub fn finish<F: Files>(
     alloc: Global,
     files: &mut F,

@@ -40,7 +40,7 @@ pub struct Gathered {
 
 /// Writes the rows of a table that a repair keeps into its working data file, `NAME.TMD`, which is made
 /// anew. `extend` has every position of a dynamic table tried. After a refusal the table's two files are
-/// as before, and the working file is taken away.
+/// as before; where gathering was cut off, the working file is taken away.
 pub fn gather<F: Files>(
     alloc: Global,
     files: &mut F,
@@ -59,7 +59,7 @@ pub fn gather<F: Files>(
     ensures refused { IfErr result (λ f. CutsOff f ⊎ ((m : Holding) → F.holds files.old ≡ Some m → opened (names_for name.now) m ≡ Err f)) }
     ensures unchanged { IfErr result (λ f. CutsOff f ⊎ (F.holds files.new ≡ F.holds files.old)) }
 
-    // Where no other file call failed, a refusal leaves all as it was, or no working files.
+    // Where no other file call failed, nothing was changed by a refusal or no working file is left.
     ensures cleared { IfErr result (λ f. RoseAtMost (faults_told f) (F.faults files.old) (F.faults files.new) → Told (F.holds files.old) (F.holds files.new) (Clears (names_for name.now))) }
 
     // The table's two files are as before.

@@ -41,7 +41,7 @@ pub fn recover<F: Files>(
     ensures refused { IfErr result (λ f. CutsOff f ⊎ ((m : Holding) → F.holds files.old ≡ Some m → opened (names_for name.now) m ≡ Err f)) }
     ensures unchanged { IfErr result (λ f. CutsOff f ⊎ (F.holds files.new ≡ F.holds files.old)) }
 
-    // Where no other file call failed, a refusal leaves all as it was, or no working files.
+    // Where no other file call failed, nothing was changed by a refusal or no working file is left.
     ensures cleared { IfErr result (λ f. RoseAtMost (faults_told f) (F.faults files.old) (F.faults files.new) → Told (F.holds files.old) (F.holds files.new) (Clears (names_for name.now))) }
 
     // At every outcome the table's files are the old ones or whole new ones, and other files stay.

@@ -35,7 +35,8 @@ pub fn kit<F: Files, O: Sink>(
     // At each status a table's files are the old ones or whole new ones, and other files stay.
     ensures files { Told (F.holds files.old) (F.holds files.new) (LeavesWhole (plan (map (λ w. string_bytes w) words.now)) now) }
 
-    // Where no file call failed but the one that the status tells of, no working file is left.
+    // Where no file call failed but the one that the status tells of, nothing was changed or no working file
+    // is left.
     ensures cleared { RoseAtMost (faults_told result) (F.faults files.old) (F.faults files.new) → Told (F.holds files.old) (F.holds files.new) (LeavesNoWorking (plan (map (λ w. string_bytes w) words.now))) }
 
     // Where no fault cuts the work off, the work is done. A fault of the output comes after it.
