@@ -37,13 +37,13 @@ use Rattle.myi_pair.proofs.ShorterLaws.{length-slot}
 use Rattle.myi_pair.proofs.SizedLaws.{pointer_near}
 use Rattle.myi_repair.specs.Sized.{AreSizedPairs}
 use Rattle.myi_repair.proofs.FilesLaws.{appended}
-use Rattle.myi_pair.specs.FirstRows.{key_numbers, is_unique, repeats, has_code}
+use Rattle.myi_pair.specs.FirstRows.{key_numbers, is_unique, repeats, has_code, repeats_code}
 use Rattle.myi_pair.specs.KeyList.{pointer}
 use Rattle.myi_pair.proofs.FirstRowsLaws.{noted}
 use Rattle.myi_repair.specs.declared.unique.UniqueKey.{UniqueKey}
 use Rattle.myi_repair.specs.declared.kept.KeptRows.{KeptRows}
-use Rattle.myi_repair.specs.Keeping.{is_noted, unique_cmp, AreNoted, row_keys, unique_codes, by_code, lists_in, with_pairs, AreCounted, HasKept, kept_with}
-use Rattle.myi_repair.proofs.UniqueLaws.{any_code, any_number, any_same, any_map}
+use Rattle.myi_repair.specs.Keeping.{is_noted, unique_cmp, AreNoted, row_keys, has_unique, numbered_code, unique_codes, by_code, lists_in, with_pairs, AreCounted, HasKept, kept_with}
+use Rattle.myi_repair.proofs.UniqueLaws.{any_kept, any_number, any_same, any_map}
 use Rattle.myi_repair.proofs.PairLaws.{laid_more, row_pairs_more, no_pairs, sized_with}
 
 -- none is kept
@@ -71,16 +71,16 @@ not_unique d n past = by (slice_get_cases d.keys n).1
     by (inr gone) = ap (λ o. option_map_or (λ (key : Key). key.unique) o false) gone.1
 
 -- by the codes of a row's keys a number is looked up
-pub noted_of_row : (d : Defs) (row : Values) (us : List UniqueKey) → map by_code us ≡ unique_codes d.keys 0 (row_keys d row) → (n : ℕ) (code : List ℕ) → is_noted n code us ≡ has_code d n code row
+pub noted_of_row : (d : Defs) (row : Values) (us : List UniqueKey) → map by_code us ≡ unique_codes d row → (n : ℕ) (code : List ℕ) → is_noted n code us ≡ has_code d n code row
 noted_of_row d row us are n code =
     any_map by_code (λ (c : ℕ × List ℕ). eqb c.0 n && bytes_eq c.1 code) us
     ∙ ap (list_any (λ (c : ℕ × List ℕ). eqb c.0 n && bytes_eq c.1 code)) are
-    ∙ any_code d.keys (λ k. key_of d k row) (λ k c. eqb k n && bytes_eq c code) 0 (length d.keys)
-    ∙ any_same (λ k. is_unique d k && (is_complete (key_of d k row) && (eqb k n && bytes_eq (key_code (key_of d k row)) code))) (λ k. eqb k n && has_code d k code row) (λ k. turned (is_unique d k) (is_complete (key_of d k row)) (eqb k n) (bytes_eq (key_code (key_of d k row)) code)) (key_numbers d)
+    ∙ any_kept (numbered_code d row) (has_unique d row) (λ (c : ℕ × List ℕ). eqb c.0 n && bytes_eq c.1 code) (key_numbers d)
+    ∙ any_same (λ k. has_unique d row k && (eqb k n && bytes_eq (key_code (key_of d k row)) code)) (λ k. eqb k n && has_code d k code row) (λ k. turned (is_unique d k) (is_complete (key_of d k row)) (eqb k n) (bytes_eq (key_code (key_of d k row)) code)) (key_numbers d)
     ∙ any_number (λ k. has_code d k code row) n 0 (length d.keys) (omega arith)
     ∙ by (ltb n (0 + length d.keys)) refl
   where
-    turned : (u c e b : Bool) → (u && (c && (e && b))) ≡ (e && (u && (c && b)))
+    turned : (u c e b : Bool) → ((u && c) && (e && b)) ≡ (e && (u && (c && b)))
     turned true true e b = refl
     turned true false true b = refl
     turned true false false b = refl
@@ -112,20 +112,25 @@ contained u k = is_eq_then (nat_cmp u.number k.number) (slice_cmp nat_cmp u.code
     flip xs ys = same_from_decides _ _ (bytes_eq-Decides xs ys) ((λ e. sym ((bytes_eq-Decides ys xs).0 e)), (λ p. (bytes_eq-Decides ys xs).1 (sym p)))
 
 -- whether any key of a row is noted is whether it repeats a row
-pub noted_repeats : (d : Defs) (rows : List Values) (row : Values) (seen : BTreeSet UniqueKey) (us : List UniqueKey) → AreNoted d rows seen.keys → map by_code us ≡ unique_codes d.keys 0 (row_keys d row)
+pub noted_repeats : (d : Defs) (rows : List Values) (row : Values) (seen : BTreeSet UniqueKey) (us : List UniqueKey) → AreNoted d rows seen.keys → map by_code us ≡ unique_codes d row
     → list_any (λ u. contains unique_cmp seen u) us ≡ list_any (repeats d row) rows
 noted_repeats d rows row seen us are codes =
     any_same (λ (u : UniqueKey). contains unique_cmp seen u) (λ u. list_any (has_code d u.number u.code.items) rows)
     (λ u. any_same (λ k. is_eq (unique_cmp u k)) (λ k. eqb k.number u.number && bytes_eq k.code.items u.code.items) (contained u) seen.keys ∙ are u.number u.code.items) us
     ∙ any_map by_code (λ (c : ℕ × List ℕ). list_any (has_code d c.0 c.1) rows) us
     ∙ ap (list_any (λ (c : ℕ × List ℕ). list_any (has_code d c.0 c.1) rows)) codes
-    ∙ any_code d.keys (λ k. key_of d k row) (λ k c. list_any (has_code d k c) rows) 0 (length d.keys)
+    ∙ any_kept (numbered_code d row) (has_unique d row) (λ (c : ℕ × List ℕ). list_any (has_code d c.0 c.1) rows) (key_numbers d)
+    ∙ any_same (λ k. has_unique d row k && list_any (has_code d k (key_code (key_of d k row))) rows) (repeats_code d rows row) (λ k. together (is_unique d k) (is_complete (key_of d k row)) (list_any (has_code d k (key_code (key_of d k row))) rows)) (key_numbers d)
     ∙ sym (noted d rows row)
+  where
+    together : (u c t : Bool) → ((u && c) && t) ≡ (u && (c && t))
+    together true c t = refl
+    together false c t = refl
 
 -- ---- a row that repeats none is kept
 
 pub kept_new : (d : Defs) (rows : List Values) (row : Values) (k l : KeptRows) (us : List UniqueKey) → list_any (repeats d row) rows ≡ false → l.kept ≡ k.kept + 1 → l.end ≡ k.end + length (stored d row)
-    → lists_in l ≡ with_pairs (pointer d k.end) (row_keys d row) (lists_in k) → ((n : ℕ) (code : List ℕ) → is_noted n code l.seen.keys ≡ (is_noted n code k.seen.keys || is_noted n code us)) → map by_code us ≡ unique_codes d.keys 0 (row_keys d row)
+    → lists_in l ≡ with_pairs (pointer d k.end) (row_keys d row) (lists_in k) → ((n : ℕ) (code : List ℕ) → is_noted n code l.seen.keys ≡ (is_noted n code k.seen.keys || is_noted n code us)) → map by_code us ≡ unique_codes d row
     → HasKept d rows k → HasKept d (kept_with d rows row) l
 kept_new d rows row k l us new kept end lists seen codes has =
     rw new (record {
@@ -168,23 +173,23 @@ written_same d rows row file m repeat here = rw repeat here
 -- ---- the steps of a row together
 
 -- what the set answers of a row's keys
-pub decided : (d : Defs) (rows : List Values) (row : Values) (seen : BTreeSet UniqueKey) (us given : List UniqueKey) (keys : List (List KeySeg)) (defs : List Key) (b : Bool) → AreNoted d rows seen.keys → map by_code us ≡ unique_codes defs 0 keys → defs ≡ d.keys → keys ≡ row_keys d row → given ≡ us
+pub decided : (d : Defs) (rows : List Values) (row : Values) (seen : BTreeSet UniqueKey) (us given : List UniqueKey) (keys : List (List KeySeg)) (b : Bool) → AreNoted d rows seen.keys → ((v : Values) → keys ≡ row_keys d v → map by_code us ≡ unique_codes d v) → keys ≡ row_keys d row → given ≡ us
     → b ≡ list_any (λ u. contains unique_cmp seen u) given → list_any (repeats d row) rows ≡ b
-decided d rows row seen us given keys defs b are codes keyed rowed same answer =
-    sym (noted_repeats d rows row seen us are (codes ∙ ap (λ ds. unique_codes ds 0 keys) keyed ∙ ap (unique_codes d.keys 0) rowed))
+decided d rows row seen us given keys b are codes rowed same answer =
+    sym (noted_repeats d rows row seen us are (codes row rowed))
     ∙ ap (list_any (λ u. contains unique_cmp seen u)) (sym same) ∙ sym answer
 
 abbrev pub with_row : Defs → Values → KeptRows → KeptRows
 with_row d row k = record k { kept = k.kept + 1; split = k.split + 1; end = k.end + length (stored d row) }
 
-pub kept_next : (d : Defs) (rows : List Values) (row : Values) (k p l : KeptRows) (us : List UniqueKey) (keys : List (List KeySeg)) (defs : List Key) (ptr : ℕ) → list_any (repeats d row) rows ≡ false → p ≡ with_row d row k → ptr ≡ pointer d k.end → keys ≡ row_keys d row → defs ≡ d.keys
-    → map by_code us ≡ unique_codes defs 0 keys → lists_in l ≡ with_pairs ptr keys (lists_in p) → l.kept ≡ p.kept → l.end ≡ p.end → ((n : ℕ) (code : List ℕ) → is_noted n code l.seen.keys ≡ (is_noted n code p.seen.keys || is_noted n code us))
+pub kept_next : (d : Defs) (rows : List Values) (row : Values) (k p l : KeptRows) (us : List UniqueKey) (keys : List (List KeySeg)) (ptr : ℕ) → list_any (repeats d row) rows ≡ false → p ≡ with_row d row k → ptr ≡ pointer d k.end → keys ≡ row_keys d row
+    → ((v : Values) → keys ≡ row_keys d v → map by_code us ≡ unique_codes d v) → lists_in l ≡ with_pairs ptr keys (lists_in p) → l.kept ≡ p.kept → l.end ≡ p.end → ((n : ℕ) (code : List ℕ) → is_noted n code l.seen.keys ≡ (is_noted n code p.seen.keys || is_noted n code us))
     → HasKept d rows k → HasKept d (kept_with d rows row) l
-kept_next d rows row k p l us keys defs ptr new put pointed rowed keyed codes lists kept end noted has =
+kept_next d rows row k p l us keys ptr new put pointed rowed codes lists kept end noted has =
     kept_new d rows row k l us new (kept ∙ ap (λ q. q.kept) put) (end ∙ ap (λ q. q.end) put)
     (lists ∙ ap (λ q. with_pairs ptr keys (lists_in q)) put ∙ ap (λ x. with_pairs x keys (lists_in k)) pointed ∙ ap (λ ks. with_pairs (pointer d k.end) ks (lists_in k)) rowed)
     (λ n code. noted n code ∙ ap (λ q. is_noted n code q.seen.keys || is_noted n code us) put)
-    (codes ∙ ap (λ ds. unique_codes ds 0 keys) keyed ∙ ap (unique_codes d.keys 0) rowed) has
+    (codes row rowed) has
 
 pub short_enough : (d : Defs) (n : ℕ) → is_addressable d n ≡ true → n ≤ 2 ^ 40
 unfolding is_addressable

@@ -1,6 +1,6 @@
 -- Keys that no other row may have: what is noted of them.
-use Rattle.std.proofs.Common.{◌≡◌, ℕ, zero, suc, ◌+◌, ◌<◌, ◌≤◌, Bool, true, false, List, [], ◌∷◌, ◌++◌, length, get_or, drop, refl, sym, ap, ◌∙◌, arith, eqb, ltb, append_assoc, drop-cons}
-use Rattle.std.specs.Prelude.{◌&&◌, ◌||◌, map, if◌then◌else◌}
+use Rattle.std.proofs.Common.{◌≡◌, ℕ, zero, suc, ◌+◌, ◌<◌, ◌≤◌, Bool, true, false, List, [], ◌∷◌, ◌++◌, length, get_or, refl, sym, ap, ◌∙◌, arith, eqb, ltb}
+use Rattle.std.specs.Prelude.{◌&&◌, ◌||◌, map, filter, if◌then◌else◌}
 use Rattle.std.specs.List.{list_any}
 use Rattle.std.specs.Option.{option_map_or}
 use Rattle.std.specs.Ordering.{ordering_then, nat_cmp, match_ordering}
@@ -11,16 +11,19 @@ use Rattle.std.specs.Str.{bytes_eq}
 use Rattle.std.specs.Cmp.Lexicographic.{slice_cmp}
 use Rattle.std.proofs.lemmas.List.Folds.{list_any-append}
 use Rattle.std.proofs.lemmas.Map.Lookups.{exact_unsigned, exact_bytes}
-use Rattle.std.proofs.lemmas.List.{map-append}
+use Rattle.std.proofs.lemmas.List.{map-append, append-nil}
+use Rattle.std.proofs.lemmas.List.Elements.{filter-append}
 use Rattle.std.proofs.lemmas.Bool.{eqb-true, eqb-false, ne_eqb, lt-ltb, le-ltb}
 use Rattle.std.proofs.lemmas.Option.{slice_get-get_or}
 use Rattle.myi_defs.specs.declared.types.Key.{Key}
 use Rattle.myi_keys.specs.declared.values.KeySeg.{KeySeg}
-use Rattle.myi_keys.specs.Limits.{is_complete}
 use Rattle.myi_keys.specs.Codes.{key_code}
 use Rattle.myi_repair.specs.declared.unique.UniqueKey.{UniqueKey}
-use Rattle.myi_repair.specs.Keeping.{is_noted, unique_cmp, unique_at, unique_codes, by_code}
-use Rattle.myi_pair.specs.FirstRows.{numbers_from}
+use Rattle.myi_defs.specs.declared.types.Defs.{Defs}
+use Rattle.myi_pack.specs.Packed.{Values}
+use Rattle.myi_data.specs.Keys.{key_of}
+use Rattle.myi_repair.specs.Keeping.{is_noted, unique_cmp, row_keys, has_unique, numbered_code, by_code}
+use Rattle.myi_pair.specs.FirstRows.{numbers_from, is_unique}
 
 -- one more number at the end
 pub numbers_more : (at n : ℕ) → numbers_from at (suc n) ≡ numbers_from at n ++ (at + n) ∷ []
@@ -38,32 +41,50 @@ mapped_more f n done after x step so_far is =
 
 -- ---- complete keys in unique keys
 
-pub unique_here : (defs : List Key) (n : ℕ) (d : Key) (b : Bool) → n < length defs → (get_or defs n d).unique ≡ b → unique_at defs n ≡ b
-unique_here defs n d b inside unique = ap (λ o. option_map_or (λ (key : Key). key.unique) o false) (slice_get-get_or defs n d inside) ∙ unique
+pub unique_here : (d : Defs) (n : ℕ) (key : Key) → n < length d.keys → key ≡ get_or d.keys n key → is_unique d n ≡ key.unique
+unique_here d n key inside is = ap (λ o. option_map_or (λ (k : Key). k.unique) o false) (slice_get-get_or d.keys n key inside) ∙ ap (λ (k : Key). k.unique) (sym is)
 
-pub codes_front : (defs : List Key) (n : ℕ) (keys : List (List KeySeg)) (k : List KeySeg) → n < length keys → k ≡ get_or keys n k → unique_codes defs n (drop n keys) ≡ unique_codes defs n (k ∷ drop (n + 1) keys)
-codes_front defs n keys k inside is =
-    let next : suc n ≡ n + 1 = omega arith in
-    ap (unique_codes defs n) (drop-cons keys n k inside ∙ ap (λ (x : List KeySeg). x ∷ drop (suc n) keys) (sym is) ∙ ap (λ j. k ∷ drop j keys) next)
+mapped_at : {X : Type 0} (f : ℕ → X) (at m n : ℕ) (x : X) → n < m → get_or (map f (numbers_from at m)) n x ≡ f (at + n)
+mapped_at f at zero n x inside = absurd (omega arith)
+mapped_at f at (suc m) zero x inside = ap f (omega arith)
+mapped_at f at (suc m) (suc n) x inside = mapped_at f (suc at) m n x (omega arith) ∙ ap f (omega arith)
+
+-- of the keys of a row the one of a number
+pub row_key : (d : Defs) (row : Values) (keys : List (List KeySeg)) (n : ℕ) (key : List KeySeg) → keys ≡ row_keys d row → n < length d.keys → key ≡ get_or keys n key → key ≡ key_of d n row
+row_key d row keys n key rowed inside is =
+    let here : 0 + n ≡ n = omega arith in
+    is ∙ ap (λ ks. get_or ks n key) rowed ∙ mapped_at (λ k. key_of d k row) 0 (length d.keys) n key inside ∙ ap (λ k. key_of d k row) here
+
+-- the complete keys in unique keys of so many
+abbrev pub codes_before : Defs → Values → ℕ → List (ℕ × List ℕ)
+codes_before d row n = map (numbered_code d row) (filter (has_unique d row) (numbers_from 0 n))
+
+codes_more : (d : Defs) (row : Values) (n : ℕ) → codes_before d row (n + 1) ≡ codes_before d row n ++ (if has_unique d row n then numbered_code d row n ∷ [] else [])
+codes_more d row n =
+    let next : n + 1 ≡ suc n = omega arith in
+    let last : 0 + n ≡ n = omega arith in
+    let more : numbers_from 0 (n + 1) ≡ numbers_from 0 n ++ n ∷ [] = ap (numbers_from 0) next ∙ numbers_more 0 n ∙ ap (λ k. numbers_from 0 n ++ k ∷ []) last in
+    ap (λ ks. map (numbered_code d row) (filter (has_unique d row) ks)) more
+    ∙ ap (map (numbered_code d row)) (filter-append (has_unique d row) (numbers_from 0 n) (n ∷ []))
+    ∙ map-append (numbered_code d row) (filter (has_unique d row) (numbers_from 0 n)) (filter (has_unique d row) (n ∷ []))
+    ∙ ap (λ cs. codes_before d row n ++ cs) (one (has_unique d row n))
+  where
+    one : (b : Bool) → map (numbered_code d row) (if b then n ∷ [] else []) ≡ (if b then numbered_code d row n ∷ [] else [])
+    one true = refl
+    one false = refl
 
 -- a key that is no complete one of a unique key was passed
-pub codes_passed : (defs : List Key) (n : ℕ) (keys : List (List KeySeg)) (k : List KeySeg) (done whole : List (ℕ × List ℕ)) → n < length keys → k ≡ get_or keys n k → unique_at defs n && is_complete k ≡ false
-    → done ++ unique_codes defs n (drop n keys) ≡ whole → done ++ unique_codes defs (n + 1) (drop (n + 1) keys) ≡ whole
-codes_passed defs n keys k done whole inside is none so_far =
-    let next : suc n ≡ n + 1 = omega arith in
-    ap (λ r. done ++ r) (sym (codes_front defs n keys k inside is ∙ ap (λ b. if b then (n, key_code k) ∷ unique_codes defs (suc n) (drop (n + 1) keys) else unique_codes defs (suc n) (drop (n + 1) keys)) none ∙ ap (λ j. unique_codes defs j (drop (n + 1) keys)) next)) ∙ so_far
+pub codes_passed : (d : Defs) (row : Values) (n : ℕ) (us : List UniqueKey) → has_unique d row n ≡ false → map by_code us ≡ codes_before d row n → map by_code us ≡ codes_before d row (n + 1)
+codes_passed d row n us none so_far =
+    so_far ∙ sym (codes_more d row n ∙ ap (λ b. codes_before d row n ++ (if b then numbered_code d row n ∷ [] else [])) none ∙ append-nil (codes_before d row n))
 
 -- a complete one was noted
-pub codes_noted : (defs : List Key) (n : ℕ) (keys : List (List KeySeg)) (k : List KeySeg) (us after : List UniqueKey) (u : UniqueKey) (whole : List (ℕ × List ℕ)) → n < length keys → k ≡ get_or keys n k → unique_at defs n && is_complete k ≡ true
-    → after ≡ us ++ u ∷ [] → u.number ≡ n → u.code.items ≡ key_code k → map by_code us ++ unique_codes defs n (drop n keys) ≡ whole → map by_code after ++ unique_codes defs (n + 1) (drop (n + 1) keys) ≡ whole
-codes_noted defs n keys k us after u whole inside is some step number code so_far =
-    let next : suc n ≡ n + 1 = omega arith in
-    let one : by_code u ≡ (n, key_code k) = ap (λ m. (m, u.code.items)) number ∙ ap (λ c. (n, c)) code in
-    let front : unique_codes defs n (drop n keys) ≡ (n, key_code k) ∷ unique_codes defs (n + 1) (drop (n + 1) keys) = codes_front defs n keys k inside is ∙ ap (λ b. if b then (n, key_code k) ∷ unique_codes defs (suc n) (drop (n + 1) keys) else unique_codes defs (suc n) (drop (n + 1) keys)) some ∙ ap (λ j. (n, key_code k) ∷ unique_codes defs j (drop (n + 1) keys)) next in
-    ap (λ vs. map by_code vs ++ unique_codes defs (n + 1) (drop (n + 1) keys)) step
-    ∙ ap (λ ms. ms ++ unique_codes defs (n + 1) (drop (n + 1) keys)) (map-append by_code us (u ∷ []) ∙ ap (λ c. map by_code us ++ c ∷ []) one)
-    ∙ append_assoc (map by_code us) ((n, key_code k) ∷ []) (unique_codes defs (n + 1) (drop (n + 1) keys))
-    ∙ ap (λ r. map by_code us ++ r) (sym front) ∙ so_far
+pub codes_noted : (d : Defs) (row : Values) (n : ℕ) (us after : List UniqueKey) (u : UniqueKey) (key : List KeySeg) → has_unique d row n ≡ true → after ≡ us ++ u ∷ [] → u.number ≡ n → u.code.items ≡ key_code key → key ≡ key_of d n row
+    → map by_code us ≡ codes_before d row n → map by_code after ≡ codes_before d row (n + 1)
+codes_noted d row n us after u key some step number code is so_far =
+    let one : by_code u ≡ numbered_code d row n = ap (λ m. (m, u.code.items)) number ∙ ap (λ c. (n, c)) (code ∙ ap key_code is) in
+    ap (map by_code) step ∙ map-append by_code us (u ∷ []) ∙ ap (λ c. map by_code us ++ c ∷ []) one ∙ ap (λ cs. cs ++ numbered_code d row n ∷ []) so_far
+    ∙ sym (codes_more d row n ∙ ap (λ b. codes_before d row n ++ (if b then numbered_code d row n ∷ [] else [])) some)
 
 -- ---- the set
 
@@ -141,22 +162,13 @@ pub any_map : {A B : Type 0} (f : A → B) (p : B → Bool) (xs : List A) → li
 any_map f p [] = refl
 any_map f p (x ∷ xs) = ap (λ b. p (f x) || b) (any_map f p xs)
 
--- a test of some complete key of a unique key
-pub any_code : (defs : List Key) (f : ℕ → List KeySeg) (test : ℕ → List ℕ → Bool) (at n : ℕ)
-    → list_any (λ (c : ℕ × List ℕ). test c.0 c.1) (unique_codes defs at (map f (numbers_from at n))) ≡ list_any (λ k. unique_at defs k && (is_complete (f k) && test k (key_code (f k)))) (numbers_from at n)
-any_code defs f test at zero = refl
-any_code defs f test at (suc n) = by (unique_at defs at) (is_complete (f at)) (any_code defs f test (suc at) n)
+pub any_kept : {A B : Type 0} (f : A → B) (p : A → Bool) (q : B → Bool) (xs : List A) → list_any q (map f (filter p xs)) ≡ list_any (λ x. p x && q (f x)) xs
+any_kept f p q [] = refl
+any_kept f p q (x ∷ xs) = by (p x) (any_kept f p q xs)
   where
-    whole : Bool → Bool → Bool
-    whole u c = list_any (λ (c : ℕ × List ℕ). test c.0 c.1) (if u && c then (at, key_code (f at)) ∷ unique_codes defs (suc at) (map f (numbers_from (suc at) n)) else unique_codes defs (suc at) (map f (numbers_from (suc at) n)))
-
-    rest : Bool
-    rest = list_any (λ k. unique_at defs k && (is_complete (f k) && test k (key_code (f k)))) (numbers_from (suc at) n)
-
-    by : (u c : Bool) → list_any (λ (c : ℕ × List ℕ). test c.0 c.1) (unique_codes defs (suc at) (map f (numbers_from (suc at) n))) ≡ rest → whole u c ≡ ((u && (c && test at (key_code (f at)))) || rest)
-    by true true more = ap (λ b. test at (key_code (f at)) || b) more
-    by true false more = more
-    by false c more = more
+    by : (b : Bool) → list_any q (map f (filter p xs)) ≡ list_any (λ y. p y && q (f y)) xs → list_any q (map f (if b then x ∷ filter p xs else filter p xs)) ≡ ((b && q (f x)) || list_any (λ y. p y && q (f y)) xs)
+    by true more = ap (λ r. q (f x) || r) more
+    by false more = more
 
 none_before : (g : ℕ → Bool) (n at m : ℕ) → n < at → list_any (λ k. eqb k n && g k) (numbers_from at m) ≡ false
 none_before g n at zero before = refl

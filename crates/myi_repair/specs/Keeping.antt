@@ -1,12 +1,10 @@
 -- The rows that are kept so far, by what is kept of them.
-use Rattle.std.specs.Prelude.{◌≡◌, ◌≤◌, ◌==◌, ◌&&◌, ◌^◌, ℕ, suc, Bool, false, List, [], ◌∷◌, ◌++◌, length, map, slice_get, Vec, if◌then◌else◌}
+use Rattle.std.specs.Prelude.{◌≡◌, ◌≤◌, ◌==◌, ◌&&◌, ◌^◌, ℕ, Bool, List, [], ◌∷◌, ◌++◌, length, map, filter, Vec, if◌then◌else◌}
 use Rattle.std.specs.List.{list_any}
-use Rattle.std.specs.Option.{option_map_or}
 use Rattle.std.specs.Ordering.{nat_cmp, ordering_then}
 use Rattle.std.specs.declared.cmp.Ordering.{Ordering}
 use Rattle.std.specs.Cmp.Lexicographic.{slice_cmp}
 use Rattle.std.specs.Str.{bytes_eq}
-use Rattle.myi_defs.specs.declared.types.Key.{Key}
 use Rattle.myi_defs.specs.declared.types.Defs.{Defs}
 use Rattle.myi_keys.specs.declared.values.KeySeg.{KeySeg}
 use Rattle.myi_keys.specs.Limits.{is_complete}
@@ -15,7 +13,7 @@ use Rattle.myi_pack.specs.Packed.{Values}
 use Rattle.myi_data.specs.Keys.{key_of}
 use Rattle.myi_data.specs.Laid.{laid_file}
 use Rattle.myi_btree.specs.declared.pair.Pair.{Pair}
-use Rattle.myi_pair.specs.FirstRows.{key_numbers, repeats, has_code}
+use Rattle.myi_pair.specs.FirstRows.{key_numbers, is_unique, repeats, has_code}
 use Rattle.myi_pair.specs.RecoveredBytes.{placed_from, row_pairs}
 use Rattle.myi_repair.specs.declared.unique.UniqueKey.{UniqueKey}
 use Rattle.myi_repair.specs.declared.kept.KeptRows.{KeptRows}
@@ -39,13 +37,17 @@ AreNoted d rows keys = (number : ℕ) (code : List ℕ) → is_noted number code
 abbrev pub row_keys : Defs → Values → List (List KeySeg)
 row_keys d row = map (λ k. key_of d k row) (key_numbers d)
 
-abbrev pub unique_at : List Key → ℕ → Bool
-unique_at keys k = option_map_or (λ key. key.unique) (slice_get keys k) false
+-- the row has a complete key in the unique key of that number
+abbrev pub has_unique : Defs → Values → ℕ → Bool
+has_unique d row k = is_unique d k && is_complete (key_of d k row)
 
--- the complete ones of keys in unique keys, each by its number and its code; the first has a number
-abbrev pub unique_codes : List Key → ℕ → List (List KeySeg) → List (ℕ × List ℕ)
-unique_codes defs number [] = []
-unique_codes defs number (key ∷ keys) = if unique_at defs number && is_complete key then (number, key_code key) ∷ unique_codes defs (suc number) keys else unique_codes defs (suc number) keys
+-- the key of a row for the key of that number, by the number and its code
+abbrev pub numbered_code : Defs → Values → ℕ → ℕ × List ℕ
+numbered_code d row k = (k, key_code (key_of d k row))
+
+-- the complete keys of a row in unique keys
+abbrev pub unique_codes : Defs → Values → List (ℕ × List ℕ)
+unique_codes d row = map (numbered_code d row) (filter (has_unique d row) (key_numbers d))
 
 abbrev pub by_code : UniqueKey → ℕ × List ℕ
 by_code k = (k.number, k.code.items)

@@ -85,7 +85,7 @@ impl KeptRows {
         ensures cause { HasCause RepairFault.File (F.faults files.old) (F.faults files.new) result }
     {
         let keys = keys_of(alloc, defs, row)?;
-        let unique = unique_keys(alloc, defs.keys.as_slice(), &keys)?;
+        let unique = unique_keys(alloc, defs, &keys)?;
         if has_any(&self.seen, &unique) {
             self.repeats += 1;
             return Ok(());

@@ -4,6 +4,7 @@ ghost use Rattle.std.specs.BTreeSet.{contains};
 ghost use Rattle.std.specs.List.{list_any};
 ghost use Rattle.myi_defs.specs.Sound.{IsSound};
 ghost use Rattle.myi_keys.specs.Limits.{is_complete};
+ghost use Rattle.myi_pack.specs.Packed.{Values};
 ghost use Rattle.myi_pack.specs.Spelling.{fits};
 ghost use Rattle.myi_repair.specs.Keeping.{is_noted, unique_cmp, row_keys, unique_codes, by_code};
 
@@ -49,13 +50,14 @@ fn is_distinct(defs: &Key, key: &KeyVal) -> bool
 /// Those of the keys that no other row may have: complete ones in unique keys.
 pub(crate) fn unique_keys(
     alloc: Global,
-    defs: &[Key],
+    defs: &Defs,
     keys: &[KeyVal],
 ) -> Result<Vec<UniqueKey>, AllocError>
-    requires all { length keys.now ≡ length defs.now }
-    requires few { length defs.now ≤ 64 }
-    ensures { IfOk result (λ unique. map by_code unique.items ≡ unique_codes defs.now 0 keys.now) }
+    requires all { length keys.now ≡ length defs.now.keys }
+    requires few { length defs.now.keys ≤ 64 }
+    ensures { IfOk result (λ unique. (row : Values) → keys.now ≡ row_keys defs.now row → map by_code unique.items ≡ unique_codes defs.now row) }
 {
+    let defs = defs.keys.as_slice();
     let mut unique = Vec::new(alloc);
     for (number, key) in keys.iter().enumerate() {
         if is_distinct(&defs[number], key) {

@@ -1,7 +1,9 @@
-use Rattle.std.proofs.Common.{◌≡◌, ◌++◌, drop}
+use Rattle.std.proofs.Common.{◌≡◌}
 use Rattle.std.specs.Prelude.{map}
-use Rattle.myi_repair.specs.Keeping.{unique_codes, by_code}
+use Rattle.myi_pack.specs.Packed.{Values}
+use Rattle.myi_repair.specs.Keeping.{row_keys, by_code}
+use Rattle.myi_repair.proofs.UniqueLaws.{codes_before}
 use Rattle.myi_repair.proofs.unique.unique_keys.Given as goal
 
 abbrev pub invariant-loop-number : goal.invariant-loop-number
-invariant-loop-number l = map by_code l.unique.items ++ unique_codes l.defs l.number (drop l.number l.keys) ≡ unique_codes l.defs 0 l.keys
+invariant-loop-number l = (row : Values) → l.keys ≡ row_keys l.fn.defs row → map by_code l.unique.items ≡ codes_before l.fn.defs row l.number

@@ -15,17 +15,15 @@ pointer-requires g c = sound c.args.defs.now c.requires.defs
 
 pub unique_keys-requires-clause-all : goal.unique_keys-requires-clause-all
 unique_keys-requires-clause-all g c =
-    ap (λ (ks : List (List KeySeg)). length ks) (c.deref.ensures.value ∙ c.in_ok-keys.ensures) ∙ length-row_keys c.args.defs.now c.args.row.now ∙ sym (ap (λ ks. length ks) c.as_slice.ensures)
+    ap (λ (ks : List (List KeySeg)). length ks) (c.deref.ensures.value ∙ c.in_ok-keys.ensures) ∙ length-row_keys c.args.defs.now c.args.row.now
 
 pub unique_keys-requires-clause-few : goal.unique_keys-requires-clause-few
-unique_keys-requires-clause-few g c =
-    let s = sound c.args.defs.now c.requires.defs in
-    omega (arith, s.few_keys, ap (λ ks. length ks) c.as_slice.ensures)
+unique_keys-requires-clause-few g c = let s = sound c.args.defs.now c.requires.defs in omega (arith, s.few_keys)
 
 pub returns-then-has_any-clause-kept : goal.returns-then-has_any-clause-kept
 returns-then-has_any-clause-kept g c rows has =
     let d = c.args.defs.now in
-    let repeat = decided d rows c.args.row.now c.args.self.now.seen c.in_ok-unique.unique.items c.deref-2.result.now c.deref.result.now c.as_slice.result.now c.has_any.result has.noted c.in_ok-unique.ensures c.as_slice.ensures (c.deref.ensures.value ∙ c.in_ok-keys.ensures) c.deref-2.ensures.value c.has_any.ensures ∙ c.if-has_any.true in
+    let repeat = decided d rows c.args.row.now c.args.self.now.seen c.in_ok-unique.unique.items c.deref-2.result.now c.deref.result.now c.has_any.result has.noted c.in_ok-unique.ensures (c.deref.ensures.value ∙ c.in_ok-keys.ensures) c.deref-2.ensures.value c.has_any.ensures ∙ c.if-has_any.true in
     kept_same d rows c.args.row.now c.args.self.now _ repeat refl refl refl refl has
 
 pub returns-then-has_any-clause-written : goal.returns-then-has_any-clause-written
@@ -34,7 +32,7 @@ returns-then-has_any-clause-written g c m told = (
   told,
   λ rows has here.
       let d = c.args.defs.now in
-      let repeat = decided d rows c.args.row.now c.args.self.now.seen c.in_ok-unique.unique.items c.deref-2.result.now c.deref.result.now c.as_slice.result.now c.has_any.result has.noted c.in_ok-unique.ensures c.as_slice.ensures (c.deref.ensures.value ∙ c.in_ok-keys.ensures) c.deref-2.ensures.value c.has_any.ensures ∙ c.if-has_any.true in
+      let repeat = decided d rows c.args.row.now c.args.self.now.seen c.in_ok-unique.unique.items c.deref-2.result.now c.deref.result.now c.has_any.result has.noted c.in_ok-unique.ensures (c.deref.ensures.value ∙ c.in_ok-keys.ensures) c.deref-2.ensures.value c.has_any.ensures ∙ c.if-has_any.true in
       written_same d rows c.args.row.now c.args.file.now m repeat here,
 )
 
@@ -54,8 +52,8 @@ pub returns-clause-kept : goal.returns-clause-kept
 returns-clause-kept g c rows has =
     let d = c.args.defs.now in
     let added = c.in_ok-add.ensures in
-    let new = decided d rows c.args.row.now c.args.self.now.seen c.in_ok-unique.unique.items c.deref-2.result.now c.deref.result.now c.as_slice.result.now c.has_any.result has.noted c.in_ok-unique.ensures c.as_slice.ensures (c.deref.ensures.value ∙ c.in_ok-keys.ensures) c.deref-2.ensures.value c.has_any.ensures ∙ c.if-has_any.false in
-    kept_next d rows c.args.row.now c.args.self.now c.put.new.self c.add.new.self c.in_ok-unique.unique.items c.deref.result.now c.as_slice.result.now c.pointer.result new c.in_ok-put.ensures.counts c.pointer.ensures (c.deref.ensures.value ∙ c.in_ok-keys.ensures) c.as_slice.ensures c.in_ok-unique.ensures (added.pairs ∙ ap (λ ks. with_pairs c.pointer.result ks (lists_in c.put.new.self)) (sym c.deref.ensures.value)) added.kept added.end added.noted has
+    let new = decided d rows c.args.row.now c.args.self.now.seen c.in_ok-unique.unique.items c.deref-2.result.now c.deref.result.now c.has_any.result has.noted c.in_ok-unique.ensures (c.deref.ensures.value ∙ c.in_ok-keys.ensures) c.deref-2.ensures.value c.has_any.ensures ∙ c.if-has_any.false in
+    kept_next d rows c.args.row.now c.args.self.now c.put.new.self c.add.new.self c.in_ok-unique.unique.items c.deref.result.now c.pointer.result new c.in_ok-put.ensures.counts c.pointer.ensures (c.deref.ensures.value ∙ c.in_ok-keys.ensures) c.in_ok-unique.ensures (added.pairs ∙ ap (λ ks. with_pairs c.pointer.result ks (lists_in c.put.new.self)) (sym c.deref.ensures.value)) added.kept added.end added.noted has
 
 pub returns-clause-written : goal.returns-clause-written
 returns-clause-written g c m told =
@@ -64,6 +62,6 @@ returns-clause-written g c m told =
       wrote.1,
       λ rows has here.
           let d = c.args.defs.now in
-          let new = decided d rows c.args.row.now c.args.self.now.seen c.in_ok-unique.unique.items c.deref-2.result.now c.deref.result.now c.as_slice.result.now c.has_any.result has.noted c.in_ok-unique.ensures c.as_slice.ensures (c.deref.ensures.value ∙ c.in_ok-keys.ensures) c.deref-2.ensures.value c.has_any.ensures ∙ c.if-has_any.false in
+          let new = decided d rows c.args.row.now c.args.self.now.seen c.in_ok-unique.unique.items c.deref-2.result.now c.deref.result.now c.has_any.result has.noted c.in_ok-unique.ensures (c.deref.ensures.value ∙ c.in_ok-keys.ensures) c.deref-2.ensures.value c.has_any.ensures ∙ c.if-has_any.false in
           written_new d rows c.args.row.now c.args.self.now c.args.file.now m wrote.0 new has here wrote.2,
     )
