@@ -3,7 +3,7 @@ use Rattle.std.proofs.Common.{◌≡◌, ℕ, ◌+◌, ◌-◌, ◌^◌, ◌<◌
 use Rattle.std.proofs.lemmas.Bool.{cases_lt}
 use Rattle.std.proofs.lemmas.List.{take_all, take-take, drop-take, length-take-le}
 use Rattle.myi_base.specs.Numbers.{num, num_at, AreBytes}
-use Rattle.myi_base.proofs.NumberLaws.{num-below, bytes-drop}
+use Rattle.myi_base.proofs.CallerLemmas.{num-below, bytes-drop}
 use Rattle.myi_defs.specs.declared.types.Defs.{Defs}
 use Rattle.myi_defs.specs.declared.header.Front.{Front}
 use Rattle.myi_defs.specs.Elsewhere.{AgreeOutsideState}

@@ -2,7 +2,7 @@
 use Rattle.std.proofs.Common.{◌≡◌, ℕ, ◌+◌, ◌-◌, ◌*◌, ◌≤◌, List, ◌++◌, length, take, drop, Ok, sym, ap, subst, ◌∙◌, arith, append_assoc, length-append}
 use Rattle.std.proofs.lemmas.List.{drop_at, length-replicate, length-take-le, length-drop}
 use Rattle.std.proofs.Math.Seq.{take-append_seam}
-use Rattle.myi_base.proofs.NumberLaws.{length-num_bytes}
+use Rattle.myi_base.proofs.CallerLemmas.{length-num_bytes}
 use Rattle.myi_defs.specs.declared.types.Defs.{Defs}
 use Rattle.myi_defs.specs.declared.header.Front.{Front}
 use Rattle.myi_defs.specs.Header.{front, header, outline}

@@ -3,7 +3,7 @@ use Rattle.std.proofs.Common.{◌≡◌, ℕ, zero, suc, ◌+◌, ◌≤◌, Boo
 use Rattle.std.proofs.lemmas.List.{length-take-le}
 use Rattle.std.proofs.lemmas.Bool.Decides.{nat_tests}
 use Rattle.myi_base.specs.Numbers.{num_at}
-use Rattle.myi_base.proofs.ItemLaws.{numbers-take}
+use Rattle.myi_base.proofs.CallerLemmas.{numbers-take}
 use Rattle.myi_defs.specs.declared.types.Defs.{Defs}
 use Rattle.myi_defs.specs.declared.types.DefFault.{DefFault}
 use Rattle.myi_defs.specs.declared.types.DefFault.TheVariants.{Lengths}

@@ -5,7 +5,7 @@ use Rattle.std.specs.Option.{option_map}
 use Rattle.std.proofs.lemmas.Bool.{leb-true, le-leb, eqb-true, eqb-false, eq-eqb}
 use Rattle.std.proofs.lemmas.List.{take-take, drop-take, take_all, get_or-take, get_or-drop, length-take, length-take-le, length-drop}
 use Rattle.myi_base.specs.Numbers.{num, num_bytes, num_at, pointer_of, AreBytes}
-use Rattle.myi_base.proofs.NumberLaws.{num-take, num-below, num-num_bytes, length-num_bytes, bytes-take, bytes-drop}
+use Rattle.myi_base.proofs.CallerLemmas.{num-take, num-below, num-num_bytes, length-num_bytes, bytes-take, bytes-drop}
 use Rattle.myi_frames.specs.declared.form.FrameKind.{FrameKind}
 use Rattle.myi_frames.specs.declared.form.FrameKind.TheVariants.{Deleted, Whole, Start, Middle, End}
 use Rattle.myi_frames.specs.declared.form.Form.{Form}

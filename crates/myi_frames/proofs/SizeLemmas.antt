@@ -7,7 +7,7 @@ use Rattle.std.proofs.lemmas.Bool.{leb-true, leb-false, le-leb, lt-leb, cases_lt
 use Rattle.std.proofs.lemmas.List.{length-take-le, length-drop}
 use Rattle.std.proofs.lemmas.List.Sums.{sum_by-cons}
 use Rattle.myi_base.specs.Numbers.{num_at, AreBytes}
-use Rattle.myi_base.proofs.NumberLaws.{bytes-drop}
+use Rattle.myi_base.proofs.CallerLemmas.{bytes-drop}
 use Rattle.myi_frames.specs.declared.form.FrameKind.{FrameKind}
 use Rattle.myi_frames.specs.declared.form.FrameKind.TheVariants.{Deleted, Whole, Start, Middle, End}
 use Rattle.myi_frames.specs.declared.form.Form.{Form}

@@ -6,8 +6,8 @@ use Rattle.std.proofs.lemmas.List.{drop_at, take_at, length-replicate, take_all}
 use Rattle.myi_base.specs.Numbers.{num_at, num_bytes, pointer_of, pointer_number, AreBytes}
 use Rattle.myi_base.specs.Items.{numbers, spelling, Fit}
 use Rattle.myi_base.specs.Holding.{overwritten}
-use Rattle.myi_base.proofs.NumberLaws.{bytes-num_bytes}
-use Rattle.myi_base.proofs.ItemLaws.{numbers-spelling, length-spelling}
+use Rattle.myi_base.proofs.CallerLemmas.{bytes-num_bytes}
+use Rattle.myi_base.proofs.CallerLemmas.{numbers-spelling, length-spelling}
 use Rattle.myi_frames.specs.declared.form.FrameKind.{FrameKind}
 use Rattle.myi_frames.specs.declared.form.FrameKind.TheVariants.{Deleted, Whole, Start, Middle, End}
 use Rattle.myi_frames.specs.declared.form.Form.{Form}

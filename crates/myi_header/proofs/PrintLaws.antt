@@ -10,8 +10,8 @@ use Rattle.myi_header.specs.Layout.{layout_of, first_page_of}
 use Rattle.std.proofs.lemmas.List.{take_at, drop_at, drop-drop, drop-take, take_all, take-append-drop, length-take-le, length-drop, length-replicate}
 use Rattle.myi_base.specs.Numbers.{num, num_at, num_bytes, pointer_of, pointer_number}
 use Rattle.myi_base.specs.Items.{numbers, spelling, Fit}
-use Rattle.myi_base.proofs.NumberLaws.{num-num_bytes, length-num_bytes}
-use Rattle.myi_base.proofs.ItemLaws.{length-spelling}
+use Rattle.myi_base.proofs.CallerLemmas.{num-num_bytes, length-num_bytes}
+use Rattle.myi_base.proofs.CallerLemmas.{length-spelling}
 use Rattle.myi_header.specs.declared.state.State.{State}
 use Rattle.myi_header.specs.declared.state.Layout.{Layout}
 use Rattle.myi_header.specs.Parts.{part}

@@ -1,4 +1,20 @@
+-- what a reader of the contracts must believe
+
+-- what a map from names to bytes holds
 pub mod Stored
+-- which calls of an object in memory fail
+pub mod Strikes
+-- what files in memory, their readers, and a sink in memory show
 pub mod MemFiles
+pub mod MemReader
 pub mod MemSink
+-- what two readers tell together
+pub mod Opened
+-- how a layer above tells of faults
+pub mod Faults
+-- what serves private contracts and the laws
+
+-- what is told is bytes
+pub mod Told
+-- the counts of real files
 pub mod RealFiles

@@ -3,11 +3,12 @@
 //! A caller that knows what the files hold learns what they hold after each call, also after one that
 //! failed. A caller that does not, as over real files, learns only that no call gave more bytes than
 //! it was asked for, and why a call failed.
-ghost use Rattle.std.specs.Prelude.{◌≡◌, ◌≤◌, ◌+◌, ◌-◌, ◌^◌, ℕ, Bool, List, Option, length, drop, min, OnOk, OnErr, IfOk, IfErr, IsTrue, Some};
+ghost use Rattle.std.specs.Prelude.{◌≡◌, ◌≤◌, ◌+◌, ◌-◌, ◌^◌, ℕ, Bool, Option, length, min, OnOk, OnErr, IfOk, IfErr, IsTrue};
 ghost use Rattle.myi_io.specs.declared.files.FileErr.TheVariants.{Failed, Memory};
-ghost use Rattle.myi_base.specs.Holding.{Holding, bytes_of, filled, Told, Writes, WritesPart, Cuts, CutsOrKeeps, Keeps, Renames, Removes, Measures, blocks};
+ghost use Rattle.myi_base.specs.Holding.{Holding, HoldsBytes, IfTold, Told, Gives, Fills, Shows, Writes, WritesPart, Cuts, CutsOrKeeps, Keeps, Renames, Removes, Measures, blocks};
 ghost use Rattle.myi_base.specs.Causes.{HasCause};
 
+use crate::reader::FileReader;
 use std::alloc::{AllocError, AllocFailed};
 use thiserror::Error;
 
@@ -40,6 +41,9 @@ impl<T: Drop> From<AllocFailed<T>> for FileErr {
 /// Files by their names. Positions and lengths are in bytes, positions from 0. Names that a call does
 /// not name keep what they hold.
 pub trait Files {
+    /// An object that reads one file, for another thread.
+    type Reader: FileReader;
+
     /// What the files hold, where they tell it.
     ghost holds: { Self → Option Holding };
 
@@ -54,7 +58,7 @@ pub trait Files {
 
     /// The length of a file, and None where no file has the name.
     fn length(&mut self, name: &str) -> Result<Option<u64>, FileErr>
-        ensures told { IfOk result (λ size. (m : Holding) → holds self.old ≡ Some m → Measures (m name.now) size) }
+        ensures told { IfOk result (λ size. IfTold (holds self.old) (λ m. Measures (m name.now) size)) }
         ensures holds { holds self.new ≡ holds self.old }
         ensures reads { reads self.new ≡ reads self.old }
         ensures cause { HasCause Failed (faults self.old) (faults self.new) result };
@@ -64,8 +68,8 @@ pub trait Files {
     /// anything. A name that is not there gives no bytes. Want of memory counts as a failure here.
     fn read_at(&mut self, name: &str, at: u64, into: &mut [u8]) -> Result<usize, FileErr>
         ensures bound { IfOk result (λ count. count ≤ length into.new) }
-        ensures told { IfOk result (λ count. (m : Holding) → holds self.old ≡ Some m → count ≡ min (length into.old) (length (drop at (bytes_of name.now m)))) }
-        ensures bytes { OnOk result ((m : Holding) → holds self.old ≡ Some m → into.new ≡ filled at into.old (bytes_of name.now m)) }
+        ensures told { IfOk result (λ count. IfTold (holds self.old) (Gives name.now at into.old count)) }
+        ensures bytes { OnOk result (IfTold (holds self.old) (Fills name.now at into.old into.new)) }
         ensures failed { IfErr result (λ e. e ≡ Failed) }
         ensures holds { holds self.new ≡ holds self.old }
         ensures reads { reads self.old ≤ reads self.new }
@@ -109,7 +113,19 @@ pub trait Files {
         ensures reads { reads self.new ≡ reads self.old }
         ensures cause { HasCause Failed (faults self.old) (faults self.new) result };
 
+    /// An object that reads the bytes that the file has now, of which there are none where no file has
+    /// the name.
+    fn reader(&mut self, name: &str) -> Result<Self::Reader, FileErr>
+        requires { IsTrue writable }
+        ensures told { IfOk result (λ r. IfTold (holds self.old) (Shows name.now (Self.Reader.holds r))) }
+        ensures holds { holds self.new ≡ holds self.old }
+        ensures reads { reads self.new ≡ reads self.old }
+        ensures cause { HasCause Failed (faults self.old) (faults self.new) result };
+
     /// The count of faults, or 2^64 - 1 where it is greater.
     fn fault_count(&self) -> u64
         ensures { result ≡ min (faults self.now) (2 ^ 64 - 1) };
+
+    /// What is told is bytes.
+    ghost told_bytes: { (s : Self) → IfTold (holds s) HoldsBytes };
 }

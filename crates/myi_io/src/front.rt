@@ -1,6 +1,6 @@
 //! Reading the front of a file into memory.
 ghost use Rattle.std.specs.Prelude.{◌≡◌, ◌≤◌, ℕ, Some, length, take, vec_len, IfOk};
-ghost use Rattle.myi_base.specs.Holding.{Holding, bytes_of};
+ghost use Rattle.myi_base.specs.Holding.{IfTold, IsFront};
 ghost use Rattle.myi_base.specs.Causes.{HasCause};
 ghost use Rattle.myi_io.specs.declared.files.FileErr.TheVariants.{Failed};
 
@@ -15,7 +15,7 @@ pub fn read_front<F: Files>(
     name: &str,
     length: u64,
 ) -> Result<Vec<u8>, FileErr>
-    ensures told { IfOk result (λ bytes. (m : Holding) → F.holds files.old ≡ Some m → bytes.items ≡ take length (bytes_of name.now m)) }
+    ensures told { IfOk result (λ front. IfTold (F.holds files.old) (IsFront name.now length front.items)) }
     ensures short { IfOk result (λ bytes. vec_len bytes ≤ length) }
     ensures holds { F.holds files.new ≡ F.holds files.old }
     ensures cause { HasCause Failed (F.faults files.old) (F.faults files.new) result }
@@ -30,7 +30,7 @@ pub fn read_front<F: Files>(
 // Fills the buffer from the file's start.
 fn fill<F: Files>(files: &mut F, name: &str, into: &mut [u8]) -> Result<usize, FileErr>
     ensures bound { IfOk result (λ count. count ≤ length into.new) }
-    ensures told { IfOk result (λ count. (m : Holding) → F.holds files.old ≡ Some m → take count into.new ≡ take (length into.old) (bytes_of name.now m)) }
+    ensures told { IfOk result (λ count. IfTold (F.holds files.old) (IsFront name.now (length into.old) (take count into.new))) }
     ensures holds { F.holds files.new ≡ F.holds files.old }
     ensures cause { HasCause Failed (F.faults files.old) (F.faults files.new) result }
 {

@@ -10,14 +10,21 @@
 mod files;
 mod front;
 mod memory;
+mod memory_reader;
+mod opened;
+mod reader;
 mod real;
 mod sink;
+mod strikes;
 #[cfg(test)]
 mod tests;
 
 pub use files::{FileErr, Files};
 pub use front::read_front;
 pub use memory::MemFiles;
+pub use memory_reader::MemReader;
 pub use myi_base::{be, le};
+pub use opened::{Opened, ReaderFiles};
+pub use reader::FileReader;
 pub use real::{RealFiles, RealSink};
 pub use sink::{MemSink, Sink, SinkErr};

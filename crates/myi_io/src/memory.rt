@@ -1,54 +1,22 @@
 //! `MemFiles`: files in memory, which fail at the calls that a list names.
 //!
 //! The files are a map from names to bytes. Each call counts itself, fails where its number is in the
-//! list, and else does its work on the map; what the map holds is what the files tell.
-ghost use Rattle.std.specs.Prelude.{◌≡◌, ◌≤◌, ◌+◌, ◌-◌, ◌^◌, ◌<◌, ℕ, List, [], ◌++◌, Option, length, take, drop, min, replicate, vec_len, true, OnOk, OnErr, IfOk, IfErr, IsTrue, Some};
-ghost use Rattle.std.specs.Bool.{OnTrue, OnFalse};
-ghost use Rattle.std.specs.Option.{option_map, option_copied};
-ghost use Rattle.myi_base.specs.Holding.{Holding, bytes_of, resized, overwritten, Sets, Writes, Cuts, Removes, Renames};
-ghost use Rattle.myi_base.specs.Causes.{Rose};
+//! list, and else does its work on the map; what the map holds is what the files tell. A reader has a
+//! copy of the bytes of one file.
+ghost use Rattle.std.specs.Prelude.{◌≡◌, ◌+◌, ◌-◌, ◌≤◌, ℕ, List, ◌++◌, length, take, drop, replicate, vec_len, OnOk, OnErr, IfOk, IfErr, Some};
+ghost use Rattle.std.specs.Option.{option_map};
+ghost use Rattle.myi_base.specs.Holding.{HoldsBytes, bytes_of, resized, overwritten, Sets, Writes, Cuts, Removes, Renames};
 ghost use Rattle.myi_io.specs.Stored.{held, given};
 
+use crate::memory_reader::{MemReader, copy_from};
+use crate::strikes::Strikes;
 use crate::{FileErr, Files};
+use myi_base::slices_are_bytes;
 use std::alloc::{AllocError, Global};
 use std::collections::BTreeMap;
 
 // A file that would end past this is want of memory.
 const MAX_LENGTH: u64 = (1 << 63) - 1;
-
-/// Which calls fail, and how many have.
-#[derive(Drop)]
-pub(crate) struct Strikes {
-    pub(crate) calls: u64,
-    pub(crate) fail: Vec<u64>,
-    pub(crate) faults: u64,
-}
-
-impl Strikes {
-    pub(crate) fn new(fail: Vec<u64>) -> Self
-        ensures { result.faults ≡ 0 }
-    {
-        Strikes {
-            calls: 0,
-            fail,
-            faults: 0,
-        }
-    }
-
-    /// Counts a call, and answers whether it is to fail.
-    pub(crate) fn strikes(&mut self) -> bool
-        ensures later { self.old.faults ≤ self.new.faults }
-        ensures fails { OnTrue result (Rose self.old.faults self.new.faults) }
-        ensures goes { OnFalse result (self.new.faults ≡ self.old.faults) }
-    {
-        self.calls = self.calls.saturating_add(1);
-        let fails = self.fail.contains(&self.calls);
-        if fails {
-            self.faults = self.faults.saturating_add(1);
-        }
-        fails
-    }
-}
 
 type Stored = BTreeMap<String, Vec<u8>>;
 
@@ -145,10 +113,12 @@ fn cut(alloc: Global, files: &mut Stored, name: &str, length: u64) -> Result<(),
 }
 
 fn stored(alloc: Global, files: Vec<(String, Vec<u8>)>) -> Result<Stored, AllocError>
-    ensures { IfOk result (λ stored. (q : List ℕ) → held stored q ≡ given files.items q) }
+    ensures given { IfOk result (λ stored. (q : List ℕ) → held stored q ≡ given files.items q) }
+    ensures bytes { IfOk result (λ stored. HoldsBytes (held stored)) }
 {
     let mut stored = BTreeMap::new(alloc);
     for (name, bytes) in files {
+        slices_are_bytes(&bytes);
         stored.insert(name, bytes)?;
     }
     Ok(stored)
@@ -184,11 +154,15 @@ pub struct MemFiles {
     alloc: Global,
     files: Stored,
     strikes: Strikes,
+    readers_fail: Vec<u64>,
     reads: u64,
+    ghost bytes: { HoldsBytes (held files) },
 }
 
 impl MemFiles {
-    ghost use Rattle.myi_io.specs.MemFiles.{files_held, files_faults, files_reads};
+    ghost use Rattle.std.specs.Prelude.{[]};
+    ghost use Rattle.myi_io.specs.Strikes.{fresh};
+    ghost use Rattle.myi_io.specs.MemFiles.{files_held, files_strikes, files_reads, readers_fail};
 
     /// These files, of which the last of a name counts. The calls with these numbers fail, counted
     /// from 1 over all calls of the object.
@@ -198,15 +172,27 @@ impl MemFiles {
         fail: Vec<u64>,
     ) -> Result<MemFiles, AllocError>
         ensures held { IfOk result (λ all. (q : List ℕ) → files_held all q ≡ given files.items q) }
-        ensures faults { IfOk result (λ all. files_faults all ≡ 0) }
+        ensures strikes { IfOk result (λ all. files_strikes all ≡ fresh fail.items) }
+        ensures readers { IfOk result (λ all. readers_fail all ≡ []) }
         ensures reads { IfOk result (λ all. files_reads all ≡ 0) }
     {
         Ok(MemFiles {
             alloc,
             files: stored(alloc, files)?,
             strikes: Strikes::new(fail),
+            readers_fail: Vec::new(alloc),
             reads: 0,
         })
+    }
+
+    /// Each reader that is made afterwards fails at its own calls with these numbers, counted from 1.
+    pub fn fail_readers(&mut self, fail: Vec<u64>)
+        ensures readers { readers_fail self.new ≡ fail.items }
+        ensures held { files_held self.new ≡ files_held self.old }
+        ensures strikes { files_strikes self.new ≡ files_strikes self.old }
+        ensures reads { files_reads self.new ≡ files_reads self.old }
+    {
+        self.readers_fail = fail;
     }
 }
 
@@ -223,7 +209,20 @@ impl MemFiles {
     }
 }
 
+/// Beside the clauses of the trait: which calls fail (`exact`), and that a read counts once.
 impl Files for MemFiles {
+    type Reader = MemReader;
+
+    ghost use Rattle.std.specs.Prelude.{true, ◌≡◌, ◌≤◌, ◌+◌, ◌-◌, ◌^◌, length, min, OnOk, OnErr, IfOk, IfErr, Some};
+    ghost use Rattle.myi_base.specs.Holding.{IfTold, Gives, Fills, Shows, Told, Writes, WritesPart, Cuts, CutsOrKeeps, Renames, Removes, Keeps, Measures, blocks};
+    ghost use Rattle.myi_base.specs.Causes.{HasCause};
+    ghost use Rattle.myi_io.specs.declared.files.FileErr.TheVariants.{Failed};
+    ghost use Rattle.myi_io.specs.Stored.{held};
+    ghost use Rattle.myi_io.specs.Told.{same_told};
+    ghost use Rattle.myi_io.specs.Strikes.{IsCall, raised, fresh};
+    ghost use Rattle.myi_io.specs.MemFiles.{files_held, files_faults, files_reads, files_strikes, readers_fail};
+    ghost use Rattle.myi_io.specs.MemReader.{reader_bytes, reader_strikes};
+
     ghost holds = { λ s. Some (held s.files) };
 
     ghost faults = { λ s. s.strikes.faults };
@@ -232,37 +231,60 @@ impl Files for MemFiles {
 
     ghost writable = { true };
 
-    fn length(&mut self, name: &str) -> Result<Option<u64>, FileErr> {
+    fn length(&mut self, name: &str) -> Result<Option<u64>, FileErr>
+        ensures told { IfOk result (λ size. IfTold (Some (files_held self.old)) (λ m. Measures (m name.now) size)) }
+        ensures holds { Some (files_held self.new) ≡ Some (files_held self.old) }
+        ensures reads { files_reads self.new ≡ files_reads self.old }
+        ensures cause { HasCause Failed (files_faults self.old) (files_faults self.new) result }
+        ensures exact { IsCall Failed (files_strikes self.old) result (files_strikes self.new) }
+    {
         if self.strikes.strikes() {
             return Err(FileErr::Failed);
         }
         Ok(self.files.get(name).map(|bytes| bytes.len() as u64))
     }
 
-    fn read_at(&mut self, name: &str, at: u64, into: &mut [u8]) -> Result<usize, FileErr> {
+    fn read_at(&mut self, name: &str, at: u64, into: &mut [u8]) -> Result<usize, FileErr>
+        ensures bound { IfOk result (λ count. count ≤ length into.new) }
+        ensures told { IfOk result (λ count. IfTold (Some (files_held self.old)) (Gives name.now at into.old count)) }
+        ensures bytes { OnOk result (IfTold (Some (files_held self.old)) (Fills name.now at into.old into.new)) }
+        ensures failed { IfErr result (λ e. e ≡ Failed) }
+        ensures holds { Some (files_held self.new) ≡ Some (files_held self.old) }
+        ensures reads { files_reads self.old ≤ files_reads self.new }
+        ensures few { files_reads self.new ≤ files_reads self.old + blocks (length into.old) }
+        ensures cause { HasCause Failed (files_faults self.old) (files_faults self.new) result }
+        ensures exact { IsCall Failed (files_strikes self.old) result (files_strikes self.new) }
+        ensures one { files_reads self.new ≡ raised (files_reads self.old) }
+    {
         self.reads = self.reads.saturating_add(1);
         if self.strikes.strikes() {
             return Err(FileErr::Failed);
         }
-        let bytes = found(&self.files, name);
-        if at >= bytes.len() as u64 {
-            return Ok(0);
-        }
-        let rest = &bytes[at as usize..];
-        let count = rest.len().min(into.len());
-        into[..count].copy_from_slice(&rest[..count]);
-        Ok(count)
+        Ok(copy_from(found(&self.files, name), at, into))
     }
 
-    fn write_at(&mut self, name: &str, at: u64, bytes: &[u8]) -> Result<(), FileErr> {
+    fn write_at(&mut self, name: &str, at: u64, bytes: &[u8]) -> Result<(), FileErr>
+        ensures ok { OnOk result (Told (Some (files_held self.old)) (Some (files_held self.new)) (Writes name.now at bytes.now)) }
+        ensures err { OnErr result (Told (Some (files_held self.old)) (Some (files_held self.new)) (WritesPart name.now at bytes.now)) }
+        ensures reads { files_reads self.new ≡ files_reads self.old }
+        ensures cause { HasCause Failed (files_faults self.old) (files_faults self.new) result }
+        ensures exact { IsCall Failed (files_strikes self.old) result (files_strikes self.new) }
+    {
         if self.strikes.strikes() {
             return Err(FileErr::Failed);
         }
+        slices_are_bytes(bytes);
         write(self.alloc, &mut self.files, name, at, bytes)?;
         Ok(())
     }
 
-    fn cut(&mut self, name: &str, length: u64) -> Result<(), FileErr> {
+    fn cut(&mut self, name: &str, length: u64) -> Result<(), FileErr>
+        ensures ok { OnOk result (Told (Some (files_held self.old)) (Some (files_held self.new)) (Cuts name.now length)) }
+        ensures err { OnErr result (Told (Some (files_held self.old)) (Some (files_held self.new)) (CutsOrKeeps name.now length)) }
+        ensures reads { files_reads self.new ≡ files_reads self.old }
+        ensures cause { HasCause Failed (files_faults self.old) (files_faults self.new) result }
+        ensures exact { IsCall Failed (files_strikes self.old) result (files_strikes self.new) }
+    {
         if self.strikes.strikes() {
             return Err(FileErr::Failed);
         }
@@ -270,7 +292,13 @@ impl Files for MemFiles {
         Ok(())
     }
 
-    fn rename(&mut self, from: &str, to: &str) -> Result<(), FileErr> {
+    fn rename(&mut self, from: &str, to: &str) -> Result<(), FileErr>
+        ensures ok { OnOk result (Told (Some (files_held self.old)) (Some (files_held self.new)) (Renames from.now to.now)) }
+        ensures err { OnErr result (Told (Some (files_held self.old)) (Some (files_held self.new)) Keeps) }
+        ensures reads { files_reads self.new ≡ files_reads self.old }
+        ensures cause { HasCause Failed (files_faults self.old) (files_faults self.new) result }
+        ensures exact { IsCall Failed (files_strikes self.old) result (files_strikes self.new) }
+    {
         if self.strikes.strikes() {
             return Err(FileErr::Failed);
         }
@@ -278,7 +306,14 @@ impl Files for MemFiles {
         Ok(())
     }
 
-    fn remove(&mut self, name: &str) -> Result<(), FileErr> {
+    fn remove(&mut self, name: &str) -> Result<(), FileErr>
+        ensures ok { OnOk result (Told (Some (files_held self.old)) (Some (files_held self.new)) (Removes name.now)) }
+        ensures err { OnErr result (Told (Some (files_held self.old)) (Some (files_held self.new)) Keeps) }
+        ensures failed { IfErr result (λ e. e ≡ Failed) }
+        ensures reads { files_reads self.new ≡ files_reads self.old }
+        ensures cause { HasCause Failed (files_faults self.old) (files_faults self.new) result }
+        ensures exact { IsCall Failed (files_strikes self.old) result (files_strikes self.new) }
+    {
         if self.strikes.strikes() {
             return Err(FileErr::Failed);
         }
@@ -286,7 +321,25 @@ impl Files for MemFiles {
         Ok(())
     }
 
+    fn reader(&mut self, name: &str) -> Result<MemReader, FileErr>
+        ensures told { IfOk result (λ r. IfTold (Some (files_held self.old)) (Shows name.now (Some (reader_bytes r)))) }
+        ensures holds { Some (files_held self.new) ≡ Some (files_held self.old) }
+        ensures reads { files_reads self.new ≡ files_reads self.old }
+        ensures cause { HasCause Failed (files_faults self.old) (files_faults self.new) result }
+        ensures exact { IsCall Failed (files_strikes self.old) result (files_strikes self.new) }
+        ensures fails { IfOk result (λ r. reader_strikes r ≡ fresh (readers_fail self.old)) }
+    {
+        if self.strikes.strikes() {
+            return Err(FileErr::Failed);
+        }
+        let bytes = found(&self.files, name).to_vec(self.alloc)?;
+        let fail = Vec::from_slice(self.alloc, &self.readers_fail)?;
+        Ok(MemReader::new(bytes, fail))
+    }
+
     fn fault_count(&self) -> u64 {
         self.strikes.faults
     }
+
+    ghost told_bytes = { λ s m told. same_told (held s.files) m s.bytes told };
 }

@@ -1,9 +1,11 @@
 //! `Sink`: where text goes, and a sink in memory.
-ghost use Rattle.std.specs.Prelude.{◌≡◌, ◌≤◌, ◌++◌, ℕ, List, [], Option, length, take, OnOk, OnErr, IfOk, Some};
+ghost use Rattle.std.specs.Prelude.{◌≡◌, ℕ, List, [], Option, OnOk, OnErr, IfOk, Some};
 ghost use Rattle.myi_io.specs.declared.sink.SinkErr.TheVariants.{Failed};
 ghost use Rattle.myi_base.specs.Causes.{HasCause};
+ghost use Rattle.myi_base.specs.Holding.{IfTold};
+ghost use Rattle.myi_base.specs.Output.{Appends, AppendsPart};
 
-use crate::memory::Strikes;
+use crate::strikes::Strikes;
 use std::alloc::{AllocError, Global};
 use thiserror::Error;
 
@@ -27,8 +29,8 @@ pub trait Sink {
 
     /// Appends all bytes. After a failure a prefix of them was appended.
     fn write(&mut self, bytes: &[u8]) -> Result<(), SinkErr>
-        ensures ok { OnOk result ((w : List ℕ) → written self.old ≡ Some w → written self.new ≡ Some (w ++ bytes.now)) }
-        ensures err { OnErr result ((w : List ℕ) → written self.old ≡ Some w → (k : ℕ) × (k ≤ length bytes.now) × (written self.new ≡ Some (w ++ take k bytes.now))) }
+        ensures ok { OnOk result (IfTold (written self.old) (Appends bytes.now (written self.new))) }
+        ensures err { OnErr result (IfTold (written self.old) (AppendsPart bytes.now (written self.new))) }
         ensures cause { HasCause Failed (faults self.old) (faults self.new) result };
 }
 
@@ -40,12 +42,13 @@ pub struct MemSink {
 }
 
 impl MemSink {
-    ghost use Rattle.myi_io.specs.MemSink.{sink_bytes, sink_faults};
+    ghost use Rattle.myi_io.specs.MemSink.{sink_bytes, sink_strikes};
+    ghost use Rattle.myi_io.specs.Strikes.{fresh};
 
     /// An empty sink. The writes with these numbers, counted from 1, fail.
     pub fn new(alloc: Global, fail: Vec<u64>) -> Result<MemSink, AllocError>
         ensures written { IfOk result (λ sink. sink_bytes sink ≡ []) }
-        ensures faults { IfOk result (λ sink. sink_faults sink ≡ 0) }
+        ensures strikes { IfOk result (λ sink. sink_strikes sink ≡ fresh fail.items) }
     {
         Ok(MemSink {
             written: Vec::new(alloc),
@@ -62,11 +65,24 @@ impl MemSink {
 }
 
 impl Sink for MemSink {
+    ghost use Rattle.std.specs.Prelude.{◌≡◌, Some, OnOk, OnErr};
+    ghost use Rattle.myi_base.specs.Causes.{HasCause};
+    ghost use Rattle.myi_base.specs.Holding.{IfTold};
+    ghost use Rattle.myi_base.specs.Output.{Appends, AppendsPart};
+    ghost use Rattle.myi_io.specs.declared.sink.SinkErr.TheVariants.{Failed};
+    ghost use Rattle.myi_io.specs.Strikes.{IsCall};
+    ghost use Rattle.myi_io.specs.MemSink.{sink_bytes, sink_faults, sink_strikes};
+
     ghost written = { λ s. Some s.written.items };
 
     ghost faults = { λ s. s.strikes.faults };
 
-    fn write(&mut self, bytes: &[u8]) -> Result<(), SinkErr> {
+    fn write(&mut self, bytes: &[u8]) -> Result<(), SinkErr>
+        ensures ok { OnOk result (IfTold (Some (sink_bytes self.old)) (Appends bytes.now (Some (sink_bytes self.new)))) }
+        ensures err { OnErr result (IfTold (Some (sink_bytes self.old)) (AppendsPart bytes.now (Some (sink_bytes self.new)))) }
+        ensures cause { HasCause Failed (sink_faults self.old) (sink_faults self.new) result }
+        ensures exact { IsCall Failed (sink_strikes self.old) result (sink_strikes self.new) }
+    {
         if self.strikes.strikes() {
             return Err(SinkErr::Failed);
         }

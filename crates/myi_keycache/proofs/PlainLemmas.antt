@@ -6,6 +6,7 @@ use Rattle.std.proofs.lemmas.List.{length-take, drop_all, append-nil}
 use Rattle.myi_base.specs.Ranges.{are_apart}
 use Rattle.myi_base.specs.Holding.{Holding, bytes_of, filled, overwritten, Told, Writes, WritesPart, OthersStay}
 use Rattle.myi_base.specs.Causes.{HasCause}
+use Rattle.myi_base.proofs.CallerLemmas.{told_same, told_more}
 use Rattle.myi_keycache.specs.declared.setup.Counters.{Counters}
 use Rattle.myi_keycache.specs.Kept.{kept, is_kept, unwritten_count, is_unwritten, AddsOnly, SameKept, ChangesNone, AllWritten}
 use Rattle.myi_keycache.specs.Counts.{raised, writes_after}
@@ -98,14 +99,12 @@ plain_writes more count = ap (λ (n : ℕ). raised n count) (omega arith)
 
 -- what a write tells
 pub told_puts : (before after : Option Holding) (given name : List ℕ) (at : ℕ) (bytes : List ℕ) (c d : Counters) (cache : Caching) → plain name c ≡ cache → given ≡ name → Told before after (Writes given at bytes) → Told before after (λ m n. CanPut cache m at (length bytes) → Puts at bytes cache (plain name d) m n)
-told_puts before after given name at bytes c d cache view is told m held =
-    let t = told m held in
-    (t.0, t.1, λ can. subst (λ (k : Caching). Puts at bytes k (plain name d) m t.0) view (plain_puts name at bytes c d m t.0 (subst (λ (q : List ℕ). Writes q at bytes m t.0) is t.2)))
+told_puts before after given name at bytes c d cache view is told =
+    told_more before after (Writes given at bytes) _ told (λ m n held w can. subst (λ (k : Caching). Puts at bytes k (plain name d) m n) view (plain_puts name at bytes c d m n (subst (λ (q : List ℕ). Writes q at bytes m n) is w)))
 
 pub told_part : (before after : Option Holding) (given name : List ℕ) (at : ℕ) (bytes : List ℕ) (c : Counters) (cache : Caching) → plain name c ≡ cache → given ≡ name → Told before after (WritesPart given at bytes) → Told before after (λ m n. CanPut cache m at (length bytes) → PutsPart at bytes cache cache m n)
-told_part before after given name at bytes c cache view is told m held =
-    let t = told m held in
-    (t.0, t.1, λ can. subst (λ (k : Caching). PutsPart at bytes k k m t.0) view (plain_part name at bytes c c m t.0 (subst (λ (q : List ℕ). WritesPart q at bytes m t.0) is t.2)))
+told_part before after given name at bytes c cache view is told =
+    told_more before after (WritesPart given at bytes) _ told (λ m n held w can. subst (λ (k : Caching). PutsPart at bytes k k m n) view (plain_part name at bytes c c m n (subst (λ (q : List ℕ). WritesPart q at bytes m n) is w)))
 
 pub puts_counts : (name : List ℕ) (counts d : Counters) (cache : Caching) (at len : ℕ) → plain name counts ≡ cache → d ≡ record counts { write_requests = raised 1 counts.write_requests; writes = raised 1 counts.writes }
     → d ≡ record cache.counters { write_requests = raised 1 cache.counters.write_requests; writes = writes_after (if is_unwritten cache.pages at len then 0 else 1) cache.pages [] cache.counters.writes }
@@ -132,7 +131,7 @@ on_err (Err e) p = p
 
 -- after a get: the file stays, and the counters are those of its answer
 gets_told : (before after : Option Holding) (at len : ℕ) (name : List ℕ) (c d : Counters) (cache : Caching) → plain name c ≡ cache → after ≡ before → Told before after (λ m n. CanGet cache m at len → Stays cache (plain name d) m n)
-gets_told before after at len name c d cache view same m held = (m, same ∙ held, λ can. subst (λ (k : Caching). Stays k (plain name d) m m) view (plain_stays name c d m))
+gets_told before after at len name c d cache view same = told_same before after _ same (λ m held can. subst (λ (k : Caching). Stays k (plain name d) m m) view (plain_stays name c d m))
 
 no_other : (at len : ℕ) (name : List ℕ) (c : Counters) (cache : Caching) → plain name c ≡ cache → AddsOnly at len cache.pages []
 no_other at len name c cache view p n e = absurd (none_kept p n e)
@@ -154,7 +153,7 @@ gets_ok before after at len answer name c d cache view lt same counted = record 
   refused = tt;
   counters = subst (λ (k : Caching). d ≡ record { read_requests = raised 1 k.counters.read_requests; reads = raised (if is_kept k.pages at len then 0 else 1) k.counters.reads; write_requests = k.counters.write_requests; writes = writes_after 0 k.pages [] k.counters.writes }) view
       (one_read at len c d lt counted);
-  others = λ m held. (m, same ∙ held, λ q differs. refl);
+  others = told_same before after _ same (λ m held q differs. refl);
   told = gets_told before after at len name c d cache view same;
 }
 
@@ -165,7 +164,7 @@ gets_err before after at len fault name c cache view lt same = record {
   unwritten = none_unwritten name c cache view;
   refused = subst (λ (k : Caching). SameKept k.pages []) view (λ p n. refl);
   counters = subst (λ (k : Caching). c ≡ record k.counters { writes = writes_after 0 k.pages [] k.counters.writes }) view (ap (λ (n : ℕ). record c { writes = n }) (sym (plain_writes 0 c.writes ∙ raised_none c.writes lt)));
-  others = λ m held. (m, same ∙ held, λ q differs. refl);
+  others = told_same before after _ same (λ m held q differs. refl);
   told = gets_told before after at len name c c cache view same;
 }
 
@@ -188,17 +187,14 @@ cause_goes_on failed fault before after h = record { later = h.later; cause = λ
 
 -- a write changes the file of its name alone
 pub told_others : (before after : Option Holding) (given name : List ℕ) (at : ℕ) (bytes : List ℕ) (c : Counters) (cache : Caching) → plain name c ≡ cache → given ≡ name → Told before after (Writes given at bytes) → Told before after (OthersStay cache.name)
-told_others before after given name at bytes c cache view is told m held =
-    let t = told m held in
+told_others before after given name at bytes c cache view is told =
     let same : given ≡ cache.name = is ∙ ap (λ (k : Caching). k.name) view in
-    (t.0, t.1, λ q differs. t.2.others q (λ e. differs (e ∙ same)))
+    told_more before after (Writes given at bytes) _ told (λ m n held w q differs. w.others q (λ e. differs (e ∙ same)))
 
 pub told_others_part : (before after : Option Holding) (given name : List ℕ) (at : ℕ) (bytes : List ℕ) (c : Counters) (cache : Caching) → plain name c ≡ cache → given ≡ name → Told before after (WritesPart given at bytes) → Told before after (OthersStay cache.name)
-told_others_part before after given name at bytes c cache view is told m held =
-    let t = told m held in
-    let same : given ≡ cache.name = is ∙ ap (λ (k : Caching). k.name) view in
-    (t.0, t.1, part t.0 same t.2)
+told_others_part before after given name at bytes c cache view is told =
+    told_more before after (WritesPart given at bytes) _ told (λ m n held. part m n (is ∙ ap (λ (k : Caching). k.name) view))
   where
-    part : (k : Holding) → given ≡ cache.name → WritesPart given at bytes m k → OthersStay cache.name m k
-    part k same (inl kept) = λ q differs. ap (λ (h : Holding). h q) kept
-    part k same (inr (j, le, w)) = λ q differs. w.others q (λ e. differs (e ∙ same))
+    part : (m k : Holding) → given ≡ cache.name → WritesPart given at bytes m k → OthersStay cache.name m k
+    part m k same (inl kept) = λ q differs. ap (λ (h : Holding). h q) kept
+    part m k same (inr (j, le, w)) = λ q differs. w.others q (λ e. differs (e ∙ same))

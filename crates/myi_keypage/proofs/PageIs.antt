@@ -11,7 +11,7 @@ use Rattle.myi_base.specs.Numbers.{AreBytes}
 use Rattle.myi_keypage.specs.Reading.{◌>>=◌, items_up_to, items_of, item_at, child_at, Item, key_after, are_longest, passes}
 use Rattle.myi_keypage.proofs.ItemForms.{IsChild, AreItems}
 use Rattle.myi_keypage.specs.Showing.{entries_after, with_child, children_of, Shown, shown, page_of, body_shown, items_in, items_or_none}
-use Rattle.myi_base.proofs.NumberLaws.{bytes-take, bytes-drop}
+use Rattle.myi_base.proofs.CallerLemmas.{bytes-take, bytes-drop}
 use Rattle.myi_keypage.proofs.Numbers.{bind_some}
 use Rattle.myi_keypage.proofs.WriteLaws.{entry_len}
 use Rattle.myi_keypage.proofs.ItemLaws.{child_takes, item_takes, items_of_more, items_of_none, items_of_nil}

@@ -5,7 +5,7 @@ use Rattle.std.proofs.lemmas.List.{take_at, take-append-drop, append-nil}
 use Rattle.std.proofs.lemmas.Option.{same_Some}
 use Rattle.std.specs.Prelude.{option_map, is_some}
 use Rattle.myi_base.specs.Numbers.{AreBytes}
-use Rattle.myi_base.proofs.NumberLaws.{bytes-take, bytes-drop}
+use Rattle.myi_base.proofs.CallerLemmas.{bytes-take, bytes-drop}
 use Rattle.myi_keypage.specs.Page.{Page, body_bytes, page_bytes, is_node, IsWritable, IsBranching, IsPage}
 use Rattle.myi_keypage.specs.Showing.{Shown, page_of, shown_in, used_in, body_shown, page_in}
 use Rattle.myi_keypage.proofs.PageLaws.{BodyIs, body_found}

@@ -5,7 +5,7 @@ use Rattle.std.proofs.lemmas.Bool.{eqb-true, ne_eqb, lt-ltb, cases_lt}
 use Rattle.myi_base.specs.Numbers.{num_bytes}
 use Rattle.myi_keypage.specs.Page.{shared, Page, body_bytes, entry_bytes, entries_bytes, child_bytes, packed_bytes, number_bytes, page_with, page_bytes, IsBranching, is_node, head_bytes}
 use Rattle.myi_keypage.specs.declared.entry.Entry.{Entry}
-use Rattle.myi_base.proofs.NumberLaws.{length-num_bytes}
+use Rattle.myi_base.proofs.CallerLemmas.{length-num_bytes}
 use Rattle.myi_keypage.specs.Writing.{Puts, filled_up}
 use Rattle.myi_keypage.specs.Fitting.{entries_length, used_length}
 use Rattle.myi_keypage.proofs.Shared.{shared_empty, shared_le, shared_le_right}

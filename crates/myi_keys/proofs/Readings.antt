@@ -4,7 +4,7 @@ use Rattle.std.specs.List.{AllByRecursion}
 use Rattle.std.proofs.lemmas.Bool.{cases_lt, ltb-false, le-ltb, lt-ltb}
 use Rattle.std.proofs.lemmas.List.{take_at, drop_at, take-append-drop, length-append, length-take, append-nil}
 use Rattle.myi_base.specs.Numbers.{AreBytes}
-use Rattle.myi_base.proofs.NumberLaws.{bytes-drop}
+use Rattle.myi_base.proofs.CallerLemmas.{bytes-drop}
 use Rattle.myi_keys.specs.declared.values.KeySeg.{KeySeg}
 use Rattle.myi_keys.specs.declared.values.KeySeg.TheVariants.{Absent, Weights}
 use Rattle.myi_keys.specs.declared.codes.KeyFault.{KeyFault}

@@ -7,7 +7,7 @@ use Rattle.std.proofs.lemmas.Bool.{cases_lt, lt-ltb, le-ltb, ltb-true, and_parts
 use Rattle.std.proofs.lemmas.List.{length-map, length-reverse, length-take}
 use Rattle.std.proofs.lemmas.Nat.{xor_of_8}
 use Rattle.myi_base.specs.Numbers.{AreBytes}
-use Rattle.myi_base.proofs.NumberLaws.{bytes-take}
+use Rattle.myi_base.proofs.CallerLemmas.{bytes-take}
 use Rattle.myi_defs.specs.declared.types.SegType.{SegType}
 use Rattle.myi_defs.specs.declared.types.SegType.TheVariants as types
 use Rattle.myi_keys.specs.declared.collations.Collation.{Collation}

@@ -5,7 +5,7 @@ use Rattle.std.specs.Option.{option_map}
 use Rattle.std.proofs.lemmas.Bool.{leb-true, leb-false, le-leb, ltb-true, ltb-false, lt-ltb, le-ltb, lt-leb}
 use Rattle.std.proofs.lemmas.List.{take_at, drop_at, take_all, take-append-drop, length-take}
 use Rattle.myi_base.specs.Numbers.{AreBytes, num, num_bytes, low_num, low_num_bytes}
-use Rattle.myi_base.proofs.NumberLaws.{length-num_bytes, length-low_num_bytes, num-num_bytes, low_num-low_num_bytes, num-below, low_num-below, num_bytes-num, low_num_bytes-low_num, bytes-take, bytes-drop}
+use Rattle.myi_base.proofs.CallerLemmas.{length-num_bytes, length-low_num_bytes, num-num_bytes, low_num-low_num_bytes, num-below, low_num-below, num_bytes-num, low_num_bytes-low_num, bytes-take, bytes-drop}
 use Rattle.myi_defs.specs.declared.types.RowFormat.{RowFormat}
 use Rattle.myi_defs.specs.declared.types.RowFormat.TheVariants.{Static, Dynamic}
 use Rattle.myi_defs.specs.declared.types.FieldKind.{FieldKind}

@@ -6,7 +6,7 @@ use Rattle.std.proofs.lemmas.List.{length-replicate}
 use Rattle.std.proofs.Math.Nat.{one-le-pow}
 use Rattle.myi_pack.proofs.SpellingLemmas.{length-slot_bytes}
 use Rattle.myi_base.specs.Numbers.{num_bytes, low_num_bytes}
-use Rattle.myi_base.proofs.NumberLaws.{length-num_bytes}
+use Rattle.myi_base.proofs.CallerLemmas.{length-num_bytes}
 use Rattle.myi_defs.specs.declared.types.RowFormat.TheVariants.{Static, Dynamic}
 use Rattle.myi_defs.specs.declared.types.FieldKind.{FieldKind}
 use Rattle.myi_defs.specs.declared.types.FieldKind.TheVariants.{Normal, SkipEndspace, SkipPrespace, SkipZero, Blob, Varchar}

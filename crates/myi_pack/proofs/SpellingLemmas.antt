@@ -10,7 +10,7 @@ use Rattle.std.proofs.lemmas.List.{length-replicate}
 use Rattle.std.proofs.lemmas.List.Sums.{sum_by-cons}
 use Rattle.std.proofs.lemmas.List.Elements.{All-head}
 use Rattle.myi_base.specs.Numbers.{low_num_bytes}
-use Rattle.myi_base.proofs.NumberLaws.{length-low_num_bytes}
+use Rattle.myi_base.proofs.CallerLemmas.{length-low_num_bytes}
 use Rattle.myi_defs.specs.declared.types.FieldKind.{FieldKind}
 use Rattle.myi_defs.specs.declared.types.FieldKind.TheVariants.{Normal, SkipEndspace, SkipPrespace, SkipZero, Blob, Varchar}
 use Rattle.myi_defs.specs.declared.types.Field.{Field}

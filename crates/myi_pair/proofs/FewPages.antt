@@ -5,7 +5,7 @@ use Rattle.std.proofs.lemmas.Bool.{ltb-true}
 use Rattle.std.proofs.lemmas.List.{length-map}
 use Rattle.std.proofs.lemmas.List.Sorted.{length_permutation}
 use Rattle.myi_base.specs.Numbers.{AreBytes, num_at}
-use Rattle.myi_base.proofs.NumberLaws.{num-below, bytes-drop}
+use Rattle.myi_base.proofs.CallerLemmas.{num-below, bytes-drop}
 use Rattle.myi_defs.specs.declared.types.Defs.{Defs}
 use Rattle.myi_defs.specs.Sound.{IsSound}
 use Rattle.myi_defs.specs.Addressable.{is_addressable}

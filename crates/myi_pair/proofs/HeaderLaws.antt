@@ -5,7 +5,7 @@ use Rattle.std.proofs.lemmas.List.{take-append-le, drop-append-le, length-take-l
 use Rattle.std.proofs.lemmas.List.Elements.{All-from_recursion}
 use Rattle.myi_base.specs.Numbers.{AreBytes, num_at, num_bytes, pointer_number}
 use Rattle.myi_base.specs.Items.{spelling, total_width}
-use Rattle.myi_base.proofs.NumberLaws.{num-below, length-num_bytes, bytes-drop}
+use Rattle.myi_base.proofs.CallerLemmas.{num-below, length-num_bytes, bytes-drop}
 use Rattle.myi_defs.specs.declared.types.Defs.{Defs}
 use Rattle.myi_defs.specs.Sound.{IsSound}
 use Rattle.myi_defs.specs.Elsewhere.{AgreeOutsideState}

@@ -6,7 +6,7 @@ use Rattle.std.proofs.lemmas.List.{length-take-le}
 use Rattle.std.proofs.lemmas.List.Sums.{sum_by-cons}
 use Rattle.myi_base.specs.Numbers.{AreBytes}
 use Rattle.myi_base.specs.Ranges.{Range}
-use Rattle.myi_base.proofs.NumberLaws.{bytes-take, bytes-drop}
+use Rattle.myi_base.proofs.CallerLemmas.{bytes-take, bytes-drop}
 use Rattle.myi_defs.specs.declared.types.RowFormat.{RowFormat}
 use Rattle.myi_defs.specs.declared.types.RowFormat.TheVariants.{Static, Dynamic}
 use Rattle.myi_defs.specs.declared.types.Defs.{Defs}

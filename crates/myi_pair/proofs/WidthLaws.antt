@@ -4,7 +4,7 @@ use Rattle.std.specs.List.{list_any}
 use Rattle.std.proofs.lemmas.Bool.{and_parts, leb-true, leb-false, ltb-true, eqb-true, not-false}
 use Rattle.std.proofs.lemmas.List.Sums.{sum_by-cons}
 use Rattle.myi_base.specs.Numbers.{num_bytes, low_num_bytes}
-use Rattle.myi_base.proofs.NumberLaws.{length-num_bytes, length-low_num_bytes}
+use Rattle.myi_base.proofs.CallerLemmas.{length-num_bytes, length-low_num_bytes}
 use Rattle.myi_defs.specs.declared.types.RowFormat.TheVariants.{Static, Dynamic}
 use Rattle.myi_defs.specs.declared.types.FieldKind.{FieldKind}
 use Rattle.myi_defs.specs.declared.types.FieldKind.TheVariants.{Normal, SkipEndspace, SkipPrespace, SkipZero, Blob, Varchar}

@@ -4,6 +4,7 @@ use Rattle.myi_frames.specs.Block.{block_of}
 use Rattle.myi_chain.specs.Scanning.{IsFirstRow}
 use Rattle.myi_chain.specs.Pieces.{shown}
 use Rattle.myi_chain.proofs.ScanLemmas.{opened, answered_next, next_found, first_packs}
+use Rattle.myi_base.proofs.CallerLemmas.{ok_not_err}
 use Rattle.myi_chain.proofs.scan.Scan.next_row.Goals as goal
 
 pub returns : goal.returns
@@ -21,7 +22,7 @@ returns g c =
         packs = subst (λ t. gives t (shown c.piece_at.result) ≡ true) open_scan.same_test (first_packs i.extend (gives i.test) i.place i.used i.held.bytes.items t.0 _ c.piece_at.result t.1 piece);
         bytes = c.in_ok-read.ensures.bytes;
         holds = c.read.ensures.holds;
-        cause = record { later = c.read.ensures.cause.later; cause = λ e. absurd cc };
+        cause = record { later = c.read.ensures.cause.later; cause = λ e. absurd (ok_not_err e) };
         after = tt;
       },
     )
