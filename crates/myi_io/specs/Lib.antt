@@ -8,6 +8,9 @@ pub mod Strikes
 pub mod MemFiles
 pub mod MemReader
 pub mod MemSink
+-- what files hold with gathered writes done
+pub mod Pending
+pub mod Gathering
 -- what two readers tell together
 pub mod Opened
 -- how a layer above tells of faults

@@ -9,9 +9,11 @@
 
 mod files;
 mod front;
+mod gathering;
 mod memory;
 mod memory_reader;
 mod opened;
+mod pending;
 mod reader;
 mod real;
 mod sink;
@@ -21,10 +23,12 @@ mod tests;
 
 pub use files::{FileErr, Files};
 pub use front::read_front;
+pub use gathering::{Gathering, Writable};
 pub use memory::MemFiles;
 pub use memory_reader::MemReader;
 pub use myi_base::{be, le};
 pub use opened::{Opened, ReaderFiles};
+pub use pending::Pending;
 pub use reader::FileReader;
 pub use real::{RealFiles, RealSink};
 pub use sink::{MemSink, Sink, SinkErr};

@@ -10,7 +10,7 @@ ghost use Rattle.myi_io.specs.Stored.{held, given};
 
 use crate::memory_reader::{MemReader, copy_from};
 use crate::strikes::Strikes;
-use crate::{FileErr, Files};
+use crate::{FileErr, Files, Writable};
 use myi_base::slices_are_bytes;
 use std::alloc::{AllocError, Global};
 use std::collections::BTreeMap;
@@ -343,3 +343,5 @@ impl Files for MemFiles {
 
     ghost told_bytes = { λ s m told. same_told (held s.files) m s.bytes told };
 }
+
+impl Writable for MemFiles {}

@@ -1,0 +1,27 @@
+-- What files with gathered writes hold.
+use Rattle.std.specs.Prelude.{◌≡◌, ◌≢◌, ◌+◌, ℕ, List, [], length, Option, string_bytes}
+use Rattle.std.specs.Option.{option_map}
+use Rattle.myi_base.specs.Holding.{Holding, HoldsBytes}
+use Rattle.myi_io.specs.declared.pending.Pending.{Pending}
+use Rattle.myi_io.specs.Pending.{with_pending, with_bytes}
+
+-- what files hold with the writes done
+abbrev pub pending_done : Pending → Holding → Holding
+pending_done p m = with_pending (string_bytes p.name) p.at p.bytes.items m
+
+-- the same where it is told
+abbrev pub pending_shown : Pending → Option Holding → Option Holding
+pending_shown p told = option_map (pending_done p) told
+
+-- a file has no part in the writes
+abbrev pub HasNone : Pending → List ℕ → Type 0
+HasNone p name = (m : Holding) → pending_done p m name ≡ m name
+
+-- bytes for this place go on where the writes end, where there are any
+pub record IsNext (p : Pending) (name : List ℕ) (at : ℕ) : Type 0 where
+  pub file : p.bytes.items ≢ [] → string_bytes p.name ≡ name
+  pub end : p.bytes.items ≢ [] → p.at + length p.bytes.items ≡ at
+
+-- what is held is bytes with the writes done, too
+pub pending_bytes : (p : Pending) (m : Holding) → HoldsBytes m → HoldsBytes (pending_done p m)
+pending_bytes p m bytes = with_bytes (string_bytes p.name) p.at p.bytes.items m p.are_bytes bytes

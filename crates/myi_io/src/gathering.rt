@@ -1,0 +1,209 @@
+//! `Gathering`: files whose writes that follow one another are gathered into large ones.
+//!
+//! It tells what the files below it hold with the gathered writes done, and has the contract of
+//! `Files` over any files that may be changed. The gathered writes are done before a write elsewhere,
+//! before their file is read, measured or handed to a reader, before any file is cut or renamed, and
+//! by `flush`. Where doing them fails they stay gathered. A file that is removed takes its own along.
+ghost use Rattle.std.specs.Prelude.{◌≡◌, ◌≢◌, ◌+◌, [], true, length, IsTrue, OnOk, OnErr, string_bytes};
+ghost use Rattle.myi_base.specs.Holding.{Holding, Removes, Writes};
+ghost use Rattle.myi_base.specs.Causes.{HasCause};
+ghost use Rattle.myi_io.specs.declared.files.FileErr.TheVariants.{Failed};
+ghost use Rattle.myi_io.specs.Gathering.{pending_done, pending_shown, HasNone, IsNext};
+
+use crate::pending::Pending;
+use crate::{FileErr, Files};
+use std::alloc::{AllocError, Global};
+
+/// Files that may be changed, and what `Gathering` does with them. An impl gives nothing of its own.
+pub trait Writable: Files {
+    ghost use Rattle.std.specs.Prelude.{◌≡◌, [], IsTrue, OnOk};
+    ghost use Rattle.myi_base.specs.Causes.{HasCause};
+    ghost use Rattle.myi_io.specs.declared.files.FileErr.TheVariants.{Failed};
+    ghost use Rattle.myi_io.specs.Gathering.{pending_shown, HasNone, IsNext};
+
+    /// Does the writes. Where that fails they stay.
+    fn write_out(&mut self, pending: &mut Pending) -> Result<(), FileErr>
+        requires { IsTrue Self.writable }
+        ensures shows { pending_shown pending.new (Self.holds self.new) ≡ pending_shown pending.old (Self.holds self.old) }
+        ensures done { OnOk result (pending.new.bytes.items ≡ []) }
+        ensures reads { Self.reads self.new ≡ Self.reads self.old }
+        ensures cause { HasCause Failed (Self.faults self.old) (Self.faults self.new) result }
+    {
+        if pending.bytes.is_empty() {
+            return Ok(());
+        }
+        self.write_at(pending.name.as_str(), pending.at, &pending.bytes)?;
+        pending.clear();
+        Ok(())
+    }
+
+    /// Does the writes to one file.
+    fn settle(&mut self, pending: &mut Pending, name: &str) -> Result<(), FileErr>
+        requires { IsTrue Self.writable }
+        ensures shows { pending_shown pending.new (Self.holds self.new) ≡ pending_shown pending.old (Self.holds self.old) }
+        ensures apart { OnOk result (HasNone pending.new name.now) }
+        ensures reads { Self.reads self.new ≡ Self.reads self.old }
+        ensures cause { HasCause Failed (Self.faults self.old) (Self.faults self.new) result }
+    {
+        if pending.name.as_str() == name {
+            self.write_out(pending)?;
+        }
+        Ok(())
+    }
+
+    /// Lets bytes for a place be the next ones.
+    fn make_way(&mut self, pending: &mut Pending, name: &str, at: u64) -> Result<(), FileErr>
+        requires { IsTrue Self.writable }
+        ensures shows { pending_shown pending.new (Self.holds self.new) ≡ pending_shown pending.old (Self.holds self.old) }
+        ensures next { OnOk result (IsNext pending.new name.now at) }
+        ensures reads { Self.reads self.new ≡ Self.reads self.old }
+        ensures cause { HasCause Failed (Self.faults self.old) (Self.faults self.new) result }
+    {
+        if pending.takes(name, at) {
+            return Ok(());
+        }
+        self.write_out(pending)?;
+        Ok(())
+    }
+}
+
+/// Files below, and the writes to them that are gathered.
+#[derive(Drop)]
+pub struct Gathering<F: Writable + Drop> {
+    files: F,
+    pending: Pending,
+    faults: u64,
+    ghost can_write: { IsTrue F.writable },
+}
+
+// Gives up the writes to a file that was removed.
+fn forget(pending: &mut Pending, name: &str)
+    ensures { (m n : Holding) → Removes name.now m n → Removes name.now (pending_done pending.old m) (pending_done pending.new n) }
+{
+    if pending.name.as_str() == name {
+        pending.clear();
+    }
+}
+
+// Where nothing is gathered, this is the next place.
+fn aim(pending: &mut Pending, name: &str, at: u64) -> Result<(), AllocError>
+    requires { IsNext pending.old name.now at }
+    ensures same { (m : Holding) → pending_done pending.new m ≡ pending_done pending.old m }
+    ensures file { OnOk result (string_bytes pending.new.name ≡ name.now) }
+    ensures end { OnOk result (pending.new.at + length pending.new.bytes.items ≡ at) }
+{
+    if pending.bytes.is_empty() {
+        pending.begin(name, at)?;
+    }
+    Ok(())
+}
+
+// Takes bytes behind those that are gathered, or as the first ones.
+fn gather(pending: &mut Pending, name: &str, at: u64, bytes: &[u8]) -> Result<(), AllocError>
+    requires next { IsNext pending.old name.now at }
+    requires some { bytes.now ≢ [] }
+    ensures ok { OnOk result ((m : Holding) → Writes name.now at bytes.now (pending_done pending.old m) (pending_done pending.new m)) }
+    ensures err { OnErr result ((m : Holding) → pending_done pending.new m ≡ pending_done pending.old m) }
+{
+    aim(pending, name, at)?;
+    pending.append(bytes)?;
+    Ok(())
+}
+
+impl<F: Writable + Drop> Gathering<F> {
+    /// Nothing is gathered yet.
+    pub fn new(alloc: Global, files: F) -> Self
+        requires { IsTrue F.writable }
+        ensures holds { ⟦<Gathering<F> as Files>⟧.holds result ≡ F.holds files }
+        ensures faults { ⟦<Gathering<F> as Files>⟧.faults result ≡ F.faults files }
+        ensures reads { ⟦<Gathering<F> as Files>⟧.reads result ≡ F.reads files }
+    {
+        Gathering {
+            files,
+            pending: Pending::new(alloc),
+            faults: 0,
+        }
+    }
+
+    /// Does the gathered writes. A program calls it before it ends. Where it fails they stay gathered.
+    pub fn flush(&mut self) -> Result<(), FileErr>
+        ensures holds { ⟦<Gathering<F> as Files>⟧.holds self.new ≡ ⟦<Gathering<F> as Files>⟧.holds self.old }
+        ensures cause { HasCause Failed (⟦<Gathering<F> as Files>⟧.faults self.old) (⟦<Gathering<F> as Files>⟧.faults self.new) result }
+    {
+        self.files.write_out(&mut self.pending)?;
+        Ok(())
+    }
+}
+
+impl<F: Writable + Drop> Files for Gathering<F> {
+    type Reader = F::Reader;
+
+    ghost use Rattle.std.specs.Prelude.{◌+◌, true};
+    ghost use Rattle.myi_io.specs.Gathering.{pending_done, pending_shown, pending_bytes};
+    ghost use Rattle.myi_io.specs.Told.{shown_bytes};
+
+    ghost holds = { λ s. pending_shown s.pending (F.holds s.files) };
+
+    ghost faults = { λ s. F.faults s.files + s.faults };
+
+    ghost reads = { λ s. F.reads s.files };
+
+    ghost writable = { true };
+
+    fn length(&mut self, name: &str) -> Result<Option<u64>, FileErr> {
+        self.files.settle(&mut self.pending, name)?;
+        let size = self.files.length(name)?;
+        Ok(size)
+    }
+
+    fn read_at(&mut self, name: &str, at: u64, into: &mut [u8]) -> Result<usize, FileErr> {
+        if self.files.settle(&mut self.pending, name).is_err() {
+            // Want of memory is a fault here.
+            self.faults = self.faults.saturating_add(1);
+            return Err(FileErr::Failed);
+        }
+        let count = self.files.read_at(name, at, into)?;
+        Ok(count)
+    }
+
+    fn write_at(&mut self, name: &str, at: u64, bytes: &[u8]) -> Result<(), FileErr> {
+        if bytes.is_empty() {
+            self.files.write_out(&mut self.pending)?;
+            self.files.write_at(name, at, bytes)?;
+            return Ok(());
+        }
+        self.files.make_way(&mut self.pending, name, at)?;
+        gather(&mut self.pending, name, at, bytes)?;
+        Ok(())
+    }
+
+    fn cut(&mut self, name: &str, length: u64) -> Result<(), FileErr> {
+        self.files.write_out(&mut self.pending)?;
+        self.files.cut(name, length)?;
+        Ok(())
+    }
+
+    fn rename(&mut self, from: &str, to: &str) -> Result<(), FileErr> {
+        self.files.write_out(&mut self.pending)?;
+        self.files.rename(from, to)?;
+        Ok(())
+    }
+
+    fn remove(&mut self, name: &str) -> Result<(), FileErr> {
+        self.files.remove(name)?;
+        forget(&mut self.pending, name);
+        Ok(())
+    }
+
+    fn reader(&mut self, name: &str) -> Result<F::Reader, FileErr> {
+        self.files.settle(&mut self.pending, name)?;
+        let reader = self.files.reader(name)?;
+        Ok(reader)
+    }
+
+    fn fault_count(&self) -> u64 {
+        self.files.fault_count().saturating_add(self.faults)
+    }
+
+    ghost told_bytes = { λ s. shown_bytes (pending_done s.pending) (F.holds s.files) (pending_bytes s.pending) (F.told_bytes s.files) };
+}
