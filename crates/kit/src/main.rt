@@ -1,7 +1,7 @@
 //! The program `kit`: the top call on real files and standard output.
 #![tactic(auto)]
 
-use myi_io::{RealFiles, RealSink};
+use myi_io::{Gathering, RealFiles, RealSink};
 use myisamkit::{Status, kit};
 use std::process::ExitCode;
 use std::rt::{Clock, Env};
@@ -39,7 +39,7 @@ fn main(rt: HostRuntime) -> ExitCode {
         Ok(words) => words,
         Err(_) => Vec::new(alloc),
     };
-    let mut files = RealFiles::new(&rt);
+    let mut files = Gathering::new(alloc, RealFiles::new(&rt));
     let mut out = RealSink::new(&rt);
     let status = kit(alloc, &words, &mut files, &mut out, now(&rt));
     match files.flush() {
