@@ -22,9 +22,9 @@ use Rattle.myi_btree.specs.Laid.{level_of}
 use Rattle.myi_btree.specs.Building.{whole_page, page_for, PutsPage, CanLay, Lays}
 use Rattle.myi_btree.proofs.Frames.{all_left, all_right}
 use Rattle.myi_btree.proofs.FitCount.{entries-take}
-use Rattle.myi_btree.proofs.PutLaws.{told_more}
+use Rattle.myi_btree.proofs.PutLaws.{told_next}
 use Rattle.myi_btree.proofs.LevelLaws.{parted, node_flag}
-use Rattle.myi_btree.proofs.SplitLaws.{Split}
+use Rattle.myi_btree.proofs.SplitLaws.{Split, split_at}
 
 pub on_err : {T E : Type 0} {X : Type 0} (r : Result T E) → X → OnErr r X
 on_err (Ok y) x = tt
@@ -87,6 +87,20 @@ body place node left count children coded more below others s is sized flag bran
       len = omega (arith, rest_len);
     }
 
+-- the next page, of the entries ahead
+pub record NextPage (place : Place) (pairs : List Pair) (entries : Entries) (node : Bool) (left : List Pair) (count : ℕ) (children : List ℕ) (coded : List Entry) (below others : List ℕ) : Type 0 where
+  pub split : Split coded (entries_of (drop entries.taken pairs)) left count
+  pub body : Body place node left count children coded (entries_of (drop entries.taken pairs)) below others split
+
+pub next_page : (place : Place) (pairs : List Pair) (entries : Entries) (node : Bool) (left : List Pair) (count n : ℕ) (children : List ℕ) (coded : List Entry) (below others : List ℕ)
+    → coded ≡ coded_of entries → left_of pairs entries ≡ entries_of left → n ≡ length left → count < n → count < length (coded_of entries)
+    → IsCount place node left count → AreSized place left → not (eqb (length children) 0) ≡ node → IsBranching (page_with (entries_of left) children) → AllByRecursion IsPlace children
+    → below ≡ take (count + 1) children → others ≡ drop (count + 1) children → NextPage place pairs entries node left count children coded below others
+next_page place pairs entries node left count n children coded below others coded_is left_are long more inside is sized flag branching places below_is others_is =
+    let rest : List Entry = entries_of (drop entries.taken pairs) in
+    let split = split_at coded rest left count (ap (λ (t : List Entry). t ++ rest) coded_is ∙ left_are) (subst (λ (t : List Entry). count < length t) (sym coded_is) inside) in
+    record { split = split; body = body place node left count children coded rest below others split is sized flag branching places (omega (arith, long, more)) below_is others_is }
+
 -- the last page of a level
 pub record Last (place : Place) (left : List Pair) (children : List ℕ) (coded : List Entry) : Type 0 where
   pub rows : AllByRecursion (λ (e : Entry). e.row < 256 ^ place.rec_ref) coded
@@ -114,6 +128,12 @@ last place node left count children coded more is sized flag branching whole le 
       node_is = ap (λ (t : List Entry). page_with t children) same;
     }
 
+pub last_page : (place : Place) (pairs : List Pair) (entries : Entries) (node : Bool) (left : List Pair) (count : ℕ) (children : List ℕ) (coded : List Entry) → coded ≡ coded_of entries → left_of pairs entries ≡ entries_of left
+    → length left ≤ count → count ≤ length (coded_of entries) → IsCount place node left count → AreSized place left → not (eqb (length children) 0) ≡ node → IsBranching (page_with (entries_of left) children) → Last place left children coded
+last_page place pairs entries node left count children coded coded_is left_are le inside is sized flag branching =
+    let rest : List Entry = entries_of (drop entries.taken pairs) in
+    last place node left count children coded rest is sized flag branching (ap (λ (t : List Entry). t ++ rest) coded_is ∙ left_are) le (subst (λ (t : List Entry). count ≤ length t) (sym coded_is) inside)
+
 filled_length : (text : List ℕ) (len : ℕ) → length text ≤ len → length (filled_up text len) ≡ len
 filled_length text len le = omega (arith, length-append text (replicate (len - length text) 0), length-replicate {A = ℕ} (len - length text) 0)
 
@@ -130,7 +150,7 @@ pub put_told : (a b c : Option Holding) (place : Place) (first at : ℕ) (nodes 
 put_told a b c place first at nodes node page old mid new is branching fits at_is name done put adds =
     let same : whole_page place page ≡ page_for place node = page_is place page node is in
     let len : length (whole_page place page) ≡ place.block_length = filled_length (page_bytes place.rec_ref page) place.block_length (omega (arith, page_length place.rec_ref page branching)) in
-    told_more a b c place first at nodes node old mid new (ap length (sym same) ∙ len) (sym at_is) name done
+    told_next a b c place first at nodes node old mid new (ap length (sym same) ∙ len) (sym at_is) name done
     (subst (λ (t : List ℕ). Told b c (λ m n. CanPut mid m at (length t) → PutsPage at t mid new m n)) same put)
     (subst (λ (t : List ℕ). AddsOnly at (length t) mid.pages new.pages) same adds)
 
@@ -150,6 +170,11 @@ behind_left pairs old new count rest coded start taken e =
     let one : old.start + suc count ≡ old.start + (count + 1) = omega arith in
     let there : drop (suc count) (coded_of old) ≡ drop (old.start + (count + 1)) old.coded.items = drop_on old.start (suc count) old.coded.items ∙ ap (λ (t : ℕ). drop t old.coded.items) one in
     rw (coded, start, taken) (ap (λ (t : List Entry). t ++ entries_of (drop old.taken pairs)) (sym there) ∙ e)
+
+pub next_behind : (pairs : List Pair) (entries new : Entries) (left : List Pair) (count : ℕ) (coded : List Entry) (split : Split coded (entries_of (drop entries.taken pairs)) left count) → coded ≡ coded_of entries
+    → new.coded ≡ entries.coded → new.start ≡ entries.start + (count + 1) → new.taken ≡ entries.taken → left_of pairs new ≡ entries_of split.rest
+next_behind pairs entries new left count coded split is coded_is start taken =
+    behind_left pairs entries new count split.rest coded_is start taken (subst (λ (t : List Entry). drop (suc count) t ++ entries_of (drop entries.taken pairs) ≡ entries_of split.rest) is split.behind)
 
 -- all entries of a level
 pub start_left : (pairs : List Pair) (coded : List Entry) (new : Entries) → new.coded.items ≡ coded → new.start ≡ 0 → new.taken ≡ 0 → left_of pairs new ≡ coded ++ entries_of pairs

@@ -4,6 +4,7 @@ use Rattle.std.specs.List.{AllByRecursion}
 use Rattle.std.proofs.lemmas.Bool.{ne_eqb}
 use Rattle.std.proofs.lemmas.List.{length-append, length-map, take-append-drop}
 use Rattle.myi_base.specs.Holding.{Holding, Told}
+use Rattle.myi_base.proofs.CallerLemmas.{told_then}
 use Rattle.myi_keypage.specs.Page.{page_with, IsBranching, IsPlace}
 use Rattle.myi_keycache.specs.Caching.{Caching, contents}
 use Rattle.myi_btree.specs.declared.pair.Pair.{Pair}
@@ -61,10 +62,8 @@ lays_both place first at xs ys old mid new m k n e name can one then =
 pub told_both : (a b c : Option Holding) (place : Place) (first at : ℕ) (xs ys : List Node) (old mid new : Caching) → first + place.block_length * length xs ≡ at → mid.name ≡ old.name
     → Told a b (λ m n. CanLay old m first → Lays place first xs old mid m n) → Told b c (λ m n. CanLay mid m at → Lays place at ys mid new m n)
     → Told a c (λ m n. CanLay old m first → Lays place first (xs ++ ys) old new m n)
-told_both a b c place first at xs ys old mid new e name one two m held =
-    let k = one m held in
-    let n = two k.0 k.1 in
-    (n.0, n.1, λ can. lays_both place first at xs ys old mid new m k.0 n.0 e name can (k.2 can) n.2)
+told_both a b c place first at xs ys old mid new e name one two =
+    told_then a b c _ _ _ one two (λ m k n laid then can. lays_both place first at xs ys old mid new m k n e name can (laid can) then)
 
 spares_both : (place : Place) (first at : ℕ) (xs : List Node) (old mid new : Caching) (m k n : Holding) → first + place.block_length * length xs ≡ at → mid.name ≡ old.name → CanLay old m first → Lays place first xs old mid m k
     → (CanLay mid k at → Spares at mid new k n) → Spares first old new m n
@@ -80,10 +79,8 @@ spares_both place first at xs old mid new m k n e name can one then =
 pub told_spares_both : (a b c : Option Holding) (place : Place) (first at : ℕ) (xs : List Node) (old mid new : Caching) → first + place.block_length * length xs ≡ at → mid.name ≡ old.name
     → Told a b (λ m n. CanLay old m first → Lays place first xs old mid m n) → Told b c (λ m n. CanLay mid m at → Spares at mid new m n)
     → Told a c (λ m n. CanLay old m first → Spares first old new m n)
-told_spares_both a b c place first at xs old mid new e name one two m held =
-    let k = one m held in
-    let n = two k.0 k.1 in
-    (n.0, n.1, λ can. spares_both place first at xs old mid new m k.0 n.0 e name can (k.2 can) n.2)
+told_spares_both a b c place first at xs old mid new e name one two =
+    told_then a b c _ _ _ one two (λ m k n laid then can. spares_both place first at xs old mid new m k n e name can (laid can) then)
 
 -- ---- levels
 

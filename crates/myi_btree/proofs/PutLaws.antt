@@ -4,6 +4,7 @@ use Rattle.std.proofs.lemmas.Bool.{le-leb, or_left}
 use Rattle.std.proofs.lemmas.List.{length-append}
 use Rattle.myi_base.specs.Ranges.{are_apart}
 use Rattle.myi_base.specs.Holding.{Holding, Told, overwritten}
+use Rattle.myi_base.proofs.CallerLemmas.{told_same, told_more, told_then}
 use Rattle.myi_keycache.specs.Kept.{Page, AddsOnly}
 use Rattle.myi_keycache.specs.Caching.{Caching, lends, contents, IsCurrent, CanPut, Puts}
 use Rattle.myi_btree.specs.declared.place.Place.{Place}
@@ -99,27 +100,23 @@ spares_more place first at nodes bytes old mid new m k n at_is name can lays put
 -- ---- where the files tell what they hold
 
 pub told_start : (a : Option Holding) (place : Place) (first : ℕ) (cache : Caching) → Told a a (λ m n. CanLay cache m first → Lays place first [] cache cache m n)
-told_start a place first cache m e = (m, e, λ can. lays_none place first cache m can.current)
+told_start a place first cache = told_same a a _ refl (λ m held can. lays_none place first cache m can.current)
 
-pub told_more : (a b c : Option Holding) (place : Place) (first at : ℕ) (nodes : List Node) (node : Node) (old mid new : Caching)
+pub told_next : (a b c : Option Holding) (place : Place) (first at : ℕ) (nodes : List Node) (node : Node) (old mid new : Caching)
     → length (page_for place node) ≡ place.block_length → first + place.block_length * length nodes ≡ at → mid.name ≡ old.name
     → Told a b (λ m n. CanLay old m first → Lays place first nodes old mid m n)
     → Told b c (λ m n. CanPut mid m at (length (page_for place node)) → PutsPage at (page_for place node) mid new m n) → AddsOnly at (length (page_for place node)) mid.pages new.pages
     → Told a c (λ m n. CanLay old m first → Lays place first (nodes ++ node ∷ []) old new m n)
-told_more a b c place first at nodes node old mid new len at_is name done put adds m e =
-    let k = done m e in
-    let n = put k.0 k.1 in
-    (n.0, n.1, λ can. lays_more place first at nodes node old mid new m k.0 n.0 len at_is name can (k.2 can) n.2 adds)
+told_next a b c place first at nodes node old mid new len at_is name done put adds =
+    told_then a b c _ _ _ done put (λ m k n laid puts can. lays_more place first at nodes node old mid new m k n len at_is name can (laid can) puts adds)
 
 pub told_refused : (a b c : Option Holding) (place : Place) (first at : ℕ) (nodes : List Node) (bytes : List ℕ) (old mid new : Caching)
     → first + place.block_length * length nodes ≡ at → mid.name ≡ old.name
     → Told a b (λ m n. CanLay old m first → Lays place first nodes old mid m n)
     → Told b c (λ m n. CanPut mid m at (length bytes) → PutsSome at bytes mid new m n)
     → Told a c (λ m n. CanLay old m first → Spares first old new m n)
-told_refused a b c place first at nodes bytes old mid new at_is name done put m e =
-    let k = done m e in
-    let n = put k.0 k.1 in
-    (n.0, n.1, λ can. spares_more place first at nodes bytes old mid new m k.0 n.0 at_is name can (k.2 can) n.2)
+told_refused a b c place first at nodes bytes old mid new at_is name done put =
+    told_then a b c _ _ _ done put (λ m k n laid puts can. spares_more place first at nodes bytes old mid new m k n at_is name can (laid can) puts)
 
 pub told_spares : (a b : Option Holding) (place : Place) (first : ℕ) (nodes : List Node) (old new : Caching) → Told a b (λ m n. CanLay old m first → Lays place first nodes old new m n) → Told a b (λ m n. CanLay old m first → Spares first old new m n)
-told_spares a b place first nodes old new done m e = let k = done m e in (k.0, k.1, λ can. (k.2 can).spares)
+told_spares a b place first nodes old new done = told_more a b _ _ done (λ m n held laid can. (laid can).spares)

@@ -2,6 +2,7 @@
 use Rattle.std.proofs.Common.{◌≡◌, ◌⊎◌, ℕ, ◌%◌, Bool, true, false, cond, eqb, Option, Some, None, List, refl, sym, ap, ◌∙◌, inl, inr}
 use Rattle.std.proofs.lemmas.Option.{same_Some}
 use Rattle.myi_base.specs.Holding.{Holding, Told, bytes_of}
+use Rattle.myi_base.proofs.CallerLemmas.{told_same, told_then}
 use Rattle.myi_keycache.specs.Kept.{ChangesNone, AllWritten}
 use Rattle.myi_keycache.specs.Lent.{bytes_at}
 use Rattle.myi_keycache.specs.Caching.{Caching, lends, CanGet, Stays}
@@ -23,17 +24,14 @@ kept_on a b none (inl x) = inl x
 kept_on a b none (inr written) = inr (keeps_written a b none written)
 
 pub reads_none : (told : Option Holding) (cache : Caching) → ReadsOnly told told cache cache
-reads_none told cache = record { name = refl; unwritten = λ p n u. u; clean = λ written. refl; others = λ m held. (m, held, λ q other. refl) }
+reads_none told cache = record { name = refl; unwritten = λ p n u. u; clean = λ written. refl; others = told_same told told _ refl (λ m held q other. refl) }
 
 pub reads_on : (one two three : Option Holding) (a b c : Caching) → ReadsOnly one two a b → ReadsOnly two three b c → ReadsOnly one three a c
 reads_on one two three a b c x y = record {
   name = y.name ∙ x.name;
   unwritten = λ p n u. x.unwritten p n (y.unwritten p n u);
   clean = λ written. y.clean (keeps_written a b x.unwritten written) ∙ x.clean written;
-  others = λ m held.
-      let f = x.others m held in
-      let s = y.others f.0 f.1 in
-      (s.0, s.1, λ q other. s.2 q (λ e. other (e ∙ x.name)) ∙ f.2 q other);
+  others = told_then one two three _ _ _ x.others y.others (λ m n k before then q other. then q (λ e. other (e ∙ x.name)) ∙ before q other);
 }
 
 -- ---- what is shown
@@ -73,7 +71,7 @@ shown_now place v told cache at s a = by s.there
 pub serves_on : (place : Place) (v : View) (told next : Option Holding) (old new : Caching) (at : ℕ) → (s : Serves place v told old) → v.asked at ≡ true → ReadsOnly told next old new
     → Told told next (λ m n. CanGet old m at place.block_length → Stays old new m n) → Serves place v next new
 serves_on place v told next old new at s a r t =
-    let n = t s.now s.held in
+    let n = t.told s.now s.held in
     record {
       current = s.current;
       apart = s.apart;

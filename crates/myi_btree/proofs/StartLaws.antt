@@ -132,6 +132,9 @@ may_get writable place told cache (inr (w, f)) = inl w
 
 -- what a walk that the cache served says of the cache
 pub stays_told : (place : Place) (told next : Option Holding) (old new : Caching) → ReadsOnly told next old new → ((m : Holding) → told ≡ Some m → IsCurrent old m → (asked : ℕ → Bool) × Serves place (view old m asked) next new) → Told told next (λ m n. IsCurrent old m → Stays old new m n)
-stays_told place told next old new r serve = λ m held.
-    let f = r.others m held in
-    (f.0, f.1, λ current. let s = serve m held current in subst (λ (n : Holding). Stays old new m n) (same_Some s.1.now f.0 (sym s.1.held ∙ f.1)) s.1.stays)
+stays_told place told next old new r serve = record {
+  told = λ m held.
+      let f = r.others.told m held in
+      (f.0, f.1, λ current. let s = serve m held current in subst (λ (n : Holding). Stays old new m n) (same_Some s.1.now f.0 (sym s.1.held ∙ f.1)) s.1.stays);
+  untold = r.others.untold;
+}

@@ -2,7 +2,7 @@
 -- what that does to the cache.
 use Rattle.std.specs.Prelude.{◌≡◌, ◌⊎◌, ℕ, ◌%◌, ◌==◌, Bool, List, Option, Some, None, IsTrue, if◌then◌else◌}
 use Rattle.std.specs.List.{AllByRecursion}
-use Rattle.myi_base.specs.Holding.{Holding, Told, OthersStay}
+use Rattle.myi_base.specs.Holding.{Holding, IfTold, Told, OthersStay}
 use Rattle.myi_keycache.specs.Kept.{is_kept, NoOtherMeets, ChangesNone, AllWritten}
 use Rattle.myi_keycache.specs.Caching.{Caching, lends, IsCurrent}
 use Rattle.myi_btree.specs.declared.place.Place.{Place}
@@ -25,7 +25,7 @@ IsClear place cache m (Some root) = (w : Walked) × HasWalk place.block_length (
 
 -- a tree may be gone through: the cache keeps no unwritten page, or the files can be written and the tree is clear
 abbrev pub CanWalk : Bool → Option Holding → Place → Caching → Type 0
-CanWalk writable told place cache = AllWritten cache.pages ⊎ (IsTrue writable × ((m : Holding) → told ≡ Some m → IsCurrent cache m → IsClear place cache m place.root))
+CanWalk writable told place cache = AllWritten cache.pages ⊎ (IsTrue writable × IfTold told (λ m. IsCurrent cache m → IsClear place cache m place.root))
 
 -- the cache and the files after calls that put nothing: no page became unwritten, files of other names hold what they
 -- held, and where all pages were written so do all files

@@ -1,6 +1,6 @@
 //! `Tree`: the pairs of one key, sorted, on pages of an index file.
 ghost use Rattle.std.specs.Prelude.{◌≡◌, ◌⊎◌, ◌+◌, ◌*◌, ◌%◌, ◌≤◌, ℕ, Some, length, IfOk, IfErr, OnOk, OnErr, IsTrue};
-ghost use Rattle.myi_base.specs.Holding.{Holding, Told};
+ghost use Rattle.myi_base.specs.Holding.{IfTold, Told};
 ghost use Rattle.myi_base.specs.Causes.{HasCause};
 ghost use Rattle.myi_btree.specs.declared.fault.TreeFault.TheVariants.{Damaged, File, Memory};
 ghost use Rattle.myi_btree.specs.Sizes.{IsPlaced, AreSized, fits_in};
@@ -66,14 +66,16 @@ impl Tree {
         requires kept { CanWalk F.writable (F.holds files.old) self.now cache.old }
 
         // The answer is the walk, or the first bad place on its path.
-        ensures pairs { IfOk result (λ pairs. (m : Holding) → F.holds files.old ≡ Some m → IsCurrent cache.old m
-            → FindsPairs self.now.block_length (node_lent self.now cache.old m) self.now.root pairs.items) }
-        ensures damaged { IfErr result (λ fault. (at : ℕ) → fault ≡ Damaged at → (m : Holding) → F.holds files.old ≡ Some m → IsCurrent cache.old m
-            → FindsBad self.now.block_length (node_lent self.now cache.old m) self.now.root at) }
+        ensures pairs { IfOk result (λ pairs. IfTold (F.holds files.old) (λ m. IsCurrent cache.old m
+            → FindsPairs self.now.block_length (node_lent self.now cache.old m) self.now.root pairs.items)) }
+        ensures damaged { IfErr result (λ fault. (at : ℕ) → fault ≡ Damaged at
+            → IfTold (F.holds files.old) (λ m. IsCurrent cache.old m
+            → FindsBad self.now.block_length (node_lent self.now cache.old m) self.now.root at)) }
 
         // Nothing was put, and the same is lent.
         ensures cache { ReadsOnly (F.holds files.old) (F.holds files.new) cache.old cache.new }
-        ensures stays { Told (F.holds files.old) (F.holds files.new) (λ m n. IsCurrent cache.old m → Stays cache.old cache.new m n) }
+        ensures stays { Told (F.holds files.old) (F.holds files.new)
+            (λ m n. IsCurrent cache.old m → Stays cache.old cache.new m n) }
         ensures cause { HasCause File (F.faults files.old) (F.faults files.new) result }
         ensures reads { F.reads files.old ≤ F.reads files.new }
     {

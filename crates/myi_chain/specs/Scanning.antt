@@ -1,6 +1,7 @@
 -- What a scan has still to answer.
 use Rattle.std.specs.Prelude.{◌≡◌, ◌⊎◌, ◌+◌, ◌-◌, ℕ, Bool, true, false, nat_le, List, [], ◌∷◌, take, Option, Some, None, Result, Ok, Err}
-use Rattle.myi_base.specs.Holding.{Holding, bytes_of}
+use Rattle.myi_base.specs.Holding.{Holding, bytes_of, IfTold}
+use Rattle.myi_base.specs.Numbers.{AreBytes}
 use Rattle.myi_base.specs.Ranges.{Range}
 use Rattle.myi_chain.specs.declared.piece.Piece.{Piece}
 use Rattle.myi_chain.specs.declared.piece.Piece.TheVariants as piece
@@ -22,6 +23,10 @@ pub record Scanning (A : Type 0) : Type 0 where
   pub left : Option (List readable.Item)
   pub blocks : List (ℕ × ℕ)
 
+-- a scan of which nothing was read
+abbrev pub fresh_scan : {A : Type 0} → List ℕ → A → Bool → ℕ → Scanning A
+fresh_scan name test extend end = record { name = name; test = test; extend = extend; end = end; left = None; blocks = [] }
+
 abbrev pub left_or : Option (List readable.Item) → List readable.Item → List readable.Item
 left_or None items = items
 left_or (Some left) items = left
@@ -29,6 +34,10 @@ left_or (Some left) items = left
 -- what is left, where the files hold this, by what each test accepts
 abbrev pub items_left : {A : Type 0} → (A → List ℕ → Bool) → Scanning A → Holding → List readable.Item
 items_left gives s m = left_or s.left (items_in s.extend (gives s.test) (take s.end (bytes_of s.name m)))
+
+-- what a scan reads first is bytes
+abbrev pub ReadsBytes : {A : Type 0} → Scanning A → Holding → Type 0
+ReadsBytes s m = s.left ≡ None → AreBytes (take s.end (bytes_of s.name m))
 
 -- a row of one block that is short enough for the window of a scan
 abbrev pub is_lent : List Range → Bool
@@ -81,7 +90,7 @@ pub record IsRead {A : Type 0} (gives : A → List ℕ → Bool) (holds : Option
   pub left : new.left ≡ Some items
   pub blocks : new.blocks ≡ old.blocks
   pub known : (before : List readable.Item) → old.left ≡ Some before → before ≡ items
-  pub told : (m : Holding) → holds ≡ Some m → items_left gives old m ≡ items
+  pub told : IfTold holds (λ m. items_left gives old m ≡ items)
 
 -- the blocks that are kept after an item: those of a row
 abbrev pub AreBlocks : readable.Item → List (ℕ × ℕ) → List (ℕ × ℕ) → Type 0
@@ -97,7 +106,7 @@ pub record IsAnswered {A : Type 0} (gives : A → List ℕ → Bool) (holds : Op
   pub left : new.left ≡ Some rest
   pub blocks : AreBlocks first old.blocks new.blocks
   pub known : (items : List readable.Item) → old.left ≡ Some items → items ≡ first ∷ rest
-  pub told : (m : Holding) → holds ≡ Some m → items_left gives old m ≡ first ∷ rest
+  pub told : IfTold holds (λ m. items_left gives old m ≡ first ∷ rest)
 
 -- nothing was answered: the scan is as before, or the file was read
 abbrev pub IsKept : {A : Type 0} → (A → List ℕ → Bool) → Option Holding → Scanning A → Scanning A → Type 0
@@ -125,7 +134,7 @@ pub record IsRowAnswered {A : Type 0} (gives : A → List ℕ → Bool) (holds :
   pub left : new.left ≡ Some rest
   pub blocks : ranges_at new.blocks ≡ first.blocks
   pub known : (items : List readable.Item) → old.left ≡ Some items → (rows_of items ≡ first ∷ rows_of rest) × (behind_row items ≡ rest)
-  pub told : (m : Holding) → holds ≡ Some m → (rows_of (items_left gives old m) ≡ first ∷ rows_of rest) × (behind_row (items_left gives old m) ≡ rest)
+  pub told : IfTold holds (λ m. (rows_of (items_left gives old m) ≡ first ∷ rows_of rest) × (behind_row (items_left gives old m) ≡ rest))
 
 -- the scan after a call of next_row
 abbrev pub LeavesRows : {A : Type 0} → (A → List ℕ → Bool) → Option Holding → Scanning A → Result (Option (ℕ × Piece)) ScanFault → Scanning A → Type 0

@@ -72,9 +72,10 @@ pub enum ScanFault {
 
 impl From<FileErr> for ScanFault {
     ghost use Rattle.std.specs.Prelude.{◌≡◌};
-    ghost use Rattle.myi_chain.specs.Pieces.{fault_of};
+    ghost use Rattle.myi_io.specs.Faults.{handed_on};
+    ghost use Rattle.myi_chain.specs.declared.piece.ScanFault.TheVariants.{File, Memory};
 
-    ghost from_gives = { λ e f. f ≡ fault_of e };
+    ghost from_gives = { λ e f. f ≡ handed_on File Memory e };
 
     fn from(error: FileErr) -> Self {
         match error {

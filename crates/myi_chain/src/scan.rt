@@ -6,8 +6,7 @@
 ghost use Rattle.std.specs.Prelude.{◌≡◌, ◌≤◌, ◌<◌, ◌+◌, ◌^◌, ℕ, List, [], Option, Some, None, length, take, string_bytes, IfOk, IfSome, OnOk, OnErr};
 ghost use Rattle.std.specs.Borrow.{sem};
 ghost use Rattle.std.specs.Io.BufRead.{Rests};
-ghost use Rattle.myi_base.specs.Numbers.{AreBytes};
-ghost use Rattle.myi_base.specs.Holding.{Holding, bytes_of};
+ghost use Rattle.myi_base.specs.Holding.{IfTold};
 ghost use Rattle.myi_base.specs.Causes.{HasCause};
 ghost use Rattle.myi_frames.specs.Block.{Block, block_of};
 ghost use Rattle.myi_chain.specs.Readable.{Row};
@@ -99,12 +98,11 @@ impl<A: Accepts> Model for Scan<A> {
 }
 
 impl<A: Accepts> Scan<A> {
-    ghost use Rattle.std.specs.Prelude.{◌≡◌, Option, Some, None, [], take, IfOk, OnOk, OnErr, string_bytes};
-    ghost use Rattle.myi_base.specs.Numbers.{AreBytes};
-    ghost use Rattle.myi_base.specs.Holding.{Holding, bytes_of};
+    ghost use Rattle.std.specs.Prelude.{◌≡◌, Option, Some, None, [], IfOk, OnOk, OnErr, string_bytes};
+    ghost use Rattle.myi_base.specs.Holding.{IfTold};
     ghost use Rattle.myi_base.specs.Causes.{HasCause};
     ghost use Rattle.myi_chain.specs.declared.piece.ScanFault.TheVariants.{File};
-    ghost use Rattle.myi_chain.specs.Scanning.{Scanning, IsRead};
+    ghost use Rattle.myi_chain.specs.Scanning.{Scanning, fresh_scan, ReadsBytes, IsRead};
 
     /// A scan of the file of that name. Nothing is read yet. For want of memory the test is lost.
     pub fn new(
@@ -115,7 +113,7 @@ impl<A: Accepts> Scan<A> {
     ) -> Result<Scan<A>, AllocError>
     where
         A: Drop,
-        ensures { IfOk result (λ scan. scan ≡ record { name = name.now; test = accepts; extend = setup.extend; end = setup.file_len; left = None; blocks = [] }) }
+        ensures { IfOk result (λ scan. scan ≡ fresh_scan name.now accepts setup.extend setup.file_len) }
     {
         let name = String::from_str(alloc, name)?;
         Ok(Scan {
@@ -138,7 +136,7 @@ impl<A: Accepts> Scan<A> {
     /// Reads the file, if it was not read yet.
     fn read<F: Files>(&mut self, files: &mut F) -> Result<(), ScanFault>
         ensures ok { OnOk result (IsRead A.accepts_gives (F.holds files.old) self.old self.new) }
-        ensures bytes { OnOk result ((m : Holding) → F.holds files.old ≡ Some m → self.old.left ≡ None → AreBytes (take self.old.end (bytes_of self.old.name m))) }
+        ensures bytes { OnOk result (IfTold (F.holds files.old) (ReadsBytes self.old)) }
         ensures err { OnErr result (self.new ≡ self.old) }
         ensures holds { F.holds files.new ≡ F.holds files.old }
         ensures cause { HasCause File (F.faults files.old) (F.faults files.new) result }
@@ -157,24 +155,24 @@ impl<A: Accepts> Scan<A> {
 }
 
 impl<A: Accepts> Scan<A> {
-    ghost use Rattle.std.specs.Prelude.{◌≡◌, true, Option, Some, None, take, IfOk, IfSome, OnOk};
+    ghost use Rattle.std.specs.Prelude.{◌≡◌, true, Option, IfOk, IfSome, OnOk};
     ghost use Rattle.std.specs.Borrow.{sem};
     ghost use Rattle.std.specs.Io.BufRead.{Rests};
-    ghost use Rattle.myi_base.specs.Numbers.{AreBytes};
-    ghost use Rattle.myi_base.specs.Holding.{Holding, bytes_of};
+    ghost use Rattle.myi_base.specs.Holding.{IfTold};
     ghost use Rattle.myi_base.specs.Causes.{HasCause};
     ghost use Rattle.myi_chain.specs.declared.piece.ScanFault.TheVariants.{File};
     ghost use Rattle.myi_chain.specs.Readable.{rows_of};
     ghost use Rattle.myi_chain.specs.Pieces.{shown};
-    ghost use Rattle.myi_chain.specs.Scanning.{Scanning, items_left, IsFirst, IsFirstRow, Passes, Leaves, LeavesRows};
+    ghost use Rattle.myi_chain.specs.Scanning.{Scanning, items_left, ReadsBytes, IsFirst, IsFirstRow, Passes, Leaves, LeavesRows};
     ghost use Rattle.myi_chain.specs.contracts.scan.Scan.{the_row};
 
     /// The next row or deleted block, and None where none is left. The bytes of a row pass the test. After
     /// an error the next call answers as this one would have.
     pub fn next_item<F: Files>(&mut self, files: &mut F) -> Result<Option<Item<'_>>, ScanFault>
-        ensures item { IfOk result (λ found. (m : Holding) → F.holds files.old ≡ Some m → IsFirst (items_left A.accepts_gives self.old m) found) }
+        ensures item { IfOk result (λ found. IfTold (F.holds files.old) (λ m.
+            IsFirst (items_left A.accepts_gives self.old m) found)) }
         ensures packs { IfOk result (λ found. IfSome found (Passes (A.accepts_gives self.old.test))) }
-        ensures bytes { OnOk result ((m : Holding) → F.holds files.old ≡ Some m → self.old.left ≡ None → AreBytes (take self.old.end (bytes_of self.old.name m))) }
+        ensures bytes { OnOk result (IfTold (F.holds files.old) (ReadsBytes self.old)) }
         ensures holds { F.holds files.new ≡ F.holds files.old }
         ensures cause { HasCause File (F.faults files.old) (F.faults files.new) result }
         ensures* after { sem 𝓛 (Rests (the_row A.row A.Accepts) self.entry (Leaves A.accepts_gives (F.holds files.old) self.old result)) }
@@ -210,9 +208,10 @@ impl<A: Accepts> Scan<A> {
         &mut self,
         files: &mut F,
     ) -> Result<Option<(u64, Piece<'_>)>, ScanFault>
-        ensures row { IfOk result (λ found. (m : Holding) → F.holds files.old ≡ Some m → IsFirstRow (rows_of (items_left A.accepts_gives self.old m)) found) }
+        ensures row { IfOk result (λ found. IfTold (F.holds files.old) (λ m.
+            IsFirstRow (rows_of (items_left A.accepts_gives self.old m)) found)) }
         ensures packs { IfOk result (λ found. IfSome found (λ r. A.accepts_gives self.old.test (shown r.1) ≡ true)) }
-        ensures bytes { OnOk result ((m : Holding) → F.holds files.old ≡ Some m → self.old.left ≡ None → AreBytes (take self.old.end (bytes_of self.old.name m))) }
+        ensures bytes { OnOk result (IfTold (F.holds files.old) (ReadsBytes self.old)) }
         ensures holds { F.holds files.new ≡ F.holds files.old }
         ensures cause { HasCause File (F.faults files.old) (F.faults files.new) result }
         ensures* after { sem 𝓛 (Rests (the_row A.row A.Accepts) self.entry (LeavesRows A.accepts_gives (F.holds files.old) self.old result)) }

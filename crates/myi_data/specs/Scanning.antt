@@ -1,6 +1,6 @@
 -- What a scan of a table's data file has still to answer.
 use Rattle.std.specs.Prelude.{◌≡◌, ◌⊎◌, ◌≤◌, ◌<◌, ◌+◌, ◌/◌, ℕ, true, List, ◌∷◌, length, take, Option, Some, None, Result, Ok, Err}
-use Rattle.myi_base.specs.Holding.{Holding, bytes_of}
+use Rattle.myi_base.specs.Holding.{Holding, bytes_of, IfTold}
 use Rattle.myi_defs.specs.declared.types.RowFormat.TheVariants.{Static}
 use Rattle.myi_defs.specs.declared.types.Defs.{Defs}
 use Rattle.myi_chain.specs.declared.piece.Piece.{Piece}
@@ -51,7 +51,7 @@ pub record IsRead (holds : Option Holding) (old new : TableScan) : Type 0 where
   pub left : new.left ≡ Some items
   pub blocks : new.blocks ≡ old.blocks
   pub known : (before : List chains.Item) → old.left ≡ Some before → before ≡ items
-  pub told : (m : Holding) → holds ≡ Some m → items_left old m ≡ items
+  pub told : IfTold holds (λ m. items_left old m ≡ items)
 
 -- nothing was answered: the scan is as before, or the file was read
 abbrev pub IsKept : Option Holding → TableScan → TableScan → Type 0
@@ -66,7 +66,7 @@ pub record IsAnswered (holds : Option Holding) (old : TableScan) (found : Item) 
   pub left : new.left ≡ Some rest
   pub blocks : AreBlocks first old.blocks new.blocks
   pub known : (items : List chains.Item) → old.left ≡ Some items → items ≡ first ∷ rest
-  pub told : (m : Holding) → holds ≡ Some m → items_left old m ≡ first ∷ rest
+  pub told : IfTold holds (λ m. items_left old m ≡ first ∷ rest)
   pub fewer : old.test.format ≡ Static → most_left new < most_left old
 
 -- the scan after a call of next_item
@@ -90,7 +90,7 @@ pub record IsRowAnswered (holds : Option Holding) (old : TableScan) (found : ℕ
   pub left : new.left ≡ Some rest
   pub blocks : ranges_at new.blocks ≡ first.blocks
   pub known : (items : List chains.Item) → old.left ≡ Some items → ComesFirst first rest items
-  pub told : (m : Holding) → holds ≡ Some m → ComesFirst first rest (items_left old m)
+  pub told : IfTold holds (λ m. ComesFirst first rest (items_left old m))
   pub fewer : old.test.format ≡ Static → most_left new < most_left old
 
 -- the scan after a call of next_row

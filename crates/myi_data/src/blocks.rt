@@ -1,13 +1,12 @@
 //! `BlockScan`: the blocks of a dynamic table's data file, seen as a scan of a table.
-ghost use Rattle.std.specs.Prelude.{◌≡◌, [], Option, None, Some, take, IfOk, IfSome, OnOk};
+ghost use Rattle.std.specs.Prelude.{◌≡◌, [], Option, None, Some, IfOk, IfSome, OnOk};
 ghost use Rattle.std.specs.Borrow.{sem};
 ghost use Rattle.std.specs.Io.BufRead.{Rests};
-ghost use Rattle.myi_base.specs.Numbers.{AreBytes};
-ghost use Rattle.myi_base.specs.Holding.{Holding, bytes_of};
+ghost use Rattle.myi_base.specs.Holding.{IfTold};
 ghost use Rattle.myi_base.specs.Causes.{HasCause};
 ghost use Rattle.myi_defs.specs.declared.types.RowFormat.TheVariants.{Dynamic};
 ghost use Rattle.myi_chain.specs.declared.piece.ScanFault.TheVariants.{File};
-ghost use Rattle.myi_chain.specs.Scanning.{IsFirst, IsFirstRow};
+ghost use Rattle.myi_chain.specs.Scanning.{ReadsBytes, IsFirst, IsFirstRow};
 ghost use Rattle.myi_data.specs.Scanning.{items_left, rows_left, PacksItem, PacksRow, IsSlotOf, Leaves, LeavesRows};
 
 use crate::row_test::RowTest;
@@ -35,15 +34,14 @@ impl Model for BlockScan {
 }
 
 impl BlockScan {
-    ghost use Rattle.std.specs.Prelude.{◌≡◌, [], None, Option, Some, take, IfOk, IfSome, OnOk};
+    ghost use Rattle.std.specs.Prelude.{◌≡◌, [], None, Option, Some, IfOk, IfSome, OnOk};
     ghost use Rattle.std.specs.Borrow.{sem};
     ghost use Rattle.std.specs.Io.BufRead.{Rests};
-    ghost use Rattle.myi_base.specs.Numbers.{AreBytes};
-    ghost use Rattle.myi_base.specs.Holding.{Holding, bytes_of};
+    ghost use Rattle.myi_base.specs.Holding.{IfTold};
     ghost use Rattle.myi_base.specs.Causes.{HasCause};
     ghost use Rattle.myi_defs.specs.declared.types.RowFormat.TheVariants.{Dynamic};
     ghost use Rattle.myi_chain.specs.declared.piece.ScanFault.TheVariants.{File};
-    ghost use Rattle.myi_chain.specs.Scanning.{IsFirst, IsFirstRow};
+    ghost use Rattle.myi_chain.specs.Scanning.{fresh_scan, ReadsBytes, IsFirst, IsFirstRow};
     ghost use Rattle.myi_data.specs.Scanning.{items_left, rows_left, PacksItem, PacksRow, IsSlotOf, Leaves, LeavesRows};
     ghost use Rattle.myi_data.specs.contracts.blocks.BlockScan.{the_row};
 
@@ -55,7 +53,7 @@ impl BlockScan {
         setup: ScanSetup,
     ) -> Result<BlockScan, AllocError>
         requires { test.format ≡ Dynamic }
-        ensures { IfOk result (λ scan. scan ≡ record { name = name.now; test = test; extend = setup.extend; end = setup.file_len; left = None; blocks = [] }) }
+        ensures { IfOk result (λ scan. scan ≡ fresh_scan name.now test setup.extend setup.file_len) }
     {
         let scan = Scan::new(alloc, name, test, setup)?;
         Ok(BlockScan { scan })
@@ -66,9 +64,10 @@ impl BlockScan {
         &mut self,
         files: &mut F,
     ) -> Result<Option<Item<'_>>, ScanFault>
-        ensures item { IfOk result (λ found. (m : Holding) → F.holds files.old ≡ Some m → IsFirst (items_left self.old m) found) }
+        ensures item { IfOk result (λ found. IfTold (F.holds files.old) (λ m.
+            IsFirst (items_left self.old m) found)) }
         ensures packs { IfOk result (λ found. IfSome found (PacksItem self.old)) }
-        ensures bytes { OnOk result ((m : Holding) → F.holds files.old ≡ Some m → self.old.left ≡ None → AreBytes (take self.old.end (bytes_of self.old.name m))) }
+        ensures bytes { OnOk result (IfTold (F.holds files.old) (ReadsBytes self.old)) }
         ensures holds { F.holds files.new ≡ F.holds files.old }
         ensures cause { HasCause File (F.faults files.old) (F.faults files.new) result }
         ensures* after { sem 𝓛 (Rests the_row self.entry (Leaves (F.holds files.old) self.old result)) }
@@ -81,10 +80,11 @@ impl BlockScan {
         &mut self,
         files: &mut F,
     ) -> Result<Option<(u64, Piece<'_>)>, ScanFault>
-        ensures row { IfOk result (λ found. (m : Holding) → F.holds files.old ≡ Some m → IsFirstRow (rows_left self.old m) found) }
+        ensures row { IfOk result (λ found. IfTold (F.holds files.old) (λ m.
+            IsFirstRow (rows_left self.old m) found)) }
         ensures packs { IfOk result (λ found. IfSome found (PacksRow self.old)) }
         ensures slot { IfOk result (λ found. IfSome found (IsSlotOf self.old)) }
-        ensures bytes { OnOk result ((m : Holding) → F.holds files.old ≡ Some m → self.old.left ≡ None → AreBytes (take self.old.end (bytes_of self.old.name m))) }
+        ensures bytes { OnOk result (IfTold (F.holds files.old) (ReadsBytes self.old)) }
         ensures holds { F.holds files.new ≡ F.holds files.old }
         ensures cause { HasCause File (F.faults files.old) (F.faults files.new) result }
         ensures* after { sem 𝓛 (Rests the_row self.entry (LeavesRows (F.holds files.old) self.old result)) }

@@ -1,6 +1,7 @@
 //! `DataFile`: the data file of one table.
-ghost use Rattle.std.specs.Prelude.{◌≡◌, IfOk, None, [], string_bytes};
+ghost use Rattle.std.specs.Prelude.{◌≡◌, IfOk, string_bytes};
 ghost use Rattle.myi_defs.specs.Sound.{IsSound};
+ghost use Rattle.myi_chain.specs.Scanning.{fresh_scan};
 
 use crate::row_test::RowTest;
 use crate::scan::DataScan;
@@ -49,7 +50,7 @@ impl DataFile {
     /// A scan of the rows and the deleted blocks, as far as the state's length of the data file.
     /// `extend` makes a scan of a dynamic table try every position; slots have theirs.
     pub fn scan(&self, extend: bool) -> Result<DataScan, AllocError>
-        ensures { IfOk result (λ scan. scan ≡ record { name = self.now.name; test = self.now.defs; extend = extend; end = self.now.length; left = None; blocks = [] }) }
+        ensures { IfOk result (λ scan. scan ≡ fresh_scan self.now.name self.now.defs extend self.now.length) }
     {
         let setup = ScanSetup {
             extend,

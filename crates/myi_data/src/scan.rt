@@ -3,15 +3,14 @@
 //! It is a `SlotScan` of a static table or a `BlockScan` of a dynamic one, each with the table's
 //! definitions as the test of what packs a row. What a scan has still to answer is its model, a
 //! `TableScan` of `specs/Scanning`, the same for both.
-ghost use Rattle.std.specs.Prelude.{◌≡◌, [], Option, None, Some, take, IfOk, IfSome, OnOk};
+ghost use Rattle.std.specs.Prelude.{◌≡◌, [], Option, None, Some, IfOk, IfSome, OnOk};
 ghost use Rattle.std.specs.Borrow.{sem};
 ghost use Rattle.std.specs.Io.BufRead.{Rests};
-ghost use Rattle.myi_base.specs.Numbers.{AreBytes};
-ghost use Rattle.myi_base.specs.Holding.{Holding, bytes_of};
+ghost use Rattle.myi_base.specs.Holding.{IfTold};
 ghost use Rattle.myi_base.specs.Causes.{HasCause};
 ghost use Rattle.myi_chain.specs.declared.piece.ScanFault.TheVariants.{File};
 ghost use Rattle.myi_chain.specs.Readable.{rows_of};
-ghost use Rattle.myi_chain.specs.Scanning.{IsFirst, IsFirstRow};
+ghost use Rattle.myi_chain.specs.Scanning.{ReadsBytes, IsFirst, IsFirstRow};
 ghost use Rattle.myi_data.specs.Scanning.{TableScan, items_left, rows_left, PacksItem, PacksRow, IsSlotOf, Leaves, LeavesRows};
 
 use crate::blocks::BlockScan;
@@ -47,20 +46,19 @@ impl Model for DataScan {
 }
 
 impl DataScan {
-    ghost use Rattle.std.specs.Prelude.{◌≡◌, Option, Some, None, take, IfOk, IfSome, OnOk};
+    ghost use Rattle.std.specs.Prelude.{◌≡◌, Option, Some, None, IfOk, IfSome, OnOk};
     ghost use Rattle.std.specs.Borrow.{sem};
     ghost use Rattle.std.specs.Io.BufRead.{Rests};
-    ghost use Rattle.myi_base.specs.Numbers.{AreBytes};
-    ghost use Rattle.myi_base.specs.Holding.{Holding, bytes_of};
+    ghost use Rattle.myi_base.specs.Holding.{IfTold};
     ghost use Rattle.myi_base.specs.Causes.{HasCause};
     ghost use Rattle.myi_chain.specs.declared.piece.ScanFault.TheVariants.{File};
-    ghost use Rattle.myi_chain.specs.Scanning.{IsFirst, IsFirstRow};
+    ghost use Rattle.myi_chain.specs.Scanning.{fresh_scan, ReadsBytes, IsFirst, IsFirstRow};
     ghost use Rattle.myi_data.specs.Scanning.{items_left, rows_left, PacksItem, PacksRow, IsSlotOf, Leaves, LeavesRows};
     ghost use Rattle.myi_data.specs.contracts.scan.DataScan.{the_row};
 
     /// A scan of the file of that name, of a table that the test is for. Nothing is read yet.
     pub(crate) fn new(name: &str, test: RowTest, setup: ScanSetup) -> Result<DataScan, AllocError>
-        ensures { IfOk result (λ scan. scan ≡ record { name = name.now; test = test; extend = setup.extend; end = setup.file_len; left = None; blocks = [] }) }
+        ensures { IfOk result (λ scan. scan ≡ fresh_scan name.now test setup.extend setup.file_len) }
     {
         let alloc = test.allocator();
         let inner = match test.format() {
@@ -74,9 +72,10 @@ impl DataScan {
     /// byte is 0 is a deleted block. Deleted blocks come as they are passed, also those that a later
     /// row's block meets. After an error the next call answers as this one would have.
     pub fn next_item<F: Files>(&mut self, files: &mut F) -> Result<Option<Item<'_>>, ScanFault>
-        ensures item { IfOk result (λ found. (m : Holding) → F.holds files.old ≡ Some m → IsFirst (items_left self.old m) found) }
+        ensures item { IfOk result (λ found. IfTold (F.holds files.old) (λ m.
+            IsFirst (items_left self.old m) found)) }
         ensures packs { IfOk result (λ found. IfSome found (PacksItem self.old)) }
-        ensures bytes { OnOk result ((m : Holding) → F.holds files.old ≡ Some m → self.old.left ≡ None → AreBytes (take self.old.end (bytes_of self.old.name m))) }
+        ensures bytes { OnOk result (IfTold (F.holds files.old) (ReadsBytes self.old)) }
         ensures holds { F.holds files.new ≡ F.holds files.old }
         ensures cause { HasCause File (F.faults files.old) (F.faults files.new) result }
         ensures* after { sem 𝓛 (Rests the_row self.entry (Leaves (F.holds files.old) self.old result)) }
@@ -94,10 +93,11 @@ impl DataScan {
         &mut self,
         files: &mut F,
     ) -> Result<Option<(u64, Piece<'_>)>, ScanFault>
-        ensures row { IfOk result (λ found. (m : Holding) → F.holds files.old ≡ Some m → IsFirstRow (rows_left self.old m) found) }
+        ensures row { IfOk result (λ found. IfTold (F.holds files.old) (λ m.
+            IsFirstRow (rows_left self.old m) found)) }
         ensures packs { IfOk result (λ found. IfSome found (PacksRow self.old)) }
         ensures slot { IfOk result (λ found. IfSome found (IsSlotOf self.old)) }
-        ensures bytes { OnOk result ((m : Holding) → F.holds files.old ≡ Some m → self.old.left ≡ None → AreBytes (take self.old.end (bytes_of self.old.name m))) }
+        ensures bytes { OnOk result (IfTold (F.holds files.old) (ReadsBytes self.old)) }
         ensures holds { F.holds files.new ≡ F.holds files.old }
         ensures cause { HasCause File (F.faults files.old) (F.faults files.new) result }
         ensures* after { sem 𝓛 (Rests the_row self.entry (LeavesRows (F.holds files.old) self.old result)) }

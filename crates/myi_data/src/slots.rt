@@ -4,8 +4,7 @@
 ghost use Rattle.std.specs.Prelude.{◌≡◌, ◌≤◌, ◌<◌, ◌+◌, ◌*◌, ◌/◌, ℕ, List, [], ◌∷◌, Option, Some, None, length, string_bytes, drop, take, IfOk, IfSome, OnOk, OnErr, MatchOption, slice_index};
 ghost use Rattle.std.specs.Borrow.{sem};
 ghost use Rattle.std.specs.Io.BufRead.{Rests};
-ghost use Rattle.myi_base.specs.Numbers.{AreBytes};
-ghost use Rattle.myi_base.specs.Holding.{Holding, bytes_of};
+ghost use Rattle.myi_base.specs.Holding.{IfTold};
 ghost use Rattle.myi_base.specs.Causes.{HasCause};
 ghost use Rattle.myi_defs.specs.declared.types.RowFormat.TheVariants.{Static};
 ghost use Rattle.myi_chain.specs.declared.piece.ScanFault.TheVariants.{File, Memory};
@@ -105,12 +104,12 @@ impl Model for SlotScan {
 }
 
 impl SlotScan {
-    ghost use Rattle.std.specs.Prelude.{◌≡◌, Option, Some, None, [], take, IfOk, OnOk, OnErr};
-    ghost use Rattle.myi_base.specs.Numbers.{AreBytes};
-    ghost use Rattle.myi_base.specs.Holding.{Holding, bytes_of};
+    ghost use Rattle.std.specs.Prelude.{◌≡◌, Option, Some, None, [], IfOk, OnOk, OnErr};
+    ghost use Rattle.myi_base.specs.Holding.{IfTold};
     ghost use Rattle.myi_base.specs.Causes.{HasCause};
     ghost use Rattle.myi_defs.specs.declared.types.RowFormat.TheVariants.{Static};
     ghost use Rattle.myi_chain.specs.declared.piece.ScanFault.TheVariants.{File};
+    ghost use Rattle.myi_chain.specs.Scanning.{fresh_scan, ReadsBytes};
     ghost use Rattle.myi_data.specs.Scanning.{IsRead};
 
     /// A scan of the file of that name, of a static table that the test is for. Nothing is read yet.
@@ -121,7 +120,7 @@ impl SlotScan {
         setup: ScanSetup,
     ) -> Result<SlotScan, AllocError>
         requires { test.format ≡ Static }
-        ensures { IfOk result (λ scan. scan ≡ record { name = name.now; test = test; extend = setup.extend; end = setup.file_len; left = None; blocks = [] }) }
+        ensures { IfOk result (λ scan. scan ≡ fresh_scan name.now test setup.extend setup.file_len) }
     {
         let name = String::from_str(alloc, name)?;
         Ok(SlotScan {
@@ -139,7 +138,7 @@ impl SlotScan {
     /// Reads the file, if it was not read yet.
     fn read<F: Files>(&mut self, files: &mut F) -> Result<(), ScanFault>
         ensures ok { OnOk result (IsRead (F.holds files.old) self.old self.new) }
-        ensures bytes { OnOk result ((m : Holding) → F.holds files.old ≡ Some m → self.old.left ≡ None → AreBytes (take self.old.end (bytes_of self.old.name m))) }
+        ensures bytes { OnOk result (IfTold (F.holds files.old) (ReadsBytes self.old)) }
         ensures err { OnErr result (self.new ≡ self.old) }
         ensures holds { F.holds files.new ≡ F.holds files.old }
         ensures cause { HasCause File (F.faults files.old) (F.faults files.new) result }
@@ -157,14 +156,13 @@ impl SlotScan {
 }
 
 impl SlotScan {
-    ghost use Rattle.std.specs.Prelude.{◌≡◌, Option, Some, None, take, IfOk, IfSome, OnOk};
+    ghost use Rattle.std.specs.Prelude.{◌≡◌, Option, IfOk, IfSome, OnOk};
     ghost use Rattle.std.specs.Borrow.{sem};
     ghost use Rattle.std.specs.Io.BufRead.{Rests};
-    ghost use Rattle.myi_base.specs.Numbers.{AreBytes};
-    ghost use Rattle.myi_base.specs.Holding.{Holding, bytes_of};
+    ghost use Rattle.myi_base.specs.Holding.{IfTold};
     ghost use Rattle.myi_base.specs.Causes.{HasCause};
     ghost use Rattle.myi_chain.specs.declared.piece.ScanFault.TheVariants.{File};
-    ghost use Rattle.myi_chain.specs.Scanning.{IsFirst, IsFirstRow};
+    ghost use Rattle.myi_chain.specs.Scanning.{ReadsBytes, IsFirst, IsFirstRow};
     ghost use Rattle.myi_data.specs.Scanning.{items_left, rows_left, PacksItem, PacksRow, IsSlotOf, Leaves, LeavesRows};
     ghost use Rattle.myi_data.specs.contracts.slots.SlotScan.{the_row};
 
@@ -173,9 +171,10 @@ impl SlotScan {
         &mut self,
         files: &mut F,
     ) -> Result<Option<Item<'_>>, ScanFault>
-        ensures item { IfOk result (λ found. (m : Holding) → F.holds files.old ≡ Some m → IsFirst (items_left self.old m) found) }
+        ensures item { IfOk result (λ found. IfTold (F.holds files.old) (λ m.
+            IsFirst (items_left self.old m) found)) }
         ensures packs { IfOk result (λ found. IfSome found (PacksItem self.old)) }
-        ensures bytes { OnOk result ((m : Holding) → F.holds files.old ≡ Some m → self.old.left ≡ None → AreBytes (take self.old.end (bytes_of self.old.name m))) }
+        ensures bytes { OnOk result (IfTold (F.holds files.old) (ReadsBytes self.old)) }
         ensures holds { F.holds files.new ≡ F.holds files.old }
         ensures cause { HasCause File (F.faults files.old) (F.faults files.new) result }
         ensures* after { sem 𝓛 (Rests the_row self.entry (Leaves (F.holds files.old) self.old result)) }
@@ -213,10 +212,11 @@ impl SlotScan {
         &mut self,
         files: &mut F,
     ) -> Result<Option<(u64, Piece<'_>)>, ScanFault>
-        ensures row { IfOk result (λ found. (m : Holding) → F.holds files.old ≡ Some m → IsFirstRow (rows_left self.old m) found) }
+        ensures row { IfOk result (λ found. IfTold (F.holds files.old) (λ m.
+            IsFirstRow (rows_left self.old m) found)) }
         ensures packs { IfOk result (λ found. IfSome found (PacksRow self.old)) }
         ensures slot { IfOk result (λ found. IfSome found (IsSlotOf self.old)) }
-        ensures bytes { OnOk result ((m : Holding) → F.holds files.old ≡ Some m → self.old.left ≡ None → AreBytes (take self.old.end (bytes_of self.old.name m))) }
+        ensures bytes { OnOk result (IfTold (F.holds files.old) (ReadsBytes self.old)) }
         ensures holds { F.holds files.new ≡ F.holds files.old }
         ensures cause { HasCause File (F.faults files.old) (F.faults files.new) result }
         ensures* after { sem 𝓛 (Rests the_row self.entry (LeavesRows (F.holds files.old) self.old result)) }

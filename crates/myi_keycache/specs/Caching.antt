@@ -39,6 +39,10 @@ pub record CanGet (cache : Caching) (m : Holding) (at len : ℕ) : Type 0 where
   pub current : IsCurrent cache m
   pub apart : NoOtherMeets (is_unwritten cache.pages) at len
 
+-- what the cache lends of a range that may be asked for
+abbrev pub IsLent : Caching → ℕ → ℕ → Option (List ℕ) → Holding → Type 0
+IsLent cache at len page m = CanGet cache m at len → lends cache m at len ≡ page
+
 -- where the files hold this, a page may be put there: no other page that is kept has a part of the range
 pub record CanPut (cache : Caching) (m : Holding) (at len : ℕ) : Type 0 where
   pub current : IsCurrent cache m

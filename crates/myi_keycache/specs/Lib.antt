@@ -3,4 +3,3 @@ pub mod Kept
 pub mod Lent
 pub mod Counts
 pub mod Caching
-pub mod Faults

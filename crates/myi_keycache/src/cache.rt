@@ -1,9 +1,9 @@
 //! `KeyCache`: the pages of one file.
 ghost use Rattle.std.specs.Prelude.{◌≡◌, ◌≤◌, ◌+◌, ℕ, Some, None, length, vec_len, IfErr, OnOk};
-ghost use Rattle.myi_base.specs.Holding.{Holding, bytes_of};
+ghost use Rattle.myi_base.specs.Holding.{IfTold};
 ghost use Rattle.myi_base.specs.Causes.{HasCause};
 ghost use Rattle.myi_keycache.specs.declared.setup.CacheFault.TheVariants.{Short, File};
-ghost use Rattle.myi_keycache.specs.Lent.{bytes_at};
+ghost use Rattle.myi_keycache.specs.Lent.{Has};
 
 use crate::setup::{CacheFault, CacheSetup, Counters};
 use myi_io::Files;
@@ -13,8 +13,10 @@ use std::marker::Model;
 // Fills the slice with the bytes of a file from a place on.
 fn fill<F: Files>(files: &mut F, name: &str, at: u64, into: &mut [u8]) -> Result<(), CacheFault>
     requires { length into.old ≤ 16384 }
-    ensures page { OnOk result ((m : Holding) → F.holds files.old ≡ Some m → bytes_at (bytes_of name.now m) at (length into.old) ≡ Some into.new) }
-    ensures short { IfErr result (λ e. (p : ℕ) → e ≡ Short p → (p ≡ at) × ((m : Holding) → F.holds files.old ≡ Some m → bytes_at (bytes_of name.now m) at (length into.old) ≡ None)) }
+    ensures page { OnOk result (IfTold (F.holds files.old)
+        (Has name.now at (length into.old) (Some into.new))) }
+    ensures short { IfErr result (λ e. (p : ℕ) → e ≡ Short p
+        → (p ≡ at) × IfTold (F.holds files.old) (Has name.now at (length into.old) None)) }
     ensures holds { F.holds files.new ≡ F.holds files.old }
     ensures cause { HasCause File (F.faults files.old) (F.faults files.new) result }
     ensures reads { F.reads files.old ≤ F.reads files.new }
@@ -37,9 +39,10 @@ fn read_page<F: Files>(
     into: &mut Vec<u8>,
 ) -> Result<(), CacheFault>
     requires { size ≤ 16384 }
-    ensures page { OnOk result ((m : Holding) → F.holds files.old ≡ Some m → bytes_at (bytes_of name.now m) at size ≡ Some into.new.items) }
+    ensures page { OnOk result (IfTold (F.holds files.old) (Has name.now at size (Some into.new.items))) }
     ensures long { OnOk result (vec_len into.new ≡ size) }
-    ensures short { IfErr result (λ e. (p : ℕ) → e ≡ Short p → (p ≡ at) × ((m : Holding) → F.holds files.old ≡ Some m → bytes_at (bytes_of name.now m) at size ≡ None)) }
+    ensures short { IfErr result (λ e. (p : ℕ) → e ≡ Short p
+        → (p ≡ at) × IfTold (F.holds files.old) (Has name.now at size None)) }
     ensures holds { F.holds files.new ≡ F.holds files.old }
     ensures cause { HasCause File (F.faults files.old) (F.faults files.new) result }
     ensures reads { F.reads files.old ≤ F.reads files.new }
@@ -74,13 +77,13 @@ impl KeyCache {
     ghost use Rattle.std.specs.Prelude.{◌≡◌, ◌≤◌, ◌⊎◌, ◌+◌, ℕ, [], Some, None, true, length, IfOk, IfErr, IsOk, IsTrue, OnOk, OnErr};
     ghost use Rattle.std.specs.Borrow.{sem};
     ghost use Rattle.std.specs.Io.BufRead.{Rests};
-    ghost use Rattle.myi_base.specs.Holding.{Holding, Told, OthersStay};
+    ghost use Rattle.myi_base.specs.Holding.{Holding, IfTold, Told, OthersStay};
     ghost use Rattle.myi_base.specs.Causes.{HasCause};
     ghost use Rattle.myi_keycache.specs.declared.setup.CacheFault.TheVariants.{Short, File, Memory};
     ghost use Rattle.myi_keycache.specs.Setup.{IsSetup};
     ghost use Rattle.myi_keycache.specs.Kept.{is_kept, AddsOnly, SameKept, AllWritten};
     ghost use Rattle.myi_keycache.specs.Counts.{puts_counted, flushes_counted};
-    ghost use Rattle.myi_keycache.specs.Caching.{Caching, lends, IsCurrent, CanGet, CanPut, Puts, PutsPart, Stays, Flushes, Gets};
+    ghost use Rattle.myi_keycache.specs.Caching.{Caching, IsLent, IsCurrent, CanPut, Puts, PutsPart, Stays, Flushes, Gets};
     ghost use Rattle.myi_keycache.specs.contracts.cache.KeyCache.{the_row};
 
     /// A cache of the file of that name, which keeps no page yet. Any file is current for it.
@@ -110,9 +113,10 @@ impl KeyCache {
     ) -> Result<&[u8], CacheFault>
         requires limit { size ≤ 16384 }
         requires writable { IsTrue F.writable ⊎ AllWritten self.old.pages }
-        ensures page { IfOk result (λ page. (m : Holding) → F.holds files.old ≡ Some m → CanGet self.old m at size → lends self.old m at size ≡ Some page.now) }
+        ensures page { IfOk result (λ page. IfTold (F.holds files.old) (IsLent self.old at size (Some page.now))) }
         ensures long { IfOk result (λ page. length page.now ≡ size) }
-        ensures short { IfErr result (λ e. (p : ℕ) → e ≡ Short p → (p ≡ at) × ((m : Holding) → F.holds files.old ≡ Some m → CanGet self.old m at size → lends self.old m at size ≡ None)) }
+        ensures short { IfErr result (λ e. (p : ℕ) → e ≡ Short p
+            → (p ≡ at) × IfTold (F.holds files.old) (IsLent self.old at size None)) }
         ensures clean { AllWritten self.old.pages → F.holds files.new ≡ F.holds files.old }
         ensures hit { is_kept self.old.pages at size ≡ true → IsOk result × (files.new ≡ files.old) }
         ensures cause { HasCause File (F.faults files.old) (F.faults files.new) result }
@@ -132,8 +136,10 @@ impl KeyCache {
     pub fn put<F: Files>(&mut self, files: &mut F, at: u64, bytes: &[u8]) -> Result<(), CacheFault>
         requires limit { length bytes.now ≤ 16384 }
         requires writable { IsTrue F.writable }
-        ensures ok { OnOk result (Told (F.holds files.old) (F.holds files.new) (λ m n. CanPut self.old m at (length bytes.now) → Puts at bytes.now self.old self.new m n)) }
-        ensures err { OnErr result (Told (F.holds files.old) (F.holds files.new) (λ m n. CanPut self.old m at (length bytes.now) → PutsPart at bytes.now self.old self.new m n)) }
+        ensures ok { OnOk result (Told (F.holds files.old) (F.holds files.new)
+            (λ m n. CanPut self.old m at (length bytes.now) → Puts at bytes.now self.old self.new m n)) }
+        ensures err { OnErr result (Told (F.holds files.old) (F.holds files.new)
+            (λ m n. CanPut self.old m at (length bytes.now) → PutsPart at bytes.now self.old self.new m n)) }
         ensures others { Told (F.holds files.old) (F.holds files.new) (OthersStay self.old.name) }
         ensures kept { OnErr result (SameKept self.old.pages self.new.pages) }
         ensures added { AddsOnly at (length bytes.now) self.old.pages self.new.pages }
@@ -153,8 +159,10 @@ impl KeyCache {
     /// call of this cache left it.
     pub fn flush<F: Files>(&mut self, files: &mut F) -> Result<(), CacheFault>
         requires writable { IsTrue F.writable }
-        ensures ok { OnOk result (Told (F.holds files.old) (F.holds files.new) (λ m n. IsCurrent self.old m → Flushes self.old self.new m n)) }
-        ensures err { OnErr result (Told (F.holds files.old) (F.holds files.new) (λ m n. IsCurrent self.old m → Stays self.old self.new m n)) }
+        ensures ok { OnOk result (Told (F.holds files.old) (F.holds files.new)
+            (λ m n. IsCurrent self.old m → Flushes self.old self.new m n)) }
+        ensures err { OnErr result (Told (F.holds files.old) (F.holds files.new)
+            (λ m n. IsCurrent self.old m → Stays self.old self.new m n)) }
         ensures others { Told (F.holds files.old) (F.holds files.new) (OthersStay self.old.name) }
         ensures written { OnOk result (AllWritten self.new.pages) }
         ensures kept { SameKept self.old.pages self.new.pages }

@@ -45,9 +45,10 @@ pub enum CacheFault {
 
 impl From<FileErr> for CacheFault {
     ghost use Rattle.std.specs.Prelude.{◌≡◌};
-    ghost use Rattle.myi_keycache.specs.Faults.{fault_of};
+    ghost use Rattle.myi_io.specs.Faults.{handed_on};
+    ghost use Rattle.myi_keycache.specs.declared.setup.CacheFault.TheVariants.{File, Memory};
 
-    ghost from_gives = { λ e f. f ≡ fault_of e };
+    ghost from_gives = { λ e f. f ≡ handed_on File Memory e };
 
     fn from(error: FileErr) -> Self {
         match error {

@@ -1,6 +1,7 @@
-use Rattle.std.proofs.Common.{Some, None, sym, ap, ◌∙◌}
+use Rattle.std.proofs.Common.{Some, None, refl, sym, ap, ◌∙◌}
 use Rattle.std.specs.Prelude.{option_map}
 use Rattle.std.proofs.lemmas.Result.{err_from_is_err_and}
+use Rattle.myi_base.proofs.CallerLemmas.{told_same}
 use Rattle.myi_keycache.proofs.LentLemmas.{stays_start}
 use Rattle.myi_btree.specs.Nodes.{node_view}
 use Rattle.myi_btree.proofs.WalkLaws.{same_place, lent_off, lent_none, lent_is, short_only, if_err}
@@ -11,7 +12,7 @@ pub returns-then-at-ne0-clause-damaged : goal.returns-then-at-ne0-clause-damaged
 returns-then-at-ne0-clause-damaged g c = λ p e. (same_place c.args.at p e, λ v s a. lent_off c.args.place v.first v.start c.args.at c.if-at-ne0.true)
 
 pub returns-then-at-ne0-clause-stays : goal.returns-then-at-ne0-clause-stays
-returns-then-at-ne0-clause-stays g c = λ m held. (m, held, λ can. stays_start c.args.cache.now m can.current)
+returns-then-at-ne0-clause-stays g c = told_same _ _ _ refl (λ m held can. stays_start c.args.cache.now m can.current)
 
 pub returns-in_err-bytes-clause-damaged : goal.returns-in_err-bytes-clause-damaged
 returns-in_err-bytes-clause-damaged g c =
