@@ -1,2 +1,4 @@
+pub mod CallerLemmas
 pub mod RootLaws
 pub mod PrintLaws
+pub mod HeaderLaws

@@ -8,12 +8,14 @@
 //! first page of a tree stands.
 #![tactic(auto)]
 
+mod laws;
 mod print;
 mod read;
 mod state;
 #[cfg(test)]
 mod tests;
 
+pub use laws::{headers_read_back, states_rest_on_the_header};
 pub use print::print_state;
 pub use read::{read_state, stored_state};
 pub use state::{MARK, State, StateFault, first_page};

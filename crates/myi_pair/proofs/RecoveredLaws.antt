@@ -6,14 +6,13 @@ use Rattle.std.proofs.lemmas.List.Sorted.{IsPermutation-refl}
 use Rattle.std.specs.Prelude.{IsPermutation}
 use Rattle.myi_base.specs.Numbers.{num_at, pointer_of}
 use Rattle.myi_base.specs.Ranges.{Range}
+use Rattle.myi_base.proofs.ItemLaws.{numbers-take}
 use Rattle.myi_defs.specs.declared.types.Defs.{Defs}
 use Rattle.myi_defs.specs.Sound.{IsSound}
 use Rattle.myi_defs.specs.Addressable.{is_addressable}
 use Rattle.myi_defs.specs.ReadDefs.{read_defs}
 use Rattle.myi_defs.specs.Elsewhere.{AgreeOutsideState}
-use Rattle.myi_defs.proofs.SoundLaws.{sound}
-use Rattle.myi_defs.proofs.ReadLemmas.{num_at-take}
-use Rattle.myi_defs.proofs.ElsewhereLaws.{elsewhere}
+use Rattle.myi_defs.proofs.CallerLemmas.{sound, elsewhere}
 use Rattle.myi_header.specs.declared.state.Layout.{Layout}
 use Rattle.myi_header.specs.declared.state.State.{State}
 use Rattle.myi_header.specs.Parts.{part}
@@ -41,7 +40,9 @@ use Rattle.myi_pair.proofs.NewIndexLaws.{trees_are, all_stored, data_long, there
 -- definitions with another header of the same length that begins with the same 24 bytes
 
 pub front_number : (at n : ℕ) (r x : List ℕ) → at + n ≤ 24 → take 24 r ≡ take 24 x → num_at at n r ≡ num_at at n x
-front_number at n r x inside same = sym (num_at-take at n 24 r inside) ∙ ap (num_at at n) same ∙ num_at-take at n 24 x inside
+front_number at n r x inside same =
+    let one = numbers-take at 24 (n ∷ []) r x (omega arith) same in
+    cc
 
 pub record IsLike (d : Defs) (r : List ℕ) : Type 0 where
   pub front : take 24 r ≡ take 24 d.raw

@@ -1,4 +1,4 @@
-use Rattle.myi_defs.proofs.SoundLaws.{sound}
+use Rattle.myi_defs.proofs.CallerLemmas.{sound}
 use Rattle.myi_defs.proofs.ReadLemmas.{are_defs, raw-header}
 use Rattle.myi_defs.proofs.laws.definitions_are_sound.Goals as goal
 
