@@ -2,6 +2,8 @@
 
 -- definitions_are_sound
 pub use Rattle.myi_defs.proofs.SoundLaws.{sound}
-
+pub use Rattle.myi_defs.proofs.ReadLemmas.{are_defs}
 -- definitions_rest_on_the_header
 pub use Rattle.myi_defs.proofs.ElsewhereLaws.{read_defs-take, elsewhere}
+-- empty_tables_print_again
+pub use Rattle.myi_defs.proofs.PrintLemmas.{printed-again}

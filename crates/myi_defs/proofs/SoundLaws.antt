@@ -24,7 +24,8 @@ use Rattle.myi_defs.specs.Header.{front, header, base, outline, key_items, keys_
 use Rattle.myi_defs.specs.Kinds.{seg_cost, is_collation}
 use Rattle.myi_defs.specs.Conditions.{ItemsStartFrom, has_bit, is_dynamic, has_wrong_front, has_wrong_segments, has_wrong_keys, has_wrong_fields, has_wrong_row, is_wrong_length, is_wrong_kind, has_wrong_types, has_wrong_segment, is_misplaced, has_wrong_place, is_text_as, has_wrong_collation, most_key, has_wrong_pages, has_wrong_blocks, has_wrong_pointers, has_long_keys}
 use Rattle.myi_defs.specs.ReadDefs.{is_short, has_wrong_lengths, field_of, segment_of, key_of, definitions, AreDefs}
-use Rattle.myi_defs.specs.Sound.{IsLengthOf, StartFrom, fields_length, base_place, IsSoundSegment, key_most, IsSoundKey, IsSound}
+use Rattle.myi_defs.specs.Layout.{base_place}
+use Rattle.myi_defs.specs.Sound.{IsLengthOf, StartFrom, fields_length, IsSoundSegment, key_most, IsSoundKey, IsSound}
 use Rattle.myi_defs.proofs.HeaderLemmas.{length-key_items, length-field_items, field_items-start}
 use Rattle.myi_defs.proofs.PlaceLemmas.{or_parts, none_passes}
 use Rattle.myi_defs.proofs.ReadLemmas.{Passes, refusal-passes, accepted, raw-is, is_short-false}

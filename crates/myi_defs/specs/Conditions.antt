@@ -15,7 +15,7 @@ use Rattle.myi_defs.specs.declared.header.FieldItem.{FieldItem}
 use Rattle.myi_defs.specs.declared.header.Outline.{Outline}
 use Rattle.myi_defs.specs.Header.{keys_place, fields_place}
 use Rattle.myi_defs.specs.Kinds.{has_flag, most_bytes, is_text, is_collation, int_size, seg_cost, lies_in, is_plain_at}
-use Rattle.myi_defs.specs.Sound.{base_place}
+use Rattle.myi_defs.specs.Layout.{base_place}
 
 -- a bit of a number is set
 abbrev pub has_bit : ℕ → ℕ → Bool

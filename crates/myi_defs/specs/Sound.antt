@@ -11,6 +11,7 @@ use Rattle.myi_defs.specs.declared.types.Segment.{Segment}
 use Rattle.myi_defs.specs.declared.types.Key.{Key}
 use Rattle.myi_defs.specs.declared.types.Defs.{Defs}
 use Rattle.myi_defs.specs.Kinds.{has_flag, most_bytes, int_size, is_text, is_collation, seg_cost, lies_in, is_plain_at}
+use Rattle.myi_defs.specs.Layout.{base_place}
 
 -- the lengths that a field of a kind may have
 abbrev pub IsLengthOf : RowFormat → FieldKind → ℕ → Type 0
@@ -34,10 +35,6 @@ fields_length fs = sum_by (λ f. f.length) fs
 -- bytes, and then the fields
 abbrev pub most_of_row : List Field → ℕ
 most_of_row fs = (count_by (λ f. has_flag f.kind) fs + 7) / 8 + sum_by (λ f. most_bytes f.kind f.length) fs
-
--- where the base section of a header stands, by its counts of keys, of page sizes and of key parts
-abbrev pub base_place : ℕ → ℕ → ℕ → ℕ
-base_place keys sizes parts = 176 + 8 * keys + 8 * sizes + 4 * parts
 
 -- a segment has the size and the collation of its type, and lies in the field that its number names, the first
 -- that can hold it

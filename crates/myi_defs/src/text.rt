@@ -9,14 +9,9 @@ ghost use Rattle.myi_defs.specs.declared.text.LineFault.TheVariants as fault;
 ghost use Rattle.myi_defs.specs.Text as spec;
 
 use crate::header::SegItem;
+use crate::layout::{MOST_FIELDS, MOST_KEYS, MOST_SEGMENTS};
 use crate::types::{FieldKind, RowFormat, SegType};
 use std::alloc::{AllocError, AllocFailed, Global};
-
-const MOST_FIELDS: u16 = 4096;
-
-const MOST_KEYS: u8 = 64;
-
-const MOST_SEGMENTS: u8 = 16;
 
 /// What a line says.
 #[derive(Clone, Copy)]

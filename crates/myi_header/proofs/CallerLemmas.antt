@@ -2,6 +2,7 @@
 
 -- headers_read_back
 pub use Rattle.myi_header.proofs.HeaderLaws.{header-long, header-read, header-state, header-marked, header-elsewhere}
-
 -- states_rest_on_the_header
 pub use Rattle.myi_header.proofs.HeaderLaws.{state-take, state-rest}
+-- empty_tables_are_empty
+pub use Rattle.myi_header.proofs.EmptyLaws.{empty-header, empty-read, empty-again}

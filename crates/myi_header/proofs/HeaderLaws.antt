@@ -9,11 +9,12 @@ use Rattle.myi_base.proofs.ItemLaws.{numbers-take}
 use Rattle.myi_defs.specs.declared.types.Defs.{Defs}
 use Rattle.myi_defs.specs.Sound.{IsSound}
 use Rattle.myi_defs.specs.Elsewhere.{AgreeOutsideState}
-use Rattle.myi_header.specs.declared.state.Layout.{Layout}
+use Rattle.myi_defs.specs.declared.layout.Layout.{Layout}
 use Rattle.myi_header.specs.declared.state.State.{State}
 use Rattle.myi_header.specs.Parts.{part}
 use Rattle.myi_header.specs.Layout.{layout_of, first_page_of}
-use Rattle.myi_header.specs.StateOf.{rest_length, roots_in, rest_at, state_of, mark, has_mark, read_state}
+use Rattle.myi_defs.specs.Layout.{mark}
+use Rattle.myi_header.specs.StateOf.{rest_length, roots_in, rest_at, state_of, has_mark, read_state}
 use Rattle.myi_header.specs.HeaderOf.{count_widths, counts, root_bytes, middle_length, state_bytes, IsStored, header_of}
 use Rattle.myi_header.proofs.PrintLaws.{base_is, past_raw, state_again, printed}
 

@@ -2,3 +2,4 @@ pub mod CallerLemmas
 pub mod RootLaws
 pub mod PrintLaws
 pub mod HeaderLaws
+pub mod EmptyLaws

@@ -13,9 +13,10 @@ use Rattle.myi_base.specs.Items.{numbers, spelling, Fit}
 use Rattle.myi_base.proofs.NumberLaws.{num-num_bytes, length-num_bytes}
 use Rattle.myi_base.proofs.ItemLaws.{length-spelling}
 use Rattle.myi_header.specs.declared.state.State.{State}
-use Rattle.myi_header.specs.declared.state.Layout.{Layout}
+use Rattle.myi_defs.specs.declared.layout.Layout.{Layout}
 use Rattle.myi_header.specs.Parts.{part}
-use Rattle.myi_header.specs.StateOf.{IsPlace, rest_length, roots_in, rest_at, state_of, mark, has_mark}
+use Rattle.myi_defs.specs.Layout.{mark}
+use Rattle.myi_header.specs.StateOf.{IsPlace, rest_length, roots_in, rest_at, state_of, has_mark}
 use Rattle.myi_header.specs.HeaderOf.{count_widths, counts, root_bytes, middle_length, state_bytes, FitsWidths, header_of}
 
 -- each root fits eight bytes

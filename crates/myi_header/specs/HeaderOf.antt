@@ -3,11 +3,12 @@ use Rattle.std.specs.Prelude.{◌≡◌, ◌<◌, ◌-◌, ◌^◌, ℕ, ◌+◌
 use Rattle.myi_base.specs.Numbers.{num_bytes, pointer_number}
 use Rattle.myi_base.specs.Items.{spelling, Fit}
 use Rattle.myi_defs.specs.declared.types.Defs.{Defs}
-use Rattle.myi_header.specs.declared.state.Layout.{Layout}
+use Rattle.myi_defs.specs.declared.layout.Layout.{Layout}
 use Rattle.myi_header.specs.declared.state.State.{State}
 use Rattle.myi_header.specs.Layout.{layout_of, first_page_of}
 use Rattle.myi_header.specs.Parts.{part}
-use Rattle.myi_header.specs.StateOf.{IsPlace, rest_length, mark}
+use Rattle.myi_defs.specs.Layout.{mark}
+use Rattle.myi_header.specs.StateOf.{IsPlace, rest_length}
 
 -- the numbers from byte 24 on, and their widths
 abbrev pub count_widths : List ℕ

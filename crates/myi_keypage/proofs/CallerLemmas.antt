@@ -2,6 +2,5 @@
 
 -- pages_read_back
 pub use Rattle.myi_keypage.proofs.ShownIn.{page_again}
-
 -- entries_fit
 pub use Rattle.myi_keypage.proofs.FitLaws.{page_length, page_writable, front_used, entry_least, two_used}

@@ -3,6 +3,5 @@ pub mod Page
 pub mod Fitting
 pub mod Showing
 pub mod Writing
-
 -- What serves private contracts: reading from left to right.
 pub mod Reading

@@ -1,4 +1,5 @@
--- What the crates above cite. Each lemma states a clause of the law of its group in src/laws.rt.
+-- What the crates above cite. Each lemma states a clause of a law in src/laws.rt: `one_key` and `key_read` of
+-- codes_read_back, `seg_size` of codes_fit, `weights_short` and `weights_few` of weights_fit.
 use Rattle.std.proofs.Common.{◌≡◌, ◌≤◌, ℕ, List, length, max, Some, Ok, refl}
 use Rattle.myi_defs.specs.declared.types.Segment.{Segment}
 use Rattle.myi_defs.specs.Kinds.{int_size}
@@ -9,17 +10,12 @@ use Rattle.myi_keys.specs.Reading.{key_at}
 use Rattle.myi_keys.specs.Weights.{weights, CanWeigh}
 use Rattle.myi_keys.proofs.Decoded.{key_again}
 use Rattle.myi_keys.proofs.WeightSizes.{fits_by, few_by}
-
--- codes_read_back
 pub use Rattle.myi_keys.proofs.Codings.{one_key}
+pub use Rattle.myi_keys.proofs.CodeSizes.{seg_size}
 
 pub key_read : (key : List KeySeg) → IsKey key → key_at (key_code key) ≡ Ok key
 key_read key is = key_again (key_code key) key is refl
 
--- codes_fit
-pub use Rattle.myi_keys.proofs.CodeSizes.{seg_size}
-
--- weights_fit
 pub weights_short : (seg : Segment) (content : List ℕ) → CanWeigh seg content → length (weights seg content) ≤ max seg.length 8
 unfolding weights
 weights_short seg content can = fits_by seg.seg seg.language seg.length content can

@@ -4,7 +4,6 @@ pub mod Flags
 pub mod Packed
 pub mod Spelling
 pub mod Views
-
 -- What serves private contracts: rows read from left to right, and the values that are left.
 pub mod Reading
 pub mod Left

@@ -10,11 +10,12 @@ use Rattle.myi_defs.specs.declared.types.Defs.{Defs}
 use Rattle.myi_defs.specs.Sound.{IsSound}
 use Rattle.myi_defs.specs.ReadDefs.{read_defs}
 use Rattle.myi_defs.proofs.CallerLemmas.{sound}
-use Rattle.myi_header.specs.declared.state.Layout.{Layout}
+use Rattle.myi_defs.specs.declared.layout.Layout.{Layout}
 use Rattle.myi_header.specs.declared.state.State.{State}
 use Rattle.myi_header.specs.Parts.{part}
 use Rattle.myi_header.specs.Layout.{layout_of, page_sizes, first_page_of}
-use Rattle.myi_header.specs.StateOf.{IsPlace, rest_length, state_of, mark}
+use Rattle.myi_defs.specs.Layout.{mark}
+use Rattle.myi_header.specs.StateOf.{IsPlace, rest_length, state_of}
 use Rattle.myi_header.specs.HeaderOf.{FitsWidths, state_bytes, header_of}
 use Rattle.myi_header.proofs.CallerLemmas.{state-take, state-rest}
 use Rattle.myi_pack.specs.Packed.{Values}
