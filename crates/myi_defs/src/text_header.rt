@@ -337,15 +337,23 @@ fn append_key(
     ensures { OnOk result (out.new.items ≡ out.old.items ++ spec.key_bytes pointer unique (spec.leading behind.now)) }
 {
     let (most, count) = key_said(behind);
-    let stored = most.min(65535) as u16;
+    let length = stored(page_length(pointer, most));
+    let most = stored(most);
     append_u8(out, count.min(255) as u8)?;
     append_u8(out, 0)?;
-    append_u16(out, if unique { 1 } else { 0 })?;
-    append_u16(out, page_length(pointer, most).min(65535) as u16)?;
-    append_u16(out, stored)?;
-    append_u16(out, stored)?;
-    append_u16(out, stored)?;
+    append_u16(out, unique as u16)?;
+    append_u16(out, length)?;
+    append_u16(out, most)?;
+    append_u16(out, most)?;
+    append_u16(out, most)?;
     Ok(())
+}
+
+// A number of two bytes as it is stored.
+fn stored(number: u64) -> u16
+    ensures { result ≡ spec.stored 2 number }
+{
+    number.min(65535) as u16
 }
 
 #[tactic(auto, unfolding(crate::specs::TextHeader::seg_bytes))]
