@@ -8,7 +8,7 @@ use Rattle.myi_keypage.specs.declared.entry.Entry.{Entry}
 use Rattle.myi_keypage.specs.Page.{Page, page_with, page_bytes, is_node, IsPlace, IsBranching}
 use Rattle.myi_keypage.specs.Fitting.{used_length}
 use Rattle.myi_keypage.specs.Writing.{filled_up}
-use Rattle.myi_keypage.proofs.FitLaws.{page_length}
+use Rattle.myi_keypage.proofs.CallerLemmas.{page_length}
 use Rattle.myi_keycache.specs.Kept.{AddsOnly}
 use Rattle.myi_keycache.specs.Caching.{Caching, CanPut}
 use Rattle.myi_btree.specs.declared.pair.Pair.{Pair}

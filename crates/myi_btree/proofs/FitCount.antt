@@ -5,8 +5,7 @@ use Rattle.std.proofs.lemmas.Bool.{cases_lt, le-leb, lt-leb, leb-true, eq-eqb, n
 use Rattle.std.proofs.lemmas.List.{length-map, length-append, length-drop, length-take, take_all}
 use Rattle.myi_keypage.specs.declared.entry.Entry.{Entry}
 use Rattle.myi_keypage.specs.Fitting.{entries_length, used_length}
-use Rattle.myi_keypage.specs.Page.{shared}
-use Rattle.myi_keypage.proofs.FitLaws.{entry_is, number_least, front_used, two_used}
+use Rattle.myi_keypage.proofs.CallerLemmas.{entry_least, front_used, two_used}
 use Rattle.myi_btree.specs.declared.pair.Pair.{Pair}
 use Rattle.myi_btree.specs.declared.place.Place.{Place}
 use Rattle.myi_btree.specs.Nodes.{entry_of, entries_of}
@@ -18,8 +17,8 @@ use Rattle.myi_btree.proofs.CountLaws.{count_is, cases_one}
 -- an entry takes four bytes at least
 few_from : (rec_ref : ℕ) (node : Bool) (before : List ℕ) (es : List Entry) → 2 ≤ rec_ref → 4 * length es ≤ entries_length rec_ref node before es
 few_from rec_ref node before [] wide = omega arith
-few_from rec_ref true before (e ∷ es) wide = omega (arith, few_from rec_ref true e.key es wide, entry_is rec_ref before e, number_least (shared before e.key), number_least (length e.key - shared before e.key))
-few_from rec_ref false before (e ∷ es) wide = omega (arith, few_from rec_ref false e.key es wide, entry_is rec_ref before e, number_least (shared before e.key), number_least (length e.key - shared before e.key))
+few_from rec_ref true before (e ∷ es) wide = omega (arith, few_from rec_ref true e.key es wide, entry_least rec_ref before e)
+few_from rec_ref false before (e ∷ es) wide = omega (arith, few_from rec_ref false e.key es wide, entry_least rec_ref before e)
 
 few : (rec_ref : ℕ) (node : Bool) (es : List Entry) → 2 ≤ rec_ref → 4 * length es < used_length rec_ref node es
 few rec_ref true es wide = omega (arith, few_from rec_ref true [] es wide)

@@ -6,13 +6,12 @@ use Rattle.std.proofs.lemmas.List.{length-append, length-map, length-drop, lengt
 use Rattle.myi_base.specs.Holding.{Holding}
 use Rattle.myi_keys.specs.Limits.{IsKey}
 use Rattle.myi_keys.specs.Codes.{key_code}
-use Rattle.myi_keys.proofs.Decoded.{key_again}
+use Rattle.myi_keys.proofs.CallerLemmas.{key_read}
 use Rattle.myi_keypage.specs.declared.entry.Entry.{Entry}
 use Rattle.myi_keypage.specs.Page.{Page, page_with, page_bytes, is_node, IsPlace, IsBranching, IsWritable}
 use Rattle.myi_keypage.specs.Fitting.{used_length}
 use Rattle.myi_keypage.specs.Showing.{page_in}
-use Rattle.myi_keypage.proofs.FitLaws.{page_writable}
-use Rattle.myi_keypage.proofs.ShownIn.{page_again}
+use Rattle.myi_keypage.proofs.CallerLemmas.{page_again, page_writable}
 use Rattle.myi_keycache.specs.Caching.{Caching, lends}
 use Rattle.myi_btree.specs.declared.pair.Pair.{Pair}
 use Rattle.myi_btree.specs.declared.place.Place.{Place}
@@ -182,7 +181,7 @@ unfolding page_for
 written_read place node w =
     let text : List ℕ = page_bytes place.rec_ref (page_of_node node) in
     let page : page_in place.rec_ref (text ++ replicate (place.block_length - length text) 0) ≡ Some (page_of_node node) = page_again place.rec_ref (page_of_node node) (replicate (place.block_length - length text) 0) w.page w.branching in
-    node_again place.rec_ref (text ++ replicate (place.block_length - length text) 0) node page (pairs_again (λ key is. key_again (key_code key) key is refl) node.pairs w.keys)
+    node_again place.rec_ref (text ++ replicate (place.block_length - length text) 0) node page (pairs_again key_read node.pairs w.keys)
 
 node_there : (place : Place) (cache : Caching) (m : Holding) (at : ℕ) (node : Node) → at % 1024 ≡ 0 → lends cache m at place.block_length ≡ Some (page_for place node) → node_in place.rec_ref (page_for place node) ≡ Some node → node_lent place cache m at ≡ Some node
 unfolding node_lent

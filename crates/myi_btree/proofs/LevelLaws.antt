@@ -5,7 +5,7 @@ use Rattle.std.proofs.lemmas.List.{map-append, length-append, length-drop, lengt
 use Rattle.myi_keypage.specs.declared.entry.Entry.{Entry}
 use Rattle.myi_keypage.specs.Page.{page_with, is_node, IsBranching}
 use Rattle.myi_keys.specs.declared.values.KeySeg.{KeySeg}
-use Rattle.myi_keys.proofs.Codings.{one_key}
+use Rattle.myi_keys.proofs.CallerLemmas.{one_key}
 use Rattle.myi_btree.specs.declared.pair.Pair.{Pair}
 use Rattle.myi_btree.specs.declared.place.Place.{Place}
 use Rattle.myi_btree.specs.declared.level.Level.{Level as LaidLevel}

@@ -1,7 +1,7 @@
 -- The blocks of a file of bytes are a reading of it.
 use Rattle.std.proofs.Common.{ℕ, List, length}
 use Rattle.myi_frames.specs.Block.{block_of}
-use Rattle.myi_frames.proofs.BlockLemmas.{block-stands}
+use Rattle.myi_frames.proofs.CallerLemmas.{block-stands}
 use Rattle.myi_chain.specs.Chain.{IsReading}
 
 pub blocks_read : (d : List ℕ) → IsReading (block_of d) (length d)

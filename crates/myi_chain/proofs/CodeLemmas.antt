@@ -6,7 +6,7 @@ use Rattle.myi_frames.specs.declared.frame.Seen.{Seen}
 use Rattle.myi_frames.specs.declared.frame.Seen.TheVariants as seen
 use Rattle.myi_frames.specs.Block.{Block, block_of}
 use Rattle.myi_frames.specs.Seeing.{SeesBlock, IsPartAt}
-use Rattle.myi_frames.proofs.BlockLemmas.{block-stands}
+use Rattle.myi_frames.proofs.CallerLemmas.{block-stands}
 use Rattle.myi_chain.specs.declared.chain.Link.{Link}
 use Rattle.myi_chain.specs.declared.chain.Link.TheVariants.{Broken, Last, More}
 use Rattle.myi_chain.specs.Chain.{Reading, range_of, ranges, row_bytes, prepend, next_link, taken_by, tail_of, tail}

@@ -25,7 +25,7 @@ use Rattle.myi_keys.specs.declared.values.KeySeg.TheVariants.{Absent, Weights}
 use Rattle.myi_keys.specs.Collations.{collation_of}
 use Rattle.myi_keys.specs.Weights.{weights, CanWeigh, CanWeighBy}
 use Rattle.myi_keys.specs.Limits.{IsSeg, IsKey}
-use Rattle.myi_keys.proofs.WeightSizes as sizes
+use Rattle.myi_keys.proofs.CallerLemmas.{weights_short}
 use Rattle.myi_data.specs.Keys.{AreValues, part_of, start_of, is_absent, content, seg_of, segments_of, key_of}
 
 -- ---- one value for each field
@@ -137,7 +137,7 @@ seg_small fs vs s can short = by_absent (is_absent fs vs s)
   where
     by_absent : (b : Bool) → IsSeg (if b then Absent else Weights (weights s (content fs vs s)))
     by_absent true = tt
-    by_absent false = let few = sizes.fits_by s.seg s.language s.length (content fs vs s) can in omega (arith, few)
+    by_absent false = let few = weights_short s (content fs vs s) can in omega (arith, few)
 
 segs_small : (format : RowFormat) (fs : List Field) (vs : Values) (ss : List Segment) → fits_fields format fs vs ≡ true → AllByRecursion (IsSoundSegment fs) ss → sum_by (λ s. s.length) ss ≤ 1000 → AllByRecursion IsSeg (map (seg_of fs vs) ss)
 segs_small format fs vs [] fit sound short = tt

@@ -12,11 +12,10 @@ use Rattle.myi_defs.specs.Sound.{IsSound}
 use Rattle.myi_frames.specs.Block.{Block, block_of}
 use Rattle.myi_frames.specs.Sizes.{least_size}
 use Rattle.myi_frames.specs.Writing.{IsWritable, whole_spec, written_block}
-use Rattle.myi_frames.proofs.WriteLemmas.{length-block, block-joined}
-use Rattle.myi_frames.proofs.SizeLemmas.{least-writable}
+use Rattle.myi_frames.proofs.CallerLemmas.{length-block, block-joined, least-writable}
 use Rattle.myi_pack.specs.Packed.{Values, IsStaticRow, IsRow}
 use Rattle.myi_pack.specs.Spelling.{spelling, fits}
-use Rattle.myi_pack.proofs.RowSpelling.{row-spelled, row-reads}
+use Rattle.myi_pack.proofs.CallerLemmas.{row-spelled, row-reads}
 use Rattle.myi_chain.specs.Readable.{Row, Item, rows_of}
 use Rattle.myi_chain.specs.Readable as chains
 use Rattle.myi_chain.specs.Laid.{AreLaid, whole_row}

@@ -11,10 +11,10 @@ use Rattle.myi_defs.specs.declared.types.RowFormat.TheVariants.{Static, Dynamic}
 use Rattle.myi_defs.specs.declared.types.Defs.{Defs}
 use Rattle.myi_defs.specs.Sound.{IsSound}
 use Rattle.myi_frames.specs.Block.{Block, block_of}
-use Rattle.myi_frames.proofs.BlockLemmas.{block-bytes}
+use Rattle.myi_frames.proofs.CallerLemmas.{block-bytes}
 use Rattle.myi_pack.specs.Packed.{Values}
 use Rattle.myi_pack.specs.Reading.{row_of}
-use Rattle.myi_pack.proofs.RowLaws.{row-takes}
+use Rattle.myi_pack.proofs.CallerLemmas.{row-takes}
 use Rattle.myi_chain.specs.Chain.{AreApart, AreLinked, IsTail, row_bytes}
 use Rattle.myi_chain.specs.Readable.{Row, Item, row, free, rows_of, rest}
 use Rattle.myi_chain.specs.Readable as chains

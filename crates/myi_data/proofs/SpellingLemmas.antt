@@ -12,10 +12,11 @@ use Rattle.myi_defs.specs.declared.types.Field.{Field}
 use Rattle.myi_defs.specs.declared.types.Defs.{Defs}
 use Rattle.myi_defs.specs.Sound.{IsSound, IsLengthOf}
 use Rattle.myi_pack.specs.Lengths.{IsVarcharLength}
-use Rattle.myi_pack.specs.Flags.{has_flag, flag_count, flag_bytes}
+use Rattle.myi_defs.specs.Kinds.{has_flag}
+use Rattle.myi_pack.specs.Flags.{flag_count, flag_bytes}
 use Rattle.myi_pack.specs.Packed.{Values, PacksField, IsDynamicRow, IsRow}
 use Rattle.myi_pack.specs.Spelling.{spelling, fits}
-use Rattle.myi_pack.proofs.RowSpelling.{row-spelled}
+use Rattle.myi_pack.proofs.CallerLemmas.{row-spelled}
 
 length_some : (n k : ℕ) (p : List ℕ) → IsVarcharLength n k p → 0 < length p
 length_some n k p (inl h) = omega (arith, ap (λ (q : List ℕ). length q) h.1)

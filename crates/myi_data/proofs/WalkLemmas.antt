@@ -1,7 +1,7 @@
 -- A walk over the values of a row.
 use Rattle.std.proofs.Common.{◌≡◌, ℕ, ◌+◌, ◌-◌, ◌<◌, true, false, List, [], ◌∷◌, length, get_or, drop, Option, Some, None, refl, sym, ap, subst, ◌∙◌, arith}
 use Rattle.std.specs.Prelude.{IsSome, slice_index}
-use Rattle.std.proofs.lemmas.List.{length-drop, get_or-drop}
+use Rattle.std.proofs.lemmas.List.{length-drop, drop-drop, get_or-drop}
 use Rattle.std.proofs.lemmas.Bool.{and_parts}
 use Rattle.myi_defs.specs.declared.types.FieldKind.{FieldKind}
 use Rattle.myi_defs.specs.declared.types.FieldKind.TheVariants.{Normal, SkipEndspace, SkipPrespace, SkipZero, Blob, Varchar}
@@ -11,8 +11,12 @@ use Rattle.myi_pack.specs.declared.fields.FieldView.{FieldView}
 use Rattle.myi_pack.specs.Packed.{Values}
 use Rattle.myi_pack.specs.Spelling.{fits_field, fits_fields}
 use Rattle.myi_pack.specs.Views.{shown, IsNext, IsNextShown}
+use Rattle.myi_pack.proofs.CallerLemmas.{next_rest}
 use Rattle.myi_data.specs.Keys.{AreValues, byte_at}
 use Rattle.myi_data.proofs.KeyLemmas.{fixed_long}
+
+pub goes_on : (row old : Values) (r : Option FieldView) (new : Values) (j : ℕ) → IsNext old r new → old ≡ drop j row → new ≡ drop (j + 1) row
+goes_on row old r new j h e = next_rest old r new h ∙ ap (drop 1) e ∙ drop-drop 1 j row
 
 some_shown : (old : Values) (r : Option (ℕ × FieldView)) (new : Values) → IsNextShown old r new → 0 < length old → IsSome r
 some_shown [] r new h lt = absurd (omega arith)

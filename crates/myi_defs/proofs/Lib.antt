@@ -1,8 +1,10 @@
+pub mod CallerLemmas
 pub mod HeaderLemmas
 pub mod OutlineLemmas
 pub mod PlaceLemmas
 pub mod ReadLemmas
 pub mod SoundLaws
+pub mod SoundRows
 pub mod SoundSegments
 pub mod PrintLemmas
 pub mod SameLemmas

@@ -1,12 +1,14 @@
 -- What is printed is read.
-use Rattle.std.proofs.Common.{◌≡◌, ℕ, ◌+◌, ◌-◌, ◌*◌, ◌≤◌, List, ◌++◌, length, take, drop, Ok, sym, ap, subst, ◌∙◌, arith, append_assoc, length-append}
+use Rattle.std.proofs.Common.{◌≡◌, ℕ, ◌+◌, ◌-◌, ◌*◌, ◌≤◌, List, ◌++◌, length, take, drop, Result, Ok, refl, sym, ap, subst, ◌∙◌, arith, append_assoc, length-append}
 use Rattle.std.proofs.lemmas.List.{drop_at, length-replicate, length-take-le, length-drop}
 use Rattle.std.proofs.Math.Seq.{take-append_seam}
 use Rattle.myi_base.proofs.CallerLemmas.{length-num_bytes}
 use Rattle.myi_defs.specs.declared.types.Defs.{Defs}
+use Rattle.myi_defs.specs.declared.types.DefFault.{DefFault}
 use Rattle.myi_defs.specs.declared.header.Front.{Front}
 use Rattle.myi_defs.specs.Header.{front, header, outline}
-use Rattle.myi_defs.specs.EmptyTable.{mark, zeros, nulls, first_page, empty_state, front_bytes, base_bytes, empty_header}
+use Rattle.myi_defs.specs.Layout.{mark, first_page}
+use Rattle.myi_defs.specs.EmptyTable.{zeros, nulls, empty_state, front_bytes, base_bytes, empty_header}
 use Rattle.myi_defs.specs.ReadDefs.{read_defs, AreDefs}
 use Rattle.myi_defs.proofs.ReadLemmas.{front-take, raw-is, printed-judged}
 use Rattle.myi_defs.proofs.SameLemmas.{outline-same}
@@ -75,8 +77,13 @@ unfolding base_bytes
 base_bytes-at at x b rest here size =
     ap (λ n. take n (drop at x)) (sym size) ∙ ap (take (length b)) here ∙ take-append_seam b rest
 
+front_bytes-at : (x b rest : List ℕ) → x ≡ b ++ rest → length b ≡ 24 → front_bytes x ≡ b
+unfolding front_bytes
+front_bytes-at x b rest is size = ap (λ n. take n x) (sym size) ∙ ap (take (length b)) is ∙ take-append_seam b rest
+
 record PrintedFacts (x : List ℕ) : Type 0 where
   pub size : length (printed x) ≡ length x
+  pub front_again : front_bytes (printed x) ≡ front_bytes x
   pub front_same : front (printed x) ≡ front x
   pub base_same : base_bytes (front x).base_pos (printed x) ≡ base_bytes (front x).base_pos x
   pub rest_same : drop ((front x).base_pos + 100) (printed x) ≡ drop ((front x).base_pos + 100) x
@@ -100,6 +107,7 @@ printed_facts x fact =
     let split : printed x ≡ ((a ++ s) ++ (b ++ mark)) ++ rest = sym (simp append_assoc) in
     record {
       size = omega (arith, ap length split, length-append ((a ++ s) ++ (b ++ mark)) rest, upto, lr, fact.inside);
+      front_again = front_bytes-at (printed x) a (s ++ (b ++ (mark ++ rest))) refl la;
       front_same = front-append a (s ++ (b ++ (mark ++ rest))) la ∙ front_bytes-front x;
       base_same = base_bytes-at p (printed x) b (mark ++ rest) here lb;
       rest_same = ap (drop (p + 100)) split ∙ drop_at ((a ++ s) ++ (b ++ mark)) rest (p + 100) upto;
@@ -122,3 +130,33 @@ print_reads d same =
     let itself : x ≡ header x = raw-is x d same in
     let out : outline (front x) z ≡ outline (front x) (header x) = outline-same (front x) z x p.base_same p.rest_same ∙ ap (outline (front x)) itself in
     subst (λ r. read_defs y ≡ Ok (record d { raw = r })) (sym cut) (printed-judged d x y z same itself first head out long fact.long fact.size)
+
+-- printing what is read of it prints it again
+
+abbrev header_by : Front → ℕ → List ℕ → List ℕ → List ℕ → List ℕ
+header_by f n first base rest =
+    first ++ (empty_state f (first_page n) ++ (base ++ (mark ++ (rest ++ zeros (first_page n - n)))))
+
+same_printed : (z x : List ℕ) → front z ≡ front x → length z ≡ length x → front_bytes z ≡ front_bytes x → base_bytes (front x).base_pos z ≡ base_bytes (front x).base_pos x → drop ((front x).base_pos + 100) z ≡ drop ((front x).base_pos + 100) x → empty_header z ≡ empty_header x
+unfolding empty_header
+same_printed z x f n first base rest =
+    ap (λ (g : Front). header_by g (length z) (front_bytes z) (base_bytes g.base_pos z) (drop (g.base_pos + 100) z)) f
+    ∙ ap (λ k. header_by (front x) k (front_bytes z) (base_bytes (front x).base_pos z) (drop ((front x).base_pos + 100) z)) n
+    ∙ ap (λ b. header_by (front x) (length x) b (base_bytes (front x).base_pos z) (drop ((front x).base_pos + 100) z)) first
+    ∙ ap (λ b. header_by (front x) (length x) (front_bytes x) b (drop ((front x).base_pos + 100) z)) base
+    ∙ ap (header_by (front x) (length x) (front_bytes x) (base_bytes (front x).base_pos x)) rest
+
+pub printed-again : (d again : Defs) → AreDefs d → read_defs (empty_header d.raw) ≡ Ok again → empty_header again.raw ≡ empty_header d.raw
+printed-again d again same read =
+    let x : List ℕ = d.raw in
+    let fact = header_facts d same in
+    let p = printed_facts x fact in
+    let z = printed x in
+    let tail = zeros (first_page (length x) - length x) in
+    let cut : take (length x) (empty_header x) ≡ z = ap (take (length x)) (empty_header-printed x) ∙ ap (λ n. take n (z ++ tail)) (sym p.size) ∙ take-append_seam z tail in
+    let twice : ◌≡◌ {A = Result Defs DefFault} (Ok again) (Ok (record d { raw = take (length x) (empty_header x) })) = sym read ∙ print_reads d same in
+    let raw : again.raw ≡ z = ap (λ (e : Defs). e.raw) (ok_same again (record d { raw = take (length x) (empty_header x) }) twice) ∙ cut in
+    ap empty_header raw ∙ same_printed z x p.front_same p.size p.front_again p.base_same p.rest_same
+  where
+    ok_same : (a b : Defs) → ◌≡◌ {A = Result Defs DefFault} (Ok a) (Ok b) → a ≡ b
+    ok_same a b e = cc

@@ -24,10 +24,12 @@ use Rattle.myi_defs.specs.Header.{front, header, base, outline, key_items, keys_
 use Rattle.myi_defs.specs.Kinds.{seg_cost, is_collation}
 use Rattle.myi_defs.specs.Conditions.{ItemsStartFrom, has_bit, is_dynamic, has_wrong_front, has_wrong_segments, has_wrong_keys, has_wrong_fields, has_wrong_row, is_wrong_length, is_wrong_kind, has_wrong_types, has_wrong_segment, is_misplaced, has_wrong_place, is_text_as, has_wrong_collation, most_key, has_wrong_pages, has_wrong_blocks, has_wrong_pointers, has_long_keys}
 use Rattle.myi_defs.specs.ReadDefs.{is_short, has_wrong_lengths, field_of, segment_of, key_of, definitions, AreDefs}
-use Rattle.myi_defs.specs.Sound.{IsLengthOf, StartFrom, fields_length, base_place, IsSoundSegment, key_most, IsSoundKey, IsSound}
+use Rattle.myi_defs.specs.Layout.{base_place}
+use Rattle.myi_defs.specs.Sound.{IsLengthOf, StartFrom, fields_length, IsSoundSegment, key_most, IsSoundKey, IsSound}
 use Rattle.myi_defs.proofs.HeaderLemmas.{length-key_items, length-field_items, field_items-start}
 use Rattle.myi_defs.proofs.PlaceLemmas.{or_parts, none_passes}
 use Rattle.myi_defs.proofs.ReadLemmas.{Passes, refusal-passes, accepted, raw-is, is_short-false}
+use Rattle.myi_defs.proofs.SoundRows.{packed_short}
 use Rattle.myi_defs.proofs.SoundSegments.{HaveKinds, sound_segment}
 
 -- the fields
@@ -230,6 +232,10 @@ static_bit : (b : Bool) → (if b then Dynamic else Static) ≡ Static → b ≡
 static_bit false same = refl
 static_bit true same = absurd (cc)
 
+dynamic_bit : (b : Bool) → (if b then Dynamic else Static) ≡ Dynamic → b ≡ true
+dynamic_bit true same = refl
+dynamic_bit false same = absurd (cc)
+
 -- what the first 24 bytes say of the whole header
 record FrontFacts (h : List ℕ) (keys_count parts_count : ℕ) : Type 0 where
   pub header : length h ≡ num_at 6 2 h
@@ -293,6 +299,7 @@ sound_definitions o h good starts count keys first =
       long_slot = λ static. row.2 (static_bit _ static);
       short_slot = λ static. row.3 (static_bit _ static);
       slot_pointer = λ static. pointers.4 (static_bit _ static);
+      short_packed = λ dynamic. packed_short o good.types good.rows (dynamic_bit _ dynamic);
       rec_ref_least = pointers.0;
       rec_ref_most = pointers.1;
       key_ref_least = pointers.2;

@@ -14,8 +14,8 @@ use Rattle.myi_defs.specs.declared.header.KeyItem.{KeyItem}
 use Rattle.myi_defs.specs.declared.header.FieldItem.{FieldItem}
 use Rattle.myi_defs.specs.declared.header.Outline.{Outline}
 use Rattle.myi_defs.specs.Header.{keys_place, fields_place}
-use Rattle.myi_defs.specs.Kinds.{is_text, is_collation, int_size, seg_cost, lies_in, is_plain_at}
-use Rattle.myi_defs.specs.Sound.{base_place}
+use Rattle.myi_defs.specs.Kinds.{has_flag, most_bytes, is_text, is_collation, int_size, seg_cost, lies_in, is_plain_at}
+use Rattle.myi_defs.specs.Layout.{base_place}
 
 -- a bit of a number is set
 abbrev pub has_bit : ℕ → ℕ → Bool
@@ -110,11 +110,8 @@ is_wrong_kind dynamic (Some kind) n = is_wrong_length dynamic kind n
 
 -- a field with a bit of its own in a packed row
 abbrev pub is_flagged : Option FieldKind → Bool
-is_flagged (Some SkipEndspace) = true
-is_flagged (Some SkipPrespace) = true
-is_flagged (Some SkipZero) = true
-is_flagged (Some Blob) = true
-is_flagged kind = false
+is_flagged (Some kind) = has_flag kind
+is_flagged None = false
 
 -- 9 FieldType: or the fields are longer than the row, or the rows of a dynamic table begin with another number
 -- of bytes than the flags need
@@ -197,12 +194,7 @@ is_wide kind length = false
 
 -- how many bytes a field takes at most in a packed row
 abbrev pub most_packed : Option FieldKind → ℕ → ℕ
-most_packed (Some Normal) length = length
-most_packed (Some SkipZero) length = length
-most_packed (Some SkipEndspace) length = length + 2
-most_packed (Some SkipPrespace) length = length + 2
-most_packed (Some Varchar) length = length + 1
-most_packed (Some Blob) length = length - 8 + (256 ^ (length - 8) - 1)
+most_packed (Some kind) length = most_bytes kind length
 most_packed None length = 0
 
 unfoldable pub has_wide_rows : Outline → Bool

@@ -2,14 +2,11 @@
 -- a table without rows in the place of its own, with this project's mark, and with zeros up to the place of
 -- the first index page (MySQL Internals Manual, "The .MYI file", for what a state is; the mark is this
 -- project's own).
-use Rattle.std.specs.Prelude.{ℕ, ◌+◌, ◌-◌, ◌*◌, ◌/◌, ◌^◌, min, List, [], ◌∷◌, ◌++◌, length, take, drop, replicate}
+use Rattle.std.specs.Prelude.{ℕ, ◌+◌, ◌-◌, ◌*◌, List, ◌++◌, length, take, drop, replicate}
 use Rattle.myi_base.specs.Numbers.{num_bytes}
 use Rattle.myi_defs.specs.declared.header.Front.{Front}
 use Rattle.myi_defs.specs.Header.{front}
-
--- the last six of the 100 bytes of the base section, which are otherwise unused: "RK", and the version 2
-abbrev pub mark : List ℕ
-mark = 82 ∷ 75 ∷ 2 ∷ 0 ∷ 0 ∷ 0 ∷ []
+use Rattle.myi_defs.specs.Layout.{mark, first_page, all_keys}
 
 unfoldable pub zeros : ℕ → List ℕ
 zeros n = replicate n 0
@@ -17,14 +14,6 @@ zeros n = replicate n 0
 -- so many pointers that point to nothing
 unfoldable pub nulls : ℕ → List ℕ
 nulls n = replicate (8 * n) 255
-
--- where the first index page stands: the first multiple of 1024 that is not inside the header
-unfoldable pub first_page : ℕ → ℕ
-first_page header_length = (header_length + 1023) / 1024 * 1024
-
--- one bit for each key, of at most 64
-unfoldable pub key_map : ℕ → ℕ
-key_map keys = min (2 ^ 64 - 1) (2 ^ keys - 1)
 
 -- the state from byte 24 to the base section. There are no rows and no pages, so each number is 0 but for: the
 -- first deleted row, which is none; the length of the index file; for each key its root, and for each page size
@@ -38,7 +27,7 @@ empty_state f index_length =
     -- process, unique, status and update_count 4 each
     ++ (nulls (f.keys + f.page_sizes)  -- key_root 8 a key; key_del 8 a page size
     ++ (zeros 12  -- sec_index_changed, sec_index_used and version 4 each
-    ++ (num_bytes 8 (key_map f.keys)  -- key_map 8
+    ++ (num_bytes 8 (all_keys f.keys)  -- key_map 8
     ++ zeros (32 + 4 * f.key_parts)  -- create_time, recover_time, check_time and rec_per_key_rows 8 each;
     ))))))  -- 4 a key part
 

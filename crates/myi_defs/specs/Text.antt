@@ -64,22 +64,35 @@ kind_of w =
     else if bytes_eq w (codes "blob") then Some Blob
     else None
 
+unfoldable pub signed_of : List ℕ → Option SegType
+signed_of w =
+    if bytes_eq w (codes "short_int") then Some seg.ShortInt
+    else if bytes_eq w (codes "long_int") then Some seg.LongInt
+    else if bytes_eq w (codes "longlong") then Some seg.Longlong
+    else if bytes_eq w (codes "int24") then Some seg.Int24
+    else if bytes_eq w (codes "int8") then Some seg.Int8
+    else None
+
+unfoldable pub unsigned_of : List ℕ → Option SegType
+unsigned_of w =
+    if bytes_eq w (codes "ushort_int") then Some seg.UshortInt
+    else if bytes_eq w (codes "ulong_int") then Some seg.UlongInt
+    else if bytes_eq w (codes "ulonglong") then Some seg.Ulonglong
+    else if bytes_eq w (codes "uint24") then Some seg.Uint24
+    else None
+
+-- the first of two that is there
+abbrev pub first_of : Option SegType → Option SegType → Option SegType
+first_of (Some t) other = Some t
+first_of None other = other
+
 unfoldable pub seg_of : List ℕ → Option SegType
 seg_of w =
     if bytes_eq w (codes "text") then Some seg.Text
     else if bytes_eq w (codes "binary") then Some seg.Binary
-    else if bytes_eq w (codes "short_int") then Some seg.ShortInt
-    else if bytes_eq w (codes "long_int") then Some seg.LongInt
-    else if bytes_eq w (codes "ushort_int") then Some seg.UshortInt
-    else if bytes_eq w (codes "ulong_int") then Some seg.UlongInt
-    else if bytes_eq w (codes "longlong") then Some seg.Longlong
-    else if bytes_eq w (codes "ulonglong") then Some seg.Ulonglong
-    else if bytes_eq w (codes "int24") then Some seg.Int24
-    else if bytes_eq w (codes "uint24") then Some seg.Uint24
-    else if bytes_eq w (codes "int8") then Some seg.Int8
     else if bytes_eq w (codes "vartext") then Some seg.VarText
     else if bytes_eq w (codes "varbinary") then Some seg.VarBinary
-    else None
+    else first_of (signed_of w) (unsigned_of w)
 
 -- what a line says; each number fits its stored bytes
 unfoldable pub field_line : List ℕ → List ℕ → Option Line

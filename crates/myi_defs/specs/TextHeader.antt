@@ -14,7 +14,8 @@ use Rattle.myi_defs.specs.declared.text.Line.{Line}
 use Rattle.myi_defs.specs.declared.text.Line.TheVariants as line
 use Rattle.myi_defs.specs.Kinds.{seg_cost}
 use Rattle.myi_defs.specs.Conditions.{is_flagged}
-use Rattle.myi_defs.specs.EmptyTable.{mark, zeros, first_page, empty_state}
+use Rattle.myi_defs.specs.Layout.{mark, base_place, first_page}
+use Rattle.myi_defs.specs.EmptyTable.{zeros, empty_state}
 
 -- a number as it is stored in so many bytes
 abbrev pub stored : ℕ → ℕ → ℕ
@@ -134,7 +135,7 @@ abbrev pub page_sizes : List Line → ℕ
 page_sizes ls = stored 1 (longest_page (pointer_said ls) ls / 1024)
 
 abbrev pub base_said : List Line → ℕ
-base_said ls = 176 + 8 * keys_said ls + 8 * page_sizes ls + 4 * parts_said ls
+base_said ls = base_place (keys_said ls) (page_sizes ls) (parts_said ls)
 
 abbrev pub length_said : List Line → ℕ
 length_said ls = base_said ls + 100 + 12 * keys_said ls + 18 * parts_said ls + 7 * fields_said ls

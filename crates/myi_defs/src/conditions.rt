@@ -162,11 +162,8 @@ pub(crate) fn is_flagged(kind: Option<FieldKind>) -> bool
     ensures { result ≡ spec.is_flagged kind }
 {
     match kind {
-        Some(FieldKind::SkipEndspace) => true,
-        Some(FieldKind::SkipPrespace) => true,
-        Some(FieldKind::SkipZero) => true,
-        Some(FieldKind::Blob) => true,
-        _ => false,
+        Some(kind) => kind.has_flag(),
+        None => false,
     }
 }
 

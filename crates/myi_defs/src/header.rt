@@ -10,14 +10,11 @@ ghost use Rattle.myi_defs.specs.ReadDefs.{is_short};
 ghost use Rattle.myi_defs.specs.Conditions.{ItemsStartFrom};
 ghost use Rattle.myi_defs.specs.Header as spec;
 
+use crate::layout::FRONT_LENGTH;
 use crate::types::{DefFault, FieldKind, SegType};
 use myi_base::{Sequence, u8_at, u16_at, u32_at};
 use std::alloc::{AllocError, Global};
 
-/// How many bytes of the header every index file has.
-pub(crate) const FRONT_LENGTH: usize = 24;
-/// The length of the base section, in bytes.
-pub(crate) const BASE_LENGTH: usize = 100;
 /// The length of a key without its segments, in bytes.
 const KEY_LENGTH: usize = 12;
 /// The length of a segment, in bytes.

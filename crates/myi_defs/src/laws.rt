@@ -5,6 +5,7 @@ ghost use Rattle.myi_base.specs.Numbers.{num_at, AreBytes};
 ghost use Rattle.myi_defs.specs.declared.types.Defs.{Defs};
 ghost use Rattle.myi_defs.specs.ReadDefs.{read_defs, AreDefs};
 ghost use Rattle.myi_defs.specs.Elsewhere.{AgreeOutsideState};
+ghost use Rattle.myi_defs.specs.EmptyTable.{empty_header};
 ghost use Rattle.myi_defs.specs.Sound.{IsSound};
 
 /// Definitions that are read are sound, they are those of their own header, and that header is the
@@ -20,4 +21,10 @@ pub fn definitions_are_sound()
 pub fn definitions_rest_on_the_header()
     ensures front { (n : ℕ) (x : List ℕ) → 65535 ≤ n → AreBytes (take n x) → read_defs (take n x) ≡ read_defs x }
     ensures elsewhere { (d : Defs) (y : List ℕ) → AreDefs d → AgreeOutsideState d.raw y → read_defs y ≡ Ok (record d { raw = take (num_at 6 2 d.raw) y }) }
+{}
+
+/// The definitions that are read of the header of an empty table print that header again.
+pub fn empty_tables_print_again()
+    ensures { (d again : Defs) → AreDefs d → read_defs (empty_header d.raw) ≡ Ok again
+        → empty_header again.raw ≡ empty_header d.raw }
 {}

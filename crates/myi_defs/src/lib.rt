@@ -14,6 +14,7 @@
 mod conditions;
 mod header;
 mod laws;
+mod layout;
 mod outline;
 mod parse;
 mod places;
@@ -25,8 +26,11 @@ mod text;
 mod text_header;
 mod types;
 
-pub use laws::{definitions_are_sound, definitions_rest_on_the_header};
+pub use laws::{definitions_are_sound, definitions_rest_on_the_header, empty_tables_print_again};
+pub use layout::{
+    BASE_LENGTH, FRONT_LENGTH, Layout, MARK, MARK_PLACE, ROOTS_PLACE, all_keys, first_page_behind,
+};
 pub use parse::{TextFault, parse_text};
-pub use print::{MARK, print_defs};
+pub use print::print_defs;
 pub use read::read_defs;
 pub use types::{DefFault, Defs, Field, FieldKind, Key, RowFormat, SegType, Segment};

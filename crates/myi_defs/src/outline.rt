@@ -10,20 +10,11 @@ ghost use Rattle.myi_defs.specs.Conditions as spec;
 ghost use Rattle.myi_defs.specs.ReadDefs.{has_wrong_lengths};
 
 use crate::conditions::{DYNAMIC, has_bit};
-use crate::header::{
-    BASE_LENGTH, Base, FIELD_LENGTH, Front, KeyItem, Outline, field_items, key_items,
-};
+use crate::header::{Base, FIELD_LENGTH, Front, KeyItem, Outline, field_items, key_items};
+use crate::layout::{BASE_LENGTH, MOST_FIELDS, MOST_KEYS, MOST_SEGMENTS, STATE_LENGTH, base_place};
 use crate::types::DefFault;
 use myi_base::Sequence;
 use std::alloc::Global;
-
-const STATE_LENGTH: u16 = 176;
-
-const MOST_KEYS: u8 = 64;
-
-const MOST_SEGMENTS: usize = 16;
-
-const MOST_FIELDS: u32 = 4096;
 
 const MOST_ROW: u32 = 1 << 20;
 
@@ -66,13 +57,14 @@ fn has_wrong_front(front: &Front) -> bool
     ensures value { result ≡ spec.has_wrong_front front.now }
     ensures inside { result ≡ false → layout.keys_place front.now ≤ front.now.header_length }
 {
-    let base_place = STATE_LENGTH as u32
-        + 8 * front.keys as u32
-        + 8 * front.page_sizes as u32
-        + 4 * front.key_parts as u32;
+    let place = base_place(
+        front.keys as u32,
+        front.page_sizes as u32,
+        front.key_parts as u32,
+    );
     front.state_info_length != STATE_LENGTH
         || front.base_info_length as usize != BASE_LENGTH
-        || front.base_pos as u32 != base_place
+        || front.base_pos as u32 != place
         || (front.header_length as usize) < front.base_pos as usize + BASE_LENGTH
         || front.keys > MOST_KEYS
 }
@@ -92,7 +84,7 @@ fn has_wrong_segments(keys: &[KeyItem]) -> bool
 {
     keys.iter().any(|key| {
         let segments = key.segments.as_slice().len();
-        segments == 0 || segments > MOST_SEGMENTS
+        segments == 0 || segments > MOST_SEGMENTS as usize
     })
 }
 
@@ -116,7 +108,7 @@ fn has_wrong_fields(front: &Front, base: &Base, place: usize) -> bool
     ensures few { result ≡ false → base.now.fields ≤ 4096 }
 {
     base.fields == 0
-        || base.fields > MOST_FIELDS
+        || base.fields > MOST_FIELDS as u32
         || (front.header_length as usize) < place + FIELD_LENGTH * base.fields as usize
 }
 

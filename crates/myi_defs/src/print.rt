@@ -2,21 +2,16 @@
 //!
 //! `print_defs` gives the header of an empty table. Items that this crate does not read stay as they
 //! were in the header that the definitions came from.
-ghost use Rattle.std.specs.Prelude.{◌≡◌, ◌≤◌, ◌+◌, ◌-◌, ◌^◌, ◌++◌, length, take, drop, OnOk, IfOk};
+ghost use Rattle.std.specs.Prelude.{◌≡◌, ◌≤◌, ◌+◌, ◌++◌, length, take, drop, OnOk, IfOk};
 ghost use Rattle.myi_defs.specs.Header as layout;
 ghost use Rattle.myi_defs.specs.EmptyTable as spec;
 ghost use Rattle.myi_defs.specs.ReadDefs.{AreDefs, read_defs};
 
-use crate::header::{BASE_LENGTH, FRONT_LENGTH, Front};
+use crate::header::Front;
+use crate::layout::{BASE_LENGTH, FRONT_LENGTH, MARK, MARK_PLACE, all_keys, first_page_behind};
 use crate::types::Defs;
 use myi_base::append_u64;
 use std::alloc::{AllocError, Global};
-
-/// The last bytes of the base section of an index file that this project wrote: "RK", and the version
-/// of its page format.
-pub const MARK: [u8; 6] = [82, 75, 2, 0, 0, 0];
-/// Pages stand at multiples of this many bytes.
-const PAGE_UNIT: usize = 1024;
 
 /// The header of an empty table with these definitions, with the mark, and with zeros up to the place
 /// of the first index page. Items that definitions do not say, as flags and the numbers of a row's
@@ -40,7 +35,7 @@ fn empty_header(alloc: Global, front: &Front, raw: &[u8]) -> Result<Vec<u8>, All
     ensures { IfOk result (λ bytes. bytes.items ≡ spec.empty_header raw.now) }
 {
     let base_pos = front.base_pos as usize;
-    let end = first_page(raw.len());
+    let end = first_page_behind(raw.len());
     let rest = &raw[base_pos + BASE_LENGTH..];
     let mut bytes = Vec::with_capacity(alloc, end)?;
     bytes.extend_from_slice(front_bytes(raw))?;
@@ -50,15 +45,6 @@ fn empty_header(alloc: Global, front: &Front, raw: &[u8]) -> Result<Vec<u8>, All
     bytes.extend_from_slice(rest)?;
     append_zeros(&mut bytes, end - raw.len())?;
     Ok(bytes)
-}
-
-#[tactic(auto, unfolding(crate::specs::EmptyTable::first_page))]
-pub(crate) fn first_page(header_length: usize) -> usize
-    requires { header_length ≤ 2 ^ 40 }
-    ensures value { result ≡ spec.first_page header_length }
-    ensures past { header_length ≤ result }
-{
-    header_length.div_ceil(PAGE_UNIT) * PAGE_UNIT
 }
 
 #[tactic(auto, unfolding(crate::specs::EmptyTable::front_bytes))]
@@ -74,7 +60,7 @@ fn base_bytes(raw: &[u8], at: usize) -> &[u8]
     requires { at + 100 ≤ length raw.now }
     ensures { result.now ≡ spec.base_bytes at raw.now }
 {
-    &raw[at..at + BASE_LENGTH - MARK.len()]
+    &raw[at..at + MARK_PLACE]
 }
 
 /// Appends the state of a table without rows.
@@ -92,7 +78,7 @@ pub(crate) fn append_state(
     append_zeros(out, 56)?;
     append_nulls(out, front.keys as usize + front.page_sizes as usize)?;
     append_zeros(out, 12)?;
-    append_u64(out, key_map(front.keys))?;
+    append_u64(out, all_keys(front.keys))?;
     append_zeros(out, 32 + 4 * front.key_parts as usize)?;
     Ok(())
 }
@@ -115,16 +101,5 @@ fn append_nulls(out: &mut Vec<u8>, count: usize) -> Result<(), AllocError>
     match out.len().checked_add(8 * count) {
         Some(length) => out.resize(length, 0xFF),
         None => Err(AllocError),
-    }
-}
-
-// One bit for each key.
-#[tactic(auto, unfolding(crate::specs::EmptyTable::key_map))]
-fn key_map(keys: u8) -> u64
-    ensures { result ≡ spec.key_map keys }
-{
-    match 2u64.checked_pow(keys as u32) {
-        Some(all) => all - 1,
-        None => u64::MAX,
     }
 }

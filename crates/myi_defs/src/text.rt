@@ -9,14 +9,9 @@ ghost use Rattle.myi_defs.specs.declared.text.LineFault.TheVariants as fault;
 ghost use Rattle.myi_defs.specs.Text as spec;
 
 use crate::header::SegItem;
+use crate::layout::{MOST_FIELDS, MOST_KEYS, MOST_SEGMENTS};
 use crate::types::{FieldKind, RowFormat, SegType};
 use std::alloc::{AllocError, AllocFailed, Global};
-
-const MOST_FIELDS: u16 = 4096;
-
-const MOST_KEYS: u8 = 64;
-
-const MOST_SEGMENTS: u8 = 16;
 
 /// What a line says.
 #[derive(Clone, Copy)]
@@ -275,28 +270,49 @@ fn seg_of(word: &[u8]) -> Option<SegType>
         Some(SegType::Text)
     } else if word == b"binary".as_slice() {
         Some(SegType::Binary)
-    } else if word == b"short_int".as_slice() {
-        Some(SegType::ShortInt)
-    } else if word == b"long_int".as_slice() {
-        Some(SegType::LongInt)
-    } else if word == b"ushort_int".as_slice() {
-        Some(SegType::UshortInt)
-    } else if word == b"ulong_int".as_slice() {
-        Some(SegType::UlongInt)
-    } else if word == b"longlong".as_slice() {
-        Some(SegType::Longlong)
-    } else if word == b"ulonglong".as_slice() {
-        Some(SegType::Ulonglong)
-    } else if word == b"int24".as_slice() {
-        Some(SegType::Int24)
-    } else if word == b"uint24".as_slice() {
-        Some(SegType::Uint24)
-    } else if word == b"int8".as_slice() {
-        Some(SegType::Int8)
     } else if word == b"vartext".as_slice() {
         Some(SegType::VarText)
     } else if word == b"varbinary".as_slice() {
         Some(SegType::VarBinary)
+    } else {
+        match signed_of(word) {
+            Some(signed) => Some(signed),
+            None => unsigned_of(word),
+        }
+    }
+}
+
+#[tactic(auto, unfolding(crate::specs::Text::signed_of))]
+fn signed_of(word: &[u8]) -> Option<SegType>
+    ensures { result ≡ spec.signed_of word.now }
+{
+    if word == b"short_int".as_slice() {
+        Some(SegType::ShortInt)
+    } else if word == b"long_int".as_slice() {
+        Some(SegType::LongInt)
+    } else if word == b"longlong".as_slice() {
+        Some(SegType::Longlong)
+    } else if word == b"int24".as_slice() {
+        Some(SegType::Int24)
+    } else if word == b"int8".as_slice() {
+        Some(SegType::Int8)
+    } else {
+        None
+    }
+}
+
+#[tactic(auto, unfolding(crate::specs::Text::unsigned_of))]
+fn unsigned_of(word: &[u8]) -> Option<SegType>
+    ensures { result ≡ spec.unsigned_of word.now }
+{
+    if word == b"ushort_int".as_slice() {
+        Some(SegType::UshortInt)
+    } else if word == b"ulong_int".as_slice() {
+        Some(SegType::UlongInt)
+    } else if word == b"ulonglong".as_slice() {
+        Some(SegType::Ulonglong)
+    } else if word == b"uint24".as_slice() {
+        Some(SegType::Uint24)
     } else {
         None
     }

@@ -8,7 +8,8 @@ ghost use Rattle.myi_defs.specs.TextHeader as spec;
 
 use crate::conditions::{is_flagged, seg_cost};
 use crate::header::{Front, SegItem};
-use crate::print::{MARK, append_state, append_zeros, first_page};
+use crate::layout::{BASE_LENGTH, MARK, STATE_LENGTH, base_place, first_page_behind};
+use crate::print::{append_state, append_zeros};
 use crate::text::Line;
 use crate::types::{FieldKind, RowFormat, SegType};
 use myi_base::{append_u8, append_u16, append_u32, append_u64};
@@ -24,7 +25,7 @@ pub(crate) fn text_header(alloc: Global, lines: &[Line]) -> Result<Vec<u8>, Allo
 {
     let pointer = pointer_said(lines);
     let length = length_said(lines) as usize;
-    let end = first_page(length);
+    let end = first_page_behind(length);
     let front = front_said(lines);
     let mut out = Vec::with_capacity(alloc, end)?;
     append_front(&mut out, &front)?;
@@ -203,7 +204,11 @@ fn base_said(lines: &[Line]) -> u32
     ensures value { result ≡ spec.base_said lines.now }
     ensures few { result ≤ 790000 }
 {
-    176 + 8 * keys_said(lines) + 8 * page_sizes(lines) as u32 + 4 * parts_said(lines)
+    base_place(
+        keys_said(lines),
+        page_sizes(lines) as u32,
+        parts_said(lines),
+    )
 }
 
 fn length_said(lines: &[Line]) -> u32
@@ -227,8 +232,8 @@ fn front_said(lines: &[Line]) -> Front
         magic: MAGIC,
         options,
         header_length: length_said(lines).min(65535) as u16,
-        state_info_length: 176,
-        base_info_length: 100,
+        state_info_length: STATE_LENGTH,
+        base_info_length: BASE_LENGTH as u16,
         base_pos: base_said(lines).min(65535) as u16,
         key_parts: parts_said(lines).min(65535) as u16,
         keys: keys_said(lines).min(255) as u8,
@@ -332,15 +337,23 @@ fn append_key(
     ensures { OnOk result (out.new.items ≡ out.old.items ++ spec.key_bytes pointer unique (spec.leading behind.now)) }
 {
     let (most, count) = key_said(behind);
-    let stored = most.min(65535) as u16;
+    let length = stored(page_length(pointer, most));
+    let most = stored(most);
     append_u8(out, count.min(255) as u8)?;
     append_u8(out, 0)?;
-    append_u16(out, if unique { 1 } else { 0 })?;
-    append_u16(out, page_length(pointer, most).min(65535) as u16)?;
-    append_u16(out, stored)?;
-    append_u16(out, stored)?;
-    append_u16(out, stored)?;
+    append_u16(out, unique as u16)?;
+    append_u16(out, length)?;
+    append_u16(out, most)?;
+    append_u16(out, most)?;
+    append_u16(out, most)?;
     Ok(())
+}
+
+// A number of two bytes as it is stored.
+fn stored(number: u64) -> u16
+    ensures { result ≡ spec.stored 2 number }
+{
+    number.min(65535) as u16
 }
 
 #[tactic(auto, unfolding(crate::specs::TextHeader::seg_bytes))]

@@ -4,6 +4,7 @@
 //! is its place in the unpacked row, in which the fields stand one after the other in their full
 //! lengths. A segment is a part of a field that a key is made of.
 ghost use Rattle.std.specs.Prelude.{◌≡◌, ◌≤◌, ◌-◌, ◌^◌, nat_lt, IfOk};
+ghost use Rattle.myi_defs.specs.Kinds.{has_flag};
 ghost use Rattle.myi_defs.specs.Addressable.{pointers, is_addressable};
 
 use myi_base::Sequence;
@@ -26,6 +27,21 @@ pub enum FieldKind {
     SkipZero,
     Blob,
     Varchar,
+}
+
+impl FieldKind {
+    /// Whether a packed row has a bit of its own for each field of this kind.
+    pub fn has_flag(self) -> bool
+        ensures { result ≡ has_flag self }
+    {
+        match self {
+            FieldKind::Normal | FieldKind::Varchar => false,
+            FieldKind::SkipEndspace
+            | FieldKind::SkipPrespace
+            | FieldKind::SkipZero
+            | FieldKind::Blob => true,
+        }
+    }
 }
 
 /// A field.

@@ -1,3 +1,4 @@
+pub mod CallerLemmas
 pub mod FormLemmas
 pub mod BlockLemmas
 pub mod FileLemmas

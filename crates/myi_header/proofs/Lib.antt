@@ -1,2 +1,5 @@
+pub mod CallerLemmas
 pub mod RootLaws
 pub mod PrintLaws
+pub mod HeaderLaws
+pub mod EmptyLaws

@@ -13,9 +13,10 @@ use Rattle.myi_base.specs.Items.{numbers, spelling, Fit}
 use Rattle.myi_base.proofs.CallerLemmas.{num-num_bytes, length-num_bytes}
 use Rattle.myi_base.proofs.CallerLemmas.{length-spelling}
 use Rattle.myi_header.specs.declared.state.State.{State}
-use Rattle.myi_header.specs.declared.state.Layout.{Layout}
+use Rattle.myi_defs.specs.declared.layout.Layout.{Layout}
 use Rattle.myi_header.specs.Parts.{part}
-use Rattle.myi_header.specs.StateOf.{IsPlace, rest_length, roots_in, rest_at, state_of, mark, has_mark}
+use Rattle.myi_defs.specs.Layout.{mark}
+use Rattle.myi_header.specs.StateOf.{IsPlace, rest_length, roots_in, rest_at, state_of, has_mark}
 use Rattle.myi_header.specs.HeaderOf.{count_widths, counts, root_bytes, middle_length, state_bytes, FitsWidths, header_of}
 
 -- each root fits eight bytes
@@ -262,7 +263,7 @@ back_again b n m x raw eb em same =
     let whole : take m raw ≡ raw = take_all m raw (omega (arith, em)) in
     subst (λ k. drop (k + 100) (take m x) ≡ drop (k + 100) (take m raw)) eb (here ∙ ap (drop (b + 100)) (sym whole))
 
-base_is : (d : Defs) → IsSound d → (layout_of d).base ≡ num_at 12 2 d.raw
+pub base_is : (d : Defs) → IsSound d → (layout_of d).base ≡ num_at 12 2 d.raw
 base_is d sound = omega (arith, sound.base)
 
 pub length-front_of : (d : Defs) (s : State) → IsSound d → length s.roots ≡ length d.keys → length s.rest ≡ rest_length d → FitsWidths s → length (front_of d s) ≡ length d.raw
@@ -291,7 +292,7 @@ length-front_of d s sound roots rest fits =
       length-append mark (drop (b + 100) d.raw),
     )
 
-past_raw : (d : Defs) → length d.raw ≤ first_page_of d
+pub past_raw : (d : Defs) → length d.raw ≤ first_page_of d
 past_raw d = omega arith
 
 pub printed : (d : Defs) (s : State) → IsSound d → length s.roots ≡ length d.keys → length s.rest ≡ rest_length d → IsPlace s.dellink → All IsPlace s.roots → FitsWidths s → IsPrinted d s (header_of d s)

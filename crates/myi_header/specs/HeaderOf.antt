@@ -1,13 +1,14 @@
 -- The header that a state is written into, and what it shares with the header that was read.
-use Rattle.std.specs.Prelude.{◌<◌, ◌-◌, ◌^◌, ℕ, ◌+◌, List, [], ◌∷◌, ◌++◌, length, take, drop, map, replicate, Option}
+use Rattle.std.specs.Prelude.{◌≡◌, ◌<◌, ◌-◌, ◌^◌, ℕ, ◌+◌, List, [], ◌∷◌, ◌++◌, length, take, drop, map, replicate, Option, All}
 use Rattle.myi_base.specs.Numbers.{num_bytes, pointer_number}
 use Rattle.myi_base.specs.Items.{spelling, Fit}
 use Rattle.myi_defs.specs.declared.types.Defs.{Defs}
-use Rattle.myi_header.specs.declared.state.Layout.{Layout}
+use Rattle.myi_defs.specs.declared.layout.Layout.{Layout}
 use Rattle.myi_header.specs.declared.state.State.{State}
 use Rattle.myi_header.specs.Layout.{layout_of, first_page_of}
 use Rattle.myi_header.specs.Parts.{part}
-use Rattle.myi_header.specs.StateOf.{mark}
+use Rattle.myi_defs.specs.Layout.{mark}
+use Rattle.myi_header.specs.StateOf.{IsPlace, rest_length}
 
 -- the numbers from byte 24 on, and their widths
 abbrev pub count_widths : List ℕ
@@ -25,6 +26,14 @@ pub record FitsWidths (s : State) : Type 0 where
   pub roots : Fit (map (λ r. 8) s.roots) (map pointer_number s.roots)
   pub key_map : s.key_map < 256 ^ 8
   pub recover_time : s.recover_time < 256 ^ 8
+
+-- a state that a header of these definitions can hold
+pub record IsStored (d : Defs) (s : State) : Type 0 where
+  pub roots : length s.roots ≡ length d.keys
+  pub rest : length s.rest ≡ rest_length d
+  pub dellink : IsPlace s.dellink
+  pub places : All IsPlace s.roots
+  pub fits : FitsWidths s
 
 -- how many kept bytes stand between the roots and the map of keys
 abbrev pub middle_length : Layout → ℕ

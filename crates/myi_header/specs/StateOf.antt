@@ -5,10 +5,11 @@ use Rattle.std.specs.Str.{bytes_eq}
 use Rattle.myi_base.specs.Numbers.{num_at, pointer_of}
 use Rattle.myi_base.specs.Items.{numbers}
 use Rattle.myi_defs.specs.declared.types.Defs.{Defs}
-use Rattle.myi_header.specs.declared.state.Layout.{Layout}
+use Rattle.myi_defs.specs.declared.layout.Layout.{Layout}
 use Rattle.myi_header.specs.declared.state.State.{State}
 use Rattle.myi_header.specs.declared.state.StateFault.{StateFault}
 use Rattle.myi_header.specs.declared.state.StateFault.TheVariants.{Short, Foreign}
+use Rattle.myi_defs.specs.Layout.{mark}
 use Rattle.myi_header.specs.Layout.{layout_of, page_sizes, key_parts}
 use Rattle.myi_header.specs.Parts.{part}
 
@@ -45,9 +46,6 @@ state_of d x = record {
   recover_time = num_at (layout_of d).recover_time 8 x;
   rest = rest_at (layout_of d) x;
 }
-
-abbrev pub mark : List ℕ
-mark = 0x52 ∷ 0x4B ∷ 2 ∷ 0 ∷ 0 ∷ 0 ∷ []
 
 -- the last six bytes of the base section are the mark
 unfoldable pub has_mark : Defs → List ℕ → Bool

@@ -8,12 +8,15 @@
 //! first page of a tree stands.
 #![tactic(auto)]
 
+mod laws;
 mod print;
 mod read;
 mod state;
 #[cfg(test)]
 mod tests;
 
+pub use laws::{empty_tables_are_empty, headers_read_back, states_rest_on_the_header};
+pub use myi_defs::MARK;
 pub use print::print_state;
 pub use read::{read_state, stored_state};
-pub use state::{MARK, State, StateFault, first_page};
+pub use state::{State, StateFault, first_page};

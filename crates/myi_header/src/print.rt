@@ -8,11 +8,9 @@ ghost use Rattle.myi_header.specs.Layout.{first_page_of};
 ghost use Rattle.myi_header.specs.StateOf.{IsPlace, rest_length, state_of, has_mark};
 ghost use Rattle.myi_header.specs.HeaderOf as spec;
 
-use crate::state::{
-    BASE_LENGTH, FRONT_LENGTH, Layout, MARK, MARK_PLACE, State, append_part, first_page,
-};
+use crate::state::{State, append_part, first_page, layout_of};
 use myi_base::{append_u8, append_u16, append_u64, pointer_number};
-use myi_defs::Defs;
+use myi_defs::{BASE_LENGTH, Defs, FRONT_LENGTH, Layout, MARK, MARK_PLACE};
 use std::alloc::{AllocError, Global};
 
 /// The header of an index file with these definitions, this state and the mark, filled up with zeros
@@ -30,7 +28,7 @@ pub fn print_state(alloc: Global, defs: &Defs, state: &State) -> Result<Vec<u8>,
     ensures long { IfOk result (λ out. length out.items ≡ first_page_of defs.now) }
     ensures bytes { IfOk result (λ out. out.items ≡ spec.header_of defs.now state.now) }
 {
-    let layout = Layout::of(defs);
+    let layout = layout_of(defs);
     let raw = defs.raw.as_slice();
     let mut out = Vec::with_capacity(alloc, first_page(defs) as usize)?;
     append_front(&mut out, raw, FRONT_LENGTH)?;

@@ -2,13 +2,14 @@
 ghost use Rattle.std.specs.Prelude.{◌≡◌, ◌≢◌, ◌≤◌, ◌<◌, ◌+◌, ◌-◌, ◌*◌, length, IfOk, IfErr};
 ghost use Rattle.std.specs.Str.{bytes_eq};
 ghost use Rattle.myi_defs.specs.Sound.{IsSound};
+ghost use Rattle.myi_defs.specs.Layout.{mark};
 ghost use Rattle.myi_header.specs.declared.state.StateFault.TheVariants.{Memory};
 ghost use Rattle.myi_header.specs.Parts.{part};
 ghost use Rattle.myi_header.specs.StateOf as spec;
 
-use crate::state::{Layout, MARK, MARK_PLACE, ROOTS_PLACE, State, StateFault, append_part};
+use crate::state::{State, StateFault, append_part, layout_of};
 use myi_base::{Sequence, pointer_of, u8_at, u16_at, u64_at};
-use myi_defs::Defs;
+use myi_defs::{Defs, Layout, MARK, MARK_PLACE, ROOTS_PLACE};
 use std::alloc::{AllocError, Global};
 
 /// The state in the bytes of an index file with these definitions. Only a file with the mark has one.
@@ -33,13 +34,13 @@ fn has_mark(defs: &Defs, bytes: &[u8]) -> bool
     requires long { length defs.now.raw ≤ length bytes.now }
     ensures { result ≡ spec.has_mark defs.now bytes.now }
 {
-    let place = Layout::of(defs).base + MARK_PLACE;
+    let place = layout_of(defs).base + MARK_PLACE;
     is_mark(bytes, place)
 }
 
 fn is_mark(bytes: &[u8], place: usize) -> bool
     requires { place + 6 ≤ length bytes.now }
-    ensures { result ≡ bytes_eq (part place 6 bytes.now) spec.mark }
+    ensures { result ≡ bytes_eq (part place 6 bytes.now) mark }
 {
     &bytes[place..place + 6] == MARK.as_slice()
 }
@@ -95,7 +96,7 @@ fn state_of(alloc: Global, defs: &Defs, bytes: &[u8]) -> Result<State, AllocErro
     ensures value { IfOk result (λ s. s ≡ spec.state_of defs.now bytes.now) }
     ensures rest { IfOk result (λ s. length s.rest ≡ spec.rest_length defs.now) }
 {
-    let layout = Layout::of(defs);
+    let layout = layout_of(defs);
     let roots = roots(alloc, defs.keys.as_slice().len(), bytes)?;
     let rest = rest(alloc, layout, bytes)?;
     Ok(State {

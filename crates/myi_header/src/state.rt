@@ -8,24 +8,9 @@ ghost use Rattle.myi_header.specs.Layout.{layout_of, first_page_of};
 ghost use Rattle.myi_header.specs.Parts.{part};
 
 use myi_base::{Sequence, u8_at, u16_at};
-use myi_defs::Defs;
+use myi_defs::{Defs, Layout, first_page_behind};
 use std::alloc::AllocError;
 use thiserror::Error;
-
-/// The mark of an index file that this project wrote: `RK`, and the version of its pages.
-pub const MARK: [u8; 6] = [0x52, 0x4B, 2, 0, 0, 0];
-
-/// How many bytes stand before the state.
-pub(crate) const FRONT_LENGTH: usize = 24;
-
-/// The length of the base section, in bytes.
-pub(crate) const BASE_LENGTH: usize = 100;
-
-/// Where the mark stands in the base section.
-pub(crate) const MARK_PLACE: usize = 94;
-
-/// Where the roots stand in a header.
-pub(crate) const ROOTS_PLACE: usize = 124;
 
 /// The state of a table. Places and lengths are in bytes.
 #[derive(Drop)]
@@ -84,33 +69,17 @@ impl From<AllocError> for StateFault {
     }
 }
 
-/// Where the parts of a state stand whose place depends on the definitions.
-#[derive(Clone, Copy)]
-pub struct Layout {
-    /// Behind the roots.
-    pub key_del: usize,
-    pub key_map: usize,
-    pub recover_time: usize,
-    /// The base section, behind the state.
-    pub base: usize,
-}
-
-impl Layout {
-    pub(crate) fn of(defs: &Defs) -> Layout
-        requires { IsSound defs.now }
-        ensures { result ≡ layout_of defs.now }
-    {
-        let raw = defs.raw.as_slice();
-        let key_del = ROOTS_PLACE + 8 * defs.keys.as_slice().len();
-        let key_map = key_del + 8 * u8_at(raw, 21) as usize + 12;
-        let recover_time = key_map + 16;
-        Layout {
-            key_del,
-            key_map,
-            recover_time,
-            base: recover_time + 24 + 4 * u16_at(raw, 14) as usize,
-        }
-    }
+/// Where the parts of a state stand in a header with these definitions.
+pub(crate) fn layout_of(defs: &Defs) -> Layout
+    requires { IsSound defs.now }
+    ensures { result ≡ layout_of defs.now }
+{
+    let raw = defs.raw.as_slice();
+    Layout::by(
+        defs.keys.as_slice().len() as u8,
+        u8_at(raw, 21),
+        u16_at(raw, 14),
+    )
 }
 
 /// The place of the first page in an index file with these definitions: the least multiple of 1024
@@ -122,7 +91,7 @@ pub fn first_page(defs: &Defs) -> u64
     ensures least { result < length defs.now.raw + 1024 }
     ensures multiple { result % 1024 ≡ 0 }
 {
-    (defs.raw.as_slice().len() as u64).div_ceil(1024) * 1024
+    first_page_behind(defs.raw.as_slice().len()) as u64
 }
 
 /// Appends so many bytes at a place.

@@ -45,6 +45,9 @@ entry_is rec_ref before e = length-packed rec_ref (shared before e.key) (drop (s
 pub entry_most : (rec_ref : ℕ) (before : List ℕ) (e : Entry) → length (entry_bytes rec_ref before e) ≤ length e.key + 6 + rec_ref
 entry_most rec_ref before e = omega (arith, entry_is rec_ref before e, number_most (shared before e.key), number_most (length e.key - shared before e.key))
 
+pub entry_least : (rec_ref : ℕ) (before : List ℕ) (e : Entry) → 2 + rec_ref ≤ length (entry_bytes rec_ref before e)
+entry_least rec_ref before e = omega (arith, entry_is rec_ref before e, number_least (shared before e.key), number_least (length e.key - shared before e.key))
+
 -- an entry taken out: what the next one grows by is less than what the entry took
 pub over_one : (rec_ref : ℕ) (before : List ℕ) (a b : Entry) → length (entry_bytes rec_ref before b) ≤ length (entry_bytes rec_ref before a) + length (entry_bytes rec_ref a.key b)
 over_one rec_ref before a b =

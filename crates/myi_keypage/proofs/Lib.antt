@@ -1,3 +1,4 @@
+pub mod CallerLemmas
 pub mod Numbers
 pub mod ItemForms
 pub mod Shared

@@ -42,9 +42,9 @@ pub fn views_show_pages()
 
 /// The used length is the length of the spelling, within the bytes of each page, and a page can be
 /// written where it is below 32,768. Entries that fit still fit with any run of them
-/// taken out, and so does each part of a list that is cut in two. An entry takes at most six bytes and
-/// its row pointer besides its key; one that is put before another lengthens that by at most two bytes,
-/// where it shares with it what the key before it did. Two entries whose keys are at most `most` bytes
+/// taken out, and so does each part of a list that is cut in two. An entry takes at least two bytes and
+/// its row pointer, and at most six and its key besides; one that is put before another lengthens that by
+/// at most two bytes, where it shares with it what the key before it did. Two entries whose keys are at most `most` bytes
 /// long fit into each page of at least 2 (most + 13 + rec_ref) + 9 bytes.
 pub fn entries_fit()
     ensures length { (rec_ref : ℕ) (p : Page) → IsBranching p
@@ -67,6 +67,8 @@ pub fn entries_fit()
 
     ensures entry { (rec_ref : ℕ) (before : List ℕ) (e : Entry)
         → length (entry_bytes rec_ref before e) ≤ length e.key + 6 + rec_ref }
+    ensures least { (rec_ref : ℕ) (before : List ℕ) (e : Entry)
+        → 2 + rec_ref ≤ length (entry_bytes rec_ref before e) }
     ensures before { (rec_ref : ℕ) (before : List ℕ) (e z : Entry) → shared before z.key ≤ shared e.key z.key
         → length (entry_bytes rec_ref e.key z) ≤ length (entry_bytes rec_ref before z) + 2 }
     ensures keys { (rec_ref : ℕ) (node : Bool) (es : List Entry)

@@ -1,3 +1,4 @@
+pub mod CallerLemmas
 pub mod Codings
 pub mod Readings
 pub mod Breaks

@@ -10,6 +10,7 @@ use Rattle.myi_base.specs.Numbers.{AreBytes}
 use Rattle.myi_base.proofs.CallerLemmas.{bytes-take}
 use Rattle.myi_defs.specs.declared.types.SegType.{SegType}
 use Rattle.myi_defs.specs.declared.types.SegType.TheVariants as types
+use Rattle.myi_defs.specs.Kinds.{int_size}
 use Rattle.myi_keys.specs.declared.collations.Collation.{Collation}
 use Rattle.myi_keys.specs.declared.collations.Collation.TheVariants.{Latin1SwedishCi, AsciiGeneralCi, Utf8mb4Bin, Latin1Bin, Binary, AsciiBin, Utf8mb3Bin}
 use Rattle.myi_keys.specs.declared.collations.TheConstants.{LATIN1_SWEDISH_CI}
@@ -150,3 +151,19 @@ fits_by types.Binary language size x can = omega arith
 fits_by types.VarBinary language size x can = omega (arith, length-take size x)
 fits_by types.Text language size x can = omega (arith, text_size (collation_of language) size x, length-take size x)
 fits_by types.VarText language size x can = omega (arith, text_size (collation_of language) size x, length-take size x)
+
+-- where the segment of an integer has its type's size
+pub few_by : (t : SegType) (language size : ℕ) (x : List ℕ) → ((n : ℕ) → int_size t ≡ Some n → size ≡ n) → CanWeighBy t language size x → length (weights_by t language size x) ≤ size
+few_by types.ShortInt language size x sized can = omega (arith, integer_size x, sized 2 refl)
+few_by types.LongInt language size x sized can = omega (arith, integer_size x, sized 4 refl)
+few_by types.Longlong language size x sized can = omega (arith, integer_size x, sized 8 refl)
+few_by types.Int24 language size x sized can = omega (arith, integer_size x, sized 3 refl)
+few_by types.Int8 language size x sized can = omega (arith, integer_size x, sized 1 refl)
+few_by types.UshortInt language size x sized can = omega (arith, length-reverse x, sized 2 refl)
+few_by types.UlongInt language size x sized can = omega (arith, length-reverse x, sized 4 refl)
+few_by types.Ulonglong language size x sized can = omega (arith, length-reverse x, sized 8 refl)
+few_by types.Uint24 language size x sized can = omega (arith, length-reverse x, sized 3 refl)
+few_by types.Binary language size x sized can = omega arith
+few_by types.VarBinary language size x sized can = omega (arith, length-take size x)
+few_by types.Text language size x sized can = omega (arith, text_size (collation_of language) size x, length-take size x)
+few_by types.VarText language size x sized can = omega (arith, text_size (collation_of language) size x, length-take size x)

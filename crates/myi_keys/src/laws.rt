@@ -1,6 +1,6 @@
 //! Laws over the definitions of this crate. Each is the contract of a function that does nothing, so
 //! that it is proved with the crate and stands for the crates above.
-ghost use Rattle.std.specs.Prelude.{All, nat_lt, if◌then◌else◌, ◌≡◌, ◌≢◌, ◌≤◌, ◌<◌, ◌+◌, ◌-◌, ◌↔◌, ◌++◌, ℕ, List, length, take, drop, map, max, replicate, slice_index, count_by, Ok, Err};
+ghost use Rattle.std.specs.Prelude.{All, nat_lt, if◌then◌else◌, ◌≡◌, ◌≢◌, ◌≤◌, ◌<◌, ◌+◌, ◌-◌, ◌↔◌, ◌++◌, ℕ, List, length, take, drop, map, max, replicate, slice_index, count_by, Some, Ok, Err};
 ghost use Rattle.std.specs.List.{range_with_len};
 ghost use Rattle.std.specs.Char.{to_ascii_uppercase};
 ghost use Rattle.std.specs.Ordering.{nat_cmp, int_cmp};
@@ -10,6 +10,7 @@ ghost use Rattle.std.specs.Cmp.{IsTotalOrder};
 ghost use Rattle.std.specs.Cmp.Lexicographic.{slice_cmp};
 ghost use Rattle.myi_base.specs.Numbers.{AreBytes};
 ghost use Rattle.myi_defs.specs.declared.types.Segment.{Segment};
+ghost use Rattle.myi_defs.specs.Kinds.{int_size};
 ghost use Rattle.myi_keys.specs.declared.values.KeySeg.{KeySeg};
 ghost use Rattle.myi_keys.specs.declared.codes.KeyFault.{KeyFault};
 ghost use Rattle.myi_keys.specs.declared.collations.Collation.TheVariants.{Latin1SwedishCi};
@@ -95,10 +96,13 @@ pub fn blanks_taken_off()
 {}
 
 /// Weights are bytes. They are no more than the bytes of the content, and no more than the segment's
-/// length or the eight bytes of the widest integer.
+/// length or the eight bytes of the widest integer; where an integer's segment has its type's size, no more
+/// than the segment's length.
 pub fn weights_fit()
     ensures bytes { (seg : Segment) (content : List ℕ) → AreBytes content → AreBytes (weights seg content) }
     ensures content { (seg : Segment) (content : List ℕ) → length (weights seg content) ≤ length content }
     ensures segment { (seg : Segment) (content : List ℕ)
         → CanWeigh seg content → length (weights seg content) ≤ max seg.length 8 }
+    ensures sized { (seg : Segment) (content : List ℕ) → ((n : ℕ) → int_size seg.seg ≡ Some n → seg.length ≡ n)
+        → CanWeigh seg content → length (weights seg content) ≤ seg.length }
 {}

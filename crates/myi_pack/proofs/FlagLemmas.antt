@@ -17,7 +17,8 @@ use Rattle.myi_defs.specs.declared.types.FieldKind.TheVariants.{Normal, SkipEnds
 use Rattle.myi_defs.specs.declared.types.Field.{Field}
 use Rattle.myi_pack.specs.Packed.{Values}
 use Rattle.myi_pack.specs.Spelling.{field_flag, field_bytes, flags_of, fits_fields, fits_field, spelled_fields}
-use Rattle.myi_pack.specs.Flags.{byte_of, packed_bits, with_flag, with_flags, has_flag, next_flag, flag_count, flag_bytes, flag_at}
+use Rattle.myi_defs.specs.Kinds.{has_flag}
+use Rattle.myi_pack.specs.Flags.{byte_of, packed_bits, with_flag, with_flags, next_flag, flag_count, flag_bytes, flag_at}
 
 -- a flag in the first byte
 flag-head : (x : ℕ) (fl : List ℕ) (j : ℕ) (bit : Bool) → j < 8 → x < 2 ^ j → with_flag (x ∷ fl) j bit ≡ (x + 2 ^ j * (if bit then 1 else 0)) ∷ fl

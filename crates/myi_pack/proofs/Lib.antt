@@ -1,3 +1,4 @@
+pub mod CallerLemmas
 pub mod ViewLemmas
 pub mod SpellingLemmas
 pub mod FlagLemmas
@@ -5,3 +6,4 @@ pub mod FieldLaws
 pub mod RowLaws
 pub mod SpellingLaws
 pub mod RowSpelling
+pub mod WidthLaws

@@ -13,7 +13,8 @@ use Rattle.myi_defs.specs.declared.types.Field.{Field}
 use Rattle.myi_defs.specs.declared.types.Defs.{Defs}
 use Rattle.myi_defs.specs.Sound.{IsLengthOf, IsSound}
 use Rattle.myi_pack.specs.Lengths.{length_bytes}
-use Rattle.myi_pack.specs.Flags.{has_flag, flag_at, next_flag, flag_count, flag_bytes, packed_bits}
+use Rattle.myi_defs.specs.Kinds.{has_flag}
+use Rattle.myi_pack.specs.Flags.{flag_at, next_flag, flag_count, flag_bytes, packed_bits}
 use Rattle.myi_pack.specs.Packed.{Values, PacksField, FillsField, HoldsField, HoldsFields, IsDynamicRow, IsStaticRow, IsRow, Packs}
 use Rattle.myi_pack.specs.Reading.{row_of, ended, fields_of, parts_of}
 use Rattle.myi_pack.specs.Spelling.{field_flag, field_bytes, slot_bytes, spelled_fields, flags_of, filled, spelled_row, spelling, fits_field, fits_fields, is_live, fits}

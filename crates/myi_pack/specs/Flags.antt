@@ -3,17 +3,8 @@
 -- "MyISAM Dynamic Data File Layout").
 use Rattle.std.specs.Prelude.{◌+◌, ◌*◌, ◌/◌, ◌%◌, ◌^◌, ◌==◌, ℕ, zero, suc, Bool, true, false, if◌then◌else◌, List, [], ◌∷◌, take, drop, slice_index, slice_set, bit_or, count_by}
 use Rattle.myi_defs.specs.declared.types.FieldKind.{FieldKind}
-use Rattle.myi_defs.specs.declared.types.FieldKind.TheVariants.{Normal, SkipEndspace, SkipPrespace, SkipZero, Blob, Varchar}
 use Rattle.myi_defs.specs.declared.types.Field.{Field}
-
--- a field of this kind has a flag
-abbrev pub has_flag : FieldKind → Bool
-has_flag Normal = false
-has_flag SkipEndspace = true
-has_flag SkipPrespace = true
-has_flag SkipZero = true
-has_flag Blob = true
-has_flag Varchar = false
+use Rattle.myi_defs.specs.Kinds.{has_flag}
 
 -- how many fields have a flag
 abbrev pub flag_count : List Field → ℕ

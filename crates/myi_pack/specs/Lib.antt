@@ -1,7 +1,9 @@
+-- What a reader of the contracts has to believe: lengths, flags, packed rows and their spelling, views.
 pub mod Lengths
 pub mod Flags
 pub mod Packed
 pub mod Spelling
+pub mod Views
+-- What serves private contracts: rows read from left to right, and the values that are left.
 pub mod Reading
 pub mod Left
-pub mod Views

@@ -10,8 +10,9 @@ use Rattle.myi_defs.specs.declared.types.FieldKind.{FieldKind}
 use Rattle.myi_defs.specs.declared.types.FieldKind.TheVariants.{Normal, SkipEndspace, SkipPrespace, SkipZero, Blob, Varchar}
 use Rattle.myi_defs.specs.declared.types.Field.{Field}
 use Rattle.myi_defs.specs.declared.types.Defs.{Defs}
+use Rattle.myi_defs.specs.Kinds.{has_flag}
 use Rattle.myi_pack.specs.Lengths.{length_bytes}
-use Rattle.myi_pack.specs.Flags.{has_flag, flag_count, flag_bytes, packed_bits}
+use Rattle.myi_pack.specs.Flags.{flag_count, flag_bytes, packed_bits}
 use Rattle.myi_pack.specs.Packed.{Values}
 
 abbrev pub is_all : ℕ → List ℕ → Bool

@@ -7,7 +7,7 @@ ghost use Rattle.std.specs.Prelude.{◌≡◌, ℕ, ◌+◌, ◌-◌, ◌≤◌,
 ghost use Rattle.std.specs.Option.{option_map};
 ghost use Rattle.myi_defs.specs.Sound.{IsLengthOf};
 ghost use Rattle.myi_pack.specs.Lengths.{length_bytes};
-ghost use Rattle.myi_pack.specs.Flags.{has_flag, flag_at, next_flag, flag_count};
+ghost use Rattle.myi_pack.specs.Flags.{flag_at, next_flag, flag_count};
 ghost use Rattle.myi_pack.specs.Reading.{cut, cut_prefixed, cut_few, skip_prefix, varchar_prefix, low_prefix, filled_varchar, value_before, packed_field, filled_field, field_of};
 ghost use Rattle.myi_pack.specs.Views.{shown};
 
@@ -190,21 +190,11 @@ pub(crate) fn cut_field<'a>(
     }
 }
 
-pub(crate) fn has_flag(kind: FieldKind) -> bool
-    ensures { result ≡ has_flag kind }
-{
-    match kind {
-        FieldKind::Normal | FieldKind::Varchar => false,
-        FieldKind::SkipEndspace | FieldKind::SkipPrespace | FieldKind::SkipZero | FieldKind::Blob =>
-            true,
-    }
-}
-
 pub(crate) fn flag_count(fields: &[Field]) -> usize
     ensures value { result ≡ flag_count fields.now }
     ensures few { result ≤ length fields.now }
 {
-    fields.iter().filter(|field| has_flag(field.kind)).count()
+    fields.iter().filter(|field| field.kind.has_flag()).count()
 }
 
 #[tactic(auto, unfolding(crate::specs::Flags::flag_at))]
@@ -220,5 +210,5 @@ pub(crate) fn next_flag(kind: FieldKind, k: usize) -> usize
     ensures value { result ≡ next_flag kind k }
     ensures few { result ≤ k + 1 }
 {
-    if has_flag(kind) { k + 1 } else { k }
+    if kind.has_flag() { k + 1 } else { k }
 }

@@ -1,12 +1,15 @@
 //! Laws over the definitions of this crate. Each is the contract of a function that does nothing, so
 //! that it is proved with the crate and stands for the crates above.
-ghost use Rattle.std.specs.Prelude.{◌≡◌, ◌≤◌, ℕ, true, List, Some, length, All};
+ghost use Rattle.std.specs.Prelude.{◌≡◌, ◌≤◌, ◌<◌, ◌^◌, ℕ, true, List, Option, Some, length, drop, All};
 ghost use Rattle.myi_base.specs.Numbers.{AreBytes};
 ghost use Rattle.myi_defs.specs.declared.types.Defs.{Defs};
+ghost use Rattle.myi_defs.specs.declared.types.RowFormat.TheVariants.{Dynamic};
 ghost use Rattle.myi_defs.specs.Sound.{IsSound, IsLengthOf};
+ghost use Rattle.myi_pack.specs.declared.fields.FieldView.{FieldView};
 ghost use Rattle.myi_pack.specs.Packed.{Values, Packs};
 ghost use Rattle.myi_pack.specs.Reading.{row_of};
 ghost use Rattle.myi_pack.specs.Spelling.{spelling, fits};
+ghost use Rattle.myi_pack.specs.Views.{IsNext};
 
 /// What the bytes pack. Reading finds exactly the row that the bytes pack, and no bytes pack two rows.
 pub fn packings_are_read()
@@ -16,10 +19,17 @@ pub fn packings_are_read()
 {}
 
 /// What a row is packed as. The rows that some bytes pack are those that fit; the spelling of such a
-/// row packs it and is read as it, and no packing of it is shorter.
+/// row packs it and is read as it, and no packing of it is shorter. In a dynamic table it has less than
+/// 2^24 bytes.
 pub fn spellings_are_shortest()
     ensures fits { (d : Defs) (row : Values) (b : List ℕ) → IsSound d → Packs d row b → fits d row ≡ true }
     ensures packs { (d : Defs) (row : Values) → IsSound d → fits d row ≡ true → Packs d row (spelling d row) }
     ensures read { (d : Defs) (row : Values) → IsSound d → fits d row ≡ true → row_of d (spelling d row) ≡ Some row }
     ensures shortest { (d : Defs) (row : Values) (b : List ℕ) → IsSound d → Packs d row b → length (spelling d row) ≤ length b }
+    ensures short { (d : Defs) (row : Values) → IsSound d → d.format ≡ Dynamic → fits d row ≡ true → length (spelling d row) < 2 ^ 24 }
+{}
+
+/// A walk over the values of a row goes on by one value, whether it shows the value or passes it.
+pub fn views_go_on()
+    ensures { (old new : Values) (view : Option FieldView) → IsNext old view new → new ≡ drop 1 old }
 {}

@@ -18,7 +18,7 @@ mod row;
 mod values;
 
 pub use fields::FieldView;
-pub use laws::{packings_are_read, spellings_are_shortest};
+pub use laws::{packings_are_read, spellings_are_shortest, views_go_on};
 pub use packing::{fits, pack};
 pub use row::{RowFields, RowView, view};
 pub use values::{Row, Value, unpack, value_of};

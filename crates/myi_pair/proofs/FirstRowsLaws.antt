@@ -14,7 +14,7 @@ use Rattle.myi_keys.specs.Limits.{is_complete}
 use Rattle.myi_keys.specs.Order.{key_cmp}
 use Rattle.myi_keys.specs.OrderLaws.{key_exact, key_equal}
 use Rattle.myi_keys.specs.Codes.{key_code}
-use Rattle.myi_keys.proofs.Codings.{one_key}
+use Rattle.myi_keys.proofs.CallerLemmas.{one_key}
 use Rattle.myi_data.specs.Keys.{key_of}
 use Rattle.myi_pair.specs.FirstRows.{key_numbers, is_unique, repeats_key, repeats, first_after, first_rows, AreDistinct, has_code, repeats_code}
 

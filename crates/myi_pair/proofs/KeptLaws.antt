@@ -6,12 +6,11 @@ use Rattle.myi_base.specs.Numbers.{AreBytes}
 use Rattle.myi_defs.specs.declared.types.Defs.{Defs}
 use Rattle.myi_defs.specs.Sound.{IsSound}
 use Rattle.myi_defs.specs.ReadDefs.{AreDefs}
-use Rattle.myi_defs.proofs.SoundLaws.{sound}
+use Rattle.myi_defs.proofs.CallerLemmas.{sound}
 use Rattle.myi_pack.specs.Packed.{Values, Packs}
 use Rattle.myi_pack.specs.Reading.{row_of}
 use Rattle.myi_pack.specs.Spelling.{spelling, fits}
-use Rattle.myi_pack.proofs.RowLaws.{row-takes}
-use Rattle.myi_pack.proofs.RowSpelling.{row-fits, row-reads}
+use Rattle.myi_pack.proofs.CallerLemmas.{row-takes, row-fits, row-reads, row-short}
 use Rattle.myi_chain.specs.Readable.{Row}
 use Rattle.myi_data.specs.Readable.{readable}
 use Rattle.myi_data.specs.Laid.{stored, laid_file, laid_rows, IsStorable}
@@ -20,7 +19,6 @@ use Rattle.myi_pair.specs.FirstRows.{repeats, first_after, first_rows}
 use Rattle.myi_pair.specs.Clean.{values_of}
 use Rattle.myi_pair.specs.RecoveredBytes.{kept, new_data}
 use Rattle.myi_pair.proofs.FirstRowsLaws.{distinct, all_kept}
-use Rattle.myi_pair.proofs.WidthLaws.{spelling_short}
 use Rattle.myi_pair.proofs.ReadLaws.{IsFine, readable_fine}
 
 -- a readable row has values, which can be stored
@@ -36,7 +34,7 @@ pub values_storable : (d : Defs) (len : ℕ) (r : Row) → AreDefs d → IsFine 
 values_storable d len r are fine =
     let s : IsSound d = sound d are in
     let fit : fits d (values_of d r) ≡ true = row-fits d (values_of d r) r.bytes s (packs_values d len r s fine) in
-    record { fits = fit; short = λ dynamic. spelling_short d are dynamic (values_of d r) fit }
+    record { fits = fit; short = λ dynamic. row-short d (values_of d r) s dynamic fit }
 
 rows_storable : (d : Defs) (len : ℕ) (rows : List Row) → AreDefs d → AllByRecursion (IsFine d.format d len) rows → AllByRecursion (λ (r : Row). IsStorable d (values_of d r)) rows
 rows_storable d len [] are fine = tt

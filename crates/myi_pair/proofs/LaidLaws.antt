@@ -8,11 +8,11 @@ use Rattle.myi_defs.specs.declared.types.RowFormat.{RowFormat}
 use Rattle.myi_defs.specs.declared.types.RowFormat.TheVariants.{Static, Dynamic}
 use Rattle.myi_defs.specs.declared.types.Defs.{Defs}
 use Rattle.myi_defs.specs.Sound.{IsSound}
-use Rattle.myi_frames.proofs.SizeLemmas.{least-sized}
+use Rattle.myi_frames.proofs.CallerLemmas.{least-sized}
 use Rattle.myi_pack.specs.Packed.{Values}
 use Rattle.myi_pack.specs.Reading.{row_of}
 use Rattle.myi_pack.specs.Spelling.{spelling}
-use Rattle.myi_pack.proofs.RowSpelling.{row-reads}
+use Rattle.myi_pack.proofs.CallerLemmas.{row-reads}
 use Rattle.myi_chain.specs.Readable.{frees_of}
 use Rattle.myi_chain.specs.Meeting.{ranges_of}
 use Rattle.myi_data.specs.Readable.{items_in, readable, deleted}

@@ -1,6 +1,5 @@
 pub mod FirstRowsLaws
 pub mod KeyListLaws
-pub mod WidthLaws
 pub mod ReadLaws
 pub mod KeptLaws
 pub mod SizedLaws

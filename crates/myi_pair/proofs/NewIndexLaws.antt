@@ -7,7 +7,7 @@ use Rattle.std.proofs.lemmas.Option.{same_Some}
 use Rattle.myi_defs.specs.declared.types.Defs.{Defs}
 use Rattle.myi_defs.specs.Sound.{IsSound}
 use Rattle.myi_defs.specs.Addressable.{is_addressable}
-use Rattle.myi_defs.proofs.SoundLaws.{sound}
+use Rattle.myi_defs.proofs.CallerLemmas.{sound}
 use Rattle.myi_header.specs.declared.state.State.{State}
 use Rattle.myi_header.specs.Layout.{first_page_of}
 use Rattle.myi_header.specs.HeaderOf.{header_of}
@@ -28,7 +28,8 @@ use Rattle.myi_pair.proofs.ShorterLaws.{stored_length, length-laid, new_reached,
 use Rattle.myi_pair.proofs.LaidLaws.{near_from, few_rows}
 use Rattle.myi_pair.proofs.TreesLaws.{trees_of, first_le_end, AreThere, trees_there}
 use Rattle.myi_pair.proofs.FewPages.{trees_short, first_short}
-use Rattle.myi_pair.proofs.HeaderLaws.{RootFits, AreFew, repaired, header_long, new_rest, IsNewIndex, new_header}
+use Rattle.myi_header.proofs.CallerLemmas.{header-long}
+use Rattle.myi_pair.proofs.HeaderLaws.{RootFits, AreFew, repaired, new_rest, IsNewIndex, new_header}
 
 -- the numbers of the keys
 
@@ -163,7 +164,7 @@ module _ (d : Defs) (extend : Bool) (x : List ℕ) (now : ℕ) (can : IsRepairab
   index_is = refl
 
   front_long : length (header_of d the_state) ≡ first_page_of d
-  front_long = header_long d the_state is_sound (new_roots_count d (kept d extend x)) (new_rest d is_sound)
+  front_long = header-long d the_state is_sound (new_roots_count d (kept d extend x)) (new_rest d is_sound)
 
   pub there : AreThere d (new_index d extend x now) (placed_from d 0 (kept d extend x)) ((0, first_page_of d) ∷ []) (first_page_of d) (key_numbers d)
   there =

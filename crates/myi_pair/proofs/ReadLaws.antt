@@ -13,8 +13,7 @@ use Rattle.myi_defs.specs.declared.types.Defs.{Defs}
 use Rattle.myi_defs.specs.Sound.{IsSound}
 use Rattle.myi_frames.specs.Block.{Block, block_of}
 use Rattle.myi_frames.specs.Sizes.{least_size, IsSized, held_bytes, total_size}
-use Rattle.myi_frames.proofs.BlockLemmas.{block-bytes}
-use Rattle.myi_frames.proofs.SizeLemmas.{block-sized, least-together}
+use Rattle.myi_frames.proofs.CallerLemmas.{block-bytes, block-sized, least-together}
 use Rattle.myi_chain.specs.Chain.{Reading, range_of, ranges, row_bytes, IsTail, AreLinked}
 use Rattle.myi_chain.specs.Readable.{Row, Item, row, free, rows_of, frees_of, rest}
 use Rattle.myi_chain.specs.Readable as chains

@@ -6,19 +6,19 @@ use Rattle.std.proofs.lemmas.List.Sorted.{IsPermutation-refl}
 use Rattle.std.specs.Prelude.{IsPermutation}
 use Rattle.myi_base.specs.Numbers.{num_at, pointer_of}
 use Rattle.myi_base.specs.Ranges.{Range}
+use Rattle.myi_base.proofs.CallerLemmas.{numbers-take}
 use Rattle.myi_defs.specs.declared.types.Defs.{Defs}
 use Rattle.myi_defs.specs.Sound.{IsSound}
 use Rattle.myi_defs.specs.Addressable.{is_addressable}
 use Rattle.myi_defs.specs.ReadDefs.{read_defs}
 use Rattle.myi_defs.specs.Elsewhere.{AgreeOutsideState}
-use Rattle.myi_defs.proofs.SoundLaws.{sound}
-use Rattle.myi_defs.proofs.ReadLemmas.{num_at-take}
-use Rattle.myi_defs.proofs.ElsewhereLaws.{elsewhere}
-use Rattle.myi_header.specs.declared.state.Layout.{Layout}
+use Rattle.myi_defs.proofs.CallerLemmas.{sound, elsewhere}
+use Rattle.myi_defs.specs.declared.layout.Layout.{Layout}
 use Rattle.myi_header.specs.declared.state.State.{State}
 use Rattle.myi_header.specs.Parts.{part}
 use Rattle.myi_header.specs.Layout.{layout_of, first_page_of}
-use Rattle.myi_header.specs.StateOf.{roots_in, rest_at, state_of, mark, has_mark}
+use Rattle.myi_defs.specs.Layout.{mark, layout_by}
+use Rattle.myi_header.specs.StateOf.{roots_in, rest_at, state_of, has_mark}
 use Rattle.myi_pack.specs.Packed.{Values}
 use Rattle.myi_chain.specs.Readable.{Row}
 use Rattle.myi_chain.specs.Meeting.{ranges_of}
@@ -41,18 +41,13 @@ use Rattle.myi_pair.proofs.NewIndexLaws.{trees_are, all_stored, data_long, there
 -- definitions with another header of the same length that begins with the same 24 bytes
 
 pub front_number : (at n : ℕ) (r x : List ℕ) → at + n ≤ 24 → take 24 r ≡ take 24 x → num_at at n r ≡ num_at at n x
-front_number at n r x inside same = sym (num_at-take at n 24 r inside) ∙ ap (num_at at n) same ∙ num_at-take at n 24 x inside
+front_number at n r x inside same =
+    let one = numbers-take at 24 (n ∷ []) r x (omega arith) same in
+    cc
 
 pub record IsLike (d : Defs) (r : List ℕ) : Type 0 where
   pub front : take 24 r ≡ take 24 d.raw
   pub long : length r ≡ length d.raw
-
-abbrev layout_by : ℕ → ℕ → ℕ → Layout
-layout_by keys sizes parts =
-    let key_del = 124 + 8 * keys in
-    let key_map = key_del + 8 * sizes + 12 in
-    let recover_time = key_map + 16 in
-    record { key_del = key_del; key_map = key_map; recover_time = recover_time; base = recover_time + 24 + 4 * parts }
 
 pub layout_same : (d : Defs) (r : List ℕ) → IsLike d r → layout_of (with_raw d r) ≡ layout_of d
 layout_same d r like =

@@ -1,7 +1,7 @@
 -- A second repair leaves the files that the first would have left at its time.
 use Rattle.std.proofs.Common.{◌≡◌, ℕ, ◌+◌, ◌-◌, ◌*◌, ◌≤◌, Bool, cond, Option, List, [], ◌∷◌, ◌++◌, length, map, take, drop, replicate, All, Ok, refl, sym, ap, subst, ◌∙◌, arith, append_assoc, length-append, length-drop}
 use Rattle.std.specs.List.{list_any, flat_map}
-use Rattle.std.proofs.lemmas.List.{take_at, drop_at, length-take-le, length-replicate}
+use Rattle.std.proofs.lemmas.List.{take_at, drop_at, drop-take, take-take, take_all, length-take-le, length-replicate}
 use Rattle.std.proofs.lemmas.List.Elements.{All-from_recursion}
 use Rattle.myi_base.specs.Numbers.{num_at}
 use Rattle.myi_defs.specs.declared.types.RowFormat.{RowFormat}
@@ -9,14 +9,15 @@ use Rattle.myi_defs.specs.declared.types.RowFormat.TheVariants.{Static, Dynamic}
 use Rattle.myi_defs.specs.declared.types.Defs.{Defs}
 use Rattle.myi_defs.specs.Sound.{IsSound}
 use Rattle.myi_defs.specs.ReadDefs.{read_defs}
-use Rattle.myi_defs.proofs.SoundLaws.{sound}
-use Rattle.myi_header.specs.declared.state.Layout.{Layout}
+use Rattle.myi_defs.proofs.CallerLemmas.{sound}
+use Rattle.myi_defs.specs.declared.layout.Layout.{Layout}
 use Rattle.myi_header.specs.declared.state.State.{State}
 use Rattle.myi_header.specs.Parts.{part}
 use Rattle.myi_header.specs.Layout.{layout_of, page_sizes, first_page_of}
-use Rattle.myi_header.specs.StateOf.{IsPlace, rest_length, state_of, mark}
+use Rattle.myi_defs.specs.Layout.{mark}
+use Rattle.myi_header.specs.StateOf.{IsPlace, rest_length, state_of}
 use Rattle.myi_header.specs.HeaderOf.{FitsWidths, state_bytes, header_of}
-use Rattle.myi_header.proofs.PrintLaws.{length-state_bytes, behind, here, state_again}
+use Rattle.myi_header.proofs.CallerLemmas.{state-take, state-rest}
 use Rattle.myi_pack.specs.Packed.{Values}
 use Rattle.myi_pack.specs.Spelling.{spelled_row, spelling}
 use Rattle.myi_data.specs.Readable.{readable}
@@ -32,8 +33,8 @@ use Rattle.myi_pair.specs.Clean.{values_of}
 use Rattle.myi_pair.specs.RecoveredBytes.{kept, new_data, placed_from, LaidTrees, pages_then, laid_trees, key_lists, new_trees, without_free_pages, new_state, recovered_state, new_index}
 use Rattle.myi_pair.specs.Recovered.{IsRepairable}
 use Rattle.myi_pair.proofs.KeptLaws.{settled}
-use Rattle.myi_pair.proofs.HeaderLaws.{header_long, base_is, rest_long, new_rest, numbers_fit, roots_places}
-use Rattle.myi_pair.proofs.NewIndexLaws.{are_few, index_is}
+use Rattle.myi_pair.proofs.HeaderLaws.{IsNewIndex}
+use Rattle.myi_pair.proofs.NewIndexLaws.{index_shows}
 use Rattle.myi_pair.proofs.RecoveredLaws.{IsLike, front_number, layout_same, first_same, state_same, header_like, same_defs, recovered}
 use Rattle.myi_pair.proofs.SameDefs.{with_raw, readable_same, values_same, repeats_same, list_same}
 
@@ -99,58 +100,20 @@ record Parts (d : Defs) (s : State) (r : List ℕ) : Type 0 where
   pub back : drop ((layout_of d).base + 100) r ≡ drop ((layout_of d).base + 100) d.raw
   pub state : state_of d r ≡ s
 
--- what the state has to keep to be read again
-record IsKept (d : Defs) (s : State) : Type 0 where
-  pub roots : length s.roots ≡ length d.keys
-  pub rest : length s.rest ≡ rest_length d
-  pub dellink : IsPlace s.dellink
-  pub places : All IsPlace s.roots
-  pub fits : FitsWidths s
+taken_part : (at k n : ℕ) (x : List ℕ) → at + k ≤ n → part at k (take n x) ≡ part at k x
+taken_part at k n x inside =
+    let split : n ≡ at + (n - at) = omega arith in
+    ap (λ m. take k (drop at (take m x))) split ∙ ap (take k) (drop-take at (n - at) x) ∙ take-take k (n - at) (drop at x) (omega arith)
 
--- a header without the zeros behind it
-abbrev front_of : Defs → State → List ℕ
-front_of d s = take 24 d.raw ++ (state_bytes (layout_of d) s ++ (part (layout_of d).base 94 d.raw ++ (mark ++ drop ((layout_of d).base + 100) d.raw)))
-
-with_end : (a b c d e z : List ℕ) → a ++ (b ++ (c ++ (d ++ (e ++ z)))) ≡ (a ++ (b ++ (c ++ (d ++ e)))) ++ z
-with_end a b c d e z = simp append_assoc
-
-front_is : (d : Defs) (s : State) → header_of d s ≡ front_of d s ++ replicate (first_page_of d - length d.raw) 0
-unfolding header_of
-front_is d s =
-    with_end (take 24 d.raw) (state_bytes (layout_of d) s) (part (layout_of d).base 94 d.raw) mark (drop ((layout_of d).base + 100) d.raw) (replicate (first_page_of d - length d.raw) 0)
-
-front_long : (d : Defs) (s : State) → IsSound d → IsKept d s → length (front_of d s) ≡ num_at 6 2 d.raw
-front_long d s sound is =
-    let zeros : List ℕ = replicate (first_page_of d - length d.raw) 0 in
-    let whole : length (front_of d s ++ zeros) ≡ first_page_of d = ap (λ (h : List ℕ). length h) (sym (front_is d s)) ∙ header_long d s sound is.roots is.rest in
-    omega (arith, whole, length-append (front_of d s) zeros, length-replicate {A = ℕ} (first_page_of d - length d.raw) 0, sound.header)
-
-read_again : (d : Defs) (s : State) (t : List ℕ) → IsSound d → IsKept d s → take (num_at 6 2 d.raw) (header_of d s ++ t) ≡ front_of d s
-read_again d s t sound is =
-    let m : ℕ = num_at 6 2 d.raw in
-    let zeros : List ℕ = replicate (first_page_of d - length d.raw) 0 in
-    ap (λ (h : List ℕ). take m (h ++ t)) (front_is d s) ∙ ap (take m) (append_assoc (front_of d s) zeros t) ∙ take_at (front_of d s) (zeros ++ t) m (front_long d s sound is)
-
-parts_again : (d : Defs) (s : State) (r : List ℕ) → IsSound d → IsKept d s → r ≡ front_of d s → Parts d s r
-parts_again d s r sound is front =
-    let b = (layout_of d).base in
-    let F = take 24 d.raw in
-    let S = state_bytes (layout_of d) s in
-    let M = part b 94 d.raw in
-    let E = drop (b + 100) d.raw in
-    let base = base_is d sound in
-    let inside = sound.base_inside in
-    let first : length F ≡ 24 = length-take-le 24 d.raw (omega arith) in
-    let state = length-state_bytes (layout_of d) s (omega (arith, is.rest)) is.fits in
-    let middle : length M ≡ 94 = length-take-le 94 (drop b d.raw) (omega (arith, length-drop b d.raw)) in
-    let d1 : drop 24 r ≡ S ++ (M ++ (mark ++ E)) = ap (drop 24) front ∙ drop_at F (S ++ (M ++ (mark ++ E))) 24 first in
-    let d2 : drop b r ≡ M ++ (mark ++ E) = behind 24 (length S) b r S (M ++ (mark ++ E)) d1 refl (omega (arith, state, is.roots, is.rest)) in
-    let d3 : drop (b + 94) r ≡ mark ++ E = behind b 94 (b + 94) r M (mark ++ E) d2 middle refl in
-    let d4 : drop (b + 100) r ≡ E = behind (b + 94) 6 (b + 100) r mark E d3 refl (omega arith) in
+parts_again : (d : Defs) (s : State) (y : List ℕ) → IsSound d → IsNewIndex d s y → Parts d s (take (num_at 6 2 d.raw) y)
+parts_again d s y sound is =
+    let n : ℕ = num_at 6 2 d.raw in
+    let b : (layout_of d).base ≡ num_at 12 2 d.raw = omega (arith, sound.base) in
+    let raw : take n d.raw ≡ d.raw = take_all n d.raw (omega (arith, sound.header)) in
     record {
-      base = here b 94 r M (mark ++ E) d2 middle;
-      back = d4;
-      state = state_again d s r F (M ++ (mark ++ E)) first is.roots is.rest is.dellink is.places is.fits front;
+      base = taken_part (layout_of d).base 94 n y (omega (arith, sound.base_inside, sound.header, b)) ∙ subst (λ at. part at 94 y ≡ part at 94 d.raw) (sym b) is.elsewhere.base;
+      back = subst (λ at. drop (at + 100) (take n y) ≡ drop (at + 100) d.raw) (sym b) (is.elsewhere.back ∙ ap (drop (num_at 12 2 d.raw + 100)) raw);
+      state = state-take d n y sound (omega (arith, sound.header)) ∙ is.state;
     }
 
 -- a header written over it is the one that is written over the first
@@ -188,7 +151,7 @@ emptied_same d r rest like = ap (λ sizes. take 24 rest ++ (replicate (8 * sizes
 
 rest_settles : (d : Defs) (r : List ℕ) → IsSound d → IsLike d r → without_free_pages (with_raw d r) (without_free_pages d (state_of d d.raw).rest) ≡ without_free_pages d (state_of d d.raw).rest
 rest_settles d r s like =
-    emptied_same d r (without_free_pages d (state_of d d.raw).rest) like ∙ emptied_again d (state_of d d.raw).rest (omega (arith, rest_long d s))
+    emptied_same d r (without_free_pages d (state_of d d.raw).rest) like ∙ emptied_again d (state_of d d.raw).rest (omega (arith, state-rest d d.raw s (omega arith)))
 
 -- a state over the state of a repair
 state_settles : (d : Defs) (r : List ℕ) (n long now later end : ℕ) (roots : List (Option ℕ)) → IsSound d → IsLike d r
@@ -202,30 +165,15 @@ module _ (d : Defs) (extend : Bool) (x : List ℕ) (now : ℕ) (can : IsRepairab
   is_sound : IsSound d
   is_sound = sound d can.defined
 
-  is_kept : IsKept d (recovered_state d extend x now)
-  is_kept =
-      let few = are_few d extend x now can in
-      record {
-        roots = few.count;
-        rest = new_rest d is_sound;
-        dellink = λ e. cc;
-        places = All-from_recursion IsPlace (new_trees d (kept d extend x)).roots (roots_places (new_trees d (kept d extend x)).roots few.fit);
-        fits = numbers_fit d (length (kept d extend x)) (length (new_data d extend x)) (new_trees d (kept d extend x)).end now (new_trees d (kept d extend x)).roots is_sound few;
-      }
-
   -- the header of the new index file
   abbrev header_read : List ℕ
   header_read = take (num_at 6 2 d.raw) (new_index d extend x now)
-
-  header_is : header_read ≡ front_of d (recovered_state d extend x now)
-  header_is =
-      ap (take (num_at 6 2 d.raw)) (index_is d extend x now can) ∙ read_again d (recovered_state d extend x now) (new_trees d (kept d extend x)).bytes is_sound is_kept
 
   is_like : IsLike d header_read
   is_like = header_like d (new_index d extend x now) is_sound (recovered d extend x now can).elsewhere
 
   parts : Parts d (recovered_state d extend x now) header_read
-  parts = parts_again d (recovered_state d extend x now) header_read is_sound is_kept header_is
+  parts = parts_again d (recovered_state d extend x now) (new_index d extend x now) is_sound (index_shows d extend x now can)
 
   kept_again : (any : Bool) → kept (with_raw d header_read) any (new_data d extend x) ≡ kept d extend x
   kept_again any = kept_same d header_read any (new_data d extend x) ∙ settled d any extend x can.defined can.bytes

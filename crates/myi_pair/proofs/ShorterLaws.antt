@@ -12,14 +12,13 @@ use Rattle.myi_defs.specs.declared.types.Defs.{Defs}
 use Rattle.myi_defs.specs.Sound.{IsSound}
 use Rattle.myi_defs.specs.Addressable.{pointers, is_addressable}
 use Rattle.myi_defs.specs.ReadDefs.{AreDefs}
-use Rattle.myi_defs.proofs.SoundLaws.{sound}
+use Rattle.myi_defs.proofs.CallerLemmas.{sound}
 use Rattle.myi_frames.specs.Sizes.{least_size}
 use Rattle.myi_frames.specs.Writing.{whole_spec}
-use Rattle.myi_frames.proofs.WriteLemmas.{length-block}
-use Rattle.myi_frames.proofs.SizeLemmas.{least-writable}
+use Rattle.myi_frames.proofs.CallerLemmas.{length-block, least-writable}
 use Rattle.myi_pack.specs.Packed.{Values, IsStaticRow, IsRow}
 use Rattle.myi_pack.specs.Spelling.{spelling}
-use Rattle.myi_pack.proofs.RowSpelling.{row-spelled, row-least}
+use Rattle.myi_pack.proofs.CallerLemmas.{row-spelled, row-least}
 use Rattle.myi_chain.specs.Chain.{AreApart}
 use Rattle.myi_chain.specs.Readable.{Row}
 use Rattle.myi_chain.specs.Meeting.{ranges_of}

@@ -28,8 +28,7 @@ use Rattle.myi_keys.specs.Collations.{collation_of}
 use Rattle.myi_keys.specs.Codes.{seg_code, key_code}
 use Rattle.myi_keys.specs.Limits.{IsKey}
 use Rattle.myi_keys.specs.Weights.{weights, text_weights, weights_by, CanWeigh, CanWeighBy}
-use Rattle.myi_keys.proofs.CodeSizes.{seg_size}
-use Rattle.myi_keys.proofs.WeightSizes.{size_by}
+use Rattle.myi_keys.proofs.CallerLemmas.{seg_size, weights_few}
 use Rattle.myi_data.specs.Keys.{content, is_absent, seg_of, key_of}
 use Rattle.myi_data.proofs.KeyLemmas.{can_weigh, key_is, segments_at, values_fit}
 use Rattle.myi_btree.specs.declared.pair.Pair.{Pair}
@@ -39,47 +38,13 @@ use Rattle.myi_pair.specs.KeyList.{PlacedRow, pointer_by, pointer, pair_of, pair
 use Rattle.myi_pair.specs.Trees.{block_of_key, place_of}
 use Rattle.myi_pair.proofs.KeyListLaws.{sorted_permutes}
 
--- a segment has no more weights than bytes
-
-cut_again : (k : ℕ) (x : List ℕ) → take k (take k x) ≡ take k x
-cut_again zero x = refl
-cut_again (suc k) [] = refl
-cut_again (suc k) (b ∷ x) = ap (λ xs. b ∷ xs) (cut_again k x)
-
--- weights of a text look no further than its length
-text_cut : (collation : Option Collation) (size : ℕ) (x : List ℕ) → text_weights collation size (take size x) ≡ text_weights collation size x
-text_cut None size x = refl
-text_cut (Some collation) size x = let same : take size (take size x) ≡ take size x = cut_again size x in rw same refl
-
-text_few : (t : SegType) (language size : ℕ) (x : List ℕ) → weights_by t language size (take size x) ≡ weights_by t language size x → length (weights_by t language size x) ≤ size
-text_few t language size x same =
-    omega (arith, size_by t language size (take size x), ap (λ (w : List ℕ). length w) same, length-take size x)
-
-integer_few : (t : SegType) (language size n : ℕ) (x : List ℕ) → length x ≡ n → int_size t ≡ Some n → ((m : ℕ) → int_size t ≡ Some m → size ≡ m) → length (weights_by t language size x) ≤ size
-integer_few t language size n x long is sized = omega (arith, size_by t language size x, sized n is)
-
-few_weights : (t : SegType) (language size : ℕ) (x : List ℕ) → ((m : ℕ) → int_size t ≡ Some m → size ≡ m) → CanWeighBy t language size x → length (weights_by t language size x) ≤ size
-few_weights types.ShortInt language size x sized can = integer_few types.ShortInt language size 2 x can refl sized
-few_weights types.LongInt language size x sized can = integer_few types.LongInt language size 4 x can refl sized
-few_weights types.Longlong language size x sized can = integer_few types.Longlong language size 8 x can refl sized
-few_weights types.Int24 language size x sized can = integer_few types.Int24 language size 3 x can refl sized
-few_weights types.Int8 language size x sized can = integer_few types.Int8 language size 1 x can refl sized
-few_weights types.UshortInt language size x sized can = integer_few types.UshortInt language size 2 x can refl sized
-few_weights types.UlongInt language size x sized can = integer_few types.UlongInt language size 4 x can refl sized
-few_weights types.Ulonglong language size x sized can = integer_few types.Ulonglong language size 8 x can refl sized
-few_weights types.Uint24 language size x sized can = integer_few types.Uint24 language size 3 x can refl sized
-few_weights types.Binary language size x sized can = omega arith
-few_weights types.VarBinary language size x sized can = omega (arith, length-take size x)
-few_weights types.Text language size x sized can = text_few types.Text language size x (text_cut (collation_of language) size x)
-few_weights types.VarText language size x sized can = text_few types.VarText language size x (text_cut (collation_of language) size x)
-
 seg_short : (fs : List Field) (row : Values) (s : Segment) → IsSoundSegment fs s → CanWeigh s (content fs row s) → length (seg_code (seg_of fs row s)) ≤ seg_cost s.length
 unfolding weights
 seg_short fs row s sound can = by (is_absent fs row s)
   where
     by : (b : Bool) → length (seg_code (if b then Absent else Weights (weights s (content fs row s)))) ≤ seg_cost s.length
     by true = grind (arith, nat_tests)
-    by false = seg_size s.length (weights s (content fs row s)) (few_weights s.seg s.language s.length (content fs row s) sound.size can)
+    by false = seg_size s.length (weights s (content fs row s)) (weights_few s (content fs row s) sound.size can)
 
 segs_short : (format : RowFormat) (fs : List Field) (row : Values) (ss : List Segment) → fits_fields format fs row ≡ true → AllByRecursion (IsSoundSegment fs) ss → length (key_code (map (seg_of fs row) ss)) ≤ key_most ss
 segs_short format fs row [] fit sound = omega arith

@@ -2,15 +2,14 @@
 use Rattle.std.proofs.Common.{◌≡◌, ℕ, zero, suc, ◌+◌, ◌-◌, ◌*◌, ◌%◌, ◌^◌, ◌<◌, ◌≤◌, true, Some, List, [], ◌∷◌, ◌++◌, length, map, take, drop, replicate, nat_le, refl, sym, ap, subst, ◌∙◌, arith, append_assoc, length-append}
 use Rattle.std.specs.List.{flat_map, AllByRecursion}
 use Rattle.std.proofs.lemmas.Bool.{le-leb, eq-eqb}
-use Rattle.std.proofs.lemmas.List.{take_at, length-replicate}
+use Rattle.std.proofs.lemmas.List.{take_at, drop_at, drop-drop, length-replicate}
 use Rattle.std.proofs.lemmas.List.Sums.{sum_by-append}
 use Rattle.myi_base.specs.Ranges.{Range}
 use Rattle.myi_defs.specs.declared.types.Defs.{Defs}
 use Rattle.myi_defs.specs.Sound.{IsSound}
 use Rattle.myi_defs.specs.Addressable.{is_addressable}
-use Rattle.myi_header.proofs.PrintLaws.{behind}
 use Rattle.myi_keypage.specs.Page.{page_bytes}
-use Rattle.myi_keypage.proofs.FitLaws.{page_length}
+use Rattle.myi_keypage.proofs.CallerLemmas.{page_length}
 use Rattle.myi_keycache.specs.Lent.{bytes_at}
 use Rattle.myi_btree.specs.declared.pair.Pair.{Pair}
 use Rattle.myi_btree.specs.declared.place.Place.{Place}
@@ -27,6 +26,11 @@ use Rattle.myi_pair.specs.RecoveredBytes.{LaidTrees, laid_trees}
 use Rattle.myi_pair.proofs.SizedLaws.{IsNear, placed, list_sized}
 use Rattle.myi_pair.proofs.LaidPages.{IsLaidTree, laid_tree}
 use Rattle.myi_pair.proofs.PageRanges.{ranges_at, IsOnce, is_once, EndBy, end_later, end_append, between_free, between_end}
+
+-- what stands behind a part that is at a place
+behind : (n k j : ℕ) (x p q : List ℕ) → drop n x ≡ p ++ q → length p ≡ k → j ≡ n + k → drop j x ≡ q
+behind n k j x p q at long sum =
+    ap (λ i. drop i x) sum ∙ sym (drop-drop k n x) ∙ ap (drop k) at ∙ drop_at p q k long
 
 -- pages that stand in a file are read
 

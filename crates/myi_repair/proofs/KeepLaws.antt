@@ -29,10 +29,10 @@ use Rattle.myi_defs.specs.declared.types.RowFormat.{RowFormat}
 use Rattle.myi_defs.specs.declared.types.RowFormat.TheVariants.{Static, Dynamic}
 use Rattle.myi_defs.specs.Addressable.{is_addressable}
 use Rattle.myi_defs.specs.ReadDefs.{AreDefs}
-use Rattle.myi_defs.proofs.SoundLaws.{sound}
+use Rattle.myi_defs.proofs.CallerLemmas.{sound}
+use Rattle.myi_pack.proofs.CallerLemmas.{row-short}
 use Rattle.myi_pack.specs.Spelling.{fits, spelling}
 use Rattle.myi_data.specs.Laid.{stored_by, stored, laid_file, IsStorable}
-use Rattle.myi_pair.proofs.WidthLaws.{spelling_short}
 use Rattle.myi_pair.proofs.ShorterLaws.{length-slot}
 use Rattle.myi_pair.proofs.SizedLaws.{pointer_near}
 use Rattle.myi_repair.specs.Sized.{AreSizedPairs}
@@ -151,7 +151,7 @@ pub row_short : (d : Defs) (v : Values) → AreDefs d → fits d v ≡ true → 
 row_short d v are fit = by d.format refl
   where
     by : (f : RowFormat) → d.format ≡ f → length (spelling d v) < 2 ^ 24
-    by Dynamic e = spelling_short d are e v fit
+    by Dynamic e = row-short d v (sound d are) e fit
     by Static e =
         let s = sound d are in
         let can : IsStorable d v = record { fits = fit; short = λ dynamic. absurd (let both = sym e ∙ dynamic in cc) } in

@@ -18,7 +18,8 @@ use Rattle.myi_pair.specs.Trees.{place_of, block_of_key}
 use Rattle.myi_pair.specs.TreePages.{HasBehind}
 use Rattle.myi_pair.specs.RecoveredBytes.{laid_trees, kept, new_data, placed_from, row_pairs, new_trees, new_state, recovered_state, new_index}
 use Rattle.myi_pair.specs.Recovered.{IsRepairable}
-use Rattle.myi_pair.proofs.HeaderLaws.{header_long, new_rest}
+use Rattle.myi_header.proofs.CallerLemmas.{header-long}
+use Rattle.myi_pair.proofs.HeaderLaws.{new_rest}
 use Rattle.myi_pair.proofs.RecoveredLaws.{recovered}
 use Rattle.myi_base.specs.Numbers.{AreBytes}
 use Rattle.myi_defs.specs.ReadDefs.{AreDefs}
@@ -82,7 +83,7 @@ finished_is t extend d g h now end roots m n s left counted is rooted ended buil
     ∙ ap (λ x. new_state defs (state_of defs defs.raw) (length (kept defs extend d)) x (length (new_data defs extend d)) roots end now) is.split
     ∙ ap (λ rs. new_state defs (state_of defs defs.raw) (length (kept defs extend d)) (length (kept defs extend d)) (length (new_data defs extend d)) rs end now) (rooted ∙ ap (λ u. u.roots) trees)
     ∙ ap (λ e. new_state defs (state_of defs defs.raw) (length (kept defs extend d)) (length (kept defs extend d)) (length (new_data defs extend d)) (new_trees defs (kept defs extend d)).roots e now) (ended ∙ ap (λ u. u.end) trees) in
-    let long : length (header_of defs (state_set g roots end now)) ≡ first_page_of defs = header_long defs (state_set g roots end now) s many (new_rest defs s) in
+    let long : length (header_of defs (state_set g roots end now)) ≡ first_page_of defs = header-long defs (state_set g roots end now) s many (new_rest defs s) in
     let behind : HasBehind (first_page_of defs) end (trees_of defs g.pairs).bytes (bytes_of t.new_index n) = subst (λ e. HasBehind (first_page_of defs) e (trees_of defs g.pairs).bytes (bytes_of t.new_index n)) (sym ended) built in
     ap (λ k. finished_index k roots end now (bytes_of t.new_index n)) left
     ∙ over_front (first_page_of defs) end (header_of defs (state_set g roots end now)) (trees_of defs g.pairs).bytes (bytes_of t.new_index n) long behind

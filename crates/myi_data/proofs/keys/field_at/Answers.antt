@@ -1,6 +1,5 @@
 use Rattle.std.proofs.Common.{arith}
-use Rattle.myi_pack.proofs.ViewLemmas.{goes_on}
-use Rattle.myi_data.proofs.WalkLemmas.{has_shown}
+use Rattle.myi_data.proofs.WalkLemmas.{goes_on, has_shown}
 use Rattle.myi_data.proofs.keys.field_at.Goals as goal
 
 pub loop-j-preserved : goal.loop-j-preserved

@@ -1,4 +1,4 @@
-use Rattle.myi_defs.proofs.SoundLaws.{sound}
+use Rattle.myi_defs.proofs.CallerLemmas.{sound}
 use Rattle.myi_data.proofs.tests.definitions.Goals as goal
 
 pub returns-in-Ok : goal.returns-in-Ok

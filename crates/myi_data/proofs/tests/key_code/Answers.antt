@@ -1,4 +1,4 @@
-use Rattle.myi_pack.proofs.RowSpelling.{row-fits}
+use Rattle.myi_pack.proofs.CallerLemmas.{row-fits}
 use Rattle.myi_data.proofs.tests.key_code.Goals as goal
 
 pub key_of-requires-clause-row : goal.key_of-requires-clause-row

@@ -1,5 +1,5 @@
-use Rattle.myi_defs.proofs.SoundLaws.{sound}
-use Rattle.myi_defs.proofs.ReadLemmas.{are_defs, raw-header}
+use Rattle.myi_defs.proofs.CallerLemmas.{sound, are_defs}
+use Rattle.myi_defs.proofs.ReadLemmas.{raw-header}
 use Rattle.myi_defs.proofs.laws.definitions_are_sound.Goals as goal
 
 pub returns : goal.returns

@@ -1,5 +1,4 @@
 use Rattle.std.proofs.Common.{◌≡◌, ◌∙◌, ◌+◌, ◌++◌, ◌∷◌, [], List, ℕ, Bor, Some, None, ap, sym, arith, map, drop, get_or}
-use Rattle.std.proofs.lemmas.Grind.{common_steps}
 use Rattle.myi_defs.specs.Text.{outside, said, step, line_of, words}
 use Rattle.myi_defs.proofs.TextLemmas.{left, said-cons, stops, goes}
 use Rattle.myi_defs.proofs.HeaderLemmas.{pushed}
@@ -15,7 +14,7 @@ loop-i-preserved c =
     let given_next = c.in_ok-line.ensures.goes in
     let says : line_of (words l) ≡ Some c.in-Some.line = rw c.in-Some.is at given in
     let next : step c.loop-i.stage l ≡ Some c.in-Some.next = rw c.in-Some.is at given_next in
-    let items : c.push.new.self.items ≡ c.loop-i.said.items ++ c.in-Some.line ∷ [] = grind (arith, common_steps) in
+    let items : c.push.new.self.items ≡ c.loop-i.said.items ++ c.in-Some.line ∷ [] = c.in_ok-push-in-Some.ensures.items in
     record {
       follows = c.loop-i.invariant.follows ∙ ap (outside (Some c.loop-i.stage) c.loop-i.i) here ∙ goes c.loop-i.stage c.in-Some.next c.loop-i.i l (drop (c.loop-i.i + 1) all) next;
       says =

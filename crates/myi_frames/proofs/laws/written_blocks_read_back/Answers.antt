@@ -1,4 +1,5 @@
-use Rattle.myi_frames.proofs.WriteLemmas.{length-block, bytes-block, bytes-deleted_head, block-joined, block-seen, block-overwritten, deleted-overwritten, length-deleted_head}
+use Rattle.myi_frames.proofs.CallerLemmas.{length-block, block-joined}
+use Rattle.myi_frames.proofs.WriteLemmas.{bytes-block, bytes-deleted_head, block-seen, block-overwritten, deleted-overwritten, length-deleted_head}
 use Rattle.myi_frames.proofs.laws.written_blocks_read_back.Goals as goal
 
 pub returns : goal.returns

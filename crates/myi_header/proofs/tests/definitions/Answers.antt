@@ -1,4 +1,4 @@
-use Rattle.myi_defs.proofs.SoundLaws.{sound}
+use Rattle.myi_defs.proofs.CallerLemmas.{sound}
 use Rattle.myi_header.proofs.tests.definitions.Goals as goal
 
 pub returns : goal.returns

@@ -1,4 +1,5 @@
-use Rattle.myi_keypage.proofs.ShownIn.{page_is, page_from, page_again, page_once, page_used}
+use Rattle.myi_keypage.proofs.CallerLemmas.{page_again}
+use Rattle.myi_keypage.proofs.ShownIn.{page_is, page_from, page_once, page_used}
 use Rattle.myi_keypage.proofs.PageIs.{one_page}
 use Rattle.myi_keypage.proofs.laws.pages_read_back.Goals as goal
 

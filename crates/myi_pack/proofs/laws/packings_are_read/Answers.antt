@@ -1,4 +1,5 @@
-use Rattle.myi_pack.proofs.RowLaws.{row-takes, row-again, row-once}
+use Rattle.myi_pack.proofs.CallerLemmas.{row-takes}
+use Rattle.myi_pack.proofs.RowLaws.{row-again, row-once}
 use Rattle.myi_pack.proofs.laws.packings_are_read.Goals as goal
 
 pub returns : goal.returns

@@ -1,4 +1,4 @@
-use Rattle.myi_defs.proofs.SoundLaws.{sound}
+use Rattle.myi_defs.proofs.CallerLemmas.{sound}
 use Rattle.myi_repair.proofs.FilesLaws.{apart_of}
 use Rattle.myi_repair.proofs.finishing.finish.Goals as goal
 

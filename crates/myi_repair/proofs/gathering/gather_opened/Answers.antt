@@ -1,4 +1,4 @@
-use Rattle.myi_defs.proofs.SoundLaws.{sound}
+use Rattle.myi_defs.proofs.CallerLemmas.{sound}
 use Rattle.myi_repair.specs.Names.{names_of}
 use Rattle.myi_repair.proofs.GatherLaws.{gathers}
 use Rattle.myi_repair.proofs.gathering.gather_opened.Goals as goal

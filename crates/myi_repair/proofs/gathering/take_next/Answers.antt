@@ -1,7 +1,7 @@
 use Rattle.std.proofs.Common.{◌≡◌, ◌∙◌, ap, subst, true}
 use Rattle.std.specs.Prelude.{IfSome}
-use Rattle.myi_defs.proofs.SoundLaws.{sound}
-use Rattle.myi_pack.proofs.RowSpelling.{row-fits}
+use Rattle.myi_defs.proofs.CallerLemmas.{sound}
+use Rattle.myi_pack.proofs.CallerLemmas.{row-fits}
 use Rattle.myi_data.specs.Readable.{packs}
 use Rattle.myi_data.specs.Scanning.{PacksRow}
 use Rattle.myi_repair.proofs.GatherLaws.{viewed, match_some, answered_of, took_row}

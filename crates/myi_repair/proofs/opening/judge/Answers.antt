@@ -2,7 +2,7 @@ use Rattle.std.proofs.Common.{◌≡◌, ◌∙◌, Ok, sym, ap, subst, take, ar
 use Rattle.std.proofs.lemmas.Result.{IfOk-weaker, IfErr-weaker}
 use Rattle.myi_base.specs.Numbers.{AreBytes}
 use Rattle.myi_defs.specs.ReadDefs.{read_defs}
-use Rattle.myi_defs.proofs.ElsewhereLaws.{read_defs-take}
+use Rattle.myi_defs.proofs.CallerLemmas.{read_defs-take}
 use Rattle.myi_repair.specs.Opening.{opened_read}
 use Rattle.myi_repair.proofs.OpenLaws.{judged_err}
 use Rattle.myi_repair.proofs.opening.judge.Goals as goal

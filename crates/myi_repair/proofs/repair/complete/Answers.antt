@@ -1,6 +1,6 @@
 use Rattle.std.proofs.Common.{◌≡◌, ◌∙◌, List, ℕ, Option, length, refl, ap, sym, subst}
 use Rattle.myi_defs.specs.Sound.{IsSound}
-use Rattle.myi_defs.proofs.SoundLaws.{sound}
+use Rattle.myi_defs.proofs.CallerLemmas.{sound}
 use Rattle.myi_repair.specs.Names.{names_of, KeepsBoth}
 use Rattle.myi_repair.proofs.FilesLaws.{same_holding}
 use Rattle.myi_repair.proofs.RepairLaws.{count_roots, completed, completed_part}

@@ -1,6 +1,6 @@
 use Rattle.std.proofs.Common.{◌∙◌, ap, sym, subst}
 use Rattle.myi_base.specs.Holding.{bytes_of}
-use Rattle.myi_defs.proofs.SoundLaws.{sound}
+use Rattle.myi_defs.proofs.CallerLemmas.{sound}
 use Rattle.myi_header.specs.Layout.{first_page_of}
 use Rattle.myi_pair.specs.TreePages.{HasBehind}
 use Rattle.myi_repair.specs.Building.{trees_of}

@@ -1,7 +1,7 @@
 use Rattle.std.proofs.Common.{◌≡◌, length, arith, sym, subst}
 use Rattle.myi_frames.specs.Sizes.{least_size}
 use Rattle.myi_frames.specs.Writing.{IsWritable, whole_spec}
-use Rattle.myi_frames.proofs.SizeLemmas.{least-writable}
+use Rattle.myi_frames.proofs.CallerLemmas.{least-writable}
 use Rattle.myi_repair.proofs.writing.block_of.Goals as goal
 
 pub write_frame-requires : goal.write_frame-requires

@@ -1,5 +1,5 @@
 use Rattle.std.proofs.Common.{◌≡◌, ◌∙◌, arith, ap, length, ℕ, List}
-use Rattle.myi_defs.proofs.SoundLaws.{sound}
+use Rattle.myi_defs.proofs.CallerLemmas.{sound}
 use Rattle.myi_pack.specs.Spelling.{spelling}
 use Rattle.myi_repair.proofs.KeepLaws.{row_short}
 use Rattle.myi_repair.proofs.kept.KeptRows.put.Goals as goal

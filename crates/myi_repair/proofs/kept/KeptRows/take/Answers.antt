@@ -1,6 +1,6 @@
 use Rattle.std.proofs.Common.{◌∙◌, List, length, ap, sym, refl, arith}
 use Rattle.std.proofs.lemmas.List.{length-map}
-use Rattle.myi_defs.proofs.SoundLaws.{sound}
+use Rattle.myi_defs.proofs.CallerLemmas.{sound}
 use Rattle.myi_keys.specs.declared.values.KeySeg.{KeySeg}
 use Rattle.myi_repair.specs.Keeping.{lists_in, with_pairs}
 use Rattle.myi_repair.proofs.PairLaws.{length-row_keys}
