@@ -2,7 +2,7 @@
 use Rattle.std.proofs.Common.{◌≡◌, ◌≢◌, ◌⊎◌, ℕ, ◌+◌, ◌-◌, ◌≤◌, List, [], ◌++◌, length, get_or, Option, Some, unwrap_or, refl, sym, ap, subst, ◌∙◌, arith, inl, inr}
 use Rattle.std.specs.Prelude.{codes}
 use Rattle.std.proofs.lemmas.List.{append_cancel_left, append-nil, take_all, drop_all}
-use Rattle.myi_base.specs.Holding.{Holding, resized, overwritten, OthersStay}
+use Rattle.myi_base.specs.Holding.{Holding, Told, resized, overwritten, OthersStay}
 use Rattle.myi_repair.specs.Names.{FourNames, names_for, AreApart, KeepsBoth}
 use Rattle.myi_repair.specs.Finishing.{IsWhole}
 
@@ -32,6 +32,20 @@ apart_of t name is = subst AreApart (sym is) (apart_for name)
 -- files hold one thing
 pub same_holding : (h : Option Holding) (n o : Holding) → h ≡ Some n → h ≡ Some o → n ≡ o
 same_holding h n o one other = ap (λ b. unwrap_or b n) (sym one ∙ other)
+
+-- two facts of one step
+pub told_and : (old new : Option Holding) (P Q : Holding → Holding → Type 0) → Told old new P → Told old new Q → Told old new (λ m n. P m n × Q m n)
+told_and old new P Q one other = record {
+  told = λ m held.
+      let x = one.told m held in
+      let y = other.told m held in
+      (x.0, x.1, (x.2, subst (Q m) (same_holding new y.0 x.0 y.1 x.1) y.2));
+  untold = one.untold;
+}
+
+-- the files before a step that left them as they were
+pub told_from : (old mid new : Option Holding) (P : Holding → Holding → Type 0) → mid ≡ old → Told mid new P → Told old new P
+told_from old mid new P same is = subst (λ h. Told h new P) same is
 
 -- bytes that are written at the end of a file are appended
 pub appended : (w bytes : List ℕ) → overwritten (length w) bytes w ≡ w ++ bytes

@@ -12,7 +12,7 @@ use Rattle.myi_chain.specs.declared.piece.Piece.{Piece}
 use Rattle.myi_chain.specs.declared.piece.ScanFault.{ScanFault}
 use Rattle.myi_chain.specs.Readable.{Row, Item, rows_of}
 use Rattle.myi_chain.specs.Pieces.{shown}
-use Rattle.myi_chain.specs.Scanning.{IsSameScan, left_or}
+use Rattle.myi_chain.specs.Scanning.{fresh_scan, IsSameScan, ReadsBytes, left_or}
 use Rattle.myi_data.specs.Laid.{laid_file}
 use Rattle.myi_data.specs.Readable.{packs, items_in, readable}
 use Rattle.myi_data.specs.Scanning.{TableScan, rows_left, IsRowAnswered, LeavesRows}
@@ -24,7 +24,7 @@ use Rattle.myi_repair.specs.declared.gathering.Gathered.{Gathered}
 use Rattle.myi_repair.specs.Names.{FourNames}
 use Rattle.myi_repair.specs.Opening.{IsTable}
 use Rattle.myi_repair.specs.Keeping.{lists_in, AreCounted, HasKept, kept_with}
-use Rattle.myi_repair.specs.Gathering.{Gathers, values_left, TakesRow, ReadsBytes, GathersRows}
+use Rattle.myi_repair.specs.Gathering.{Gathers, values_left, TakesRow, GathersRows}
 use Rattle.myi_chain.proofs.ScanLemmas.{shown_bytes}
 use Rattle.myi_repair.proofs.OpenLaws.{is_opened}
 
@@ -140,9 +140,6 @@ pub same_name : (file name : List ℕ) (m n : Holding) → (name ≡ file → �
 same_name file name m n apart keeps = ap (λ o. unwrap_or o []) (keeps name apart)
 
 -- ---- what was gathered of a table
-
-abbrev pub fresh_scan : List ℕ → Defs → Bool → ℕ → TableScan
-fresh_scan name defs extend end = record { name = name; test = defs; extend = extend; end = end; left = None; blocks = [] }
 
 pub fresh_rows : (name d : List ℕ) (defs : Defs) (extend : Bool) (m : Holding) → m name ≡ Some d → rows_left (fresh_scan name defs extend (length d)) m ≡ readable defs extend d
 unfolding readable

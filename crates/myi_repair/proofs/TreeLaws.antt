@@ -158,6 +158,10 @@ begins cache first m none current = record { current = current; before = subst (
     none_kept : (first : ℕ) → EndBefore [] first
     none_kept first p n there = absurd cc
 
+-- the file was emptied, and then the trees were laid in it
+pub others_laid : (cache : Caching) (file : List ℕ) (first : ℕ) (m k n : Holding) → cache.pages ≡ [] → cache.name ≡ file → IsCurrent cache k → Cuts file 0 m k → (CanLay cache k first → OthersStay cache.name k n) → OthersStay file m n
+others_laid cache file first m k n none named current cut laid q differs = laid (begins cache first k none current) q (λ same. differs (same ∙ named)) ∙ cut.others q differs
+
 pub empty_contents : (cache : Caching) (file : List ℕ) (m n : Holding) → cache.pages ≡ [] → cache.name ≡ file → Cuts file 0 m n → length (contents cache n) ≡ 0
 unfolding flushed
 empty_contents cache file m n none named cut =

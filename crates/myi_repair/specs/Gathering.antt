@@ -59,10 +59,6 @@ abbrev pub TakesIf : Bool → Defs → List ℕ → TableScan → TableScan → 
 TakesIf true d file s t k l m n = TakesRow d file s t k l m n
 TakesIf false d file s t k l m n = (rows_left s m ≡ []) × (l ≡ k) × (n ≡ m)
 
--- what a scan reads first is bytes
-abbrev pub ReadsBytes : TableScan → Holding → Type 0
-ReadsBytes s m = s.left ≡ None → AreBytes (take s.end (bytes_of s.name m))
-
 -- the first rows of those that a scan had left are kept, and the file holds them
 pub record GathersRows (s : TableScan) (file : List ℕ) (k : KeptRows) (m n : Holding) : Type 0 where
   pub bytes : AreBytes (take s.end (bytes_of s.name m))

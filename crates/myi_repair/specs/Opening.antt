@@ -35,6 +35,14 @@ opened t m = opened_index (m t.index) (m t.rows)
 abbrev pub IsTable : FourNames → Defs → List ℕ → Holding → Type 0
 IsTable t defs d m = opened t m ≡ Ok (defs, d)
 
+-- the table of these files has these definitions and a data file of that length, and can be repaired
+abbrev pub HasTable : FourNames → Defs → ℕ → Holding → Type 0
+HasTable t defs size m = (d : List ℕ) × IsTable t defs d m × (size ≡ length d)
+
+-- the table of these files is refused for this reason
+abbrev pub Refuses : FourNames → RepairFault → Holding → Type 0
+Refuses t fault m = opened t m ≡ Err fault
+
 -- a fault that is no refusal of the table
 abbrev pub CutsOff : RepairFault → Type 0
 CutsOff fault = (fault ≡ File) ⊎ (fault ≡ Memory)

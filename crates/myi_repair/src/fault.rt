@@ -53,9 +53,10 @@ impl<T: Drop> From<AllocFailed<T>> for RepairFault {
 
 impl From<FileErr> for RepairFault {
     ghost use Rattle.std.specs.Prelude.{◌≡◌};
-    ghost use Rattle.myi_repair.specs.Faults.{of_file};
+    ghost use Rattle.myi_io.specs.Faults.{handed_on};
+    ghost use Rattle.myi_repair.specs.declared.fault.RepairFault.TheVariants.{File, Memory};
 
-    ghost from_gives = { λ e f. f ≡ of_file e };
+    ghost from_gives = { λ e f. f ≡ handed_on File Memory e };
 
     fn from(error: FileErr) -> Self {
         match error {

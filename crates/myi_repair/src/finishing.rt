@@ -3,11 +3,13 @@ ghost use Rattle.std.specs.Prelude.{◌≡◌, ◌≤◌, ◌+◌, ◌-◌, ◌*
 ghost use Rattle.myi_base.specs.Holding.{Told, Sets, bytes_of, resized, overwritten, OthersStay};
 ghost use Rattle.myi_base.specs.Causes.{HasCause};
 ghost use Rattle.myi_io.specs.declared.files.FileErr.TheVariants.{Failed};
+ghost use Rattle.myi_io.specs.Faults.{handed_on};
+ghost use Rattle.myi_repair.specs.declared.fault.RepairFault.TheVariants.{File, Memory};
 ghost use Rattle.myi_defs.specs.ReadDefs.{AreDefs};
 ghost use Rattle.myi_defs.specs.Sound.{IsSound};
 ghost use Rattle.myi_header.specs.StateOf.{IsPlace, rest_length};
 ghost use Rattle.myi_header.specs.HeaderOf.{header_of};
-ghost use Rattle.myi_repair.specs.Faults.{of_file, faults_told, RoseAtMost};
+ghost use Rattle.myi_repair.specs.Faults.{faults_told, RoseAtMost};
 ghost use Rattle.myi_repair.specs.Names.{names_of, names_for, AreApart, KeepsBut, Clears, NoWorking};
 ghost use Rattle.myi_repair.specs.Finishing.{state_set, Finishes, FinishesPart};
 
@@ -39,9 +41,13 @@ pub fn finish<F: Files>(
     requires defs { AreDefs gathered.now.defs }
     requires roots { length roots.now ≡ length gathered.now.defs.keys }
     requires places { All IsPlace roots.now }
-    ensures done { OnOk result (Told (F.holds files.old) (F.holds files.new) (Finishes (names_for name.now) gathered.now roots.now index_length now)) }
-    ensures whole { Told (F.holds files.old) (F.holds files.new) (FinishesPart (names_for name.now) gathered.now roots.now index_length now) }
-    ensures cleared { IfErr result (λ e. RoseAtMost (faults_told (of_file e)) (F.faults files.old) (F.faults files.new) → Told (F.holds files.old) (F.holds files.new) (Clears (names_for name.now))) }
+    ensures done { OnOk result (Told (F.holds files.old) (F.holds files.new)
+        (Finishes (names_for name.now) gathered.now roots.now index_length now)) }
+    ensures whole { Told (F.holds files.old) (F.holds files.new)
+        (FinishesPart (names_for name.now) gathered.now roots.now index_length now) }
+    ensures cleared { IfErr result (λ e.
+        RoseAtMost (faults_told (handed_on File Memory e)) (F.faults files.old) (F.faults files.new)
+        → Told (F.holds files.old) (F.holds files.new) (Clears (names_for name.now))) }
     ensures others { Told (F.holds files.old) (F.holds files.new) (KeepsBut (names_for name.now)) }
     ensures cause { HasCause Failed (F.faults files.old) (F.faults files.new) result }
 {
@@ -64,9 +70,13 @@ pub(crate) fn finish_table<F: Files>(
     requires sound { IsSound gathered.now.defs }
     requires roots { length roots.now ≡ length gathered.now.defs.keys }
     requires places { All IsPlace roots.now }
-    ensures done { OnOk result (Told (F.holds files.old) (F.holds files.new) (Finishes (names_of table.now) gathered.now roots.now index_length now)) }
-    ensures whole { Told (F.holds files.old) (F.holds files.new) (FinishesPart (names_of table.now) gathered.now roots.now index_length now) }
-    ensures cleared { IfErr result (λ e. RoseAtMost (faults_told (of_file e)) (F.faults files.old) (F.faults files.new) → Told (F.holds files.old) (F.holds files.new) (λ _ n. NoWorking (names_of table.now) n)) }
+    ensures done { OnOk result (Told (F.holds files.old) (F.holds files.new)
+        (Finishes (names_of table.now) gathered.now roots.now index_length now)) }
+    ensures whole { Told (F.holds files.old) (F.holds files.new)
+        (FinishesPart (names_of table.now) gathered.now roots.now index_length now) }
+    ensures cleared { IfErr result (λ e.
+        RoseAtMost (faults_told (handed_on File Memory e)) (F.faults files.old) (F.faults files.new)
+        → Told (F.holds files.old) (F.holds files.new) (λ _ n. NoWorking (names_of table.now) n)) }
     ensures others { Told (F.holds files.old) (F.holds files.new) (KeepsBut (names_of table.now)) }
     ensures cause { HasCause Failed (F.faults files.old) (F.faults files.new) result }
 {
@@ -93,8 +103,10 @@ fn replace<F: Files>(
     requires sound { IsSound gathered.now.defs }
     requires roots { length roots.now ≡ length gathered.now.defs.keys }
     requires places { All IsPlace roots.now }
-    ensures done { OnOk result (Told (F.holds files.old) (F.holds files.new) (Finishes (names_of table.now) gathered.now roots.now index_length now)) }
-    ensures whole { Told (F.holds files.old) (F.holds files.new) (FinishesPart (names_of table.now) gathered.now roots.now index_length now) }
+    ensures done { OnOk result (Told (F.holds files.old) (F.holds files.new)
+        (Finishes (names_of table.now) gathered.now roots.now index_length now)) }
+    ensures whole { Told (F.holds files.old) (F.holds files.new)
+        (FinishesPart (names_of table.now) gathered.now roots.now index_length now) }
     ensures others { Told (F.holds files.old) (F.holds files.new) (KeepsBut (names_of table.now)) }
     ensures cause { HasCause Failed (F.faults files.old) (F.faults files.new) result }
 {
@@ -113,7 +125,8 @@ fn put_header<F: Files>(
     file_length: u64,
 ) -> Result<(), FileErr>
     requires { IsTrue F.writable }
-    ensures done { OnOk result (Told (F.holds files.old) (F.holds files.new) (λ m n. Sets file.now (resized file_length (overwritten 0 header.now (bytes_of file.now m))) m n)) }
+    ensures done { OnOk result (Told (F.holds files.old) (F.holds files.new)
+        (λ m n. Sets file.now (resized file_length (overwritten 0 header.now (bytes_of file.now m))) m n)) }
     ensures others { Told (F.holds files.old) (F.holds files.new) (OthersStay file.now) }
     ensures cause { HasCause Failed (F.faults files.old) (F.faults files.new) result }
 {
@@ -133,7 +146,8 @@ fn new_header(
     requires sound { IsSound gathered.now.defs }
     requires roots { length roots.now ≡ length gathered.now.defs.keys }
     requires places { All IsPlace roots.now }
-    ensures { IfOk result (λ header. header.items ≡ header_of gathered.now.defs (state_set gathered.now roots.now index_length now)) }
+    ensures { IfOk result (λ header. header.items
+        ≡ header_of gathered.now.defs (state_set gathered.now roots.now index_length now)) }
 {
     let state = new_state(alloc, gathered, roots, index_length, now)?;
     print_state(alloc, &gathered.defs, &state)
@@ -188,7 +202,8 @@ fn key_map(defs: &Defs) -> u64
 // The kept bytes of the state, with no list of free pages.
 fn without_free_pages(mut rest: Vec<u8>, page_sizes: usize) -> Vec<u8>
     requires { 24 + 8 * page_sizes ≤ length rest.items }
-    ensures { result.items ≡ take 24 rest.items ++ (replicate (8 * page_sizes) 255 ++ drop (24 + 8 * page_sizes) rest.items) }
+    ensures { result.items
+        ≡ take 24 rest.items ++ (replicate (8 * page_sizes) 255 ++ drop (24 + 8 * page_sizes) rest.items) }
 {
     fill_part(&mut rest, 24, 8 * page_sizes);
     rest

@@ -1,17 +1,17 @@
 //! Gathering: the rows that are kept, in the working data file, and the pairs of their keys.
 ghost use Rattle.std.specs.Prelude.{◌≡◌, ◌≢◌, ◌⊎◌, ◌≤◌, ◌<◌, ◌+◌, ◌-◌, ◌^◌, ℕ, List, [], true, None, Some, Err, length, IfOk, IfErr, OnOk, IsTrue};
-ghost use Rattle.myi_base.specs.Holding.{Holding, Told, OthersStay};
+ghost use Rattle.myi_base.specs.Holding.{IfTold, Told, OthersStay};
 ghost use Rattle.myi_base.specs.Causes.{HasCause};
 ghost use Rattle.myi_base.specs.Numbers.{AreBytes};
 ghost use Rattle.myi_defs.specs.ReadDefs.{AreDefs};
 ghost use Rattle.myi_defs.specs.Sound.{IsSound};
-ghost use Rattle.myi_chain.specs.Scanning.{IsSameScan};
+ghost use Rattle.myi_chain.specs.Scanning.{fresh_scan, IsSameScan, ReadsBytes};
 ghost use Rattle.myi_repair.specs.Faults.{faults_told, RoseAtMost};
 ghost use Rattle.myi_repair.specs.Names.{names_of, names_for, AreApart, KeepsBut, KeepsBoth, Clears};
-ghost use Rattle.myi_repair.specs.Opening.{opened, IsTable, CutsOff};
+ghost use Rattle.myi_repair.specs.Opening.{HasTable, Refuses, CutsOff};
 ghost use Rattle.myi_repair.specs.Sized.{AreSizedPairs};
 ghost use Rattle.myi_repair.specs.Keeping.{lists_in, AreCounted};
-ghost use Rattle.myi_repair.specs.Gathering.{Gathers, GathersRows, TakesIf, ReadsBytes};
+ghost use Rattle.myi_repair.specs.Gathering.{Gathers, GathersRows, TakesIf};
 
 use crate::fault::RepairFault;
 use crate::kept::KeptRows;
@@ -22,7 +22,7 @@ use myi_base::Sequence;
 use myi_btree::Pair;
 use myi_data::{DataFile, DataScan};
 use myi_defs::Defs;
-use myi_header::stored_state;
+use myi_header::{State, stored_state};
 use myi_io::Files;
 use myi_pack::view;
 use std::alloc::{AllocError, Global};
@@ -50,17 +50,21 @@ pub fn gather<F: Files>(
     requires { IsTrue F.writable }
 
     // What was gathered, and what the working data file holds then.
-    ensures gathered { IfOk result (λ g. Told (F.holds files.old) (F.holds files.new) (Gathers (names_for name.now) extend g)) }
+    ensures gathered { IfOk result (λ g. Told (F.holds files.old) (F.holds files.new)
+        (Gathers (names_for name.now) extend g)) }
     ensures defs { IfOk result (λ g. AreDefs g.defs) }
     ensures header { IfOk result (λ g. AreBytes g.defs.raw) }
     ensures pairs { IfOk result (λ g. AreSizedPairs g.defs g.pairs) }
 
     // Why a table is refused; nothing is changed then.
-    ensures refused { IfErr result (λ f. CutsOff f ⊎ ((m : Holding) → F.holds files.old ≡ Some m → opened (names_for name.now) m ≡ Err f)) }
+    ensures refused { IfErr result (λ f.
+        CutsOff f ⊎ IfTold (F.holds files.old) (Refuses (names_for name.now) f)) }
     ensures unchanged { IfErr result (λ f. CutsOff f ⊎ (F.holds files.new ≡ F.holds files.old)) }
 
     // Where no other file call failed, nothing was changed by a refusal or no working file is left.
-    ensures cleared { IfErr result (λ f. RoseAtMost (faults_told f) (F.faults files.old) (F.faults files.new) → Told (F.holds files.old) (F.holds files.new) (Clears (names_for name.now))) }
+    ensures cleared { IfErr result (λ f.
+        RoseAtMost (faults_told f) (F.faults files.old) (F.faults files.new)
+        → Told (F.holds files.old) (F.holds files.new) (Clears (names_for name.now))) }
 
     // The table's two files are as before.
     ensures both { Told (F.holds files.old) (F.holds files.new) (KeepsBoth (names_for name.now)) }
@@ -80,13 +84,17 @@ pub(crate) fn gather_table<F: Files>(
 ) -> Result<Gathered, RepairFault>
     requires writable { IsTrue F.writable }
     requires apart { AreApart (names_of table.now) }
-    ensures gathered { IfOk result (λ g. Told (F.holds files.old) (F.holds files.new) (Gathers (names_of table.now) extend g)) }
+    ensures gathered { IfOk result (λ g. Told (F.holds files.old) (F.holds files.new)
+        (Gathers (names_of table.now) extend g)) }
     ensures defs { IfOk result (λ g. AreDefs g.defs) }
     ensures header { IfOk result (λ g. AreBytes g.defs.raw) }
     ensures pairs { IfOk result (λ g. AreSizedPairs g.defs g.pairs) }
-    ensures refused { IfErr result (λ f. CutsOff f ⊎ ((m : Holding) → F.holds files.old ≡ Some m → opened (names_of table.now) m ≡ Err f)) }
+    ensures refused { IfErr result (λ f.
+        CutsOff f ⊎ IfTold (F.holds files.old) (Refuses (names_of table.now) f)) }
     ensures unchanged { IfErr result (λ f. CutsOff f ⊎ (F.holds files.new ≡ F.holds files.old)) }
-    ensures cleared { IfErr result (λ f. RoseAtMost (faults_told f) (F.faults files.old) (F.faults files.new) → Told (F.holds files.old) (F.holds files.new) (Clears (names_of table.now))) }
+    ensures cleared { IfErr result (λ f.
+        RoseAtMost (faults_told f) (F.faults files.old) (F.faults files.new)
+        → Told (F.holds files.old) (F.holds files.new) (Clears (names_of table.now))) }
     ensures both { Told (F.holds files.old) (F.holds files.new) (KeepsBoth (names_of table.now)) }
     ensures others { Told (F.holds files.old) (F.holds files.new) (KeepsBut (names_of table.now)) }
     ensures cause { HasCause RepairFault.File (F.faults files.old) (F.faults files.new) result }
@@ -113,8 +121,9 @@ fn gather_opened<F: Files>(
     requires apart { AreApart (names_of table.now) }
     requires defs { AreDefs opened.defs }
     requires header { AreBytes opened.defs.raw }
-    requires table { (m : Holding) → F.holds files.old ≡ Some m → (d : List ℕ) × IsTable (names_of table.now) opened.defs d m × (opened.length ≡ length d) }
-    ensures gathered { IfOk result (λ g. Told (F.holds files.old) (F.holds files.new) (Gathers (names_of table.now) extend g)) }
+    requires table { IfTold (F.holds files.old) (HasTable (names_of table.now) opened.defs opened.length) }
+    ensures gathered { IfOk result (λ g. Told (F.holds files.old) (F.holds files.new)
+        (Gathers (names_of table.now) extend g)) }
     ensures defs { IfOk result (λ g. AreDefs g.defs) }
     ensures header { IfOk result (λ g. AreBytes g.defs.raw) }
     ensures pairs { IfOk result (λ g. AreSizedPairs g.defs g.pairs) }
@@ -136,7 +145,12 @@ fn into_gathered(
 ) -> Result<Gathered, AllocError>
     ensures { IfOk result (λ g. g ≡ record {
       defs = defs;
-      report = record { kept = rows.kept; repeats = rows.repeats; old_length = old_length; new_length = rows.end };
+      report = record {
+        kept = rows.kept;
+        repeats = rows.repeats;
+        old_length = old_length;
+        new_length = rows.end;
+      };
       split = rows.split;
       pairs = lists_in rows;
     }) }
@@ -162,7 +176,8 @@ fn take_rows<F: Files>(
     requires fresh { scan.old.left ≡ None }
     requires test { scan.old.test ≡ defs.now }
     requires defs { AreDefs defs.now }
-    ensures gathered { IfOk result (λ k. Told (F.holds files.old) (F.holds files.new) (GathersRows scan.old file.now k)) }
+    ensures gathered { IfOk result (λ k. Told (F.holds files.old) (F.holds files.new)
+        (GathersRows scan.old file.now k)) }
     ensures counted { IfOk result (λ k. AreCounted defs.now k) }
     ensures cut { IfErr result CutsOff }
     ensures others { Told (F.holds files.old) (F.holds files.new) (OthersStay file.now) }
@@ -196,8 +211,9 @@ fn take_next<F: Files>(
     ensures same { OnOk result (IsSameScan scan.old scan.new) }
     ensures counted { OnOk result (AreCounted defs.now rows.new) }
     ensures most { OnOk result (rows.new.kept + rows.new.repeats ≤ rows.old.kept + rows.old.repeats + 1) }
-    ensures took { IfOk result (λ more. Told (F.holds files.old) (F.holds files.new) (TakesIf more defs.now file.now scan.old scan.new rows.old rows.new)) }
-    ensures bytes { OnOk result ((m : Holding) → F.holds files.old ≡ Some m → ReadsBytes scan.old m) }
+    ensures took { IfOk result (λ more. Told (F.holds files.old) (F.holds files.new)
+        (TakesIf more defs.now file.now scan.old scan.new rows.old rows.new)) }
+    ensures bytes { OnOk result (IfTold (F.holds files.old) (ReadsBytes scan.old)) }
     ensures cut { IfErr result CutsOff }
     ensures others { Told (F.holds files.old) (F.holds files.new) (OthersStay file.now) }
     ensures cause { HasCause RepairFault.File (F.faults files.old) (F.faults files.new) result }
@@ -218,10 +234,19 @@ fn scan_of(
     extend: bool,
 ) -> Result<DataScan, AllocError>
     requires { IsSound defs.now }
-    ensures { IfOk result (λ scan. scan ≡ record { name = (names_of table.now).rows; test = defs.now; extend = extend; end = end; left = None; blocks = [] }) }
+    ensures { IfOk result (λ scan. scan ≡ fresh_scan (names_of table.now).rows defs.now extend end) }
+{
+    let state = state_at(alloc, defs, end)?;
+    let file = DataFile::new(alloc, table.rows.as_str(), defs, &state)?;
+    file.scan(extend)
+}
+
+// The state of the table, but with a data file of that length.
+fn state_at(alloc: Global, defs: &Defs, end: u64) -> Result<State, AllocError>
+    requires { IsSound defs.now }
+    ensures { IfOk result (λ state. state.data_file_length ≡ end) }
 {
     let mut state = stored_state(alloc, defs)?;
     state.data_file_length = end;
-    let file = DataFile::new(alloc, table.rows.as_str(), defs, &state)?;
-    file.scan(extend)
+    Ok(state)
 }

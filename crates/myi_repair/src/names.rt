@@ -36,7 +36,8 @@ impl TableFiles {
     pub(crate) fn clear<F: Files>(&self, files: &mut F)
         requires writable { IsTrue F.writable }
         requires apart { AreApart (names_of self.now) }
-        ensures gone { RoseAtMost 0 (F.faults files.old) (F.faults files.new) → Told (F.holds files.old) (F.holds files.new) (λ _ n. NoWorking (names_of self.now) n) }
+        ensures gone { RoseAtMost 0 (F.faults files.old) (F.faults files.new)
+            → Told (F.holds files.old) (F.holds files.new) (λ _ n. NoWorking (names_of self.now) n) }
         ensures both { Told (F.holds files.old) (F.holds files.new) (KeepsBoth (names_of self.now)) }
         ensures others { Told (F.holds files.old) (F.holds files.new) (KeepsBut (names_of self.now)) }
         ensures later { F.faults files.old ≤ F.faults files.new }

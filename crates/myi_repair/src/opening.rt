@@ -1,12 +1,12 @@
 //! Opening a table that is to be repaired.
 ghost use Rattle.std.specs.Prelude.{◌≡◌, ◌≢◌, ◌⊎◌, ℕ, List, true, Some, take, length, Ok, Err, IfOk, IfErr};
-ghost use Rattle.myi_base.specs.Holding.{Holding};
+ghost use Rattle.myi_base.specs.Holding.{IfTold};
 ghost use Rattle.myi_base.specs.Causes.{HasCause};
 ghost use Rattle.myi_base.specs.Numbers.{AreBytes};
 ghost use Rattle.myi_defs.specs.Addressable.{is_addressable};
 ghost use Rattle.myi_defs.specs.ReadDefs.{read_defs, AreDefs};
 ghost use Rattle.myi_repair.specs.Names.{names_of};
-ghost use Rattle.myi_repair.specs.Opening.{opened, opened_read, IsTable, CutsOff};
+ghost use Rattle.myi_repair.specs.Opening.{opened_read, HasTable, Refuses, CutsOff};
 
 use crate::fault::{RepairFault, TableFile};
 use crate::names::TableFiles;
@@ -30,11 +30,13 @@ pub(crate) fn open_table<F: Files>(
     files: &mut F,
     table: &TableFiles,
 ) -> Result<Opened, RepairFault>
-    ensures table { IfOk result (λ o. (m : Holding) → F.holds files.old ≡ Some m → (d : List ℕ) × IsTable (names_of table.now) o.defs d m × (o.length ≡ length d)) }
+    ensures table { IfOk result (λ o.
+        IfTold (F.holds files.old) (HasTable (names_of table.now) o.defs o.length)) }
     ensures defs { IfOk result (λ o. AreDefs o.defs) }
     ensures header { IfOk result (λ o. AreBytes o.defs.raw) }
     ensures reached { IfOk result (λ o. is_addressable o.defs o.length ≡ true) }
-    ensures refused { IfErr result (λ f. CutsOff f ⊎ ((m : Holding) → F.holds files.old ≡ Some m → opened (names_of table.now) m ≡ Err f)) }
+    ensures refused { IfErr result (λ f.
+        CutsOff f ⊎ IfTold (F.holds files.old) (Refuses (names_of table.now) f)) }
     ensures holds { F.holds files.new ≡ F.holds files.old }
     ensures cause { HasCause RepairFault.File (F.faults files.old) (F.faults files.new) result }
 {
@@ -50,12 +52,15 @@ pub(crate) fn open_table<F: Files>(
 
 /// Judges the front of an index file, beside a data file of so many bytes.
 fn judge(alloc: Global, header: &[u8], size: u64) -> Result<Opened, RepairFault>
-    ensures table { IfOk result (λ o. (x d : List ℕ) → header.now ≡ take 65535 x → size ≡ length d → opened_read (read_defs x) d ≡ Ok (o.defs, d)) }
+    ensures table { IfOk result (λ o. (x d : List ℕ) → header.now ≡ take 65535 x → size ≡ length d
+        → opened_read (read_defs x) d ≡ Ok (o.defs, d)) }
     ensures size { IfOk result (λ o. o.length ≡ size) }
     ensures defs { IfOk result (λ o. AreDefs o.defs) }
     ensures header { IfOk result (λ o. AreBytes o.defs.raw) }
     ensures reached { IfOk result (λ o. is_addressable o.defs o.length ≡ true) }
-    ensures refused { IfErr result (λ f. (f ≡ RepairFault.Memory) ⊎ ((x d : List ℕ) → header.now ≡ take 65535 x → size ≡ length d → opened_read (read_defs x) d ≡ Err f)) }
+    ensures refused { IfErr result (λ f. (f ≡ RepairFault.Memory)
+        ⊎ ((x d : List ℕ) → header.now ≡ take 65535 x → size ≡ length d
+        → opened_read (read_defs x) d ≡ Err f)) }
     ensures file { IfErr result (λ f. f ≢ RepairFault.File) }
 {
     match read_defs(alloc, header) {
@@ -65,7 +70,8 @@ fn judge(alloc: Global, header: &[u8], size: u64) -> Result<Opened, RepairFault>
 }
 
 fn of_defs(fault: DefFault) -> RepairFault
-    ensures refused { (result ≡ RepairFault.Memory) ⊎ ((fault ≢ DefFault.Memory) × (result ≡ RepairFault.Def fault)) }
+    ensures refused { (result ≡ RepairFault.Memory)
+        ⊎ ((fault ≢ DefFault.Memory) × (result ≡ RepairFault.Def fault)) }
     ensures file { result ≢ RepairFault.File }
 {
     match fault {
@@ -77,7 +83,8 @@ fn of_defs(fault: DefFault) -> RepairFault
 fn judge_defs(defs: Defs, size: u64) -> Result<Opened, RepairFault>
     requires defs { AreDefs defs }
     requires header { AreBytes defs.raw }
-    ensures table { IfOk result (λ o. (d : List ℕ) → size ≡ length d → opened_read (Ok defs) d ≡ Ok (o.defs, d)) }
+    ensures table { IfOk result (λ o. (d : List ℕ) → size ≡ length d
+        → opened_read (Ok defs) d ≡ Ok (o.defs, d)) }
     ensures size { IfOk result (λ o. o.length ≡ size) }
     ensures defs { IfOk result (λ o. AreDefs o.defs) }
     ensures header { IfOk result (λ o. AreBytes o.defs.raw) }

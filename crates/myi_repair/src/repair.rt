@@ -1,12 +1,12 @@
 //! Repairing a table.
 ghost use Rattle.std.specs.Prelude.{◌≡◌, ◌⊎◌, ◌<◌, ◌^◌, [], Some, Err, All, IfOk, IfErr, OnOk, IsTrue};
-ghost use Rattle.myi_base.specs.Holding.{Holding, Told};
+ghost use Rattle.myi_base.specs.Holding.{IfTold, Told};
 ghost use Rattle.myi_base.specs.Causes.{HasCause};
 ghost use Rattle.myi_defs.specs.ReadDefs.{AreDefs};
 ghost use Rattle.myi_header.specs.StateOf.{IsPlace};
 ghost use Rattle.myi_repair.specs.Faults.{faults_told, RoseAtMost};
 ghost use Rattle.myi_repair.specs.Names.{names_of, names_for, AreApart, KeepsBoth, KeepsBut, Clears, NoWorking};
-ghost use Rattle.myi_repair.specs.Opening.{opened, CutsOff};
+ghost use Rattle.myi_repair.specs.Opening.{Refuses, CutsOff};
 ghost use Rattle.myi_repair.specs.Sized.{AreSizedPairs};
 ghost use Rattle.myi_repair.specs.Building.{trees_of, AreTrees, Builds};
 ghost use Rattle.myi_repair.specs.Repairs.{Repairs, OldOrNew, Completes, CompletesPart};
@@ -35,14 +35,18 @@ pub fn recover<F: Files>(
     requires { IsTrue F.writable }
 
     // The two files are the recovered bytes, which are recovered; the report says how many rows and bytes.
-    ensures repaired { IfOk result (λ said. Told (F.holds files.old) (F.holds files.new) (Repairs name.now extend now said)) }
+    ensures repaired { IfOk result (λ said. Told (F.holds files.old) (F.holds files.new)
+        (Repairs name.now extend now said)) }
 
     // Why a table is refused; nothing is changed then.
-    ensures refused { IfErr result (λ f. CutsOff f ⊎ ((m : Holding) → F.holds files.old ≡ Some m → opened (names_for name.now) m ≡ Err f)) }
+    ensures refused { IfErr result (λ f.
+        CutsOff f ⊎ IfTold (F.holds files.old) (Refuses (names_for name.now) f)) }
     ensures unchanged { IfErr result (λ f. CutsOff f ⊎ (F.holds files.new ≡ F.holds files.old)) }
 
     // Where no other file call failed, nothing was changed by a refusal or no working file is left.
-    ensures cleared { IfErr result (λ f. RoseAtMost (faults_told f) (F.faults files.old) (F.faults files.new) → Told (F.holds files.old) (F.holds files.new) (Clears (names_for name.now))) }
+    ensures cleared { IfErr result (λ f.
+        RoseAtMost (faults_told f) (F.faults files.old) (F.faults files.new)
+        → Told (F.holds files.old) (F.holds files.new) (Clears (names_for name.now))) }
 
     // At every outcome the table's files are the old ones or whole new ones, and other files stay.
     ensures files { Told (F.holds files.old) (F.holds files.new) (OldOrNew name.now extend now) }
@@ -67,10 +71,14 @@ fn complete<F: Files>(
     requires apart { AreApart (names_of table.now) }
     requires defs { AreDefs gathered.defs }
     requires pairs { AreSizedPairs gathered.defs gathered.pairs }
-    ensures done { OnOk result (Told (F.holds files.old) (F.holds files.new) (Completes (names_of table.now) gathered now)) }
+    ensures done { OnOk result (Told (F.holds files.old) (F.holds files.new)
+        (Completes (names_of table.now) gathered now)) }
     ensures said { IfOk result (λ said. said ≡ gathered.report) }
-    ensures whole { Told (F.holds files.old) (F.holds files.new) (CompletesPart (names_of table.now) gathered now) }
-    ensures cleared { IfErr result (λ f. RoseAtMost (faults_told f) (F.faults files.old) (F.faults files.new) → Told (F.holds files.old) (F.holds files.new) (λ _ n. NoWorking (names_of table.now) n)) }
+    ensures whole { Told (F.holds files.old) (F.holds files.new)
+        (CompletesPart (names_of table.now) gathered now) }
+    ensures cleared { IfErr result (λ f.
+        RoseAtMost (faults_told f) (F.faults files.old) (F.faults files.new)
+        → Told (F.holds files.old) (F.holds files.new) (λ _ n. NoWorking (names_of table.now) n)) }
     ensures cut { IfErr result CutsOff }
     ensures others { Told (F.holds files.old) (F.holds files.new) (KeepsBut (names_of table.now)) }
     ensures cause { HasCause RepairFault.File (F.faults files.old) (F.faults files.new) result }
@@ -93,12 +101,16 @@ fn build<F: Files>(
     requires defs { AreDefs gathered.old.defs }
     requires pairs { AreSizedPairs gathered.old.defs gathered.old.pairs }
     ensures left { gathered.new ≡ record gathered.old { pairs = [] } }
-    ensures built { OnOk result (Told (F.holds files.old) (F.holds files.new) (Builds gathered.old.defs gathered.old.pairs (names_of table.now).new_index)) }
-    ensures rows { OnOk result (Told (F.holds files.old) (F.holds files.new) (λ m n. n (names_of table.now).new_rows ≡ m (names_of table.now).new_rows)) }
+    ensures built { OnOk result (Told (F.holds files.old) (F.holds files.new)
+        (Builds gathered.old.defs gathered.old.pairs (names_of table.now).new_index)) }
+    ensures rows { OnOk result (Told (F.holds files.old) (F.holds files.new)
+        (λ m n. n (names_of table.now).new_rows ≡ m (names_of table.now).new_rows)) }
     ensures trees { IfOk result (AreTrees gathered.old.defs gathered.old.pairs) }
     ensures places { IfOk result (λ trees. All IsPlace trees.roots.items) }
     ensures both { Told (F.holds files.old) (F.holds files.new) (KeepsBoth (names_of table.now)) }
-    ensures cleared { IfErr result (λ f. RoseAtMost (faults_told f) (F.faults files.old) (F.faults files.new) → Told (F.holds files.old) (F.holds files.new) (λ _ n. NoWorking (names_of table.now) n)) }
+    ensures cleared { IfErr result (λ f.
+        RoseAtMost (faults_told f) (F.faults files.old) (F.faults files.new)
+        → Told (F.holds files.old) (F.holds files.new) (λ _ n. NoWorking (names_of table.now) n)) }
     ensures cut { IfErr result CutsOff }
     ensures others { Told (F.holds files.old) (F.holds files.new) (KeepsBut (names_of table.now)) }
     ensures cause { HasCause RepairFault.File (F.faults files.old) (F.faults files.new) result }

@@ -1,5 +1,5 @@
 //! The trees of the new index file.
-ghost use Rattle.std.specs.Prelude.{◌≡◌, ◌⊎◌, ◌+◌, ◌*◌, ◌%◌, ◌≤◌, ◌<◌, length, All, IfOk, IfErr, OnOk, IsTrue};
+ghost use Rattle.std.specs.Prelude.{◌≡◌, ◌⊎◌, ◌↔◌, ◌+◌, ◌*◌, ◌%◌, ◌≤◌, ◌<◌, length, All, IfOk, IfErr, OnOk, IsTrue};
 ghost use Rattle.myi_base.specs.Holding.{Told, OthersStay};
 ghost use Rattle.myi_base.specs.Causes.{HasCause};
 ghost use Rattle.myi_defs.specs.ReadDefs.{AreDefs};
@@ -12,7 +12,6 @@ ghost use Rattle.myi_btree.specs.Building.{CanLay, Lays};
 ghost use Rattle.myi_pair.specs.KeyList.{sorted};
 ghost use Rattle.myi_pair.specs.Trees.{place_of};
 ghost use Rattle.myi_repair.specs.Opening.{CutsOff};
-ghost use Rattle.myi_repair.specs.Faults.{of_tree, of_cache};
 ghost use Rattle.myi_repair.specs.Sized.{AreSizedPairs};
 ghost use Rattle.myi_repair.specs.Building.{AreTrees, Builds, LaysTrees};
 
@@ -66,7 +65,8 @@ pub(crate) fn build_trees<F: Files>(
     requires writable { IsTrue F.writable }
     requires defs { AreDefs defs.now }
     requires pairs { AreSizedPairs defs.now pairs.items }
-    ensures built { OnOk result (Told (F.holds files.old) (F.holds files.new) (Builds defs.now pairs.items file.now)) }
+    ensures built { OnOk result (Told (F.holds files.old) (F.holds files.new)
+        (Builds defs.now pairs.items file.now)) }
     ensures trees { IfOk result (AreTrees defs.now pairs.items) }
     ensures places { IfOk result (λ trees. All IsPlace trees.roots.items) }
     ensures cut { IfErr result CutsOff }
@@ -93,12 +93,14 @@ fn lay_trees<F: Files>(
     requires writable { IsTrue F.writable }
     requires sound { IsSound defs.now }
     requires pairs { AreSizedPairs defs.now pairs.items }
-    ensures laid { OnOk result (Told (F.holds files.old) (F.holds files.new) (LaysTrees defs.now pairs.items cache.old cache.new)) }
+    ensures laid { OnOk result (Told (F.holds files.old) (F.holds files.new)
+        (LaysTrees defs.now pairs.items cache.old cache.new)) }
     ensures trees { IfOk result (AreTrees defs.now pairs.items) }
     ensures places { IfOk result (λ trees. All IsPlace trees.roots.items) }
     ensures name { cache.new.name ≡ cache.old.name }
     ensures cut { IfErr result CutsOff }
-    ensures others { Told (F.holds files.old) (F.holds files.new) (λ m n. CanLay cache.old m (first_page_of defs.now) → OthersStay cache.old.name m n) }
+    ensures others { Told (F.holds files.old) (F.holds files.new)
+        (λ m n. CanLay cache.old m (first_page_of defs.now) → OthersStay cache.old.name m n) }
     ensures cause { HasCause RepairFault.File (F.faults files.old) (F.faults files.new) result }
 {
     let mut room = Room {
@@ -144,12 +146,16 @@ fn build_tree<F: Files>(
     requires sized { AreSized place pairs }
     ensures laid { OnOk result (Told (F.holds files.old) (F.holds files.new) (λ m n.
         CanLay cache.old m room.old.end
-        → Lays place room.old.end (laid (fits_in place) place.block_length room.old.end (sorted pairs)) cache.old cache.new m n)) }
-    ensures root { IfOk result (λ root. root ≡ root_of place.block_length room.old.end (laid (fits_in place) place.block_length room.old.end (sorted pairs))) }
-    ensures end { OnOk result (room.new.end ≡ room.old.end + place.block_length * length (laid (fits_in place) place.block_length room.old.end (sorted pairs))) }
+        → Lays place room.old.end (laid (fits_in place) place.block_length room.old.end (sorted pairs))
+        cache.old cache.new m n)) }
+    ensures root { IfOk result (λ root. root ≡ root_of place.block_length room.old.end
+        (laid (fits_in place) place.block_length room.old.end (sorted pairs))) }
+    ensures end { OnOk result (room.new.end ≡ room.old.end + place.block_length
+        * length (laid (fits_in place) place.block_length room.old.end (sorted pairs))) }
     ensures name { cache.new.name ≡ cache.old.name }
     ensures cut { IfErr result CutsOff }
-    ensures others { Told (F.holds files.old) (F.holds files.new) (λ m n. CanLay cache.old m room.old.end → OthersStay cache.old.name m n) }
+    ensures others { Told (F.holds files.old) (F.holds files.new)
+        (λ m n. CanLay cache.old m room.old.end → OthersStay cache.old.name m n) }
     ensures cause { HasCause RepairFault.File (F.faults files.old) (F.faults files.new) result }
 {
     let mut pairs = pairs.into_vec();
@@ -162,7 +168,8 @@ fn build_tree<F: Files>(
 
 fn of_build(fault: TreeFault) -> RepairFault
     requires { (fault ≡ TreeFault.File) ⊎ (fault ≡ TreeFault.Memory) }
-    ensures { result ≡ of_tree fault }
+    ensures file { (result ≡ RepairFault.File) ↔ (fault ≡ TreeFault.File) }
+    ensures cut { CutsOff result }
 {
     match fault {
         TreeFault::File => RepairFault::File,
@@ -174,7 +181,8 @@ fn of_build(fault: TreeFault) -> RepairFault
 
 fn of_flush(fault: CacheFault) -> RepairFault
     requires { (fault ≡ CacheFault.File) ⊎ (fault ≡ CacheFault.Memory) }
-    ensures { result ≡ of_cache fault }
+    ensures file { (result ≡ RepairFault.File) ↔ (fault ≡ CacheFault.File) }
+    ensures cut { CutsOff result }
 {
     match fault {
         CacheFault::File => RepairFault::File,

@@ -19,4 +19,4 @@ pub says_part : (request : Request) (files : Option Holding) (old new : Option (
     → ((w : List ℕ) → old ≡ Some w → (k : ℕ) × (new ≡ Some (w ++ take k line)))
     → Says request files old new s
 says_part request files old new e s line is said wrote =
-    inl (subst IsFault (sym is) (output_faults e), λ m w told was. let part = wrote w was in (part.0, part.1 ∙ ap (λ l. Some (w ++ take part.0 l)) (said m told)))
+    inl (subst IsFault (sym is) (output_faults e), λ m told w was. let part = wrote w was in (part.0, part.1 ∙ ap (λ l. Some (w ++ take part.0 l)) (said m told)))

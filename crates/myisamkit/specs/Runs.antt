@@ -1,6 +1,6 @@
 -- What a run does, says and answers, by what the words ask for and what the files hold.
 use Rattle.std.specs.Prelude.{◌≡◌, ◌⊎◌, ℕ, Bool, List, ◌++◌, take, Option, Some, Result, Ok, Err}
-use Rattle.myi_base.specs.Holding.{Holding}
+use Rattle.myi_base.specs.Holding.{Holding, IfTold}
 use Rattle.myi_repair.specs.declared.fault.RepairFault.{RepairFault}
 use Rattle.myi_repair.specs.declared.fault.RepairFault.TheVariants as repair
 use Rattle.myi_repair.specs.Names.{names_for, KeepsBut, Clears}
@@ -37,6 +37,14 @@ repair_status (Ok t) = status.Ok
 abbrev pub status_of : Request → Holding → Status
 status_of usage m = status.Usage
 status_of (recover extend name) m = repair_status (opened (names_for name) m)
+
+-- this text is what the request says on these files
+abbrev pub IsText : Request → List ℕ → Holding → Type 0
+IsText request line m = line ≡ text request m
+
+-- this status is what the request answers on these files
+abbrev pub IsStatus : Request → Status → Holding → Type 0
+IsStatus request status m = status ≡ status_of request m
 
 -- these three cut a run off
 abbrev pub IsFault : Status → Type 0
@@ -81,11 +89,11 @@ Does (recover extend name) now m n = Repairs name extend now (opened (names_for 
 
 -- what was written is the text for these files
 abbrev pub SaysAll : Request → Option Holding → Option (List ℕ) → Option (List ℕ) → Type 0
-SaysAll request files old new = (m : Holding) (w : List ℕ) → files ≡ Some m → old ≡ Some w → new ≡ Some (w ++ text request m)
+SaysAll request files old new = IfTold files (λ m. IfTold old (λ w. new ≡ Some (w ++ text request m)))
 
 -- what was written is a prefix of the text
 abbrev pub SaysPart : Request → Option Holding → Option (List ℕ) → Option (List ℕ) → Type 0
-SaysPart request files old new = (m : Holding) (w : List ℕ) → files ≡ Some m → old ≡ Some w → (k : ℕ) × (new ≡ Some (w ++ take k (text request m)))
+SaysPart request files old new = IfTold files (λ m. IfTold old (λ w. (k : ℕ) × (new ≡ Some (w ++ take k (text request m)))))
 
 abbrev pub Says : Request → Option Holding → Option (List ℕ) → Option (List ℕ) → Status → Type 0
 Says request files old new s = (IsFault s × SaysPart request files old new) ⊎ ((IsFault s → ⊥) × SaysAll request files old new)

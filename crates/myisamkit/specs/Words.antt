@@ -1,8 +1,9 @@
 -- What the words of a command line ask for (MySQL Reference Manual, "myisamchk"; the commands are this
 -- project's own).
-use Rattle.std.specs.Prelude.{◌-◌, ◌&&◌, ◌||◌, true, false, ◌==◌, not, nat_lt, nat_le, ℕ, Bool, List, [], ◌∷◌, length, take, drop, slice_index, if◌then◌else◌, codes}
+use Rattle.std.specs.Prelude.{◌-◌, ◌&&◌, ◌||◌, true, false, ◌==◌, not, nat_lt, nat_le, ℕ, Bool, List, [], ◌∷◌, length, take, drop, map, slice_index, if◌then◌else◌, codes, String, string_bytes}
 use Rattle.std.specs.List.{list_all}
 use Rattle.std.specs.Str.{bytes_eq}
+use Rattle.std.specs.declared.alloc.Global.{Global}
 
 -- One command with its options and names, or a refusal. A repair of a table has every position tried or not.
 pub data Request : Type 0 where
@@ -42,3 +43,7 @@ abbrev pub plan : List (List ℕ) → Request
 plan (command ∷ mode ∷ word ∷ []) = plan_recover false command mode word
 plan (command ∷ mode ∷ option ∷ word ∷ []) = if is_extend option then plan_recover true command mode word else usage
 plan words = usage
+
+-- what these words ask for
+abbrev pub request_of : List (String Global) → Request
+request_of words = plan (map (λ w. string_bytes w) words)

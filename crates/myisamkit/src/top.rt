@@ -1,11 +1,11 @@
 //! The top call.
-ghost use Rattle.std.specs.Prelude.{◌≡◌, ◌≢◌, ◌⊎◌, ◌↔◌, Some, map, string_bytes, IfOk, IfErr, OnOk, IsTrue};
-ghost use Rattle.myi_base.specs.Holding.{Holding, Told};
+ghost use Rattle.std.specs.Prelude.{◌≡◌, ◌⊎◌, ◌↔◌, string_bytes, IfOk, IfErr, OnOk, IsTrue};
+ghost use Rattle.myi_base.specs.Holding.{IfTold, Told};
 ghost use Rattle.myi_base.specs.Causes.{Rose, HasCause};
 ghost use Rattle.myi_repair.specs.Faults.{RoseAtMost};
-ghost use Rattle.myisamkit.specs.Words.{plan, usage};
+ghost use Rattle.myisamkit.specs.Words.{request_of, usage};
 ghost use Rattle.myisamkit.specs.Stops.{status_of_stop};
-ghost use Rattle.myisamkit.specs.Runs.{text, status_of, faults_told, IsFault, Says, LeavesWhole, LeavesNoWorking, Does};
+ghost use Rattle.myisamkit.specs.Runs.{IsText, IsStatus, faults_told, IsFault, Says, LeavesWhole, LeavesNoWorking, Does};
 
 use crate::lines::usage_line;
 use crate::recover::recover_table;
@@ -26,21 +26,25 @@ pub fn kit<F: Files, O: Sink>(
     requires { IsTrue F.writable }
 
     // What is written is the text that the words have on these files; a fault may cut it off.
-    ensures text { Says (plan (map (λ w. string_bytes w) words.now)) (F.holds files.old) (O.written out.old) (O.written out.new) result }
+    ensures text { Says (request_of words.now) (F.holds files.old)
+        (O.written out.old) (O.written out.new) result }
 
     // Where no fault cuts the run off, the status is the defined one.
-    ensures status { (m : Holding) → F.holds files.old ≡ Some m → IsFault result ⊎ (result ≡ status_of (plan (map (λ w. string_bytes w) words.now)) m) }
-    ensures usage { IsFault result ⊎ ((plan (map (λ w. string_bytes w) words.now) ≡ usage) ↔ (result ≡ Status.Usage)) }
+    ensures status { IfTold (F.holds files.old) (λ m.
+        IsFault result ⊎ IsStatus (request_of words.now) result m) }
+    ensures usage { IsFault result ⊎ ((request_of words.now ≡ usage) ↔ (result ≡ Status.Usage)) }
 
     // At each status a table's files are the old ones or whole new ones, and other files stay.
-    ensures files { Told (F.holds files.old) (F.holds files.new) (LeavesWhole (plan (map (λ w. string_bytes w) words.now)) now) }
+    ensures files { Told (F.holds files.old) (F.holds files.new) (LeavesWhole (request_of words.now) now) }
 
     // Where no file call failed but the one that the status tells of, nothing was changed or no working file
     // is left.
-    ensures cleared { RoseAtMost (faults_told result) (F.faults files.old) (F.faults files.new) → Told (F.holds files.old) (F.holds files.new) (LeavesNoWorking (plan (map (λ w. string_bytes w) words.now))) }
+    ensures cleared { RoseAtMost (faults_told result) (F.faults files.old) (F.faults files.new)
+        → Told (F.holds files.old) (F.holds files.new) (LeavesNoWorking (request_of words.now)) }
 
     // Where no fault cuts the work off, the work is done. A fault of the output comes after it.
-    ensures done { (result ≡ Status.FileFault) ⊎ ((result ≡ Status.Memory) ⊎ Told (F.holds files.old) (F.holds files.new) (Does (plan (map (λ w. string_bytes w) words.now)) now)) }
+    ensures done { (result ≡ Status.FileFault) ⊎ ((result ≡ Status.Memory)
+        ⊎ Told (F.holds files.old) (F.holds files.new) (Does (request_of words.now) now)) }
 
     // A fault has its cause.
     ensures file { result ≡ Status.FileFault → Rose (F.faults files.old) (F.faults files.new) }
@@ -63,13 +67,17 @@ fn work<F: Files>(
     now: u64,
 ) -> Result<(Status, String), Stop>
     requires { IsTrue F.writable }
-    ensures said { IfOk result (λ r. (m : Holding) → F.holds files.old ≡ Some m → string_bytes r.1 ≡ text (plan (map (λ w. string_bytes w) words.now)) m) }
-    ensures status { IfOk result (λ r. (m : Holding) → F.holds files.old ≡ Some m → r.0 ≡ status_of (plan (map (λ w. string_bytes w) words.now)) m) }
+    ensures said { IfOk result (λ r. IfTold (F.holds files.old)
+        (IsText (request_of words.now) (string_bytes r.1))) }
+    ensures status { IfOk result (λ r. IfTold (F.holds files.old) (IsStatus (request_of words.now) r.0)) }
     ensures plain { IfOk result (λ r. IsFault r.0 → ⊥) }
-    ensures usage { IfOk result (λ r. (plan (map (λ w. string_bytes w) words.now) ≡ usage) ↔ (r.0 ≡ Status.Usage)) }
-    ensures files { Told (F.holds files.old) (F.holds files.new) (LeavesWhole (plan (map (λ w. string_bytes w) words.now)) now) }
-    ensures cleared { IfErr result (λ s. RoseAtMost (faults_told (status_of_stop s)) (F.faults files.old) (F.faults files.new) → Told (F.holds files.old) (F.holds files.new) (LeavesNoWorking (plan (map (λ w. string_bytes w) words.now)))) }
-    ensures done { OnOk result (Told (F.holds files.old) (F.holds files.new) (Does (plan (map (λ w. string_bytes w) words.now)) now)) }
+    ensures usage { IfOk result (λ r. (request_of words.now ≡ usage) ↔ (r.0 ≡ Status.Usage)) }
+    ensures files { Told (F.holds files.old) (F.holds files.new) (LeavesWhole (request_of words.now) now) }
+    ensures cleared { IfErr result (λ s.
+        RoseAtMost (faults_told (status_of_stop s)) (F.faults files.old) (F.faults files.new)
+        → Told (F.holds files.old) (F.holds files.new) (LeavesNoWorking (request_of words.now))) }
+    ensures done { OnOk result (Told (F.holds files.old) (F.holds files.new)
+        (Does (request_of words.now) now)) }
     ensures cause { HasCause Stop.File (F.faults files.old) (F.faults files.new) result }
 {
     match read_words(words) {

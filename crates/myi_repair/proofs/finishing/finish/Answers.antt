@@ -3,7 +3,7 @@ use Rattle.myi_repair.proofs.FilesLaws.{apart_of}
 use Rattle.myi_repair.proofs.finishing.finish.Goals as goal
 
 pub finish_table-requires-clause-apart : goal.finish_table-requires-clause-apart
-finish_table-requires-clause-apart g c = apart_of _ c.args.name.now c.in_ok-table.ensures
+finish_table-requires-clause-apart g c κs lives = apart_of _ c.args.name.now c.in_ok-table.ensures
 
 pub finish_table-requires-clause-sound : goal.finish_table-requires-clause-sound
-finish_table-requires-clause-sound g c = sound c.args.gathered.now.defs c.requires.defs
+finish_table-requires-clause-sound g c κs lives = sound c.args.gathered.now.defs c.requires.defs

@@ -1,5 +1,6 @@
 use Rattle.std.proofs.Common.{arith}
 use Rattle.std.proofs.lemmas.Result.{IfOk-weaker}
+use Rattle.myi_base.proofs.CallerLemmas.{told_then}
 use Rattle.myi_repair.specs.Names.{names_of}
 use Rattle.myi_repair.proofs.FilesLaws.{apart_of}
 use Rattle.myi_repair.proofs.OpenLaws.{both_ok}
@@ -7,15 +8,13 @@ use Rattle.myi_repair.proofs.RepairLaws.{repaired}
 use Rattle.myi_repair.proofs.repair.recover.Goals as goal
 
 pub gather_table-requires-clause-apart : goal.gather_table-requires-clause-apart
-gather_table-requires-clause-apart g c = apart_of _ c.args.name.now c.in_ok-table.ensures
+gather_table-requires-clause-apart g c κs lives = apart_of _ c.args.name.now c.in_ok-table.ensures
 
 pub complete-requires-clause-apart : goal.complete-requires-clause-apart
-complete-requires-clause-apart g c = apart_of _ c.args.name.now c.in_ok-table.ensures
+complete-requires-clause-apart g c κs lives = apart_of _ c.args.name.now c.in_ok-table.ensures
 
 pub returns-clause-repaired : goal.returns-clause-repaired
 returns-clause-repaired g c =
-    IfOk-weaker c.complete.result _ _ (λ said all m told.
-    let gathered = c.in_ok-gathered.ensures.gathered m told in
-    let done = all.0 gathered.0 gathered.1 in
-    (done.0, done.1, repaired c.args.name.now (names_of c.in_ok-table.table) c.args.extend c.args.now c.in_ok-gathered.gathered said m gathered.0 done.0 c.in_ok-table.ensures c.in_ok-gathered.ensures.defs c.in_ok-gathered.ensures.header (omega arith) gathered.2 all.1 done.2))
+    IfOk-weaker c.complete.result _ _ (λ said all. told_then _ _ _ _ _ _ c.in_ok-gathered.ensures.gathered all.0 (λ m k n gathered done.
+    repaired c.args.name.now (names_of c.in_ok-table.table) c.args.extend c.args.now c.in_ok-gathered.gathered said m k n c.in_ok-table.ensures c.in_ok-gathered.ensures.defs c.in_ok-gathered.ensures.header (omega arith) gathered all.1 done))
     (both_ok c.complete.result _ _ c.complete.ensures.done c.complete.ensures.said)

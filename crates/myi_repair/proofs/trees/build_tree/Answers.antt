@@ -6,7 +6,7 @@ use Rattle.myi_repair.proofs.TreeLaws.{sorted_sized}
 use Rattle.myi_repair.proofs.trees.build_tree.Goals as goal
 
 pub build-requires-clause-sized : goal.build-requires-clause-sized
-build-requires-clause-sized g c =
+build-requires-clause-sized g c κs lives =
     let is : c.deref.result.now ≡ sorted c.args.pairs = c.deref.ensures.value ∙ sorted_is _ _ c.sort_unstable.ensures.permutation c.sort_unstable.ensures.sorted ∙ ap sorted c.into_vec-pairs.ensures in
     subst (AreSized c.args.place) (sym is) (sorted_sized c.args.place c.args.pairs c.requires.sized)
 

@@ -3,6 +3,7 @@ use Rattle.std.proofs.lemmas.List.{length_push}
 use Rattle.std.proofs.lemmas.Iterator.Adapters.{YieldsList-from_vec}
 use Rattle.std.proofs.lemmas.Iterator.Consumers.{YieldsList-turn, YieldsList-end}
 use Rattle.std.specs.List.{AllByRecursion}
+use Rattle.myi_base.proofs.CallerLemmas.{told_more, told_then}
 use Rattle.myi_keys.specs.Limits.{IsKey}
 use Rattle.myi_btree.specs.declared.pair.Pair.{Pair}
 use Rattle.myi_btree.specs.Sizes.{AreSized}
@@ -44,27 +45,21 @@ loop-pairs-preserved g c =
       laid = subst (λ n. AreLaidTo d lists n c.build_tree.new.room.end c.push.new.self.roots.items) (sym more)
           (subst (AreLaidTo d lists (i + 1) c.build_tree.new.room.end) (sym c.in_ok-push.ensures.roots)
           (laid_next d lists i end ps turn.0 c.requires.pairs.all turn.1 c.build_tree.new.room.end c.in_ok-root.root c.loop-pairs.trees.roots.items can.placed ended short root was.laid));
-      told = λ m told.
-          let before = was.told m told in
-          let laid = one.laid before.0 before.1 in (
-            laid.0,
-            laid.1,
-            subst (λ n. LaysTo d lists n c.build_tree.new.room.end c.args.cache.now c.build_tree.new.cache m laid.0) (sym more)
-                (lays_next d lists i end ps turn.0 c.requires.pairs.all turn.1 c.build_tree.new.room.end c.args.cache.now c.loop-pairs.cache c.build_tree.new.cache m before.0 laid.0 can ended was.name (rw place at laid.2) before.2),
-          );
+      told = told_then _ _ _ _ _ _ was.told one.laid (λ m k n before laid.
+          subst (λ count. LaysTo d lists count c.build_tree.new.room.end c.args.cache.now c.build_tree.new.cache m n) (sym more)
+          (lays_next d lists i end ps turn.0 c.requires.pairs.all turn.1 c.build_tree.new.room.end c.args.cache.now c.loop-pairs.cache c.build_tree.new.cache m k n can ended was.name (rw place at laid) before));
       name = one.name ∙ was.name;
       later = omega (arith, was.later, one.cause.later);
     }
 
 pub returns-clause-laid : goal.returns-clause-laid
-returns-clause-laid g c m told =
+returns-clause-laid g c =
     let was = c.loop-pairs.invariant in
     let d = c.args.defs.now in
     let lists = c.args.pairs.items in
     let given = c.into_iter-pairs-iterator.ensures.into_iter_gives in
     let all = YieldsList-end (YieldsList-from_vec {s = c.into_iter-pairs-iterator.result} lists given.0 (omega (arith, given.1, c.args.pairs.ok.0))) c.loop-pairs.yielded c.loop-pairs.pairs-iterator c.loop-pairs.yielded_by c.next.result c.next.new.self c.in-None.is c.next.ensures.steps in
-    let before = was.told m told in
-    (before.0, before.1, lays_all d lists (length c.loop-pairs.yielded) c.loop-pairs.room.end c.args.cache.now c.loop-pairs.cache m before.0 all.1 c.requires.pairs.all (laid_all d lists (length c.loop-pairs.yielded) c.loop-pairs.room.end c.loop-pairs.trees.roots.items all.1 c.requires.pairs.all was.laid).1 before.2)
+    told_more _ _ _ _ was.told (λ m n held before. lays_all d lists (length c.loop-pairs.yielded) c.loop-pairs.room.end c.args.cache.now c.loop-pairs.cache m n all.1 c.requires.pairs.all (laid_all d lists (length c.loop-pairs.yielded) c.loop-pairs.room.end c.loop-pairs.trees.roots.items all.1 c.requires.pairs.all was.laid).1 before)
 
 pub returns-clause-trees : goal.returns-clause-trees
 returns-clause-trees g c =

@@ -5,6 +5,7 @@ use Rattle.myi_keys.specs.declared.values.KeySeg.{KeySeg}
 use Rattle.myi_repair.specs.Keeping.{lists_in, with_pairs}
 use Rattle.myi_repair.proofs.PairLaws.{length-row_keys}
 use Rattle.myi_repair.proofs.KeepLaws.{decided, kept_same, kept_next, counted_next, written_same, written_new}
+use Rattle.myi_base.proofs.CallerLemmas.{told_same, told_more}
 use Rattle.myi_repair.proofs.kept.KeptRows.take.Goals as goal
 
 pub keys_of-requires-clause-sound : goal.keys_of-requires-clause-sound
@@ -27,14 +28,11 @@ returns-then-has_any-clause-kept g c rows has =
     kept_same d rows c.args.row.now c.args.self.now _ repeat refl refl refl refl has
 
 pub returns-then-has_any-clause-written : goal.returns-then-has_any-clause-written
-returns-then-has_any-clause-written g c m told = (
-  m,
-  told,
-  λ rows has here.
-      let d = c.args.defs.now in
-      let repeat = decided d rows c.args.row.now c.args.self.now.seen c.in_ok-unique.unique.items c.deref-2.result.now c.deref.result.now c.has_any.result has.noted c.in_ok-unique.ensures (c.deref.ensures.value ∙ c.in_ok-keys.ensures) c.deref-2.ensures.value c.has_any.ensures ∙ c.if-has_any.true in
-      written_same d rows c.args.row.now c.args.file.now m repeat here,
-)
+returns-then-has_any-clause-written g c =
+    told_same _ _ _ refl (λ m held rows has here.
+    let d = c.args.defs.now in
+    let repeat = decided d rows c.args.row.now c.args.self.now.seen c.in_ok-unique.unique.items c.deref-2.result.now c.deref.result.now c.has_any.result has.noted c.in_ok-unique.ensures (c.deref.ensures.value ∙ c.in_ok-keys.ensures) c.deref-2.ensures.value c.has_any.ensures ∙ c.if-has_any.true in
+    written_same d rows c.args.row.now c.args.file.now m repeat here)
 
 pub add-requires : goal.add-requires
 add-requires g c =
@@ -56,12 +54,8 @@ returns-clause-kept g c rows has =
     kept_next d rows c.args.row.now c.args.self.now c.put.new.self c.add.new.self c.in_ok-unique.unique.items c.deref.result.now c.pointer.result new c.in_ok-put.ensures.counts c.pointer.ensures (c.deref.ensures.value ∙ c.in_ok-keys.ensures) c.in_ok-unique.ensures (added.pairs ∙ ap (λ ks. with_pairs c.pointer.result ks (lists_in c.put.new.self)) (sym c.deref.ensures.value)) added.kept added.end added.noted has
 
 pub returns-clause-written : goal.returns-clause-written
-returns-clause-written g c m told =
-    let wrote = c.in_ok-put.ensures.written m told in (
-      wrote.0,
-      wrote.1,
-      λ rows has here.
-          let d = c.args.defs.now in
-          let new = decided d rows c.args.row.now c.args.self.now.seen c.in_ok-unique.unique.items c.deref-2.result.now c.deref.result.now c.has_any.result has.noted c.in_ok-unique.ensures (c.deref.ensures.value ∙ c.in_ok-keys.ensures) c.deref-2.ensures.value c.has_any.ensures ∙ c.if-has_any.false in
-          written_new d rows c.args.row.now c.args.self.now c.args.file.now m wrote.0 new has here wrote.2,
-    )
+returns-clause-written g c =
+    told_more _ _ _ _ c.in_ok-put.ensures.written (λ m n held wrote rows has here.
+    let d = c.args.defs.now in
+    let new = decided d rows c.args.row.now c.args.self.now.seen c.in_ok-unique.unique.items c.deref-2.result.now c.deref.result.now c.has_any.result has.noted c.in_ok-unique.ensures (c.deref.ensures.value ∙ c.in_ok-keys.ensures) c.deref-2.ensures.value c.has_any.ensures ∙ c.if-has_any.false in
+    written_new d rows c.args.row.now c.args.self.now c.args.file.now m n new has here wrote)
