@@ -5,7 +5,6 @@ use Rattle.std.proofs.lemmas.Bool.{cases_lt, cases_Bool, le-leb, leb-true, ltb-t
 use Rattle.std.proofs.lemmas.List.{length-append, length-map, length-drop, length-take}
 use Rattle.myi_base.specs.Holding.{Holding}
 use Rattle.myi_keys.specs.Limits.{IsKey}
-use Rattle.myi_keys.specs.Codes.{key_code}
 use Rattle.myi_keys.proofs.CallerLemmas.{key_read}
 use Rattle.myi_keypage.specs.declared.entry.Entry.{Entry}
 use Rattle.myi_keypage.specs.Page.{Page, page_with, page_bytes, is_node, IsPlace, IsBranching, IsWritable}

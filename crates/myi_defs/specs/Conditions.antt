@@ -1,6 +1,6 @@
 -- The conditions on which a table is refused, from the third on. The first two are asked of the bytes
 -- themselves and stand with read definitions. Which tables are refused is this project's own choice.
-use Rattle.std.specs.Prelude.{◌≡◌, ℕ, ◌+◌, ◌-◌, ◌*◌, ◌/◌, ◌%◌, ◌^◌, Bool, true, false, not, ◌&&◌, ◌||◌, ◌==◌, nat_lt, nat_le, bit_and, if◌then◌else◌, List, [], ◌∷◌, length, sum_by, count_by, Option, Some, None, is_none}
+use Rattle.std.specs.Prelude.{◌≡◌, ℕ, ◌+◌, ◌*◌, ◌/◌, ◌%◌, ◌^◌, Bool, true, false, not, ◌&&◌, ◌||◌, ◌==◌, nat_lt, nat_le, bit_and, if◌then◌else◌, List, [], ◌∷◌, length, sum_by, count_by, Option, Some, None, is_none}
 use Rattle.std.specs.List.{list_any}
 use Rattle.myi_defs.specs.declared.types.RowFormat.{RowFormat}
 use Rattle.myi_defs.specs.declared.types.RowFormat.TheVariants.{Static, Dynamic}

@@ -19,8 +19,10 @@ pub fn definitions_are_sound()
 /// Definitions rest on the header alone, and of it neither on the state nor on the mark. No header is
 /// longer than 65,535 bytes, so that much of an index file is enough to read them.
 pub fn definitions_rest_on_the_header()
-    ensures front { (n : ℕ) (x : List ℕ) → 65535 ≤ n → AreBytes (take n x) → read_defs (take n x) ≡ read_defs x }
-    ensures elsewhere { (d : Defs) (y : List ℕ) → AreDefs d → AgreeOutsideState d.raw y → read_defs y ≡ Ok (record d { raw = take (num_at 6 2 d.raw) y }) }
+    ensures front { (n : ℕ) (x : List ℕ) → 65535 ≤ n → AreBytes (take n x)
+        → read_defs (take n x) ≡ read_defs x }
+    ensures elsewhere { (d : Defs) (y : List ℕ) → AreDefs d → AgreeOutsideState d.raw y
+        → read_defs y ≡ Ok (record d { raw = take (num_at 6 2 d.raw) y }) }
 {}
 
 /// The definitions that are read of the header of an empty table print that header again.

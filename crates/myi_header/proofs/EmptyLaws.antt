@@ -1,5 +1,5 @@
 -- The header of an empty table is the one with the empty state.
-use Rattle.std.proofs.Common.{◌≡◌, ℕ, zero, suc, ◌+◌, ◌-◌, ◌*◌, ◌^◌, ◌<◌, ◌≤◌, Option, None, List, [], ◌∷◌, ◌++◌, length, take, drop, map, replicate, min, Ok, refl, sym, ap, subst, ◌∙◌, arith, append_assoc}
+use Rattle.std.proofs.Common.{◌≡◌, ℕ, zero, suc, ◌+◌, ◌-◌, ◌*◌, ◌^◌, ◌<◌, Option, None, List, [], ◌∷◌, ◌++◌, length, take, drop, map, replicate, Ok, refl, sym, ap, subst, ◌∙◌, arith, append_assoc}
 use Rattle.std.proofs.lemmas.List.{take_at, drop_at, length-append, length-replicate, replicate-append-replicate}
 use Rattle.std.proofs.lemmas.List.Elements.{All-replicate}
 use Rattle.myi_base.specs.Numbers.{AreBytes, num_at, num_bytes, pointer_number}
@@ -13,11 +13,10 @@ use Rattle.myi_defs.specs.Sound.{IsSound}
 use Rattle.myi_defs.specs.ReadDefs.{read_defs, AreDefs}
 use Rattle.myi_defs.specs.EmptyTable as empties
 use Rattle.myi_defs.proofs.CallerLemmas.{sound, are_defs, printed-again}
-use Rattle.myi_header.specs.declared.state.State.{State}
 use Rattle.myi_header.specs.Parts.{part}
 use Rattle.myi_header.specs.Layout.{layout_of, page_sizes, key_parts, first_page_of}
-use Rattle.myi_header.specs.StateOf.{IsPlace, rest_length, read_state}
-use Rattle.myi_header.specs.HeaderOf.{count_widths, counts, root_bytes, middle_length, FitsWidths, state_bytes, IsStored, header_of}
+use Rattle.myi_header.specs.StateOf.{IsPlace, read_state}
+use Rattle.myi_header.specs.HeaderOf.{count_widths, counts, root_bytes, middle_length, state_bytes, IsStored, header_of}
 use Rattle.myi_header.specs.EmptyState.{empty_state}
 use Rattle.myi_header.proofs.PrintLaws.{base_is}
 use Rattle.myi_header.proofs.HeaderLaws.{header-read}

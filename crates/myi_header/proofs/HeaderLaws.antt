@@ -1,7 +1,7 @@
 -- The header with a state, at the front of any file: how long it is, and what is read of it.
-use Rattle.std.proofs.Common.{◌≡◌, ℕ, ◌+◌, ◌-◌, ◌*◌, ◌<◌, ◌≤◌, true, zero, suc, Option, List, [], ◌∷◌, ◌++◌, length, take, drop, map, replicate, get_or, bytes_eq, Ok, refl, sym, ap, subst, ◌∙◌, arith, append_assoc, length-append}
+use Rattle.std.proofs.Common.{◌≡◌, ℕ, ◌+◌, ◌-◌, ◌*◌, ◌≤◌, true, zero, suc, Option, List, [], ◌∷◌, ◌++◌, length, take, drop, map, replicate, get_or, bytes_eq, Ok, refl, ap, ◌∙◌, arith, append_assoc, length-append}
 use Rattle.std.proofs.lemmas.Bool.{le-ltb}
-use Rattle.std.proofs.lemmas.List.{take-append-le, drop-append-le, drop-take, take-take, take_all, length-take-le, length-drop, length-replicate}
+use Rattle.std.proofs.lemmas.List.{take-append-le, drop-append-le, drop-take, take-take, length-take-le, length-drop, length-replicate}
 use Rattle.myi_base.specs.Numbers.{num_at, num_bytes, pointer_of, pointer_number}
 use Rattle.myi_base.specs.Items.{numbers, spelling, total_width}
 use Rattle.myi_base.proofs.CallerLemmas.{length-num_bytes}

@@ -1,5 +1,5 @@
 -- The state of a table without rows.
-use Rattle.std.specs.Prelude.{ℕ, ◌+◌, ◌*◌, ◌++◌, length, replicate, Option, None}
+use Rattle.std.specs.Prelude.{◌+◌, ◌*◌, ◌++◌, length, replicate, None}
 use Rattle.myi_defs.specs.declared.types.Defs.{Defs}
 use Rattle.myi_defs.specs.Layout.{all_keys}
 use Rattle.myi_header.specs.declared.state.State.{State}

@@ -1,6 +1,6 @@
 -- The state that a header has, and the mark (the layout is that of the MySQL Internals Manual, "The .MYI
 -- file"; the mark is this project's own).
-use Rattle.std.specs.Prelude.{◌≢◌, ◌-◌, ℕ, Bool, not, ◌+◌, ◌*◌, ◌^◌, nat_lt, if◌then◌else◌, List, [], ◌∷◌, ◌++◌, length, map, replicate, Option, Some, Result, Ok, Err}
+use Rattle.std.specs.Prelude.{◌≢◌, ◌-◌, ℕ, Bool, not, ◌+◌, ◌*◌, ◌^◌, nat_lt, if◌then◌else◌, List, ◌++◌, length, map, replicate, Option, Some, Result, Ok, Err}
 use Rattle.std.specs.Str.{bytes_eq}
 use Rattle.myi_base.specs.Numbers.{num_at, pointer_of}
 use Rattle.myi_base.specs.Items.{numbers}

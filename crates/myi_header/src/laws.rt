@@ -42,6 +42,7 @@ pub fn empty_tables_are_empty()
     ensures header { (d : Defs) → IsSound d → empty_header d.raw ≡ header_of d (empty_state d) }
     ensures read { (d : Defs) → IsSound d → AreBytes d.raw
         → read_state d (empty_header d.raw) ≡ Ok (empty_state d) }
-    ensures again { (d again : Defs) → AreDefs d → AreBytes again.raw → read_defs (empty_header d.raw) ≡ Ok again
+    ensures again { (d again : Defs) → AreDefs d → AreBytes again.raw
+        → read_defs (empty_header d.raw) ≡ Ok again
         → read_state again (empty_header d.raw) ≡ Ok (empty_state again) }
 {}

@@ -44,8 +44,8 @@ pub fn views_show_pages()
 /// written where it is below 32,768. Entries that fit still fit with any run of them
 /// taken out, and so does each part of a list that is cut in two. An entry takes at least two bytes and
 /// its row pointer, and at most six and its key besides; one that is put before another lengthens that by
-/// at most two bytes, where it shares with it what the key before it did. Two entries whose keys are at most `most` bytes
-/// long fit into each page of at least 2 (most + 13 + rec_ref) + 9 bytes.
+/// at most two bytes, where it shares with it what the key before it did. Two entries whose keys are at
+/// most `most` bytes long fit into each page of at least 2 (most + 13 + rec_ref) + 9 bytes.
 pub fn entries_fit()
     ensures length { (rec_ref : ℕ) (p : Page) → IsBranching p
         → used_length rec_ref (is_node p) p.entries ≡ length (page_bytes rec_ref p) }

@@ -103,6 +103,7 @@ pub fn weights_fit()
     ensures content { (seg : Segment) (content : List ℕ) → length (weights seg content) ≤ length content }
     ensures segment { (seg : Segment) (content : List ℕ)
         → CanWeigh seg content → length (weights seg content) ≤ max seg.length 8 }
-    ensures sized { (seg : Segment) (content : List ℕ) → ((n : ℕ) → int_size seg.seg ≡ Some n → seg.length ≡ n)
+    ensures sized { (seg : Segment) (content : List ℕ)
+        → ((n : ℕ) → int_size seg.seg ≡ Some n → seg.length ≡ n)
         → CanWeigh seg content → length (weights seg content) ≤ seg.length }
 {}

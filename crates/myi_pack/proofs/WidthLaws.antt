@@ -1,5 +1,5 @@
 -- A row of a dynamic table is spelled in less than 2^24 bytes.
-use Rattle.std.proofs.Common.{◌≡◌, ℕ, ◌+◌, ◌-◌, ◌/◌, ◌^◌, ◌<◌, ◌≤◌, ◌==◌, Bool, true, false, ◌||◌, if◌then◌else◌, List, [], ◌∷◌, ◌++◌, length, nat_lt, nat_le, sum_by, refl, sym, subst, arith, length-append}
+use Rattle.std.proofs.Common.{◌≡◌, ℕ, ◌+◌, ◌-◌, ◌^◌, ◌<◌, ◌≤◌, ◌==◌, Bool, true, false, ◌||◌, if◌then◌else◌, List, [], ◌∷◌, ◌++◌, length, nat_lt, nat_le, sum_by, refl, sym, subst, arith, length-append}
 use Rattle.std.proofs.lemmas.Bool.{and_parts, leb-true, ltb-true, eqb-true}
 use Rattle.std.proofs.lemmas.List.Sums.{sum_by-cons}
 use Rattle.myi_base.specs.Numbers.{num_bytes, low_num_bytes}

@@ -1,7 +1,7 @@
 -- The flag bytes before the fields of a dynamic row: one bit for each field that may be left out or cut
 -- short, in the order of the fields, the lowest bit of the first byte first (MySQL Internals Manual,
 -- "MyISAM Dynamic Data File Layout").
-use Rattle.std.specs.Prelude.{◌+◌, ◌*◌, ◌/◌, ◌%◌, ◌^◌, ◌==◌, ℕ, zero, suc, Bool, true, false, if◌then◌else◌, List, [], ◌∷◌, take, drop, slice_index, slice_set, bit_or, count_by}
+use Rattle.std.specs.Prelude.{◌+◌, ◌*◌, ◌/◌, ◌%◌, ◌^◌, ◌==◌, ℕ, zero, suc, Bool, if◌then◌else◌, List, [], ◌∷◌, take, drop, slice_index, slice_set, bit_or, count_by}
 use Rattle.myi_defs.specs.declared.types.FieldKind.{FieldKind}
 use Rattle.myi_defs.specs.declared.types.Field.{Field}
 use Rattle.myi_defs.specs.Kinds.{has_flag}

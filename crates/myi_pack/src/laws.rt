@@ -13,7 +13,9 @@ ghost use Rattle.myi_pack.specs.Views.{IsNext};
 
 /// What the bytes pack. Reading finds exactly the row that the bytes pack, and no bytes pack two rows.
 pub fn packings_are_read()
-    ensures packs { (d : Defs) (row : Values) (b : List ℕ) → All (λ f. IsLengthOf d.format f.kind f.length) d.fields → AreBytes b → row_of d b ≡ Some row → Packs d row b }
+    ensures packs { (d : Defs) (row : Values) (b : List ℕ)
+        → All (λ f. IsLengthOf d.format f.kind f.length) d.fields → AreBytes b → row_of d b ≡ Some row
+        → Packs d row b }
     ensures found { (d : Defs) (row : Values) (b : List ℕ) → AreBytes b → Packs d row b → row_of d b ≡ Some row }
     ensures once { (d : Defs) (r s : Values) (b : List ℕ) → AreBytes b → Packs d r b → Packs d s b → r ≡ s }
 {}
@@ -24,12 +26,16 @@ pub fn packings_are_read()
 pub fn spellings_are_shortest()
     ensures fits { (d : Defs) (row : Values) (b : List ℕ) → IsSound d → Packs d row b → fits d row ≡ true }
     ensures packs { (d : Defs) (row : Values) → IsSound d → fits d row ≡ true → Packs d row (spelling d row) }
-    ensures read { (d : Defs) (row : Values) → IsSound d → fits d row ≡ true → row_of d (spelling d row) ≡ Some row }
-    ensures shortest { (d : Defs) (row : Values) (b : List ℕ) → IsSound d → Packs d row b → length (spelling d row) ≤ length b }
-    ensures short { (d : Defs) (row : Values) → IsSound d → d.format ≡ Dynamic → fits d row ≡ true → length (spelling d row) < 2 ^ 24 }
+    ensures read { (d : Defs) (row : Values) → IsSound d → fits d row ≡ true
+        → row_of d (spelling d row) ≡ Some row }
+    ensures shortest { (d : Defs) (row : Values) (b : List ℕ) → IsSound d → Packs d row b
+        → length (spelling d row) ≤ length b }
+    ensures short { (d : Defs) (row : Values) → IsSound d → d.format ≡ Dynamic → fits d row ≡ true
+        → length (spelling d row) < 2 ^ 24 }
 {}
 
 /// A walk over the values of a row goes on by one value, whether it shows the value or passes it.
 pub fn views_go_on()
-    ensures { (old new : Values) (view : Option FieldView) → IsNext old view new → new ≡ drop 1 old }
+    ensures { (old : Values) (view : Option FieldView) (new : Values) → IsNext old view new
+        → new ≡ drop 1 old }
 {}

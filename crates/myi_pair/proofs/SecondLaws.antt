@@ -1,8 +1,7 @@
 -- A second repair leaves the files that the first would have left at its time.
-use Rattle.std.proofs.Common.{◌≡◌, ℕ, ◌+◌, ◌-◌, ◌*◌, ◌≤◌, Bool, cond, Option, List, [], ◌∷◌, ◌++◌, length, map, take, drop, replicate, All, Ok, refl, sym, ap, subst, ◌∙◌, arith, append_assoc, length-append, length-drop}
+use Rattle.std.proofs.Common.{◌≡◌, ℕ, ◌+◌, ◌-◌, ◌*◌, ◌≤◌, Bool, cond, Option, List, [], ◌∷◌, ◌++◌, length, map, take, drop, replicate, Ok, refl, sym, ap, subst, ◌∙◌, arith, append_assoc, length-append}
 use Rattle.std.specs.List.{list_any, flat_map}
 use Rattle.std.proofs.lemmas.List.{take_at, drop_at, drop-take, take-take, take_all, length-take-le, length-replicate}
-use Rattle.std.proofs.lemmas.List.Elements.{All-from_recursion}
 use Rattle.myi_base.specs.Numbers.{num_at}
 use Rattle.myi_defs.specs.declared.types.RowFormat.{RowFormat}
 use Rattle.myi_defs.specs.declared.types.RowFormat.TheVariants.{Static, Dynamic}
@@ -15,8 +14,8 @@ use Rattle.myi_header.specs.declared.state.State.{State}
 use Rattle.myi_header.specs.Parts.{part}
 use Rattle.myi_header.specs.Layout.{layout_of, page_sizes, first_page_of}
 use Rattle.myi_defs.specs.Layout.{mark}
-use Rattle.myi_header.specs.StateOf.{IsPlace, rest_length, state_of}
-use Rattle.myi_header.specs.HeaderOf.{FitsWidths, state_bytes, header_of}
+use Rattle.myi_header.specs.StateOf.{state_of}
+use Rattle.myi_header.specs.HeaderOf.{state_bytes, header_of}
 use Rattle.myi_header.proofs.CallerLemmas.{state-take, state-rest}
 use Rattle.myi_pack.specs.Packed.{Values}
 use Rattle.myi_pack.specs.Spelling.{spelled_row, spelling}

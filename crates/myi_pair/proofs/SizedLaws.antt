@@ -1,5 +1,5 @@
 -- The pairs of a table's rows can be laid: of each two fit into a page, and its pointer has its bytes.
-use Rattle.std.proofs.Common.{◌≡◌, ℕ, zero, suc, ◌-◌, ◌*◌, ◌/◌, ◌%◌, ◌^◌, ◌<◌, ◌≤◌, Bool, true, false, List, [], ◌∷◌, length, map, take, get_or, Option, Some, None, if◌then◌else◌, nat_lt, nat_le, IsPermutation, refl, sym, ap, subst, ◌∙◌, arith, length-append, length-take, div-mul-le_self, le-div_iff_mul-le}
+use Rattle.std.proofs.Common.{◌≡◌, ℕ, ◌-◌, ◌*◌, ◌/◌, ◌%◌, ◌^◌, ◌<◌, ◌≤◌, Bool, true, false, List, [], ◌∷◌, length, map, get_or, Option, if◌then◌else◌, nat_lt, nat_le, IsPermutation, refl, sym, ap, subst, ◌∙◌, arith, length-append, div-mul-le_self, le-div_iff_mul-le}
 use Rattle.std.specs.List.{AllByRecursion}
 use Rattle.std.specs.Option.{option_map_or}
 use Rattle.std.proofs.lemmas.Option.{slice_get-get_or}
@@ -10,24 +10,20 @@ use Rattle.std.proofs.lemmas.List.Sorted.{All-permutation}
 use Rattle.std.proofs.lemmas.List.Sums.{sum_by-cons}
 use Rattle.myi_defs.specs.declared.types.RowFormat.{RowFormat}
 use Rattle.myi_defs.specs.declared.types.RowFormat.TheVariants.{Static, Dynamic}
-use Rattle.myi_defs.specs.declared.types.SegType.{SegType}
-use Rattle.myi_defs.specs.declared.types.SegType.TheVariants as types
 use Rattle.myi_defs.specs.declared.types.Field.{Field}
 use Rattle.myi_defs.specs.declared.types.Segment.{Segment}
 use Rattle.myi_defs.specs.declared.types.Key.{Key}
 use Rattle.myi_defs.specs.declared.types.Defs.{Defs}
-use Rattle.myi_defs.specs.Kinds.{int_size, seg_cost}
+use Rattle.myi_defs.specs.Kinds.{seg_cost}
 use Rattle.myi_defs.specs.Sound.{IsSound, IsSoundSegment, IsSoundKey, key_most}
 use Rattle.myi_defs.specs.Addressable.{pointers, is_addressable}
 use Rattle.myi_pack.specs.Packed.{Values}
 use Rattle.myi_pack.specs.Spelling.{fits, fits_fields}
 use Rattle.myi_keys.specs.declared.values.KeySeg.{KeySeg}
 use Rattle.myi_keys.specs.declared.values.KeySeg.TheVariants.{Absent, Weights}
-use Rattle.myi_keys.specs.declared.collations.Collation.{Collation}
-use Rattle.myi_keys.specs.Collations.{collation_of}
 use Rattle.myi_keys.specs.Codes.{seg_code, key_code}
 use Rattle.myi_keys.specs.Limits.{IsKey}
-use Rattle.myi_keys.specs.Weights.{weights, text_weights, weights_by, CanWeigh, CanWeighBy}
+use Rattle.myi_keys.specs.Weights.{weights, CanWeigh}
 use Rattle.myi_keys.proofs.CallerLemmas.{seg_size, weights_few}
 use Rattle.myi_data.specs.Keys.{content, is_absent, seg_of, key_of}
 use Rattle.myi_data.proofs.KeyLemmas.{can_weigh, key_is, segments_at, values_fit}

@@ -1,4 +1,4 @@
-use Rattle.std.proofs.Common.{◌≡◌, ◌∙◌, ap, sym, not, arith}
+use Rattle.std.proofs.Common.{◌≡◌, ap, sym, not, arith}
 use Rattle.myi_keypage.specs.Page.{page_with, is_node}
 use Rattle.myi_keypage.proofs.ShownIn.{page_is}
 use Rattle.myi_keypage.proofs.WriteLaws.{used_is, used_page, written}

@@ -2,4 +2,4 @@ use Rattle.myi_pack.proofs.CallerLemmas.{next_rest}
 use Rattle.myi_pack.proofs.laws.views_go_on.Goals as goal
 
 pub returns : goal.returns
-returns c = λ old new view. next_rest old view new
+returns c = next_rest
