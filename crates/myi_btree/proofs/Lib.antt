@@ -1,3 +1,4 @@
+pub mod CallerLemmas
 pub mod Frames
 pub mod Once
 pub mod Shallow

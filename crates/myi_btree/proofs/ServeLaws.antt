@@ -6,7 +6,7 @@ use Rattle.myi_base.proofs.CallerLemmas.{told_same, told_then}
 use Rattle.myi_keycache.specs.Kept.{ChangesNone, AllWritten}
 use Rattle.myi_keycache.specs.Lent.{bytes_at}
 use Rattle.myi_keycache.specs.Caching.{Caching, lends, CanGet, Stays}
-use Rattle.myi_keycache.proofs.LentLemmas.{lends_file, stays_on}
+use Rattle.myi_keycache.proofs.CallerLemmas.{lends_file, stays_on}
 use Rattle.myi_btree.specs.declared.place.Place.{Place}
 use Rattle.myi_btree.specs.Walk.{◌>>=◌, Node}
 use Rattle.myi_btree.specs.Nodes.{node_in}

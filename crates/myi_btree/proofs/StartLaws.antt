@@ -7,8 +7,8 @@ use Rattle.std.proofs.lemmas.Option.{same_Some, cond_some}
 use Rattle.myi_base.specs.Holding.{Holding, Told}
 use Rattle.myi_keycache.specs.Kept.{is_kept, NoOtherMeets, AllWritten}
 use Rattle.myi_keycache.specs.Caching.{Caching, IsCurrent, Stays}
-use Rattle.myi_keycache.proofs.LentLemmas.{stays_start}
-use Rattle.myi_keycache.proofs.KeptLemmas.{unwritten_kept}
+use Rattle.myi_keycache.proofs.CallerLemmas.{stays_start}
+use Rattle.myi_keycache.proofs.CallerLemmas.{unwritten_kept}
 use Rattle.myi_btree.specs.declared.place.Place.{Place}
 use Rattle.myi_btree.specs.Walk.{◌>>=◌, Node, Places, Walked, each, at_node, as_leaf, walk_of}
 use Rattle.myi_btree.specs.Visit.{visit}

@@ -1,3 +1,4 @@
+pub mod CallerLemmas
 pub mod BlockLemmas
 pub mod ChainLemmas
 pub mod CountLemmas

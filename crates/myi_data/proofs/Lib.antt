@@ -1,3 +1,4 @@
+pub mod CallerLemmas
 pub mod SlotLaws
 pub mod RowsLemmas
 pub mod PlainLaws

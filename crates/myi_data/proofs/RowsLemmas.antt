@@ -19,8 +19,8 @@ use Rattle.myi_chain.specs.Chain.{AreApart, AreLinked, IsTail, row_bytes}
 use Rattle.myi_chain.specs.Readable.{Row, Item, row, free, rows_of, rest}
 use Rattle.myi_chain.specs.Readable as chains
 use Rattle.myi_chain.specs.Meeting.{IsItemOf, ranges_of, AreRising}
-use Rattle.myi_chain.proofs.BlockLemmas.{blocks_read}
-use Rattle.myi_chain.proofs.ReadableLemmas.{rest_fine}
+use Rattle.myi_chain.proofs.CallerLemmas.{blocks_read}
+use Rattle.myi_chain.proofs.CallerLemmas.{rest_fine}
 use Rattle.myi_data.specs.Slots.{Slot, slots}
 use Rattle.myi_data.specs.Readable.{packs, slot_range, slot_row, slot_items, items_at, items_by, items_in, readable, deleted}
 use Rattle.myi_data.specs.Laid.{PackARow}

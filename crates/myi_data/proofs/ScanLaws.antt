@@ -18,7 +18,7 @@ use Rattle.myi_data.specs.Scanning.{TableScan, items_left, rows_left, most_of, m
 use Rattle.myi_data.specs.declared.slots.NextSlot.{NextSlot}
 use Rattle.myi_data.specs.declared.slots.NextSlot.TheVariants as next
 use Rattle.myi_data.specs.NextSlot.{row_in_slot, IsNextSlot, IsNextRow}
-use Rattle.myi_chain.proofs.ScanLemmas.{shown_bytes}
+use Rattle.myi_chain.proofs.CallerLemmas.{shown_bytes}
 use Rattle.myi_data.proofs.RowsLemmas.{AreAccepted, items_accepted}
 use Rattle.myi_data.proofs.SlotLaws.{drop_none}
 use Rattle.myi_data.proofs.SlotLemmas.{few_items, long_here, fewer_behind}

@@ -1,3 +1,4 @@
+pub mod CallerLemmas
 pub mod RangeLemmas
 pub mod KeptLemmas
 pub mod LentLemmas

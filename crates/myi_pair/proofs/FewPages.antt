@@ -16,9 +16,9 @@ use Rattle.myi_btree.specs.Walk.{Node}
 use Rattle.myi_btree.specs.Sizes.{IsPlaced, AreSized, IsSized, IsCount, fits_in}
 use Rattle.myi_btree.specs.Nodes.{entry_of}
 use Rattle.myi_btree.specs.Laid.{count_of, Level, after_page, level_of, places_from, above, levels_from, laid}
-use Rattle.myi_btree.proofs.LaidRead.{good_count}
-use Rattle.myi_btree.proofs.LevelsLaws.{level_count, level_all}
-use Rattle.myi_btree.proofs.BodyLaws.{all_drop}
+use Rattle.myi_btree.proofs.CallerLemmas.{good_count}
+use Rattle.myi_btree.proofs.CallerLemmas.{level_count, level_all}
+use Rattle.myi_btree.proofs.CallerLemmas.{all_drop}
 use Rattle.myi_pair.specs.KeyList.{PlacedRow, pairs_of, pair_of, sorted, key_list}
 use Rattle.myi_pair.specs.Trees.{block_of_key, place_of}
 use Rattle.myi_pair.proofs.KeyListLaws.{sorted_permutes}

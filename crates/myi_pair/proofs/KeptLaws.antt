@@ -14,7 +14,7 @@ use Rattle.myi_pack.proofs.CallerLemmas.{row-takes, row-fits, row-reads, row-sho
 use Rattle.myi_chain.specs.Readable.{Row}
 use Rattle.myi_data.specs.Readable.{readable}
 use Rattle.myi_data.specs.Laid.{stored, laid_file, laid_rows, IsStorable}
-use Rattle.myi_data.proofs.LaidLemmas.{laid_read}
+use Rattle.myi_data.proofs.CallerLemmas.{laid_read}
 use Rattle.myi_pair.specs.FirstRows.{repeats, first_after, first_rows}
 use Rattle.myi_pair.specs.Clean.{values_of}
 use Rattle.myi_pair.specs.RecoveredBytes.{kept, new_data}

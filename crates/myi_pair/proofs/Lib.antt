@@ -1,3 +1,4 @@
+pub mod CallerLemmas
 pub mod FirstRowsLaws
 pub mod KeyListLaws
 pub mod ReadLaws

@@ -9,7 +9,7 @@ use Rattle.myi_btree.specs.declared.pair.Pair.{Pair}
 use Rattle.myi_btree.specs.Walk.{Places}
 use Rattle.myi_btree.specs.Laid.{Fits, places_from, laid, Stands}
 use Rattle.myi_btree.specs.Visit.{page_range}
-use Rattle.myi_btree.proofs.LaidWalks.{length-places_from}
+use Rattle.myi_btree.proofs.CallerLemmas.{length-places_from}
 use Rattle.myi_pair.specs.TreePages.{WalksOnce}
 use Rattle.myi_pair.specs.Trees.{AreFree, total}
 use Rattle.myi_pair.proofs.LaidPages.{places_sum, IsLaidTree, laid_tree}

@@ -18,11 +18,11 @@ use Rattle.myi_chain.specs.Chain.{Reading, range_of, ranges, row_bytes, IsTail, 
 use Rattle.myi_chain.specs.Readable.{Row, Item, row, free, rows_of, frees_of, rest}
 use Rattle.myi_chain.specs.Readable as chains
 use Rattle.myi_chain.specs.Meeting.{IsRowOf, IsItemOf}
-use Rattle.myi_chain.proofs.BlockLemmas.{blocks_read}
-use Rattle.myi_chain.proofs.ReadableLemmas.{rest_fine}
+use Rattle.myi_chain.proofs.CallerLemmas.{blocks_read}
+use Rattle.myi_chain.proofs.CallerLemmas.{rest_fine}
 use Rattle.myi_data.specs.Slots.{Slot, slots}
 use Rattle.myi_data.specs.Readable.{packs, slot_row, slot_items, items_at, items_by, items_in, readable}
-use Rattle.myi_data.proofs.RowsLemmas.{slot_cases}
+use Rattle.myi_data.proofs.CallerLemmas.{slot_cases}
 use Rattle.myi_pair.specs.Trees.{total}
 
 abbrev pub HasRoom : RowFormat → Defs → Row → Type 0

@@ -24,8 +24,8 @@ use Rattle.myi_chain.specs.Readable.{Row}
 use Rattle.myi_chain.specs.Meeting.{ranges_of}
 use Rattle.myi_data.specs.Readable.{readable}
 use Rattle.myi_data.specs.Laid.{stored_by, stored, laid_file, IsStorable}
-use Rattle.myi_data.proofs.SpellingLemmas.{spelling_some}
-use Rattle.myi_data.proofs.RowsLemmas.{rows_apart}
+use Rattle.myi_data.proofs.CallerLemmas.{spelling_some}
+use Rattle.myi_data.proofs.CallerLemmas.{rows_apart}
 use Rattle.myi_pair.specs.FirstRows.{repeats, first_after, first_rows}
 use Rattle.myi_pair.specs.Trees.{total}
 use Rattle.myi_pair.specs.Clean.{values_of}

@@ -26,7 +26,7 @@ use Rattle.myi_keys.specs.Limits.{IsKey}
 use Rattle.myi_keys.specs.Weights.{weights, CanWeigh}
 use Rattle.myi_keys.proofs.CallerLemmas.{seg_size, weights_few}
 use Rattle.myi_data.specs.Keys.{content, is_absent, seg_of, key_of}
-use Rattle.myi_data.proofs.KeyLemmas.{can_weigh, key_is, segments_at, values_fit}
+use Rattle.myi_data.proofs.CallerLemmas.{can_weigh, key_is, segments_at, values_fit}
 use Rattle.myi_btree.specs.declared.pair.Pair.{Pair}
 use Rattle.myi_btree.specs.Nodes.{entry_of}
 use Rattle.myi_btree.specs.Sizes.{IsPlaced, IsSized, AreSized}

@@ -25,7 +25,7 @@ use Rattle.myi_repair.specs.Names.{FourNames}
 use Rattle.myi_repair.specs.Opening.{IsTable}
 use Rattle.myi_repair.specs.Keeping.{lists_in, AreCounted, HasKept, kept_with}
 use Rattle.myi_repair.specs.Gathering.{Gathers, values_left, TakesRow, GathersRows}
-use Rattle.myi_chain.proofs.ScanLemmas.{shown_bytes}
+use Rattle.myi_chain.proofs.CallerLemmas.{shown_bytes}
 use Rattle.myi_repair.proofs.OpenLaws.{is_opened}
 
 -- ---- one row

@@ -33,13 +33,13 @@ use Rattle.myi_defs.proofs.CallerLemmas.{sound}
 use Rattle.myi_pack.proofs.CallerLemmas.{row-short}
 use Rattle.myi_pack.specs.Spelling.{fits, spelling}
 use Rattle.myi_data.specs.Laid.{stored_by, stored, laid_file, IsStorable}
-use Rattle.myi_pair.proofs.ShorterLaws.{length-slot}
-use Rattle.myi_pair.proofs.SizedLaws.{pointer_near}
+use Rattle.myi_pair.proofs.CallerLemmas.{length-slot}
+use Rattle.myi_pair.proofs.CallerLemmas.{pointer_near}
 use Rattle.myi_repair.specs.Sized.{AreSizedPairs}
 use Rattle.myi_repair.proofs.FilesLaws.{appended}
 use Rattle.myi_pair.specs.FirstRows.{key_numbers, is_unique, repeats, has_code, repeats_code}
 use Rattle.myi_pair.specs.KeyList.{pointer}
-use Rattle.myi_pair.proofs.FirstRowsLaws.{noted}
+use Rattle.myi_pair.proofs.CallerLemmas.{noted}
 use Rattle.myi_repair.specs.declared.unique.UniqueKey.{UniqueKey}
 use Rattle.myi_repair.specs.declared.kept.KeptRows.{KeptRows}
 use Rattle.myi_repair.specs.Keeping.{is_noted, unique_cmp, AreNoted, row_keys, has_unique, numbered_code, unique_codes, by_code, lists_in, with_pairs, AreCounted, HasKept, kept_with}

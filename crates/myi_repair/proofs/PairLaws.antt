@@ -19,7 +19,7 @@ use Rattle.myi_pair.specs.FirstRows.{key_numbers, numbers_from}
 use Rattle.myi_pair.specs.KeyList.{PlacedRow, pointer, pair_of, pairs_of}
 use Rattle.myi_pair.specs.Trees.{place_of}
 use Rattle.myi_pair.specs.RecoveredBytes.{placed_from, row_pairs}
-use Rattle.myi_pair.proofs.SizedLaws.{is_key, sized}
+use Rattle.myi_pair.proofs.CallerLemmas.{is_key, sized}
 use Rattle.myi_repair.specs.Sized.{AreSizedPairs}
 use Rattle.myi_repair.specs.Keeping.{row_keys, lists_of, with_pairs}
 

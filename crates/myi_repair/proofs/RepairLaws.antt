@@ -19,8 +19,8 @@ use Rattle.myi_pair.specs.TreePages.{HasBehind}
 use Rattle.myi_pair.specs.RecoveredBytes.{laid_trees, kept, new_data, placed_from, row_pairs, new_trees, new_state, recovered_state, new_index}
 use Rattle.myi_pair.specs.Recovered.{IsRepairable}
 use Rattle.myi_header.proofs.CallerLemmas.{header-long}
-use Rattle.myi_pair.proofs.HeaderLaws.{new_rest}
-use Rattle.myi_pair.proofs.RecoveredLaws.{recovered}
+use Rattle.myi_pair.proofs.CallerLemmas.{new_rest}
+use Rattle.myi_pair.proofs.CallerLemmas.{recovered}
 use Rattle.myi_base.specs.Numbers.{AreBytes}
 use Rattle.myi_defs.specs.ReadDefs.{AreDefs}
 use Rattle.myi_repair.proofs.OpenLaws.{is_opened}

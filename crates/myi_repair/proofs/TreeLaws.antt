@@ -21,15 +21,15 @@ use Rattle.myi_btree.specs.Walk.{Node}
 use Rattle.myi_btree.specs.Sizes.{IsPlaced, AreSized}
 use Rattle.myi_btree.specs.Laid.{root_of}
 use Rattle.myi_btree.specs.Building.{CanLay, EndBefore, Lays}
-use Rattle.myi_btree.proofs.LevelsLaws.{multiple}
-use Rattle.myi_btree.proofs.PutLaws.{ends}
+use Rattle.myi_btree.proofs.CallerLemmas.{multiple}
+use Rattle.myi_btree.proofs.CallerLemmas.{ends}
 use Rattle.myi_pair.specs.FirstRows.{key_numbers, numbers_from}
 use Rattle.myi_pair.specs.KeyList.{sorted}
 use Rattle.myi_pair.specs.Trees.{place_of, block_of_key}
 use Rattle.myi_pair.specs.RecoveredBytes.{LaidTrees, laid_trees, pages_then}
 use Rattle.myi_pair.specs.TreePages.{tree_nodes, tree_pages, tree_end, with_tree, CanBeLaid, HasBehind}
-use Rattle.myi_pair.proofs.FileLaws.{tree_behind}
-use Rattle.myi_pair.proofs.KeyListLaws.{sorted_permutes}
+use Rattle.myi_pair.proofs.CallerLemmas.{tree_behind}
+use Rattle.myi_pair.proofs.CallerLemmas.{sorted_permutes}
 use Rattle.myi_repair.specs.Building.{trees_of, LaysTrees}
 use Rattle.myi_repair.proofs.PairLaws.{length-numbers}
 use Rattle.myi_repair.proofs.FilesLaws.{resized_none}

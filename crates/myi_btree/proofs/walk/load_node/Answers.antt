@@ -2,7 +2,7 @@ use Rattle.std.proofs.Common.{Some, None, refl, sym, ap, ◌∙◌}
 use Rattle.std.specs.Prelude.{option_map}
 use Rattle.std.proofs.lemmas.Result.{err_from_is_err_and}
 use Rattle.myi_base.proofs.CallerLemmas.{told_same}
-use Rattle.myi_keycache.proofs.LentLemmas.{stays_start}
+use Rattle.myi_keycache.proofs.CallerLemmas.{stays_start}
 use Rattle.myi_btree.specs.Nodes.{node_view}
 use Rattle.myi_btree.proofs.WalkLaws.{same_place, lent_off, lent_none, lent_is, short_only, if_err}
 use Rattle.myi_btree.proofs.ServeLaws.{can_ask, shown_now}
