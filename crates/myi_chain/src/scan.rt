@@ -56,7 +56,9 @@ fn is_lent(blocks: &[(u64, u32)]) -> bool
 
 /// The bytes of the row at a place, whose blocks are held.
 fn piece_at(held: &Held, at: u64) -> Piece<'_>
-    ensures { (r : Row) → IsRowOfBlocks (block_of held.now.bytes.items) at held.now.blocks.items held.now.joined.items r → IsPiece r result }
+    ensures { (r : Row)
+        → IsRowOfBlocks (block_of held.now.bytes.items) at held.now.blocks.items held.now.joined.items r
+        → IsPiece r result }
 {
     if is_lent(&held.blocks) {
         return Piece::Lent(bytes_at(&held.bytes, at));
@@ -175,7 +177,8 @@ impl<A: Accepts> Scan<A> {
         ensures bytes { OnOk result (IfTold (F.holds files.old) (ReadsBytes self.old)) }
         ensures holds { F.holds files.new ≡ F.holds files.old }
         ensures cause { HasCause File (F.faults files.old) (F.faults files.new) result }
-        ensures* after { sem 𝓛 (Rests (the_row A.row A.Accepts) self.entry (Leaves A.accepts_gives (F.holds files.old) self.old result)) }
+        ensures* after { sem 𝓛 (Rests (the_row A.row A.Accepts) self.entry
+            (Leaves A.accepts_gives (F.holds files.old) self.old result)) }
     {
         self.read(files)?;
         let found = match advance(
@@ -210,11 +213,13 @@ impl<A: Accepts> Scan<A> {
     ) -> Result<Option<(u64, Piece<'_>)>, ScanFault>
         ensures row { IfOk result (λ found. IfTold (F.holds files.old) (λ m.
             IsFirstRow (rows_of (items_left A.accepts_gives self.old m)) found)) }
-        ensures packs { IfOk result (λ found. IfSome found (λ r. A.accepts_gives self.old.test (shown r.1) ≡ true)) }
+        ensures packs { IfOk result (λ found. IfSome found (λ r.
+            A.accepts_gives self.old.test (shown r.1) ≡ true)) }
         ensures bytes { OnOk result (IfTold (F.holds files.old) (ReadsBytes self.old)) }
         ensures holds { F.holds files.new ≡ F.holds files.old }
         ensures cause { HasCause File (F.faults files.old) (F.faults files.new) result }
-        ensures* after { sem 𝓛 (Rests (the_row A.row A.Accepts) self.entry (LeavesRows A.accepts_gives (F.holds files.old) self.old result)) }
+        ensures* after { sem 𝓛 (Rests (the_row A.row A.Accepts) self.entry
+            (LeavesRows A.accepts_gives (F.holds files.old) self.old result)) }
     {
         self.read(files)?;
         let found = match advance_row(

@@ -91,7 +91,12 @@ impl KeyCache {
         requires { IsSetup _setup }
         ensures name { IfOk result (λ cache. cache.name ≡ name.now) }
         ensures pages { IfOk result (λ cache. cache.pages ≡ []) }
-        ensures counters { IfOk result (λ cache. cache.counters ≡ record { read_requests = 0; reads = 0; write_requests = 0; writes = 0 }) }
+        ensures counters { IfOk result (λ cache. cache.counters ≡ record {
+          read_requests = 0;
+          reads = 0;
+          write_requests = 0;
+          writes = 0;
+        }) }
         ensures current { IfOk result (λ cache. (m : Holding) → IsCurrent cache m) }
     {
         Ok(KeyCache {
@@ -122,7 +127,8 @@ impl KeyCache {
         ensures cause { HasCause File (F.faults files.old) (F.faults files.new) result }
         ensures reads { F.reads files.old ≤ F.reads files.new }
         ensures once { F.reads files.new ≤ F.reads files.old + 1 }
-        ensures* after { sem 𝓛 (Rests the_row self.entry (Gets (F.holds files.old) (F.holds files.new) at size result self.old)) }
+        ensures* after { sem 𝓛 (Rests the_row self.entry
+            (Gets (F.holds files.old) (F.holds files.new) at size result self.old)) }
     {
         read_page(files, self.name.as_str(), at, size, &mut self.page)?;
         self.counters.count_read();
@@ -144,7 +150,8 @@ impl KeyCache {
         ensures kept { OnErr result (SameKept self.old.pages self.new.pages) }
         ensures added { AddsOnly at (length bytes.now) self.old.pages self.new.pages }
         ensures name { self.new.name ≡ self.old.name }
-        ensures counters { self.new.counters ≡ puts_counted result at (length bytes.now) self.old.pages self.new.pages self.old.counters }
+        ensures counters { self.new.counters
+            ≡ puts_counted result at (length bytes.now) self.old.pages self.new.pages self.old.counters }
         ensures faults { IfErr result (λ e. (e ≡ File) ⊎ (e ≡ Memory)) }
         ensures cause { HasCause File (F.faults files.old) (F.faults files.new) result }
         ensures reads { F.reads files.new ≡ F.reads files.old }
