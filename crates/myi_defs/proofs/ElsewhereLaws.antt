@@ -1,17 +1,17 @@
 -- Definitions rest on the header alone, and of it neither on the state nor on the mark.
-use Rattle.std.proofs.Common.{◌≡◌, ℕ, ◌+◌, ◌-◌, ◌^◌, ◌<◌, ◌≤◌, Bool, false, List, length, take, drop, Result, Ok, refl, sym, ap, ◌∙◌, arith, inl, inr}
+use Rattle.std.proofs.Common.{◌≡◌, ℕ, ◌+◌, ◌-◌, ◌^◌, ◌<◌, ◌≤◌, List, length, take, drop, Ok, refl, sym, ap, ◌∙◌, arith, inl, inr}
 use Rattle.std.proofs.lemmas.Bool.{cases_lt}
 use Rattle.std.proofs.lemmas.List.{take_all, take-take, drop-take, length-take-le}
-use Rattle.myi_base.specs.Numbers.{num, num_at, AreBytes}
+use Rattle.myi_base.specs.Numbers.{num_at, AreBytes}
 use Rattle.myi_base.proofs.CallerLemmas.{num-below, bytes-drop}
 use Rattle.myi_defs.specs.declared.types.Defs.{Defs}
 use Rattle.myi_defs.specs.declared.header.Front.{Front}
 use Rattle.myi_defs.specs.Elsewhere.{AgreeOutsideState}
 use Rattle.myi_defs.specs.EmptyTable.{base_bytes}
 use Rattle.myi_defs.specs.Header.{front, header, outline}
-use Rattle.myi_defs.specs.ReadDefs.{is_short, has_other_magic, judged, read_defs, AreDefs}
+use Rattle.myi_defs.specs.ReadDefs.{is_short, read_defs, AreDefs}
 use Rattle.myi_defs.proofs.ReadLemmas.{front-take, not_short, printed-judged}
-use Rattle.myi_defs.proofs.PrintLemmas.{HeaderFacts, header_facts}
+use Rattle.myi_defs.proofs.PrintLemmas.{header_facts}
 use Rattle.myi_defs.proofs.SameLemmas.{outline-same}
 
 part_of_take : (at c k : ℕ) (y : List ℕ) → at + c ≤ k → take c (drop at (take k y)) ≡ take c (drop at y)
