@@ -1,5 +1,6 @@
 //! Blocks of a data file of dynamic rows.
 ghost use Rattle.std.specs.Prelude.{◌≡◌, ◌+◌, ◌≤◌, true, if◌then◌else◌, nat_le};
+ghost use Rattle.myi_frames.specs.Block.{IsPointer};
 ghost use Rattle.myi_frames.specs.Sizes.{row_header, start_header, middle_header};
 ghost use Rattle.myi_frames.specs.Writing.{IsWritable, Allows, HasRoom};
 
@@ -127,14 +128,23 @@ fn is_allowed(spec: &FrameSpec, len: usize, size: usize) -> bool
     }
 }
 
+fn is_pointer(place: Option<u64>) -> bool
+    ensures { result ≡ true → IsPointer place }
+{
+    match place {
+        None => true,
+        Some(place) => place < u64::MAX,
+    }
+}
+
 fn is_writable(spec: &FrameSpec, len: usize, size: usize) -> bool
     ensures { result ≡ true → IsWritable spec.now len size }
 {
     size % 4 == 0
         && size >= LEAST_SIZE
         && len < GIANT as usize
-        && spec.next != Some(u64::MAX)
-        && spec.prev != Some(u64::MAX)
+        && is_pointer(spec.next)
+        && is_pointer(spec.prev)
         && is_allowed(spec, len, size)
 }
 
@@ -167,11 +177,7 @@ pub fn deleted_head(words: &Words, args: &[&str]) -> Result<String, Fault> {
     };
     let size = four_bytes(*size)?;
     let (next, prev) = (place(*next)?, place(*prev)?);
-    if size < LEAST_SIZE as u32
-        || size >= GIANT
-        || next == Some(u64::MAX)
-        || prev == Some(u64::MAX)
-    {
+    if size < LEAST_SIZE as u32 || size >= GIANT || !is_pointer(next) || !is_pointer(prev) {
         return Err(Fault::Unread);
     }
     Ok(word(words.alloc(), &frames::deleted_head(size, next, prev))?)

@@ -98,7 +98,7 @@ fn written(words: &mut Words, line: &str) -> Result<String, AllocError> {
     match told(words, line) {
         Ok(text) => Ok(text),
         Err(Fault::Unread) => format!(in alloc; "unread: {line}"),
-        Err(Fault::Memory) => String::from_str(alloc, "out of memory"),
+        Err(Fault::Memory) => Err(AllocError),
     }
 }
 

@@ -113,11 +113,17 @@ fn are_rows(rec_ref: u8, entries: &[Entry]) -> bool
     true
 }
 
+fn is_place(child: u64) -> bool
+    ensures { result ≡ true → IsPlace child }
+{
+    child % 1024 == 0
+}
+
 fn are_places(children: &[u64]) -> bool
     ensures { result ≡ true → AllByRecursion IsPlace children.now }
 {
     for child in children {
-        if *child % 1024 != 0 {
+        if !is_place(*child) {
             return false;
         }
     }

@@ -72,11 +72,17 @@ pub fn mark(words: &Words, args: &[&str]) -> Result<String, Fault> {
     }
 }
 
+fn is_place(place: Option<u64>) -> bool
+    ensures { result ≡ true → IsPlace place }
+{
+    place != Some(u64::MAX)
+}
+
 fn are_places(places: &[Option<u64>]) -> bool
     ensures { result ≡ true → All IsPlace places.now }
 {
     for place in places {
-        if *place == Some(u64::MAX) {
+        if !is_place(*place) {
             return false;
         }
     }

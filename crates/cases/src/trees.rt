@@ -114,13 +114,13 @@ fn of_tree(fault: TreeFault) -> Fault {
     }
 }
 
-// Builds a tree from the room's end on, and writes its root.
+// Builds a tree from the room's end on, writes its root, and answers it.
 fn push_built(
     out: &mut String,
     index: &mut Index,
     place: Place,
     pairs: &[Pair],
-) -> Result<(), Fault>
+) -> Result<Option<u64>, Fault>
     requires { IsPlaced place }
 {
     let alloc = *out.allocator();
@@ -130,11 +130,17 @@ fn push_built(
     }
     let Index { files, cache, room } = index;
     match Tree::build(alloc, files, cache, place, room, pairs) {
-        Ok(tree) => write!(out, "root {} ", Root(tree.root()))?,
-        Err(TreeFault::File) => out.push_str("failed ")?,
-        Err(fault) => return Err(of_tree(fault)),
+        Ok(tree) => {
+            let root = Root(tree.root());
+            write!(out, "root {root} ")?;
+            Ok(tree.root())
+        }
+        Err(TreeFault::File) => {
+            out.push_str("failed ")?;
+            Ok(None)
+        }
+        Err(fault) => Err(of_tree(fault)),
     }
-    Ok(())
 }
 
 fn pairs(words: &Words, args: &[&str]) -> Result<Vec<Pair>, Fault> {
@@ -169,20 +175,13 @@ pub fn build(words: &Words, args: &[&str]) -> Result<String, Fault> {
     Ok(out)
 }
 
-// Writes the pairs of a tree, each as its code, its row and its page, or where it is damaged.
-fn push_walk(out: &mut String, index: &mut Index, place: Place) -> Result<(), Fault>
+// The pairs of a tree, each with its page.
+fn walked(alloc: Global, index: &mut Index, place: Place) -> Result<Vec<(Pair, u64)>, TreeFault>
     requires { IsPlaced place }
 {
-    let alloc = *out.allocator();
     let Index { files, cache, .. } = index;
-    cache.flush(files).or(Err(Fault::Unread))?;
-    match Tree::new(place).walk(alloc, files, cache) {
-        Ok(walked) => push_pairs(out, &walked)?,
-        Err(TreeFault::Damaged { at }) => write!(out, "damaged {at}")?,
-        Err(TreeFault::File) => out.push_str("failed")?,
-        Err(TreeFault::Memory) => return Err(Fault::Memory),
-    }
-    Ok(())
+    cache.flush(files)?;
+    Tree::new(place).walk(alloc, files, cache)
 }
 
 fn push_pairs(out: &mut String, walked: &[(Pair, u64)]) -> Result<(), AllocError> {
@@ -208,7 +207,11 @@ pub fn walk(words: &Words, args: &[&str]) -> Result<String, Fault> {
     };
     let mut index = index_of(alloc, words.bytes(*bytes)?, Vec::new(alloc))?;
     let mut out = String::new(alloc);
-    push_walk(&mut out, &mut index, place)?;
+    match walked(alloc, &mut index, place) {
+        Ok(pairs) => push_pairs(&mut out, &pairs)?,
+        Err(TreeFault::Damaged { at }) => write!(out, "damaged {at}")?,
+        Err(fault) => return Err(of_tree(fault)),
+    }
     Ok(out)
 }
 
@@ -223,6 +226,31 @@ fn numbered(alloc: Global, width: usize, number: u32) -> Result<KeyVal, AllocErr
     Ok(KeyVal::new(segments))
 }
 
+fn numbered_pairs(alloc: Global, width: usize, count: u32) -> Result<Vec<Pair>, AllocError>
+    requires { width ≤ 1000 }
+{
+    let mut pairs = Vec::new(alloc);
+    for number in 0..count {
+        let key = numbered(alloc, width, number + 1)?;
+        pairs.push(Pair {
+            key,
+            row: number as u64 * 8,
+        })?;
+    }
+    Ok(pairs)
+}
+
+// Codes, rows and pages of a walk, one after the other.
+fn walk_bytes(alloc: Global, walked: &[(Pair, u64)]) -> Result<Vec<u8>, AllocError> {
+    let mut bytes = Vec::new(alloc);
+    for (pair, page) in walked {
+        bytes.extend_from_slice(&encode(alloc, &pair.key)?)?;
+        bytes.extend_from_slice(&pair.row.to_be_bytes())?;
+        bytes.extend_from_slice(&page.to_be_bytes())?;
+    }
+    Ok(bytes)
+}
+
 /// `laid LENGTH POINTER WIDTH COUNT`: the tree of so many numbered keys of so many weights, whose rows are
 /// eight apart: its root, the room's end, its pages, and its walk.
 pub fn laid(words: &Words, args: &[&str]) -> Result<String, Fault> {
@@ -235,20 +263,16 @@ pub fn laid(words: &Words, args: &[&str]) -> Result<String, Fault> {
     if width > MOST_WEIGHTS {
         return Err(Fault::Unread);
     }
-    let mut pairs = Vec::new(alloc);
-    for number in 0..count {
-        let key = numbered(alloc, width, number + 1)?;
-        pairs.push(Pair {
-            key,
-            row: number as u64 * 8,
-        })?;
-    }
+    let pairs = numbered_pairs(alloc, width, count)?;
     let header = vec![in alloc; 0u8; FIRST as usize]?;
     let mut index = index_of(alloc, header, Vec::new(alloc))?;
     let mut out = String::new(alloc);
-    push_built(&mut out, &mut index, place, &pairs)?;
+    let root = push_built(&mut out, &mut index, place, &pairs)?;
     write!(out, "end {} ", index.room.end)?;
     let bytes = index.files.get(NAME).unwrap_or_default();
     push_word(&mut out, bytes.get(FIRST as usize..).unwrap_or_default())?;
+    let walked = walked(alloc, &mut index, Place { root, ..place }).map_err(of_tree)?;
+    out.push_str(" walk ")?;
+    push_word(&mut out, &walk_bytes(alloc, &walked)?)?;
     Ok(out)
 }

@@ -255,9 +255,15 @@ impl Words {
         definitions_are_sound();
         let bytes = self.bytes(word)?;
         if bytes.first() == Some(&MAGIC) {
-            return read_defs(self.alloc, &bytes).map_err(of_header);
+            return match read_defs(self.alloc, &bytes) {
+                Ok(defs) => Ok(defs),
+                Err(fault) => Err(of_header(fault)),
+            };
         }
-        parse_text(self.alloc, &bytes).map_err(of_text)
+        match parse_text(self.alloc, &bytes) {
+            Ok(defs) => Ok(defs),
+            Err(fault) => Err(of_text(fault)),
+        }
     }
 }
 
