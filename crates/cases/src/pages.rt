@@ -62,7 +62,9 @@ pub fn page_bytes(words: &Words, args: &[&str]) -> Result<String, Fault> {
     let mut out = String::from_str(words.alloc(), "bytes")?;
     let mut begin: Option<u8> = None;
     for byte in 0..=255u8 {
-        bytes[at] = byte;
+        if let Some(cell) = bytes.get_mut(at) {
+            *cell = byte;
+        }
         match (read_page(&bytes, rec_ref), begin) {
             (Some(_), None) => begin = Some(byte),
             (None, Some(first)) => {
