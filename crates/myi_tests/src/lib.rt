@@ -1,0 +1,10 @@
+//! Tests that need code, over all crates: loops over failing calls, and a real folder. Rows and vectors are
+//! lines of the program `cases`.
+#![tactic(auto)]
+
+#[cfg(test)]
+mod failing_calls;
+#[cfg(test)]
+mod real_folder;
+#[cfg(test)]
+mod wide_blobs;
