@@ -1,7 +1,7 @@
 //! The program `kit`: the top call on real files and standard output.
 #![tactic(auto)]
 
-use myi_io::{Gathering, RealFiles, RealSink};
+use myi_io::{FileErr, Gathering, RealFiles, RealSink};
 use myisamkit::{Status, kit};
 use std::process::ExitCode;
 use std::rt::{Clock, Env};
@@ -44,6 +44,7 @@ fn main(rt: HostRuntime) -> ExitCode {
     let status = kit(alloc, &words, &mut files, &mut out, now(&rt));
     match files.flush() {
         Ok(()) => ExitCode::from(code(status)),
-        Err(_) => ExitCode::from(code(Status::FileFault)),
+        Err(FileErr::Memory) => ExitCode::from(code(Status::Memory)),
+        Err(FileErr::Failed) => ExitCode::from(code(Status::FileFault)),
     }
 }

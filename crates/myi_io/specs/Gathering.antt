@@ -13,6 +13,18 @@ pending_done p m = with_pending (string_bytes p.name) p.at p.bytes.items m
 abbrev pub pending_shown : Pending → Option Holding → Option Holding
 pending_shown p told = option_map (pending_done p) told
 
+-- the same is told with the writes done
+abbrev pub SameShown : Pending → Option Holding → Pending → Option Holding → Type 0
+SameShown p told q new = pending_shown q new ≡ pending_shown p told
+
+-- this change of the writes does that to what is held with them done
+abbrev pub Does : (Holding → Holding → Type 0) → Pending → Pending → Type 0
+Does P p q = (m : Holding) → P (pending_done p m) (pending_done q m)
+
+-- what is done to the files is done to what is held with the writes done, too
+abbrev pub Carries : (Holding → Holding → Type 0) → Pending → Pending → Type 0
+Carries P p q = (m n : Holding) → P m n → P (pending_done p m) (pending_done q n)
+
 -- a file has no part in the writes
 abbrev pub HasNone : Pending → List ℕ → Type 0
 HasNone p name = (m : Holding) → pending_done p m name ≡ m name

@@ -2,6 +2,7 @@
 use Rattle.std.specs.Prelude.{ℕ, vec_len}
 use Rattle.myi_io.specs.declared.real.RealFiles.{RealFiles}
 use Rattle.myi_io.specs.declared.real.RealSink.{RealSink}
+use Rattle.myi_io.specs.declared.real.RealReader.{RealReader}
 use Rattle.myi_io.specs.declared.real.Disk.{Disk}
 
 -- how often a call has failed
@@ -15,3 +16,7 @@ real_sink_faults s = s.faults
 -- how many files are kept open
 abbrev pub opened_count : {R : Type 0} → Disk R → ℕ
 opened_count s = vec_len s.opened
+
+-- how often a read of an open file has failed
+abbrev pub real_reader_faults : RealReader → ℕ
+real_reader_faults s = s.faults

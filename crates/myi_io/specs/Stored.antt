@@ -6,6 +6,7 @@ use Rattle.std.specs.BTreeMap.{BTreeMap, get_by_text}
 use Rattle.std.specs.declared.alloc.Global.{Global}
 use Rattle.myi_base.specs.Holding.{Holding}
 
+-- the bytes under each name
 abbrev pub held : BTreeMap (String Global) (Vec ℕ Global) → Holding
 held m name = option_map (λ v. v.items) (get_by_text m name)
 

@@ -1,6 +1,6 @@
 //! Reading the front of a file into memory.
-ghost use Rattle.std.specs.Prelude.{◌≡◌, ◌≤◌, ℕ, Some, length, take, vec_len, IfOk};
-ghost use Rattle.myi_base.specs.Holding.{IfTold, IsFront};
+ghost use Rattle.std.specs.Prelude.{◌≡◌, ◌≤◌, ◌+◌, ℕ, Some, length, take, vec_len, IfOk};
+ghost use Rattle.myi_base.specs.Holding.{IfTold, IsFront, blocks};
 ghost use Rattle.myi_base.specs.Causes.{HasCause};
 ghost use Rattle.myi_io.specs.declared.files.FileErr.TheVariants.{Failed};
 
@@ -18,6 +18,8 @@ pub fn read_front<F: Files>(
     ensures told { IfOk result (λ front. IfTold (F.holds files.old) (IsFront name.now length front.items)) }
     ensures short { IfOk result (λ bytes. vec_len bytes ≤ length) }
     ensures holds { F.holds files.new ≡ F.holds files.old }
+    ensures reads { F.reads files.old ≤ F.reads files.new }
+    ensures few { F.reads files.new ≤ F.reads files.old + blocks length }
     ensures cause { HasCause Failed (F.faults files.old) (F.faults files.new) result }
 {
     let mut bytes = Vec::new(alloc);
@@ -30,8 +32,10 @@ pub fn read_front<F: Files>(
 // Fills the buffer from the file's start.
 fn fill<F: Files>(files: &mut F, name: &str, into: &mut [u8]) -> Result<usize, FileErr>
     ensures bound { IfOk result (λ count. count ≤ length into.new) }
-    ensures told { IfOk result (λ count. IfTold (F.holds files.old) (IsFront name.now (length into.old) (take count into.new))) }
+    ensures told { IfOk result (λ n. IfTold (F.holds files.old) (IsFront name.now (length into.old) (take n into.new))) }
     ensures holds { F.holds files.new ≡ F.holds files.old }
+    ensures reads { F.reads files.old ≤ F.reads files.new }
+    ensures few { F.reads files.new ≤ F.reads files.old + blocks (length into.old) }
     ensures cause { HasCause Failed (F.faults files.old) (F.faults files.new) result }
 {
     let count = files.read_at(name, 0, into)?;

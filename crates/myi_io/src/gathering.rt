@@ -5,10 +5,10 @@
 //! before their file is read, measured or handed to a reader, before any file is cut or renamed, and
 //! by `flush`. Where doing them fails they stay gathered. A file that is removed takes its own along.
 ghost use Rattle.std.specs.Prelude.{◌≡◌, ◌≢◌, ◌+◌, [], true, length, IsTrue, OnOk, OnErr, string_bytes};
-ghost use Rattle.myi_base.specs.Holding.{Holding, Removes, Writes};
+ghost use Rattle.myi_base.specs.Holding.{Keeps, Removes, Writes};
 ghost use Rattle.myi_base.specs.Causes.{HasCause};
 ghost use Rattle.myi_io.specs.declared.files.FileErr.TheVariants.{Failed};
-ghost use Rattle.myi_io.specs.Gathering.{pending_done, pending_shown, HasNone, IsNext};
+ghost use Rattle.myi_io.specs.Gathering.{IsNext, Does, Carries};
 
 use crate::pending::Pending;
 use crate::{FileErr, Files};
@@ -19,12 +19,12 @@ pub trait Writable: Files {
     ghost use Rattle.std.specs.Prelude.{◌≡◌, [], IsTrue, OnOk};
     ghost use Rattle.myi_base.specs.Causes.{HasCause};
     ghost use Rattle.myi_io.specs.declared.files.FileErr.TheVariants.{Failed};
-    ghost use Rattle.myi_io.specs.Gathering.{pending_shown, HasNone, IsNext};
+    ghost use Rattle.myi_io.specs.Gathering.{SameShown, HasNone, IsNext};
 
     /// Does the writes. Where that fails they stay.
     fn write_out(&mut self, pending: &mut Pending) -> Result<(), FileErr>
         requires { IsTrue Self.writable }
-        ensures shows { pending_shown pending.new (Self.holds self.new) ≡ pending_shown pending.old (Self.holds self.old) }
+        ensures shows { SameShown pending.old (Self.holds self.old) pending.new (Self.holds self.new) }
         ensures done { OnOk result (pending.new.bytes.items ≡ []) }
         ensures reads { Self.reads self.new ≡ Self.reads self.old }
         ensures cause { HasCause Failed (Self.faults self.old) (Self.faults self.new) result }
@@ -38,9 +38,9 @@ pub trait Writable: Files {
     }
 
     /// Does the writes to one file.
-    fn settle(&mut self, pending: &mut Pending, name: &str) -> Result<(), FileErr>
+    fn write_out_file(&mut self, pending: &mut Pending, name: &str) -> Result<(), FileErr>
         requires { IsTrue Self.writable }
-        ensures shows { pending_shown pending.new (Self.holds self.new) ≡ pending_shown pending.old (Self.holds self.old) }
+        ensures shows { SameShown pending.old (Self.holds self.old) pending.new (Self.holds self.new) }
         ensures apart { OnOk result (HasNone pending.new name.now) }
         ensures reads { Self.reads self.new ≡ Self.reads self.old }
         ensures cause { HasCause Failed (Self.faults self.old) (Self.faults self.new) result }
@@ -52,9 +52,14 @@ pub trait Writable: Files {
     }
 
     /// Lets bytes for a place be the next ones.
-    fn make_way(&mut self, pending: &mut Pending, name: &str, at: u64) -> Result<(), FileErr>
+    fn write_out_before(
+        &mut self,
+        pending: &mut Pending,
+        name: &str,
+        at: u64,
+    ) -> Result<(), FileErr>
         requires { IsTrue Self.writable }
-        ensures shows { pending_shown pending.new (Self.holds self.new) ≡ pending_shown pending.old (Self.holds self.old) }
+        ensures shows { SameShown pending.old (Self.holds self.old) pending.new (Self.holds self.new) }
         ensures next { OnOk result (IsNext pending.new name.now at) }
         ensures reads { Self.reads self.new ≡ Self.reads self.old }
         ensures cause { HasCause Failed (Self.faults self.old) (Self.faults self.new) result }
@@ -70,7 +75,8 @@ pub trait Writable: Files {
 /// Files below, and the writes to them that are gathered.
 #[derive(Drop)]
 pub struct Gathering<F: Writable + Drop> {
-    files: F,
+    /// The files below, which may lack what is gathered.
+    pub files: F,
     pending: Pending,
     faults: u64,
     ghost can_write: { IsTrue F.writable },
@@ -78,7 +84,7 @@ pub struct Gathering<F: Writable + Drop> {
 
 // Gives up the writes to a file that was removed.
 fn forget(pending: &mut Pending, name: &str)
-    ensures { (m n : Holding) → Removes name.now m n → Removes name.now (pending_done pending.old m) (pending_done pending.new n) }
+    ensures { Carries (Removes name.now) pending.old pending.new }
 {
     if pending.name.as_str() == name {
         pending.clear();
@@ -86,9 +92,9 @@ fn forget(pending: &mut Pending, name: &str)
 }
 
 // Where nothing is gathered, this is the next place.
-fn aim(pending: &mut Pending, name: &str, at: u64) -> Result<(), AllocError>
+fn begin_where_empty(pending: &mut Pending, name: &str, at: u64) -> Result<(), AllocError>
     requires { IsNext pending.old name.now at }
-    ensures same { (m : Holding) → pending_done pending.new m ≡ pending_done pending.old m }
+    ensures same { Does Keeps pending.old pending.new }
     ensures file { OnOk result (string_bytes pending.new.name ≡ name.now) }
     ensures end { OnOk result (pending.new.at + length pending.new.bytes.items ≡ at) }
 {
@@ -102,10 +108,10 @@ fn aim(pending: &mut Pending, name: &str, at: u64) -> Result<(), AllocError>
 fn gather(pending: &mut Pending, name: &str, at: u64, bytes: &[u8]) -> Result<(), AllocError>
     requires next { IsNext pending.old name.now at }
     requires some { bytes.now ≢ [] }
-    ensures ok { OnOk result ((m : Holding) → Writes name.now at bytes.now (pending_done pending.old m) (pending_done pending.new m)) }
-    ensures err { OnErr result ((m : Holding) → pending_done pending.new m ≡ pending_done pending.old m) }
+    ensures ok { OnOk result (Does (Writes name.now at bytes.now) pending.old pending.new) }
+    ensures err { OnErr result (Does Keeps pending.old pending.new) }
 {
-    aim(pending, name, at)?;
+    begin_where_empty(pending, name, at)?;
     pending.append(bytes)?;
     Ok(())
 }
@@ -128,7 +134,10 @@ impl<F: Writable + Drop> Gathering<F> {
     /// Does the gathered writes. A program calls it before it ends. Where it fails they stay gathered.
     pub fn flush(&mut self) -> Result<(), FileErr>
         ensures holds { ⟦<Gathering<F> as Files>⟧.holds self.new ≡ ⟦<Gathering<F> as Files>⟧.holds self.old }
-        ensures cause { HasCause Failed (⟦<Gathering<F> as Files>⟧.faults self.old) (⟦<Gathering<F> as Files>⟧.faults self.new) result }
+        ensures done { OnOk result (F.holds self.new.files ≡ ⟦<Gathering<F> as Files>⟧.holds self.new) }
+        ensures reads { F.reads self.new.files ≡ F.reads self.old.files }
+        ensures cause { HasCause Failed (⟦<Gathering<F> as Files>⟧.faults self.old)
+            (⟦<Gathering<F> as Files>⟧.faults self.new) result }
     {
         self.files.write_out(&mut self.pending)?;
         Ok(())
@@ -151,19 +160,24 @@ impl<F: Writable + Drop> Files for Gathering<F> {
     ghost writable = { true };
 
     fn length(&mut self, name: &str) -> Result<Option<u64>, FileErr> {
-        self.files.settle(&mut self.pending, name)?;
+        self.files.write_out_file(&mut self.pending, name)?;
         let size = self.files.length(name)?;
         Ok(size)
     }
 
     fn read_at(&mut self, name: &str, at: u64, into: &mut [u8]) -> Result<usize, FileErr> {
-        if self.files.settle(&mut self.pending, name).is_err() {
+        match self.files.write_out_file(&mut self.pending, name) {
+            Ok(()) => {
+                let count = self.files.read_at(name, at, into)?;
+                Ok(count)
+            }
+            Err(FileErr::Failed) => Err(FileErr::Failed),
             // Want of memory is a fault here.
-            self.faults = self.faults.saturating_add(1);
-            return Err(FileErr::Failed);
+            Err(FileErr::Memory) => {
+                self.faults = self.faults.saturating_add(1);
+                Err(FileErr::Failed)
+            }
         }
-        let count = self.files.read_at(name, at, into)?;
-        Ok(count)
     }
 
     fn write_at(&mut self, name: &str, at: u64, bytes: &[u8]) -> Result<(), FileErr> {
@@ -172,7 +186,7 @@ impl<F: Writable + Drop> Files for Gathering<F> {
             self.files.write_at(name, at, bytes)?;
             return Ok(());
         }
-        self.files.make_way(&mut self.pending, name, at)?;
+        self.files.write_out_before(&mut self.pending, name, at)?;
         gather(&mut self.pending, name, at, bytes)?;
         Ok(())
     }
@@ -196,7 +210,7 @@ impl<F: Writable + Drop> Files for Gathering<F> {
     }
 
     fn reader(&mut self, name: &str) -> Result<F::Reader, FileErr> {
-        self.files.settle(&mut self.pending, name)?;
+        self.files.write_out_file(&mut self.pending, name)?;
         let reader = self.files.reader(name)?;
         Ok(reader)
     }

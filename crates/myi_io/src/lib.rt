@@ -2,11 +2,14 @@
 //!
 //! The crates above reach the outside through two traits. `Files` holds bytes under names; `Sink`
 //! takes text. Each has an optional meaning, what it holds or what was written, and a count of faults:
-//! a call answers `Failed` only where that count rose. `MemFiles` and `MemSink` tell what they hold
-//! and fail at the calls that a list names; `RealFiles` and `RealSink` stand for the file system and
-//! standard output, and tell nothing. `be` and `le` are the number readers of the crate below.
+//! a call answers `Failed` only where that count rose. `Files` hands out readers (`FileReader`), which
+//! another thread reads one file by; `ReaderFiles` makes `Files` of two of them. `MemFiles` and
+//! `MemSink` tell what they hold and fail at the calls that a list names; `RealFiles` and `RealSink`
+//! stand for the file system and standard output, and tell nothing. `Gathering` makes large writes of
+//! small ones over any files. `be` and `le` are the number readers of the crate below.
 #![tactic(auto)]
 
+mod failures;
 mod files;
 mod front;
 mod gathering;
@@ -14,13 +17,10 @@ mod memory;
 mod memory_reader;
 mod opened;
 mod pending;
-mod place;
 mod reader;
 mod real;
+mod replace;
 mod sink;
-mod strikes;
-#[cfg(test)]
-mod tests;
 
 pub use files::{FileErr, Files};
 pub use front::read_front;

@@ -8,8 +8,8 @@ ghost use Rattle.std.specs.Option.{option_map};
 ghost use Rattle.myi_base.specs.Holding.{HoldsBytes, bytes_of, resized, overwritten, Sets, Writes, Cuts, Removes, Renames};
 ghost use Rattle.myi_io.specs.Stored.{held, given};
 
+use crate::failures::Failures;
 use crate::memory_reader::{MemReader, copy_from};
-use crate::strikes::Strikes;
 use crate::{FileErr, Files, Writable};
 use myi_base::slices_are_bytes;
 use std::alloc::{AllocError, Global};
@@ -75,7 +75,7 @@ fn overwrite(bytes: &mut Vec<u8>, at: u64, more: &[u8]) -> Result<(), FileErr>
 }
 
 // Puts a file that is not there.
-fn place(alloc: Global, files: &mut Stored, name: &str, bytes: Vec<u8>) -> Result<(), AllocError>
+fn add(alloc: Global, files: &mut Stored, name: &str, bytes: Vec<u8>) -> Result<(), AllocError>
     ensures ok { OnOk result (Sets name.now bytes.items (held files.old) (held files.new)) }
     ensures err { OnErr result (held files.new ≡ held files.old) }
 {
@@ -94,7 +94,7 @@ fn write(alloc: Global, files: &mut Stored, name: &str, at: u64, more: &[u8]) ->
     }
     let mut bytes = Vec::new(alloc);
     overwrite(&mut bytes, at, more)?;
-    place(alloc, files, name, bytes)?;
+    add(alloc, files, name, bytes)?;
     Ok(())
 }
 
@@ -108,7 +108,7 @@ fn cut(alloc: Global, files: &mut Stored, name: &str, length: u64) -> Result<(),
     }
     let mut bytes = Vec::new(alloc);
     resize(&mut bytes, length)?;
-    place(alloc, files, name, bytes)?;
+    add(alloc, files, name, bytes)?;
     Ok(())
 }
 
@@ -124,7 +124,7 @@ fn stored(alloc: Global, files: Vec<(String, Vec<u8>)>) -> Result<Stored, AllocE
     Ok(stored)
 }
 
-fn take_away(files: &mut Stored, name: &str)
+fn remove_file(files: &mut Stored, name: &str)
     ensures { Removes name.now (held files.old) (held files.new) }
 {
     let _ = files.remove(name);
@@ -138,9 +138,9 @@ fn move_to(alloc: Global, files: &mut Stored, from: &str, to: &str) -> Result<()
         None => Ok(()),
         Some(bytes) => {
             let bytes = bytes.to_vec(alloc)?;
-            place(alloc, files, to, bytes)?;
+            add(alloc, files, to, bytes)?;
             if from != to {
-                take_away(files, from);
+                remove_file(files, from);
             }
             Ok(())
         }
@@ -153,7 +153,7 @@ fn move_to(alloc: Global, files: &mut Stored, from: &str, to: &str) -> Result<()
 pub struct MemFiles {
     alloc: Global,
     files: Stored,
-    strikes: Strikes,
+    failures: Failures,
     readers_fail: Vec<u64>,
     reads: u64,
     ghost bytes: { HoldsBytes (held files) },
@@ -161,8 +161,8 @@ pub struct MemFiles {
 
 impl MemFiles {
     ghost use Rattle.std.specs.Prelude.{[]};
-    ghost use Rattle.myi_io.specs.Strikes.{fresh};
-    ghost use Rattle.myi_io.specs.MemFiles.{files_held, files_strikes, files_reads, readers_fail};
+    ghost use Rattle.myi_io.specs.Failures.{fresh};
+    ghost use Rattle.myi_io.specs.MemFiles.{files_held, files_failing, files_reads, readers_fail};
 
     /// These files, of which the last of a name counts. The calls with these numbers fail, counted
     /// from 1 over all calls of the object.
@@ -172,14 +172,14 @@ impl MemFiles {
         fail: Vec<u64>,
     ) -> Result<MemFiles, AllocError>
         ensures held { IfOk result (λ all. (q : List ℕ) → files_held all q ≡ given files.items q) }
-        ensures strikes { IfOk result (λ all. files_strikes all ≡ fresh fail.items) }
+        ensures failures { IfOk result (λ all. files_failing all ≡ fresh fail.items) }
         ensures readers { IfOk result (λ all. readers_fail all ≡ []) }
         ensures reads { IfOk result (λ all. files_reads all ≡ 0) }
     {
         Ok(MemFiles {
             alloc,
             files: stored(alloc, files)?,
-            strikes: Strikes::new(fail),
+            failures: Failures::new(fail),
             readers_fail: Vec::new(alloc),
             reads: 0,
         })
@@ -189,7 +189,7 @@ impl MemFiles {
     pub fn fail_readers(&mut self, fail: Vec<u64>)
         ensures readers { readers_fail self.new ≡ fail.items }
         ensures held { files_held self.new ≡ files_held self.old }
-        ensures strikes { files_strikes self.new ≡ files_strikes self.old }
+        ensures failures { files_failing self.new ≡ files_failing self.old }
         ensures reads { files_reads self.new ≡ files_reads self.old }
     {
         self.readers_fail = fail;
@@ -214,31 +214,32 @@ impl Files for MemFiles {
     type Reader = MemReader;
 
     ghost use Rattle.std.specs.Prelude.{true, ◌≡◌, ◌≤◌, ◌+◌, ◌-◌, ◌^◌, length, min, OnOk, OnErr, IfOk, IfErr, Some};
-    ghost use Rattle.myi_base.specs.Holding.{IfTold, Gives, Fills, Shows, Told, Writes, WritesPart, Cuts, CutsOrKeeps, Renames, Removes, Keeps, Measures, blocks};
+    ghost use Rattle.myi_base.specs.Holding.{Gives, Fills, Shows, Writes, WritesPart, Cuts, CutsOrKeeps, Renames, Removes, Keeps, Measures, blocks};
     ghost use Rattle.myi_base.specs.Causes.{HasCause};
     ghost use Rattle.myi_io.specs.declared.files.FileErr.TheVariants.{Failed};
     ghost use Rattle.myi_io.specs.Stored.{held};
     ghost use Rattle.myi_io.specs.Told.{same_told};
-    ghost use Rattle.myi_io.specs.Strikes.{IsCall, raised, fresh};
-    ghost use Rattle.myi_io.specs.MemFiles.{files_held, files_faults, files_reads, files_strikes, readers_fail};
-    ghost use Rattle.myi_io.specs.MemReader.{reader_bytes, reader_strikes};
+    ghost use Rattle.myi_io.specs.Failures.{IsCall, raised, fresh};
+    ghost use Rattle.myi_io.specs.MemFiles.{files_faults, files_reads, files_failing, readers_fail, MemTold, IfMemTold, MemSame};
+    ghost use Rattle.myi_io.specs.MemReader.{reader_bytes, reader_failing, reader_reads};
 
     ghost holds = { λ s. Some (held s.files) };
 
-    ghost faults = { λ s. s.strikes.faults };
+    ghost faults = { λ s. s.failures.faults };
 
     ghost reads = { λ s. s.reads };
 
     ghost writable = { true };
 
     fn length(&mut self, name: &str) -> Result<Option<u64>, FileErr>
-        ensures told { IfOk result (λ size. IfTold (Some (files_held self.old)) (λ m. Measures (m name.now) size)) }
-        ensures holds { Some (files_held self.new) ≡ Some (files_held self.old) }
+        ensures told { IfOk result (λ size. IfMemTold self.old (λ m. Measures (m name.now) size)) }
+        ensures holds { MemSame self.old self.new }
         ensures reads { files_reads self.new ≡ files_reads self.old }
         ensures cause { HasCause Failed (files_faults self.old) (files_faults self.new) result }
-        ensures exact { IsCall Failed (files_strikes self.old) result (files_strikes self.new) }
+        ensures exact { IsCall Failed (files_failing self.old) result (files_failing self.new) }
+        ensures readers { readers_fail self.new ≡ readers_fail self.old }
     {
-        if self.strikes.strikes() {
+        if self.failures.next_fails() {
             return Err(FileErr::Failed);
         }
         Ok(self.files.get(name).map(|bytes| bytes.len() as u64))
@@ -246,31 +247,33 @@ impl Files for MemFiles {
 
     fn read_at(&mut self, name: &str, at: u64, into: &mut [u8]) -> Result<usize, FileErr>
         ensures bound { IfOk result (λ count. count ≤ length into.new) }
-        ensures told { IfOk result (λ count. IfTold (Some (files_held self.old)) (Gives name.now at into.old count)) }
-        ensures bytes { OnOk result (IfTold (Some (files_held self.old)) (Fills name.now at into.old into.new)) }
+        ensures told { IfOk result (λ count. IfMemTold self.old (Gives name.now at into.old count)) }
+        ensures bytes { OnOk result (IfMemTold self.old (Fills name.now at into.old into.new)) }
         ensures failed { IfErr result (λ e. e ≡ Failed) }
-        ensures holds { Some (files_held self.new) ≡ Some (files_held self.old) }
+        ensures holds { MemSame self.old self.new }
         ensures reads { files_reads self.old ≤ files_reads self.new }
         ensures few { files_reads self.new ≤ files_reads self.old + blocks (length into.old) }
         ensures cause { HasCause Failed (files_faults self.old) (files_faults self.new) result }
-        ensures exact { IsCall Failed (files_strikes self.old) result (files_strikes self.new) }
+        ensures exact { IsCall Failed (files_failing self.old) result (files_failing self.new) }
+        ensures readers { readers_fail self.new ≡ readers_fail self.old }
         ensures one { files_reads self.new ≡ raised (files_reads self.old) }
     {
         self.reads = self.reads.saturating_add(1);
-        if self.strikes.strikes() {
+        if self.failures.next_fails() {
             return Err(FileErr::Failed);
         }
         Ok(copy_from(found(&self.files, name), at, into))
     }
 
     fn write_at(&mut self, name: &str, at: u64, bytes: &[u8]) -> Result<(), FileErr>
-        ensures ok { OnOk result (Told (Some (files_held self.old)) (Some (files_held self.new)) (Writes name.now at bytes.now)) }
-        ensures err { OnErr result (Told (Some (files_held self.old)) (Some (files_held self.new)) (WritesPart name.now at bytes.now)) }
+        ensures ok { OnOk result (MemTold self.old self.new (Writes name.now at bytes.now)) }
+        ensures err { OnErr result (MemTold self.old self.new (WritesPart name.now at bytes.now)) }
         ensures reads { files_reads self.new ≡ files_reads self.old }
         ensures cause { HasCause Failed (files_faults self.old) (files_faults self.new) result }
-        ensures exact { IsCall Failed (files_strikes self.old) result (files_strikes self.new) }
+        ensures exact { IsCall Failed (files_failing self.old) result (files_failing self.new) }
+        ensures readers { readers_fail self.new ≡ readers_fail self.old }
     {
-        if self.strikes.strikes() {
+        if self.failures.next_fails() {
             return Err(FileErr::Failed);
         }
         slices_are_bytes(bytes);
@@ -279,13 +282,14 @@ impl Files for MemFiles {
     }
 
     fn cut(&mut self, name: &str, length: u64) -> Result<(), FileErr>
-        ensures ok { OnOk result (Told (Some (files_held self.old)) (Some (files_held self.new)) (Cuts name.now length)) }
-        ensures err { OnErr result (Told (Some (files_held self.old)) (Some (files_held self.new)) (CutsOrKeeps name.now length)) }
+        ensures ok { OnOk result (MemTold self.old self.new (Cuts name.now length)) }
+        ensures err { OnErr result (MemTold self.old self.new (CutsOrKeeps name.now length)) }
         ensures reads { files_reads self.new ≡ files_reads self.old }
         ensures cause { HasCause Failed (files_faults self.old) (files_faults self.new) result }
-        ensures exact { IsCall Failed (files_strikes self.old) result (files_strikes self.new) }
+        ensures exact { IsCall Failed (files_failing self.old) result (files_failing self.new) }
+        ensures readers { readers_fail self.new ≡ readers_fail self.old }
     {
-        if self.strikes.strikes() {
+        if self.failures.next_fails() {
             return Err(FileErr::Failed);
         }
         cut(self.alloc, &mut self.files, name, length)?;
@@ -293,13 +297,14 @@ impl Files for MemFiles {
     }
 
     fn rename(&mut self, from: &str, to: &str) -> Result<(), FileErr>
-        ensures ok { OnOk result (Told (Some (files_held self.old)) (Some (files_held self.new)) (Renames from.now to.now)) }
-        ensures err { OnErr result (Told (Some (files_held self.old)) (Some (files_held self.new)) Keeps) }
+        ensures ok { OnOk result (MemTold self.old self.new (Renames from.now to.now)) }
+        ensures err { OnErr result (MemTold self.old self.new Keeps) }
         ensures reads { files_reads self.new ≡ files_reads self.old }
         ensures cause { HasCause Failed (files_faults self.old) (files_faults self.new) result }
-        ensures exact { IsCall Failed (files_strikes self.old) result (files_strikes self.new) }
+        ensures exact { IsCall Failed (files_failing self.old) result (files_failing self.new) }
+        ensures readers { readers_fail self.new ≡ readers_fail self.old }
     {
-        if self.strikes.strikes() {
+        if self.failures.next_fails() {
             return Err(FileErr::Failed);
         }
         move_to(self.alloc, &mut self.files, from, to)?;
@@ -307,29 +312,32 @@ impl Files for MemFiles {
     }
 
     fn remove(&mut self, name: &str) -> Result<(), FileErr>
-        ensures ok { OnOk result (Told (Some (files_held self.old)) (Some (files_held self.new)) (Removes name.now)) }
-        ensures err { OnErr result (Told (Some (files_held self.old)) (Some (files_held self.new)) Keeps) }
+        ensures ok { OnOk result (MemTold self.old self.new (Removes name.now)) }
+        ensures err { OnErr result (MemTold self.old self.new Keeps) }
         ensures failed { IfErr result (λ e. e ≡ Failed) }
         ensures reads { files_reads self.new ≡ files_reads self.old }
         ensures cause { HasCause Failed (files_faults self.old) (files_faults self.new) result }
-        ensures exact { IsCall Failed (files_strikes self.old) result (files_strikes self.new) }
+        ensures exact { IsCall Failed (files_failing self.old) result (files_failing self.new) }
+        ensures readers { readers_fail self.new ≡ readers_fail self.old }
     {
-        if self.strikes.strikes() {
+        if self.failures.next_fails() {
             return Err(FileErr::Failed);
         }
-        take_away(&mut self.files, name);
+        remove_file(&mut self.files, name);
         Ok(())
     }
 
     fn reader(&mut self, name: &str) -> Result<MemReader, FileErr>
-        ensures told { IfOk result (λ r. IfTold (Some (files_held self.old)) (Shows name.now (Some (reader_bytes r)))) }
-        ensures holds { Some (files_held self.new) ≡ Some (files_held self.old) }
+        ensures told { IfOk result (λ r. IfMemTold self.old (Shows name.now (Some (reader_bytes r)))) }
+        ensures holds { MemSame self.old self.new }
         ensures reads { files_reads self.new ≡ files_reads self.old }
         ensures cause { HasCause Failed (files_faults self.old) (files_faults self.new) result }
-        ensures exact { IsCall Failed (files_strikes self.old) result (files_strikes self.new) }
-        ensures fails { IfOk result (λ r. reader_strikes r ≡ fresh (readers_fail self.old)) }
+        ensures exact { IsCall Failed (files_failing self.old) result (files_failing self.new) }
+        ensures readers { readers_fail self.new ≡ readers_fail self.old }
+        ensures fails { IfOk result (λ r. reader_failing r ≡ fresh (readers_fail self.old)) }
+        ensures none { IfOk result (λ r. reader_reads r ≡ 0) }
     {
-        if self.strikes.strikes() {
+        if self.failures.next_fails() {
             return Err(FileErr::Failed);
         }
         let bytes = found(&self.files, name).to_vec(self.alloc)?;
@@ -338,7 +346,7 @@ impl Files for MemFiles {
     }
 
     fn fault_count(&self) -> u64 {
-        self.strikes.faults
+        self.failures.faults
     }
 
     ghost told_bytes = { λ s m told. same_told (held s.files) m s.bytes told };

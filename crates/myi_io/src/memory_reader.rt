@@ -1,15 +1,15 @@
 //! `MemReader`: the bytes of one file in memory, read by another thread.
 ghost use Rattle.std.specs.Prelude.{◌≡◌, ℕ, List};
-ghost use Rattle.myi_base.specs.Holding.{given, filled};
+ghost use Rattle.myi_base.specs.Holding.{read_count, filled};
 ghost use Rattle.myi_base.specs.Numbers.{AreBytes};
 
-use crate::strikes::Strikes;
+use crate::failures::Failures;
 use crate::{FileErr, FileReader};
 use myi_base::slices_are_bytes;
 
 /// Fills `into` with the bytes from a position on, as far as they go, and answers how many they are.
 pub(crate) fn copy_from(bytes: &[u8], at: u64, into: &mut [u8]) -> usize
-    ensures count { result ≡ given at into.old bytes.now }
+    ensures count { result ≡ read_count at into.old bytes.now }
     ensures bytes { into.new ≡ filled at into.old bytes.now }
 {
     if at >= bytes.len() as u64 {
@@ -26,24 +26,25 @@ pub(crate) fn copy_from(bytes: &[u8], at: u64, into: &mut [u8]) -> usize
 #[derive(Drop)]
 pub struct MemReader {
     bytes: Vec<u8>,
-    strikes: Strikes,
+    failures: Failures,
     reads: u64,
     ghost whole: { AreBytes bytes.items },
 }
 
 impl MemReader {
     ghost use Rattle.std.specs.Prelude.{◌≡◌};
-    ghost use Rattle.myi_io.specs.Strikes.{fresh};
-    ghost use Rattle.myi_io.specs.MemReader.{reader_bytes, reader_strikes};
+    ghost use Rattle.myi_io.specs.Failures.{fresh};
+    ghost use Rattle.myi_io.specs.MemReader.{reader_bytes, reader_failing, reader_reads};
 
     pub(crate) fn new(bytes: Vec<u8>, fail: Vec<u64>) -> Self
         ensures bytes { reader_bytes result ≡ bytes.items }
-        ensures strikes { reader_strikes result ≡ fresh fail.items }
+        ensures failures { reader_failing result ≡ fresh fail.items }
+        ensures reads { reader_reads result ≡ 0 }
     {
         slices_are_bytes(&bytes);
         MemReader {
             bytes,
-            strikes: Strikes::new(fail),
+            failures: Failures::new(fail),
             reads: 0,
         }
     }
@@ -52,40 +53,40 @@ impl MemReader {
 /// Beside the clauses of the trait: which calls fail (`exact`), and that a read counts once.
 impl FileReader for MemReader {
     ghost use Rattle.std.specs.Prelude.{◌≡◌, ◌≤◌, ◌+◌, length, OnOk, IfOk, IfErr, Some};
-    ghost use Rattle.myi_base.specs.Holding.{IfTold, given, filled, blocks};
+    ghost use Rattle.myi_base.specs.Holding.{read_count, filled, blocks};
     ghost use Rattle.myi_base.specs.Causes.{HasCause};
     ghost use Rattle.myi_io.specs.declared.files.FileErr.TheVariants.{Failed};
     ghost use Rattle.myi_io.specs.Told.{same_bytes};
-    ghost use Rattle.myi_io.specs.Strikes.{IsCall, raised};
-    ghost use Rattle.myi_io.specs.MemReader.{reader_bytes, reader_faults, reader_reads, reader_strikes};
+    ghost use Rattle.myi_io.specs.Failures.{IsCall, raised};
+    ghost use Rattle.myi_io.specs.MemReader.{reader_bytes, reader_faults, reader_reads, reader_failing, IfReaderTold};
 
     ghost holds = { λ s. Some s.bytes.items };
 
-    ghost faults = { λ s. s.strikes.faults };
+    ghost faults = { λ s. s.failures.faults };
 
     ghost reads = { λ s. s.reads };
 
     fn read_at(&mut self, at: u64, into: &mut [u8]) -> Result<usize, FileErr>
         ensures bound { IfOk result (λ count. count ≤ length into.new) }
-        ensures told { IfOk result (λ count. IfTold (Some (reader_bytes self.old)) (λ x. count ≡ given at into.old x)) }
-        ensures bytes { OnOk result (IfTold (Some (reader_bytes self.old)) (λ x. into.new ≡ filled at into.old x)) }
+        ensures told { IfOk result (λ count. IfReaderTold self.old (λ x. count ≡ read_count at into.old x)) }
+        ensures bytes { OnOk result (IfReaderTold self.old (λ x. into.new ≡ filled at into.old x)) }
         ensures failed { IfErr result (λ e. e ≡ Failed) }
         ensures holds { Some (reader_bytes self.new) ≡ Some (reader_bytes self.old) }
         ensures reads { reader_reads self.old ≤ reader_reads self.new }
         ensures few { reader_reads self.new ≤ reader_reads self.old + blocks (length into.old) }
         ensures cause { HasCause Failed (reader_faults self.old) (reader_faults self.new) result }
-        ensures exact { IsCall Failed (reader_strikes self.old) result (reader_strikes self.new) }
+        ensures exact { IsCall Failed (reader_failing self.old) result (reader_failing self.new) }
         ensures one { reader_reads self.new ≡ raised (reader_reads self.old) }
     {
         self.reads = self.reads.saturating_add(1);
-        if self.strikes.strikes() {
+        if self.failures.next_fails() {
             return Err(FileErr::Failed);
         }
         Ok(copy_from(&self.bytes, at, into))
     }
 
     fn fault_count(&self) -> u64 {
-        self.strikes.faults
+        self.failures.faults
     }
 
     ghost told_bytes = { λ s x told. same_bytes s.bytes.items x s.whole told };

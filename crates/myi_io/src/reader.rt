@@ -1,7 +1,7 @@
 //! `FileReader`: the bytes of one file, read by another thread.
 ghost use Rattle.std.specs.Prelude.{◌≡◌, ◌≤◌, ◌+◌, ◌-◌, ◌^◌, ℕ, List, Option, length, drop, min, OnOk, IfOk, IfErr, Some};
 ghost use Rattle.myi_io.specs.declared.files.FileErr.TheVariants.{Failed};
-ghost use Rattle.myi_base.specs.Holding.{filled, given, blocks, IfTold};
+ghost use Rattle.myi_base.specs.Holding.{filled, read_count, blocks, IfTold};
 ghost use Rattle.myi_base.specs.Numbers.{AreBytes};
 ghost use Rattle.myi_base.specs.Causes.{HasCause};
 
@@ -23,7 +23,7 @@ pub trait FileReader: Send + Drop {
     /// anything. Want of memory counts as a failure here.
     fn read_at(&mut self, at: u64, into: &mut [u8]) -> Result<usize, FileErr>
         ensures bound { IfOk result (λ count. count ≤ length into.new) }
-        ensures told { IfOk result (λ count. IfTold (holds self.old) (λ x. count ≡ given at into.old x)) }
+        ensures told { IfOk result (λ count. IfTold (holds self.old) (λ x. count ≡ read_count at into.old x)) }
         ensures bytes { OnOk result (IfTold (holds self.old) (λ x. into.new ≡ filled at into.old x)) }
         ensures failed { IfErr result (λ e. e ≡ Failed) }
         ensures holds { holds self.new ≡ holds self.old }

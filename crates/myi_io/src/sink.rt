@@ -5,7 +5,7 @@ ghost use Rattle.myi_base.specs.Causes.{HasCause};
 ghost use Rattle.myi_base.specs.Holding.{IfTold};
 ghost use Rattle.myi_base.specs.Output.{Appends, AppendsPart};
 
-use crate::strikes::Strikes;
+use crate::failures::Failures;
 use std::alloc::{AllocError, Global};
 use thiserror::Error;
 
@@ -38,21 +38,21 @@ pub trait Sink {
 #[derive(Drop)]
 pub struct MemSink {
     written: Vec<u8>,
-    strikes: Strikes,
+    failures: Failures,
 }
 
 impl MemSink {
-    ghost use Rattle.myi_io.specs.MemSink.{sink_bytes, sink_strikes};
-    ghost use Rattle.myi_io.specs.Strikes.{fresh};
+    ghost use Rattle.myi_io.specs.MemSink.{sink_bytes, sink_failing};
+    ghost use Rattle.myi_io.specs.Failures.{fresh};
 
     /// An empty sink. The writes with these numbers, counted from 1, fail.
     pub fn new(alloc: Global, fail: Vec<u64>) -> Result<MemSink, AllocError>
         ensures written { IfOk result (λ sink. sink_bytes sink ≡ []) }
-        ensures strikes { IfOk result (λ sink. sink_strikes sink ≡ fresh fail.items) }
+        ensures failures { IfOk result (λ sink. sink_failing sink ≡ fresh fail.items) }
     {
         Ok(MemSink {
             written: Vec::new(alloc),
-            strikes: Strikes::new(fail),
+            failures: Failures::new(fail),
         })
     }
 
@@ -67,23 +67,22 @@ impl MemSink {
 impl Sink for MemSink {
     ghost use Rattle.std.specs.Prelude.{◌≡◌, Some, OnOk, OnErr};
     ghost use Rattle.myi_base.specs.Causes.{HasCause};
-    ghost use Rattle.myi_base.specs.Holding.{IfTold};
     ghost use Rattle.myi_base.specs.Output.{Appends, AppendsPart};
     ghost use Rattle.myi_io.specs.declared.sink.SinkErr.TheVariants.{Failed};
-    ghost use Rattle.myi_io.specs.Strikes.{IsCall};
-    ghost use Rattle.myi_io.specs.MemSink.{sink_bytes, sink_faults, sink_strikes};
+    ghost use Rattle.myi_io.specs.Failures.{IsCall};
+    ghost use Rattle.myi_io.specs.MemSink.{sink_bytes, sink_faults, sink_failing, IfSinkTold};
 
     ghost written = { λ s. Some s.written.items };
 
-    ghost faults = { λ s. s.strikes.faults };
+    ghost faults = { λ s. s.failures.faults };
 
     fn write(&mut self, bytes: &[u8]) -> Result<(), SinkErr>
-        ensures ok { OnOk result (IfTold (Some (sink_bytes self.old)) (Appends bytes.now (Some (sink_bytes self.new)))) }
-        ensures err { OnErr result (IfTold (Some (sink_bytes self.old)) (AppendsPart bytes.now (Some (sink_bytes self.new)))) }
+        ensures ok { OnOk result (IfSinkTold self.old (Appends bytes.now (Some (sink_bytes self.new)))) }
+        ensures err { OnErr result (IfSinkTold self.old (AppendsPart bytes.now (Some (sink_bytes self.new)))) }
         ensures cause { HasCause Failed (sink_faults self.old) (sink_faults self.new) result }
-        ensures exact { IsCall Failed (sink_strikes self.old) result (sink_strikes self.new) }
+        ensures exact { IsCall Failed (sink_failing self.old) result (sink_failing self.new) }
     {
-        if self.strikes.strikes() {
+        if self.failures.next_fails() {
             return Err(SinkErr::Failed);
         }
         match self.written.extend_from_slice(bytes) {

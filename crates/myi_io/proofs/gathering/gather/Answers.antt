@@ -15,7 +15,7 @@ behind own name k at a b last i all m was e f h j l some before =
 
 pub returns-clause-ok : goal.returns-clause-ok
 returns-clause-ok c = λ m.
-    let aimed = c.aim.new.pending in
+    let aimed = c.begin_where_empty.new.pending in
     let last = c.append.new.self in
     behind (string_bytes aimed.name) c.args.name.now aimed.at c.args.at aimed.bytes.items c.args.bytes.now (string_bytes last.name) last.at last.bytes.items m _
-    c.in_ok-aim.ensures.file c.in_ok-aim.ensures.end c.append.ensures.name c.append.ensures.at c.in_ok-append.ensures.ok c.requires.some (c.aim.ensures.same m)
+    c.in_ok-begin_where_empty.ensures.file c.in_ok-begin_where_empty.ensures.end c.append.ensures.name c.append.ensures.at c.in_ok-append.ensures.ok c.requires.some (c.begin_where_empty.ensures.same m)

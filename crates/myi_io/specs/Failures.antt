@@ -3,32 +3,33 @@ use Rattle.std.specs.Prelude.{◌≡◌, ◌+◌, ◌-◌, ◌^◌, ◌==◌, �
 use Rattle.std.specs.List.{list_any}
 
 -- the calls that are to fail, how many calls were made, and how many of them failed
-pub record Striking : Type 0 where
+pub record Failing : Type 0 where
   pub fail : List ℕ
   pub calls : ℕ
   pub faults : ℕ
 
-abbrev pub striking : List ℕ → ℕ → ℕ → Striking
-striking fail calls faults = record { fail = fail; calls = calls; faults = faults }
+-- the same of its three parts
+abbrev pub failing : List ℕ → ℕ → ℕ → Failing
+failing fail calls faults = record { fail = fail; calls = calls; faults = faults }
 
 -- no call was made
-abbrev pub fresh : List ℕ → Striking
-fresh fail = striking fail 0 0
+abbrev pub fresh : List ℕ → Failing
+fresh fail = failing fail 0 0
 
 -- one more, up to the end of the type
 abbrev pub raised : ℕ → ℕ
 raised n = min (n + 1) (2 ^ 64 - 1)
 
 -- the call that comes next is to fail
-abbrev pub is_next : Striking → Bool
+abbrev pub is_next : Failing → Bool
 is_next s = list_any (λ n. n == raised s.calls) s.fail
 
 -- a call was counted, and a fault exactly where it is to fail
-abbrev pub counted : Striking → Striking
-counted s = striking s.fail (raised s.calls) (if is_next s then raised s.faults else s.faults)
+abbrev pub counted : Failing → Failing
+counted s = failing s.fail (raised s.calls) (if is_next s then raised s.faults else s.faults)
 
 -- a call was counted, and it failed exactly where it is to fail
-pub record IsCall {T E : Type 0} (failed : E) (old : Striking) (result : Result T E) (new : Striking) : Type 0 where
+pub record IsCall {T E : Type 0} (failed : E) (old : Failing) (result : Result T E) (new : Failing) : Type 0 where
   pub counts : new ≡ counted old
   pub fails : is_next old ≡ true → result ≡ Err failed
   pub goes : is_next old ≡ false → IfErr result (λ e. e ≡ failed → ⊥)

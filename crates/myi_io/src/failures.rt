@@ -1,22 +1,23 @@
-//! `Strikes`: which calls of an object in memory fail.
+//! `Failures`: which calls of an object in memory fail.
 ghost use Rattle.std.specs.Prelude.{◌≡◌, ◌≤◌};
 ghost use Rattle.std.specs.Bool.{OnTrue, OnFalse};
 ghost use Rattle.myi_base.specs.Causes.{Rose};
-ghost use Rattle.myi_io.specs.Strikes.{striking, fresh, is_next, counted};
+ghost use Rattle.myi_io.specs.Failures.{fresh, is_next, counted};
+ghost use Rattle.myi_io.specs.FailingOf.{failing_of};
 
 /// The calls that fail, counted from 1, how many calls were made, and how many of them failed.
 #[derive(Drop)]
-pub(crate) struct Strikes {
+pub(crate) struct Failures {
     pub(crate) calls: u64,
     pub(crate) fail: Vec<u64>,
     pub(crate) faults: u64,
 }
 
-impl Strikes {
+impl Failures {
     pub(crate) fn new(fail: Vec<u64>) -> Self
-        ensures { striking result.fail.items result.calls result.faults ≡ fresh fail.items }
+        ensures { failing_of result ≡ fresh fail.items }
     {
-        Strikes {
+        Failures {
             calls: 0,
             fail,
             faults: 0,
@@ -24,9 +25,9 @@ impl Strikes {
     }
 
     /// Counts a call, and answers whether it is to fail.
-    pub(crate) fn strikes(&mut self) -> bool
-        ensures listed { result ≡ is_next (striking self.old.fail.items self.old.calls self.old.faults) }
-        ensures counts { striking self.new.fail.items self.new.calls self.new.faults ≡ counted (striking self.old.fail.items self.old.calls self.old.faults) }
+    pub(crate) fn next_fails(&mut self) -> bool
+        ensures listed { result ≡ is_next (failing_of self.old) }
+        ensures counts { failing_of self.new ≡ counted (failing_of self.old) }
         ensures later { self.old.faults ≤ self.new.faults }
         ensures fails { OnTrue result (Rose self.old.faults self.new.faults) }
         ensures goes { OnFalse result (self.new.faults ≡ self.old.faults) }
