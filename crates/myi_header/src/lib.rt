@@ -11,8 +11,6 @@
 mod print;
 mod read;
 mod state;
-#[cfg(test)]
-mod tests;
 
 pub use print::print_state;
 pub use read::{read_state, stored_state};

@@ -12,8 +12,6 @@ mod front;
 mod memory;
 mod real;
 mod sink;
-#[cfg(test)]
-mod tests;
 
 pub use files::{FileErr, Files};
 pub use front::read_front;
