@@ -20,8 +20,6 @@ mod met;
 mod node;
 mod pair;
 mod place;
-#[cfg(test)]
-mod tests;
 mod tree;
 mod walk;
 

@@ -16,8 +16,6 @@ mod laws;
 mod row_test;
 mod scan;
 mod slots;
-#[cfg(test)]
-mod tests;
 
 pub use data_file::DataFile;
 pub use keys::key_of;

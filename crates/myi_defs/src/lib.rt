@@ -20,8 +20,6 @@ mod parse;
 mod places;
 mod print;
 mod read;
-#[cfg(test)]
-mod tests;
 mod text;
 mod text_header;
 mod types;

@@ -28,6 +28,3 @@ pub use laws::{
 };
 pub use sizes::{GIANT, LEAST_SIZE, MOST_SIZE, least_size, middle_room, start_room};
 pub use write::{FrameSpec, deleted_head, write_frame};
-
-#[cfg(test)]
-mod tests;

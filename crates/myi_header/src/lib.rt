@@ -12,8 +12,6 @@ mod laws;
 mod print;
 mod read;
 mod state;
-#[cfg(test)]
-mod tests;
 
 pub use laws::{empty_tables_are_empty, headers_read_back, states_rest_on_the_header};
 pub use myi_defs::MARK;

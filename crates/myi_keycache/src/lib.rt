@@ -13,8 +13,6 @@
 mod cache;
 mod laws;
 mod setup;
-#[cfg(test)]
-mod tests;
 
 pub use cache::KeyCache;
 pub use laws::{calls_follow, files_show_what_is_lent, pages_stay_apart, ranges_are_read};

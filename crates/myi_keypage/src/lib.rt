@@ -25,6 +25,3 @@ pub use item::PageItem;
 pub use laws::{entries_fit, pages_read_back, views_show_pages};
 pub use view::{PageView, PageWalk, read_page};
 pub use write::write_page;
-
-#[cfg(test)]
-mod tests;

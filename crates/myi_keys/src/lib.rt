@@ -15,8 +15,6 @@
 mod codes;
 mod collations;
 mod laws;
-#[cfg(test)]
-mod tests;
 mod values;
 mod weights;
 

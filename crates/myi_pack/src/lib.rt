@@ -22,6 +22,3 @@ pub use laws::{packings_are_read, spellings_are_shortest, views_go_on};
 pub use packing::{fits, pack};
 pub use row::{RowFields, RowView, view};
 pub use values::{Row, Value, unpack, value_of};
-
-#[cfg(test)]
-mod tests;

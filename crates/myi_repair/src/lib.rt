@@ -18,8 +18,6 @@ mod names;
 mod opening;
 mod repair;
 mod report;
-#[cfg(test)]
-mod tests;
 mod trees;
 mod unique;
 mod writing;

@@ -10,8 +10,6 @@
 mod lines;
 mod recover;
 mod status;
-#[cfg(test)]
-mod tests;
 mod top;
 mod words;
 
