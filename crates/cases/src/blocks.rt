@@ -23,7 +23,7 @@ fn head_text(alloc: Global, head: &Head) -> Result<String, AllocError> {
 
 /// `head AT LENGTH BYTES`: what the header of a block says, at a place of a file of that length, by the bytes
 /// from there on.
-pub fn head(words: &Words, args: &[&str]) -> Result<String, Fault> {
+fn head(words: &Words, args: &[&str]) -> Result<String, Fault> {
     let [at, file_len, bytes] = args else {
         return Err(Fault::Unread);
     };
@@ -53,7 +53,7 @@ fn frame_text(alloc: Global, frame: &Frame) -> Result<String, AllocError> {
 }
 
 /// `block AT LENGTH BYTES`: the block at a place of a file of that length, by the bytes from there on.
-pub fn block(words: &Words, args: &[&str]) -> Result<String, Fault> {
+fn block(words: &Words, args: &[&str]) -> Result<String, Fault> {
     let [at, file_len, bytes] = args else {
         return Err(Fault::Unread);
     };
@@ -150,7 +150,7 @@ fn is_writable(spec: &FrameSpec, len: usize, size: usize) -> bool
 
 /// `write_block KIND ROW_LENGTH NEXT PREVIOUS SIZE BYTES`: a block of that size with these row bytes, written
 /// over bytes AA.
-pub fn write_block(words: &Words, args: &[&str]) -> Result<String, Fault> {
+fn write_block(words: &Words, args: &[&str]) -> Result<String, Fault> {
     let [kind_word, rec_len, next, prev, size_word, bytes] = args else {
         return Err(Fault::Unread);
     };
@@ -171,7 +171,7 @@ pub fn write_block(words: &Words, args: &[&str]) -> Result<String, Fault> {
 }
 
 /// `deleted_head SIZE NEXT PREVIOUS`: the first bytes of a deleted block.
-pub fn deleted_head(words: &Words, args: &[&str]) -> Result<String, Fault> {
+fn deleted_head(words: &Words, args: &[&str]) -> Result<String, Fault> {
     let [size, next, prev] = args else {
         return Err(Fault::Unread);
     };
@@ -184,7 +184,7 @@ pub fn deleted_head(words: &Words, args: &[&str]) -> Result<String, Fault> {
 }
 
 /// `least_size COUNT`: the least size of a block with so many row bytes.
-pub fn least_size(words: &Words, args: &[&str]) -> Result<String, Fault> {
+fn least_size(words: &Words, args: &[&str]) -> Result<String, Fault> {
     let [len] = args else {
         return Err(Fault::Unread);
     };
@@ -197,7 +197,7 @@ pub fn least_size(words: &Words, args: &[&str]) -> Result<String, Fault> {
 }
 
 /// `start_room ROW_LENGTH SIZE`: how many row bytes a start holds.
-pub fn start_room(words: &Words, args: &[&str]) -> Result<String, Fault> {
+fn start_room(words: &Words, args: &[&str]) -> Result<String, Fault> {
     let [rec_len, size] = args else {
         return Err(Fault::Unread);
     };
@@ -210,7 +210,7 @@ pub fn start_room(words: &Words, args: &[&str]) -> Result<String, Fault> {
 }
 
 /// `middle_room SIZE`: how many row bytes a middle holds.
-pub fn middle_room(words: &Words, args: &[&str]) -> Result<String, Fault> {
+fn middle_room(words: &Words, args: &[&str]) -> Result<String, Fault> {
     let [size] = args else {
         return Err(Fault::Unread);
     };
@@ -220,4 +220,18 @@ pub fn middle_room(words: &Words, args: &[&str]) -> Result<String, Fault> {
     }
     let room = frames::middle_room(size);
     Ok(format!(in words.alloc(); "{room}")?)
+}
+
+/// The answer to a call of this module, and None where the name is no such call.
+pub fn answer(words: &Words, name: &str, args: &[&str]) -> Option<Result<String, Fault>> {
+    match name {
+        "head" => Some(head(words, args)),
+        "block" => Some(block(words, args)),
+        "write_block" => Some(write_block(words, args)),
+        "deleted_head" => Some(deleted_head(words, args)),
+        "least_size" => Some(least_size(words, args)),
+        "start_room" => Some(start_room(words, args)),
+        "middle_room" => Some(middle_room(words, args)),
+        _ => None,
+    }
 }

@@ -79,7 +79,7 @@ fn push_call(
 
 /// `cache FAULTS FILE CALL..`: what each call on a new cache of a file answers, the count of faults, and the
 /// file. A call is `get:AT:LENGTH`, `put:AT:BYTES`, `flush` or `counters`.
-pub fn cache(words: &Words, args: &[&str]) -> Result<String, Fault> {
+fn cache(words: &Words, args: &[&str]) -> Result<String, Fault> {
     let [faults, index, calls @ ..] = args else {
         return Err(Fault::Unread);
     };
@@ -100,4 +100,12 @@ pub fn cache(words: &Words, args: &[&str]) -> Result<String, Fault> {
     write!(out, "faults {} ", files.fault_count())?;
     push_file(&mut out, &files, name)?;
     Ok(out)
+}
+
+/// The answer to a call of this module, and None where the name is no such call.
+pub fn answer(words: &Words, name: &str, args: &[&str]) -> Option<Result<String, Fault>> {
+    match name {
+        "cache" => Some(cache(words, args)),
+        _ => None,
+    }
 }

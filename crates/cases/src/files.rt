@@ -115,7 +115,7 @@ fn push_call(
 /// `files FAULTS FILE.. -- CALL..`: what each call answers, the count of faults, and the files. A call is
 /// `length:NAME`, `read:NAME:AT:INTO`, `write:NAME:AT:BYTES`, `cut:NAME:LENGTH`, `rename:NAME:NAME` or
 /// `remove:NAME`.
-pub fn files(words: &Words, args: &[&str]) -> Result<String, Fault> {
+fn files(words: &Words, args: &[&str]) -> Result<String, Fault> {
     let [faults, others @ ..] = args else {
         return Err(Fault::Unread);
     };
@@ -132,7 +132,7 @@ pub fn files(words: &Words, args: &[&str]) -> Result<String, Fault> {
 }
 
 /// `sink FAULTS BYTES..`: what each write answers, and what was written.
-pub fn sink(words: &Words, args: &[&str]) -> Result<String, Fault> {
+fn sink(words: &Words, args: &[&str]) -> Result<String, Fault> {
     let [faults, writes @ ..] = args else {
         return Err(Fault::Unread);
     };
@@ -148,4 +148,13 @@ pub fn sink(words: &Words, args: &[&str]) -> Result<String, Fault> {
     }
     push_word(&mut out, sink.written())?;
     Ok(out)
+}
+
+/// The answer to a call of this module, and None where the name is no such call.
+pub fn answer(words: &Words, name: &str, args: &[&str]) -> Option<Result<String, Fault>> {
+    match name {
+        "files" => Some(files(words, args)),
+        "sink" => Some(sink(words, args)),
+        _ => None,
+    }
 }

@@ -47,7 +47,7 @@ fn can_weigh(segment: &Segment, content: &[u8]) -> bool
 }
 
 /// `weigh TYPE COLLATION LENGTH CONTENT`: the weights of a segment's content.
-pub fn weigh_content(words: &Words, args: &[&str]) -> Result<String, Fault> {
+fn weigh_content(words: &Words, args: &[&str]) -> Result<String, Fault> {
     let [seg, language, length, content] = args else {
         return Err(Fault::Unread);
     };
@@ -70,7 +70,7 @@ pub fn weigh_content(words: &Words, args: &[&str]) -> Result<String, Fault> {
 }
 
 /// `collation NUMBER BYTE`: how many bytes of a length stand for a character, and the weight of a byte.
-pub fn collation(words: &Words, args: &[&str]) -> Result<String, Fault> {
+fn collation(words: &Words, args: &[&str]) -> Result<String, Fault> {
     let [number, byte] = args else {
         return Err(Fault::Unread);
     };
@@ -113,7 +113,7 @@ fn key(words: &Words, args: &[&str]) -> Result<KeyVal, Fault> {
 }
 
 /// `encode SEGMENT..`: the code of a key.
-pub fn encode_key(words: &Words, args: &[&str]) -> Result<String, Fault> {
+fn encode_key(words: &Words, args: &[&str]) -> Result<String, Fault> {
     let key = key(words, args)?;
     let mut out = String::new(words.alloc());
     push_word(&mut out, &encode(words.alloc(), &key)?)?;
@@ -138,7 +138,7 @@ fn key_text(alloc: Global, key: &KeyVal) -> Result<String, AllocError> {
 }
 
 /// `decode BYTES`: the key whose code the bytes are.
-pub fn decode_code(words: &Words, args: &[&str]) -> Result<String, Fault> {
+fn decode_code(words: &Words, args: &[&str]) -> Result<String, Fault> {
     let [code] = args else {
         return Err(Fault::Unread);
     };
@@ -161,7 +161,7 @@ pub fn key_of_code(words: &Words, word: &str) -> Result<KeyVal, Fault> {
 }
 
 /// `compare CODE CODE`: the order of two keys, each given by its code.
-pub fn compare(words: &Words, args: &[&str]) -> Result<String, Fault> {
+fn compare(words: &Words, args: &[&str]) -> Result<String, Fault> {
     let [one, other] = args else {
         return Err(Fault::Unread);
     };
@@ -169,4 +169,16 @@ pub fn compare(words: &Words, args: &[&str]) -> Result<String, Fault> {
     let other = key_of_code(words, *other)?;
     let order = one.compare(&other);
     Ok(format!(in words.alloc(); "{order:?}")?)
+}
+
+/// The answer to a call of this module, and None where the name is no such call.
+pub fn answer(words: &Words, name: &str, args: &[&str]) -> Option<Result<String, Fault>> {
+    match name {
+        "weigh" => Some(weigh_content(words, args)),
+        "collation" => Some(collation(words, args)),
+        "encode" => Some(encode_key(words, args)),
+        "decode" => Some(decode_code(words, args)),
+        "compare" => Some(compare(words, args)),
+        _ => None,
+    }
 }

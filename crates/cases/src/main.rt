@@ -1,8 +1,8 @@
 //! Cases: calls of the crates of this repository, read from standard input, and what they answer.
 //!
-//! Each line is one case: a name from the table in `answer`, and its words. For each line one line is
+//! Each line is one case: the name of a call, and its words. For each line one line is
 //! written; `docs/CASES.md` has the grammar of both. `Words` reads words into numbers, bytes, definitions and
-//! files, the module `shown` spells what is written, and the other modules have one function a call. The stored
+//! files, the module `shown` spells what is written, and the other modules have one function a call, and a table of their calls, `answer`. The stored
 //! input and output lie beside `src`.
 #![tactic(auto)]
 
@@ -25,55 +25,46 @@ use std::alloc::AllocError;
 use std::io;
 use std::io::{BufRead, BufReader, BufWriter, Write};
 
-// The table of calls.
+// The answer to a call on bytes, or on a table's definitions or its state.
 fn answer(words: &Words, name: &str, args: &[&str]) -> Result<String, Fault> {
-    match name {
-        "head" => blocks::head(words, args),
-        "block" => blocks::block(words, args),
-        "write_block" => blocks::write_block(words, args),
-        "deleted_head" => blocks::deleted_head(words, args),
-        "least_size" => blocks::least_size(words, args),
-        "start_room" => blocks::start_room(words, args),
-        "middle_room" => blocks::middle_room(words, args),
-        "view" => rows::view_row(words, args),
-        "pack" => rows::pack_row(words, args),
-        "key" => rows::key(words, args),
-        "weigh" => keys::weigh_content(words, args),
-        "collation" => keys::collation(words, args),
-        "encode" => keys::encode_key(words, args),
-        "decode" => keys::decode_code(words, args),
-        "compare" => keys::compare(words, args),
-        "page" => pages::page(words, args),
-        "page_bytes" => pages::page_bytes(words, args),
-        "write_page" => pages::write(words, args),
-        "fits_page" => pages::fits_page(words, args),
-        _ => answer_of_table(words, name, args),
+    if let Some(answer) = blocks::answer(words, name, args) {
+        return answer;
     }
+    if let Some(answer) = rows::answer(words, name, args) {
+        return answer;
+    }
+    if let Some(answer) = keys::answer(words, name, args) {
+        return answer;
+    }
+    if let Some(answer) = pages::answer(words, name, args) {
+        return answer;
+    }
+    if let Some(answer) = tables::answer(words, name, args) {
+        return answer;
+    }
+    if let Some(answer) = states::answer(words, name, args) {
+        return answer;
+    }
+    answer_on_files(words, name, args)
 }
 
-// The calls on a table or on files.
-fn answer_of_table(words: &Words, name: &str, args: &[&str]) -> Result<String, Fault> {
-    match name {
-        "defs" => tables::defs(words, args),
-        "text" => tables::text(words, args),
-        "print_defs" => tables::print(words, args),
-        "addressable" => tables::addressable(words, args),
-        "first_page" => states::page_place(words, args),
-        "state" => states::state(words, args),
-        "stored_state" => states::stored(words, args),
-        "print_state" => states::print(words, args),
-        "mark" => states::mark(words, args),
-        "scan" => scans::scan(words, args),
-        "scan_rows" => scans::scan_rows(words, args),
-        "laid" => trees::laid(words, args),
-        "build" => trees::build(words, args),
-        "walk" => trees::walk(words, args),
-        "cache" => caches::cache(words, args),
-        "files" => files::files(words, args),
-        "sink" => files::sink(words, args),
-        "kit" => runs::run(words, args),
-        _ => Err(Fault::Unread),
+fn answer_on_files(words: &Words, name: &str, args: &[&str]) -> Result<String, Fault> {
+    if let Some(answer) = scans::answer(words, name, args) {
+        return answer;
     }
+    if let Some(answer) = trees::answer(words, name, args) {
+        return answer;
+    }
+    if let Some(answer) = caches::answer(words, name, args) {
+        return answer;
+    }
+    if let Some(answer) = files::answer(words, name, args) {
+        return answer;
+    }
+    if let Some(answer) = runs::answer(words, name, args) {
+        return answer;
+    }
+    Err(Fault::Unread)
 }
 
 fn split<'a>(words: &Words, line: &'a str) -> Result<Vec<&'a str>, AllocError> {

@@ -34,7 +34,7 @@ fn page_text(alloc: Global, page: &PageView) -> Result<String, AllocError> {
 }
 
 /// `page POINTER BYTES`: the page that the bytes are, with row pointers of that size.
-pub fn page(words: &Words, args: &[&str]) -> Result<String, Fault> {
+fn page(words: &Words, args: &[&str]) -> Result<String, Fault> {
     let [rec_ref, bytes] = args else {
         return Err(Fault::Unread);
     };
@@ -50,7 +50,7 @@ pub fn page(words: &Words, args: &[&str]) -> Result<String, Fault> {
 }
 
 /// `page_bytes POINTER AT BYTES`: the ranges of byte values with which, at that place, the bytes are a page.
-pub fn page_bytes(words: &Words, args: &[&str]) -> Result<String, Fault> {
+fn page_bytes(words: &Words, args: &[&str]) -> Result<String, Fault> {
     let [rec_ref, at, bytes] = args else {
         return Err(Fault::Unread);
     };
@@ -143,7 +143,7 @@ fn is_branching(entries: &[Entry], children: &[u64]) -> bool
 
 /// `write_page POINTER LENGTH CHILDREN KEY:ROW..`: a page with these children and entries, written over bytes
 /// AA.
-pub fn write(words: &Words, args: &[&str]) -> Result<String, Fault> {
+fn write(words: &Words, args: &[&str]) -> Result<String, Fault> {
     let [rec_ref, length, children, others @ ..] = args else {
         return Err(Fault::Unread);
     };
@@ -168,7 +168,7 @@ pub fn write(words: &Words, args: &[&str]) -> Result<String, Fault> {
 }
 
 /// `fits_page POINTER NODE LENGTH KEY:ROW..`: how many entries from the front fit, and whether all do.
-pub fn fits_page(words: &Words, args: &[&str]) -> Result<String, Fault> {
+fn fits_page(words: &Words, args: &[&str]) -> Result<String, Fault> {
     let [rec_ref, node, length, others @ ..] = args else {
         return Err(Fault::Unread);
     };
@@ -180,4 +180,15 @@ pub fn fits_page(words: &Words, args: &[&str]) -> Result<String, Fault> {
     let count = fitting(&entries, node, rec_ref, length);
     let all = fits(&entries, node, rec_ref, length);
     Ok(format!(in words.alloc(); "{count} {all}")?)
+}
+
+/// The answer to a call of this module, and None where the name is no such call.
+pub fn answer(words: &Words, name: &str, args: &[&str]) -> Option<Result<String, Fault>> {
+    match name {
+        "page" => Some(page(words, args)),
+        "page_bytes" => Some(page_bytes(words, args)),
+        "write_page" => Some(write(words, args)),
+        "fits_page" => Some(fits_page(words, args)),
+        _ => None,
+    }
 }

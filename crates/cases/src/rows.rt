@@ -21,7 +21,7 @@ fn row_text(alloc: Global, row: &Row) -> Result<String, AllocError> {
 }
 
 /// `view DEFINITIONS BYTES`: the values of the row that the bytes pack.
-pub fn view_row(words: &Words, args: &[&str]) -> Result<String, Fault> {
+fn view_row(words: &Words, args: &[&str]) -> Result<String, Fault> {
     let [defs, bytes] = args else {
         return Err(Fault::Unread);
     };
@@ -43,7 +43,7 @@ fn row(words: &Words, values: &[&str]) -> Result<Row, Fault> {
 }
 
 /// `pack DEFINITIONS VALUE..`: the spelling of a row, or that it does not fit.
-pub fn pack_row(words: &Words, args: &[&str]) -> Result<String, Fault> {
+fn pack_row(words: &Words, args: &[&str]) -> Result<String, Fault> {
     let [defs, values @ ..] = args else {
         return Err(Fault::Unread);
     };
@@ -72,7 +72,7 @@ fn code(alloc: Global, defs: &Defs, key: usize, bytes: &[u8]) -> Result<Option<V
 }
 
 /// `key DEFINITIONS KEY BYTES`: the code of the key of that number, from 0, of the row that the bytes pack.
-pub fn key(words: &Words, args: &[&str]) -> Result<String, Fault> {
+fn key(words: &Words, args: &[&str]) -> Result<String, Fault> {
     let [defs, key, bytes] = args else {
         return Err(Fault::Unread);
     };
@@ -89,4 +89,14 @@ pub fn key(words: &Words, args: &[&str]) -> Result<String, Fault> {
         Some(code) => push_word(&mut out, &code)?,
     }
     Ok(out)
+}
+
+/// The answer to a call of this module, and None where the name is no such call.
+pub fn answer(words: &Words, name: &str, args: &[&str]) -> Option<Result<String, Fault>> {
+    match name {
+        "view" => Some(view_row(words, args)),
+        "pack" => Some(pack_row(words, args)),
+        "key" => Some(key(words, args)),
+        _ => None,
+    }
 }

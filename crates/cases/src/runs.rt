@@ -7,7 +7,7 @@ use std::str;
 
 /// `kit NOW FAULTS WRITE_FAULTS FILE.. -- WORD..`: the status, what is printed, the count of faults, and what the
 /// files hold.
-pub fn run(words: &Words, args: &[&str]) -> Result<String, Fault> {
+fn run(words: &Words, args: &[&str]) -> Result<String, Fault> {
     let [now, faults, write_faults, others @ ..] = args else {
         return Err(Fault::Unread);
     };
@@ -25,4 +25,12 @@ pub fn run(words: &Words, args: &[&str]) -> Result<String, Fault> {
     let mut out = format!(in words.alloc(); "{status:?} {printed:?} faults {faults}")?;
     push_files(&mut out, &files, given)?;
     Ok(out)
+}
+
+/// The answer to a call of this module, and None where the name is no such call.
+pub fn answer(words: &Words, name: &str, args: &[&str]) -> Option<Result<String, Fault>> {
+    match name {
+        "kit" => Some(run(words, args)),
+        _ => None,
+    }
 }

@@ -57,7 +57,7 @@ fn push_item(out: &mut String, item: Result<Option<Item>, ScanFault>) -> Result<
 
 /// `scan DEFINITIONS FAULTS END EXTEND BYTES`: the rows and the deleted blocks of a data file up to its end, and
 /// what comes behind it.
-pub fn scan(words: &Words, args: &[&str]) -> Result<String, Fault> {
+fn scan(words: &Words, args: &[&str]) -> Result<String, Fault> {
     let mut scanned = opened(words, args)?;
     let mut out = String::new(words.alloc());
     for _ in 0..u64::MAX {
@@ -81,7 +81,7 @@ fn push_blocks(out: &mut String, blocks: &[(u64, u32)]) -> Result<(), AllocError
 }
 
 /// The same for the rows alone, each with its blocks.
-pub fn scan_rows(words: &Words, args: &[&str]) -> Result<String, Fault> {
+fn scan_rows(words: &Words, args: &[&str]) -> Result<String, Fault> {
     let mut scanned = opened(words, args)?;
     let mut out = String::new(words.alloc());
     for _ in 0..u64::MAX {
@@ -99,4 +99,13 @@ pub fn scan_rows(words: &Words, args: &[&str]) -> Result<String, Fault> {
     }
     out.push_str("end")?;
     Ok(out)
+}
+
+/// The answer to a call of this module, and None where the name is no such call.
+pub fn answer(words: &Words, name: &str, args: &[&str]) -> Option<Result<String, Fault>> {
+    match name {
+        "scan" => Some(scan(words, args)),
+        "scan_rows" => Some(scan_rows(words, args)),
+        _ => None,
+    }
 }

@@ -32,7 +32,7 @@ fn state_text(alloc: Global, state: &State) -> Result<String, AllocError> {
 }
 
 /// `state DEFINITIONS BYTES`: the state in the bytes of an index file.
-pub fn state(words: &Words, args: &[&str]) -> Result<String, Fault> {
+fn state(words: &Words, args: &[&str]) -> Result<String, Fault> {
     let [defs, bytes] = args else {
         return Err(Fault::Unread);
     };
@@ -46,7 +46,7 @@ pub fn state(words: &Words, args: &[&str]) -> Result<String, Fault> {
 }
 
 /// `stored_state DEFINITIONS`: the state in the header that the definitions were read from.
-pub fn stored(words: &Words, args: &[&str]) -> Result<String, Fault> {
+fn stored(words: &Words, args: &[&str]) -> Result<String, Fault> {
     let [defs] = args else {
         return Err(Fault::Unread);
     };
@@ -56,7 +56,7 @@ pub fn stored(words: &Words, args: &[&str]) -> Result<String, Fault> {
 }
 
 /// `first_page DEFINITIONS`: the place of the first page.
-pub fn page_place(words: &Words, args: &[&str]) -> Result<String, Fault> {
+fn page_place(words: &Words, args: &[&str]) -> Result<String, Fault> {
     let [defs] = args else {
         return Err(Fault::Unread);
     };
@@ -65,7 +65,7 @@ pub fn page_place(words: &Words, args: &[&str]) -> Result<String, Fault> {
 }
 
 /// `mark`: the mark of an index file that this project wrote.
-pub fn mark(words: &Words, args: &[&str]) -> Result<String, Fault> {
+fn mark(words: &Words, args: &[&str]) -> Result<String, Fault> {
     match args {
         [] => Ok(word(words.alloc(), &MARK)?),
         _ => Err(Fault::Unread),
@@ -141,7 +141,7 @@ fn given(words: &Words, numbers: &[&str], stored: State) -> Result<State, Fault>
 
 /// `print_state DEFINITIONS NUMBER..`: the header with a state of these numbers, in the order of `state` but
 /// with the roots last, and with the other bytes of the stored state.
-pub fn print(words: &Words, args: &[&str]) -> Result<String, Fault> {
+fn print(words: &Words, args: &[&str]) -> Result<String, Fault> {
     let [defs, numbers @ ..] = args else {
         return Err(Fault::Unread);
     };
@@ -156,4 +156,16 @@ pub fn print(words: &Words, args: &[&str]) -> Result<String, Fault> {
         return Err(Fault::Unread);
     }
     Ok(word(alloc, &print_state(alloc, &defs, &state)?)?)
+}
+
+/// The answer to a call of this module, and None where the name is no such call.
+pub fn answer(words: &Words, name: &str, args: &[&str]) -> Option<Result<String, Fault>> {
+    match name {
+        "first_page" => Some(page_place(words, args)),
+        "state" => Some(state(words, args)),
+        "stored_state" => Some(stored(words, args)),
+        "print_state" => Some(print(words, args)),
+        "mark" => Some(mark(words, args)),
+        _ => None,
+    }
 }

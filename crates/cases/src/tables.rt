@@ -48,7 +48,7 @@ fn push_fault(out: &mut String, fault: DefFault) -> Result<(), Fault> {
 }
 
 /// `defs BYTES`: the definitions in a header.
-pub fn defs(words: &Words, args: &[&str]) -> Result<String, Fault> {
+fn defs(words: &Words, args: &[&str]) -> Result<String, Fault> {
     let [bytes] = args else {
         return Err(Fault::Unread);
     };
@@ -62,7 +62,7 @@ pub fn defs(words: &Words, args: &[&str]) -> Result<String, Fault> {
 }
 
 /// `text BYTES`: the definitions that a creating text stands for.
-pub fn text(words: &Words, args: &[&str]) -> Result<String, Fault> {
+fn text(words: &Words, args: &[&str]) -> Result<String, Fault> {
     let [bytes] = args else {
         return Err(Fault::Unread);
     };
@@ -78,7 +78,7 @@ pub fn text(words: &Words, args: &[&str]) -> Result<String, Fault> {
 }
 
 /// `print_defs DEFINITIONS`: the header of an empty table.
-pub fn print(words: &Words, args: &[&str]) -> Result<String, Fault> {
+fn print(words: &Words, args: &[&str]) -> Result<String, Fault> {
     let [defs] = args else {
         return Err(Fault::Unread);
     };
@@ -87,10 +87,21 @@ pub fn print(words: &Words, args: &[&str]) -> Result<String, Fault> {
 }
 
 /// `addressable DEFINITIONS LENGTH`: whether row pointers reach each row of a data file of that length.
-pub fn addressable(words: &Words, args: &[&str]) -> Result<String, Fault> {
+fn addressable(words: &Words, args: &[&str]) -> Result<String, Fault> {
     let [defs, length] = args else {
         return Err(Fault::Unread);
     };
     let reached = words.definitions(*defs)?.addressable(number(*length)?);
     Ok(format!(in words.alloc(); "{reached}")?)
+}
+
+/// The answer to a call of this module, and None where the name is no such call.
+pub fn answer(words: &Words, name: &str, args: &[&str]) -> Option<Result<String, Fault>> {
+    match name {
+        "defs" => Some(defs(words, args)),
+        "text" => Some(text(words, args)),
+        "print_defs" => Some(print(words, args)),
+        "addressable" => Some(addressable(words, args)),
+        _ => None,
+    }
 }

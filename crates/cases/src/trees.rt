@@ -157,7 +157,7 @@ fn pairs(words: &Words, args: &[&str]) -> Result<Vec<Pair>, Fault> {
 
 /// `build LENGTH POINTER FAULTS CODE:ROW.. [tree CODE:ROW..]..`: trees of sorted pairs, with pages of that length
 /// and row pointers of that size, one behind the other: the roots, the room's end and the file.
-pub fn build(words: &Words, args: &[&str]) -> Result<String, Fault> {
+fn build(words: &Words, args: &[&str]) -> Result<String, Fault> {
     let [block_length, rec_ref, faults, others @ ..] = args else {
         return Err(Fault::Unread);
     };
@@ -196,7 +196,7 @@ fn push_pairs(out: &mut String, walked: &[(Pair, u64)]) -> Result<(), AllocError
 }
 
 /// `walk LENGTH POINTER ROOT BYTES`: the pairs of the tree with that root in an index file.
-pub fn walk(words: &Words, args: &[&str]) -> Result<String, Fault> {
+fn walk(words: &Words, args: &[&str]) -> Result<String, Fault> {
     let [block_length, rec_ref, root, bytes] = args else {
         return Err(Fault::Unread);
     };
@@ -253,7 +253,7 @@ fn walk_bytes(alloc: Global, walked: &[(Pair, u64)]) -> Result<Vec<u8>, AllocErr
 
 /// `laid LENGTH POINTER WIDTH COUNT`: the tree of so many numbered keys of so many weights, whose rows are
 /// eight apart: its root, the room's end, its pages, and its walk.
-pub fn laid(words: &Words, args: &[&str]) -> Result<String, Fault> {
+fn laid(words: &Words, args: &[&str]) -> Result<String, Fault> {
     let [block_length, rec_ref, width, count] = args else {
         return Err(Fault::Unread);
     };
@@ -275,4 +275,14 @@ pub fn laid(words: &Words, args: &[&str]) -> Result<String, Fault> {
     out.push_str(" walk ")?;
     push_word(&mut out, &walk_bytes(alloc, &walked)?)?;
     Ok(out)
+}
+
+/// The answer to a call of this module, and None where the name is no such call.
+pub fn answer(words: &Words, name: &str, args: &[&str]) -> Option<Result<String, Fault>> {
+    match name {
+        "laid" => Some(laid(words, args)),
+        "build" => Some(build(words, args)),
+        "walk" => Some(walk(words, args)),
+        _ => None,
+    }
 }
