@@ -1,9 +1,9 @@
 //! Cases: calls of the crates of this repository, read from standard input, and what they answer.
 //!
-//! Each line is one case: the name of a call, and its words. For each line one line is
-//! written; `docs/CASES.md` has the grammar of both. `Words` reads words into numbers, bytes, definitions and
-//! files, the module `shown` spells what is written, and the other modules have one function a call, and a table of their calls, `answer`. The stored
-//! input and output lie beside `src`.
+//! Each line is one case: the name of a call, and its words. For each line one line is written;
+//! `docs/CASES.md` has the grammar of both. `Words` reads words into numbers, bytes, definitions and files, the
+//! module `shown` spells what is written, and each other module has one function a call, and the table of its
+//! calls in `answer`. The stored input and output lie beside `src`.
 #![tactic(auto)]
 
 mod blocks;
@@ -71,17 +71,27 @@ fn split<'a>(words: &Words, line: &'a str) -> Result<Vec<&'a str>, AllocError> {
     line.split(' ').collect(words.alloc())
 }
 
+// `let NAME BYTES`.
+fn named(words: &mut Words, args: &[&str]) -> Result<String, Fault> {
+    let [name, bytes] = args else {
+        return Err(Fault::Unread);
+    };
+    words.keep(*name, *bytes)
+}
+
 // The answer to a line. A comment is its own answer, and so is a line that names bytes.
 fn told(words: &mut Words, line: &str) -> Result<String, Fault> {
     if line.is_empty() || line.starts_with('#') {
         return Ok(String::from_str(words.alloc(), line)?);
     }
     let parts = split(words, line)?;
-    match parts.as_slice() {
-        ["let", name, bytes] => words.keep(*name, *bytes),
-        [name, args @ ..] => answer(words, *name, args),
-        [] => Err(Fault::Unread),
+    let Some((name, args)) = parts.split_first() else {
+        return Err(Fault::Unread);
+    };
+    if *name == "let" {
+        return named(words, args);
     }
+    answer(words, *name, args)
 }
 
 fn written(words: &mut Words, line: &str) -> Result<String, AllocError> {

@@ -1,11 +1,11 @@
-use Rattle.std.proofs.Common.{sym, ◌<◌, ◌^◌}
+use Rattle.std.proofs.Common.{sym, subst, ◌<◌, ◌^◌}
 use Rattle.std.proofs.lemmas.List.Elements.{All-more, All-same, recursion_from_All}
 use Rattle.std.proofs.lemmas.List.{take_all}
 use Rattle.myi_keypage.specs.declared.entry.Entry.{Entry}
 use Rattle.cases.proofs.pages.are_rows.Goals as goal
 
 pub loop-entry-preserved : goal.loop-entry-preserved
-loop-entry-preserved c = All-more (λ (e : Entry). e.row < 256 ^ c.args.rec_ref) c.args.entries.now c.loop-entry.entry-index _ c.loop-entry-test.true c.loop-entry.invariant (c.is_row.ensures (cc))
+loop-entry-preserved c = All-more (λ (e : Entry). e.row < 256 ^ c.args.rec_ref) c.args.entries.now c.loop-entry.entry-index _ c.loop-entry-test.true c.loop-entry.invariant (subst (λ (t : Entry). t.row < 256 ^ c.args.rec_ref) c.entry-item.is (c.is_row.ensures (cc)))
 
 pub returns : goal.returns
 returns c =
