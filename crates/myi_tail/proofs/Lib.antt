@@ -1,0 +1,5 @@
+mod KeptLemmas
+pub mod RuleLaws
+pub mod StepLemmas
+pub mod RowLemmas
+pub mod RowLaws

@@ -1,0 +1,134 @@
+-- A row in words, and the bytes that words hold.
+use Rattle.std.proofs.Common.{◌≡◌, ℕ, zero, suc, ◌+◌, ◌-◌, ◌*◌, ◌/◌, ◌%◌, ◌^◌, ◌<◌, ◌≤◌, List, [], ◌∷◌, ◌++◌, length, take, drop, replicate, get_or, sym, refl, ap, ◌∙◌, subst, arith, length-append, append_assoc, min, inl, inr}
+use Rattle.std.proofs.lemmas.List.{take_all, drop_all, take-append-drop, length-drop, length-take, length-replicate, replicate-append-replicate, append-nil, nil_from_length}
+use Rattle.std.proofs.lemmas.Bool.{cases_lt}
+use Rattle.std.proofs.Math.Seq.{take-append_seam, drop-append_seam}
+use Rattle.std.proofs.lemmas.List.Concat.{flat_map-append}
+use Rattle.std.proofs.lemmas.Nat.{le_bytes_8}
+use Rattle.std.specs.List.{flat_map}
+use Rattle.std.specs.Int.{w64, from_le_bytes, to_le_bytes, byte_at, bytes_low_first}
+use Rattle.myi_base.specs.Numbers.{AreBytes}
+use Rattle.myi_tail.specs.Rows.{word_of, words_of}
+use Rattle.myi_tail.specs.Spelled.{bytes_in}
+
+pub length-words_of : (n : ℕ) (bytes : List ℕ) → length (words_of n bytes) ≡ n
+length-words_of zero bytes = refl
+length-words_of (suc n) bytes = ap suc (length-words_of n (drop 8 bytes))
+
+-- one more word where bytes are left, and none where none is
+pub words_of-more : (bytes : List ℕ) → 0 < length bytes
+    → words_of ((length bytes + 7) / 8) bytes ≡ word_of (take 8 bytes) ∷ words_of ((length (drop 8 bytes) + 7) / 8) (drop 8 bytes)
+words_of-more bytes some =
+    let long : length (drop 8 bytes) ≡ length bytes - 8 = length-drop 8 bytes in
+    let n : (length bytes + 7) / 8 ≡ suc ((length (drop 8 bytes) + 7) / 8) = omega arith in
+    ap (λ k. words_of k bytes) n
+
+chunk_parts : (all chunk rest : List ℕ) → all ≡ chunk ++ rest → length chunk ≡ min 8 (length all) → (take 8 all ≡ chunk) × (drop 8 all ≡ rest)
+chunk_parts all chunk rest parts size =
+    let sum = ap length parts ∙ length-append chunk rest in
+    elim (cases_lt (length all) 8) [
+      | inl short ↦
+          let none : rest ≡ [] = nil_from_length rest (omega arith) in
+          let same : all ≡ chunk = parts ∙ ap (λ l. chunk ++ l) none ∙ append-nil chunk in
+          (take_all 8 all (omega arith) ∙ same, drop_all 8 all (omega arith) ∙ sym none)
+      | inr long ↦
+          let whole : length chunk ≡ 8 = omega arith in
+          (ap (take 8) parts ∙ ap (λ n. take n (chunk ++ rest)) (sym whole) ∙ take-append_seam chunk rest, ap (drop 8) parts ∙ ap (λ n. drop n (chunk ++ rest)) (sym whole) ∙ drop-append_seam chunk rest)
+    ]
+
+-- a chunk of eight bytes, or of those that are left, is one word
+pub words_of-chunk : (all chunk rest : List ℕ) → all ≡ chunk ++ rest → length chunk ≡ min 8 (length all) → 0 < length all
+    → words_of ((length all + 7) / 8) all ≡ word_of chunk ∷ words_of ((length rest + 7) / 8) rest
+words_of-chunk all chunk rest parts size some =
+    let p = chunk_parts all chunk rest parts size in
+    words_of-more all some ∙ (λ i. word_of (p.0 i) ∷ words_of ((length (p.1 i) + 7) / 8) (p.1 i))
+
+-- bytes are below 256
+
+zeros : (k i : ℕ) → get_or {A = ℕ} (replicate k 0) i 0 ≡ 0
+zeros zero i = refl
+zeros (suc k) zero = refl
+zeros (suc k) (suc i) = zeros k i
+
+bytes-append : (xs ys : List ℕ) → AreBytes xs → AreBytes ys → AreBytes (xs ++ ys)
+bytes-append [] ys a b i = b i
+bytes-append (x ∷ xs) ys a b zero = a zero
+bytes-append (x ∷ xs) ys a b (suc i) = bytes-append xs ys (λ j. a (suc j)) b i
+
+bytes-take : (n : ℕ) (xs : List ℕ) → AreBytes xs → AreBytes (take n xs)
+bytes-take zero xs all i = omega arith
+bytes-take (suc n) [] all i = omega arith
+bytes-take (suc n) (x ∷ xs) all zero = all zero
+bytes-take (suc n) (x ∷ xs) all (suc i) = bytes-take n xs (λ j. all (suc j)) i
+
+bytes-drop : (n : ℕ) (xs : List ℕ) → AreBytes xs → AreBytes (drop n xs)
+bytes-drop zero xs all = all
+bytes-drop (suc n) [] all = all
+bytes-drop (suc n) (x ∷ xs) all = bytes-drop n xs (λ j. all (suc j))
+
+bytes-zeros : (k : ℕ) → AreBytes (replicate k 0)
+bytes-zeros k i = let none = zeros k i in omega arith
+
+byte-below : (i n : ℕ) → byte_at i n < 256
+byte-below zero n = omega arith
+byte-below (suc i) n = let q : ℕ = n / 256 ^ suc i in let below : q % 256 < 256 = omega arith in below
+
+bytes-low : (i k n : ℕ) → AreBytes (bytes_low_first i k n)
+bytes-low i zero n j = omega arith
+bytes-low i (suc k) n zero = byte-below i n
+bytes-low i (suc k) n (suc j) = bytes-low (suc i) k n j
+
+bytes-words : (words : List ℕ) → AreBytes (flat_map (to_le_bytes w64) words)
+bytes-words [] = λ i. omega arith
+bytes-words (w ∷ words) = bytes-append (to_le_bytes w64 w) (flat_map (to_le_bytes w64) words) (bytes-low 0 8 w) (bytes-words words)
+
+pub bytes-bytes_in : (n : ℕ) (words : List ℕ) → AreBytes (bytes_in n words)
+bytes-bytes_in n words = bytes-take n (flat_map (to_le_bytes w64) words) (bytes-words words)
+
+-- the bytes of words
+
+word_back : (bytes : List ℕ) → AreBytes bytes → length bytes ≤ 8 → to_le_bytes w64 (word_of bytes) ≡ bytes ++ replicate (8 - length bytes) 0
+unfolding word_of
+word_back bytes all few =
+    let fill : List ℕ = replicate (8 - length bytes) 0 in
+    let filled : length fill ≡ 8 - length bytes = length-replicate (8 - length bytes) 0 in
+    le_bytes_8 (bytes ++ fill) (from_le_bytes w64 (bytes ++ fill)) (omega (arith, length-append bytes fill)) (bytes-append bytes fill all (bytes-zeros (8 - length bytes))) refl
+
+bytes_back : (n : ℕ) (bytes : List ℕ) → AreBytes bytes → length bytes ≤ 8 * n → flat_map (to_le_bytes w64) (words_of n bytes) ≡ bytes ++ replicate (8 * n - length bytes) 0
+bytes_back zero bytes all few =
+    let none : bytes ≡ [] = nil_from_length bytes (omega arith) in
+    subst (λ (b : List ℕ). [] ≡ b ++ replicate (8 * 0 - length b) 0) (sym none) refl
+bytes_back (suc n) bytes all few =
+    let front : List ℕ = take 8 bytes in
+    let back : List ℕ = drop 8 bytes in
+    let fronts : length front ≡ min 8 (length bytes) = length-take 8 bytes in
+    let backs : length back ≡ length bytes - 8 = length-drop 8 bytes in
+    let here = word_back front (bytes-take 8 bytes all) (omega arith) in
+    let there = bytes_back n back (bytes-drop 8 bytes all) (omega arith) in
+    let joined : to_le_bytes w64 (word_of front) ++ flat_map (to_le_bytes w64) (words_of n back)
+    ≡ (front ++ replicate (8 - length front) 0) ++ (back ++ replicate (8 * n - length back) 0) = λ i. here i ++ there i in
+    joined ∙ elim (cases_lt (length bytes) 8) [
+      | inl short ↦
+          let same : front ≡ bytes = take_all 8 bytes (omega arith) in
+          let none : back ≡ [] = drop_all 8 bytes (omega arith) in
+          let k : ℕ = 8 * n - length {A = ℕ} [] in
+          (λ i. (same i ++ replicate (8 - length (same i)) 0) ++ (none i ++ replicate (8 * n - length (none i)) 0))
+          ∙ append_assoc bytes (replicate (8 - length bytes) 0) (replicate k 0)
+          ∙ ap (λ l. bytes ++ l) (replicate-append-replicate (8 - length bytes) k 0
+          ∙ ap (λ m. replicate m 0) (let sum : 8 - length bytes + k ≡ 8 * suc n - length bytes = omega arith in sum))
+      | inr long ↦
+          ap (λ k. (front ++ replicate k 0) ++ (back ++ replicate (8 * n - length back) 0)) (let none : 8 - length front ≡ 0 = omega arith in none)
+          ∙ ap (λ l. l ++ (back ++ replicate (8 * n - length back) 0)) (append-nil front)
+          ∙ sym (append_assoc front back (replicate (8 * n - length back) 0))
+          ∙ (λ i. take-append-drop 8 bytes i ++ replicate ((let same : 8 * n - length back ≡ 8 * suc n - length bytes = omega arith in same) i) 0)
+    ]
+
+-- the bytes that a row's words hold, cut to its length, are the row's
+pub row_back : (row back : List ℕ) → AreBytes row → bytes_in (length row) (words_of ((length row + 7) / 8) row ++ back) ≡ row
+row_back row back all =
+    let n : ℕ = (length row + 7) / 8 in
+    let fill : List ℕ = replicate (8 * n - length row) 0 in
+    let rest : List ℕ = flat_map (to_le_bytes w64) back in
+    ap (take (length row)) (flat_map-append (to_le_bytes w64) (words_of n row) back
+    ∙ ap (λ l. l ++ rest) (bytes_back n row all (omega arith))
+    ∙ append_assoc row fill rest) ∙ take-append_seam row (fill ++ rest)

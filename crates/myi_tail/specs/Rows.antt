@@ -1,0 +1,16 @@
+-- A row in words of eight bytes (this project's own form: MyISAM has no such words).
+use Rattle.std.specs.Prelude.{ℕ, zero, suc, ◌+◌, ◌-◌, ◌/◌, List, [], ◌∷◌, ◌++◌, length, take, drop, replicate}
+use Rattle.std.specs.Int.{w64, from_le_bytes}
+
+-- at most eight bytes as a number, low byte first, filled up with zeros
+unfoldable pub word_of : List ℕ → ℕ
+word_of bytes = from_le_bytes w64 (bytes ++ replicate (8 - length bytes) 0)
+
+-- the words of the first n times eight bytes, the last of which may be fewer
+abbrev pub words_of : ℕ → List ℕ → List ℕ
+words_of zero bytes = []
+words_of (suc n) bytes = word_of (take 8 bytes) ∷ words_of n (drop 8 bytes)
+
+-- a row: a word for its length in bytes, and one for each eight bytes begun
+abbrev pub row_words : List ℕ → List ℕ
+row_words row = length row ∷ words_of ((length row + 7) / 8) row
