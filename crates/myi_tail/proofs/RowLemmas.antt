@@ -94,6 +94,29 @@ word_back bytes all few =
     let filled : length fill ≡ 8 - length bytes = length-replicate (8 - length bytes) 0 in
     le_bytes_8 (bytes ++ fill) (from_le_bytes w64 (bytes ++ fill)) (omega (arith, length-append bytes fill)) (bytes-append bytes fill all (bytes-zeros (8 - length bytes))) refl
 
+-- two fills are one
+filled_twice : (j k m : ℕ) (bytes : List ℕ) → j + k ≡ m → (bytes ++ replicate j 0) ++ ([] ++ replicate k 0) ≡ bytes ++ replicate m 0
+filled_twice j k m bytes sum =
+    append_assoc bytes (replicate j 0) (replicate k 0) ∙ (ap (λ l. bytes ++ l) (replicate-append-replicate j k 0) ∙ ap (λ n. bytes ++ replicate n 0) sum)
+
+-- the first word is the last
+filled_short : (n : ℕ) (bytes front back : List ℕ) → front ≡ bytes → back ≡ [] → length bytes < 8
+    → (front ++ replicate (8 - length front) 0) ++ (back ++ replicate (8 * n - length back) 0) ≡ bytes ++ replicate (8 * suc n - length bytes) 0
+filled_short n bytes front back same none short =
+    (λ i. (same i ++ replicate (8 - length (same i)) 0) ++ (none i ++ replicate (8 * n - length (none i)) 0))
+    ∙ filled_twice (8 - length bytes) (8 * n - length {A = ℕ} []) (8 * suc n - length bytes) bytes (omega arith)
+
+-- the first word is full
+filled_long : (n : ℕ) (bytes front back : List ℕ) → front ++ back ≡ bytes → 8 ≤ length bytes → length front ≡ 8 → length back ≡ length bytes - 8
+    → (front ++ replicate (8 - length front) 0) ++ (back ++ replicate (8 * n - length back) 0) ≡ bytes ++ replicate (8 * suc n - length bytes) 0
+filled_long n bytes front back parts long full rest =
+    let k : ℕ = 8 * n - length back in
+    let none : 8 - length front ≡ 0 = omega arith in
+    let same : k ≡ 8 * suc n - length bytes = omega arith in
+    ap (λ m. (front ++ replicate m 0) ++ (back ++ replicate k 0)) none
+    ∙ (ap (λ l. l ++ (back ++ replicate k 0)) (append-nil front)
+    ∙ (sym (append_assoc front back (replicate k 0)) ∙ (λ i. parts i ++ replicate (same i) 0)))
+
 bytes_back : (n : ℕ) (bytes : List ℕ) → AreBytes bytes → length bytes ≤ 8 * n → flat_map (to_le_bytes w64) (words_of n bytes) ≡ bytes ++ replicate (8 * n - length bytes) 0
 bytes_back zero bytes all few =
     let none : bytes ≡ [] = nil_from_length bytes (omega arith) in
@@ -108,19 +131,8 @@ bytes_back (suc n) bytes all few =
     let joined : to_le_bytes w64 (word_of front) ++ flat_map (to_le_bytes w64) (words_of n back)
     ≡ (front ++ replicate (8 - length front) 0) ++ (back ++ replicate (8 * n - length back) 0) = λ i. here i ++ there i in
     joined ∙ elim (cases_lt (length bytes) 8) [
-      | inl short ↦
-          let same : front ≡ bytes = take_all 8 bytes (omega arith) in
-          let none : back ≡ [] = drop_all 8 bytes (omega arith) in
-          let k : ℕ = 8 * n - length {A = ℕ} [] in
-          (λ i. (same i ++ replicate (8 - length (same i)) 0) ++ (none i ++ replicate (8 * n - length (none i)) 0))
-          ∙ append_assoc bytes (replicate (8 - length bytes) 0) (replicate k 0)
-          ∙ ap (λ l. bytes ++ l) (replicate-append-replicate (8 - length bytes) k 0
-          ∙ ap (λ m. replicate m 0) (let sum : 8 - length bytes + k ≡ 8 * suc n - length bytes = omega arith in sum))
-      | inr long ↦
-          ap (λ k. (front ++ replicate k 0) ++ (back ++ replicate (8 * n - length back) 0)) (let none : 8 - length front ≡ 0 = omega arith in none)
-          ∙ ap (λ l. l ++ (back ++ replicate (8 * n - length back) 0)) (append-nil front)
-          ∙ sym (append_assoc front back (replicate (8 * n - length back) 0))
-          ∙ (λ i. take-append-drop 8 bytes i ++ replicate ((let same : 8 * n - length back ≡ 8 * suc n - length bytes = omega arith in same) i) 0)
+      | inl short ↦ filled_short n bytes front back (take_all 8 bytes (omega arith)) (drop_all 8 bytes (omega arith)) short
+      | inr long ↦ filled_long n bytes front back (take-append-drop 8 bytes) (omega arith) (omega arith) (omega arith)
     ]
 
 -- the bytes that a row's words hold, cut to its length, are the row's

@@ -11,6 +11,10 @@ abbrev pub words_of : ℕ → List ℕ → List ℕ
 words_of zero bytes = []
 words_of (suc n) bytes = word_of (take 8 bytes) ∷ words_of n (drop 8 bytes)
 
--- a row: a word for its length in bytes, and one for each eight bytes begun
+-- all bytes in words, one for each eight bytes begun
+abbrev pub bytes_words : List ℕ → List ℕ
+bytes_words bytes = words_of ((length bytes + 7) / 8) bytes
+
+-- a row: a word for its length in bytes, and the words of its bytes
 abbrev pub row_words : List ℕ → List ℕ
-row_words row = length row ∷ words_of ((length row + 7) / 8) row
+row_words row = length row ∷ bytes_words row

@@ -1,7 +1,7 @@
 //! The one that appends. `Appender` keeps the words that it stored, beside the table that the readers
 //! see; `NoRoom` is its refusal of a row.
 ghost use Rattle.std.specs.Prelude.{◌≡◌, ◌+◌, ◌/◌, ◌<◌, ◌≤◌, ◌↔◌, [], ◌∷◌, ◌++◌, length, IfOk, IfErr, OnOk, OnErr, IsOk};
-ghost use Rattle.myi_tail.specs.Rows.{row_words, words_of};
+ghost use Rattle.myi_tail.specs.Rows.{row_words, bytes_words};
 ghost use Rattle.myi_tail.specs.Seats.{free_words, room_of, IsNew, closing};
 
 use crate::closing::ClosingAppender;
@@ -108,7 +108,7 @@ impl Appender {
     // Stores the words of a row's bytes.
     fn push_bytes(&mut self, row: &[u8])
         requires { (length row.now + 7) / 8 ≤ free_words self.old }
-        ensures { self.new ≡ record self.old { words = self.old.words ++ words_of ((length row.now + 7) / 8) row.now } }
+        ensures { self.new ≡ record self.old { words = self.old.words ++ bytes_words row.now } }
     {
         for eight in row.chunks(8) {
             self.push_word(word_of(eight));

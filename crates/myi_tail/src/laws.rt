@@ -17,11 +17,12 @@ ghost use Rattle.myi_tail.specs.Steps.{AppenderView, ReaderView, appends, reads,
 pub fn known_words_are_published()
     ensures published { (m : Moment) (k : Kept m)
         → take k.published k.words ≡ take (slice_index m.cells 0) (drop 1 m.cells) }
-    ensures seen { (m : Moment) → Kept m → (seat : ℕ) (r : ReaderView) → get_elem? m.views seat ≡ some (reads r)
-        → r.seen ≤ slice_index m.cells 0 }
-    ensures known { (m : Moment) (k : Kept m) (seat : ℕ) (r : ReaderView) → get_elem? m.views seat ≡ some (reads r)
-        → IsPrefixOf (take k.published k.words) r.known }
-    ensures joined { (m : Moment) (k : Kept m) (seat : ℕ) (a : AppenderView) → get_elem? m.views seat ≡ some (appends a)
+    ensures seen { (m : Moment) → Kept m → (seat : ℕ) (r : ReaderView)
+        → get_elem? m.views seat ≡ some (reads r) → r.seen ≤ slice_index m.cells 0 }
+    ensures known { (m : Moment) (k : Kept m) (seat : ℕ) (r : ReaderView)
+        → get_elem? m.views seat ≡ some (reads r) → IsPrefixOf (take k.published k.words) r.known }
+    ensures joined { (m : Moment) (k : Kept m) (seat : ℕ) (a : AppenderView)
+        → get_elem? m.views seat ≡ some (appends a)
         → All (IsPrefixOf (take k.published k.words)) a.joined }
 {}
 
@@ -29,26 +30,28 @@ pub fn known_words_are_published()
 /// The stores and the loads are what happens to a tail: a word is added; all words are published; a
 /// reader sees the published count; a reader knows one more of the words, the next.
 pub fn steps_keep_the_rule()
-    ensures opening { (n : ℕ) → Kept record { cells = replicate (n + 1) 0; views = opening (n + 1) ∷ [] } }
-    ensures word_stored { (seat : ℕ) (a : AppenderView) (word : ℕ) (before after : Moment) (k : Kept before)
-        → StoresWord seat a word before after
+    ensures opening { (words : ℕ)
+        → Kept record { cells = replicate (words + 1) 0; views = opening (words + 1) ∷ [] } }
+
+    ensures word_stored { (seat : ℕ) (a : AppenderView) (word : ℕ) (before after : Moment)
+        → (k : Kept before) → StoresWord seat a word before after
         → (l : Kept after) × (l.words ≡ k.words ++ word ∷ []) × (l.published ≡ k.published) }
-    ensures count_stored { (seat : ℕ) (a : AppenderView) (before after : Moment) (k : Kept before)
-        → StoresCount seat a before after
+    ensures count_stored { (seat : ℕ) (a : AppenderView) (before after : Moment)
+        → (k : Kept before) → StoresCount seat a before after
         → (l : Kept after) × (l.words ≡ k.words) × (l.published ≡ length k.words) }
-    ensures count_loaded { (seat : ℕ) (r : ReaderView) (count : ℕ) (before after : Moment) (k : Kept before)
-        → LoadsCount seat r count before after
+    ensures count_loaded { (seat : ℕ) (r : ReaderView) (count : ℕ) (before after : Moment)
+        → (k : Kept before) → LoadsCount seat r count before after
         → (l : Kept after) × (l.words ≡ k.words) × (l.published ≡ k.published)
         × (count ≡ k.published) × (r.seen ≤ count) }
-    ensures word_loaded { (seat : ℕ) (r : ReaderView) (word : ℕ) (before after : Moment) (k : Kept before)
-        → LoadsWord seat r word before after
+    ensures word_loaded { (seat : ℕ) (r : ReaderView) (word : ℕ) (before after : Moment)
+        → (k : Kept before) → LoadsWord seat r word before after
         → (l : Kept after) × (l.words ≡ k.words) × (l.published ≡ k.published)
         × (word ≡ slice_index k.words (length r.known)) }
-    ensures seat_split { (seat : ℕ) (a : AppenderView) (before after : Moment) (k : Kept before)
-        → SplitsSeat seat a before after
+    ensures seat_split { (seat : ℕ) (a : AppenderView) (before after : Moment)
+        → (k : Kept before) → SplitsSeat seat a before after
         → (l : Kept after) × (l.words ≡ k.words) × (l.published ≡ k.published) }
-    ensures seat_joined { (seat other : ℕ) (a : AppenderView) (r : ReaderView) (before after : Moment) (k : Kept before)
-        → JoinsSeat seat other a r before after
+    ensures seat_joined { (seat other : ℕ) (a : AppenderView) (r : ReaderView) (before after : Moment)
+        → (k : Kept before) → JoinsSeat seat other a r before after
         → (l : Kept after) × (l.words ≡ k.words) × (l.published ≡ k.published) }
 {}
 
@@ -58,7 +61,8 @@ pub fn rows_read_back()
     ensures read { (rows : List (List ℕ)) (rest : List ℕ) → All AreBytes rows
         → spelled (flat_map row_words rows ++ rest) ≡ rows ++ spelled rest }
     ensures found { (words : List ℕ) → AreSpelled words (spelled words) }
-    ensures once { (words : List ℕ) (rows : List (List ℕ)) → AreSpelled words rows → rows ≡ spelled words }
+    ensures once { (words : List ℕ) (rows : List (List ℕ))
+        → AreSpelled words rows → rows ≡ spelled words }
 {}
 
 /// The first of some words spell the first of the rows that all of them spell.

@@ -36,8 +36,9 @@ impl Tail {
         })
     }
 
-    /// The published words; what each reader knows are the first of them. It takes no memory and never
-    /// refuses; the error is there so that a later body may copy the words.
+    /// The published words; what each reader knows are the first of them. What is staged and not published
+    /// is gone. The `Result` is that of the calls above, which hand it on: here it is never an error, since
+    /// the words come in the memory that the appender has.
     pub fn close(self) -> Result<Vec<u64>, AllocError>
         requires { All (λ r. r.tail ≡ self.appender.tail) self.readers.items }
         ensures never { IsOk result }

@@ -1,6 +1,5 @@
-use Rattle.std.proofs.Common.{rules, ◌≡◌, ◌∙◌, ap, sym, subst, All, map, List, Option, IfSome}
+use Rattle.std.proofs.Common.{◌≡◌, ◌∙◌, sym, subst, All, Option, IfSome}
 use Rattle.myi_tail_tests.proofs.Tails.{all_of_tail}
-use Rattle.myi_tail.specs.Seats.{Reading}
 use Rattle.myi_tail.specs.declared.tail.Tail.{Tail}
 use Rattle.myi_tail_tests.specs.Jobs.{tail_of}
 use Rattle.myi_tail_tests.proofs.round.run_round.Goals as goal

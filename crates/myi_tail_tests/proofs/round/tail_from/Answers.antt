@@ -2,7 +2,7 @@ use Rattle.std.proofs.Common.{rules, ◌≡◌, ◌∙◌, ap, sym, subst, All, 
 use Rattle.std.proofs.lemmas.List.Elements.{All-append, All-cons, All-nil}
 use Rattle.std.proofs.lemmas.Iterator.Consumers.{YieldsList-turn}
 use Rattle.std.proofs.lemmas.Iterator.Adapters.{YieldsList-from_vec}
-use Rattle.myi_tail.specs.Seats.{TailId, Reading, Appending}
+use Rattle.myi_tail.specs.Seats.{Reading, Appending}
 use Rattle.myi_tail_tests.specs.Jobs.{tail_of}
 use Rattle.myi_tail_tests.proofs.round.tail_from.Goals as goal
 

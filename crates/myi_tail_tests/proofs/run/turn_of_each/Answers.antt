@@ -1,4 +1,4 @@
-use Rattle.std.proofs.Common.{rules, ◌∙◌}
+use Rattle.std.proofs.Common.{◌∙◌}
 use Rattle.myi_tail_tests.specs.Jobs.{tail_of}
 use Rattle.myi_tail_tests.proofs.Tails.{map_put_back}
 use Rattle.myi_tail_tests.proofs.run.turn_of_each.Goals as goal
