@@ -4,5 +4,6 @@ pub mod Spelled
 pub mod Seats
 pub mod Rule
 pub mod Steps
+pub mod Runs
 pub mod Plays
 pub mod Inside

@@ -1,5 +1,6 @@
--- The kinds of step. Each is one operation on one cell through one seat, whose view alone it changes
--- (at a split there is a new seat, and at a join one is spent).
+-- The kinds of step that change something. Each is one operation on one cell through one seat, whose view
+-- alone it changes (at a split there is a new seat, and at a join one is spent). Besides, the appender may
+-- look at the count, which changes nothing.
 use Rattle.std.specs.Prelude.{◌≡◌, ℕ, ◌+◌, ◌<◌, List, [], ◌∷◌, ◌++◌, length, slice_index, slice_set}
 use mathlib.Core.Option.{some}
 use lib.ListN.{get_elem?}

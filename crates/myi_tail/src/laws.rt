@@ -9,14 +9,20 @@ ghost use Rattle.myi_tail.specs.Prefix.{IsPrefixOf};
 ghost use Rattle.myi_tail.specs.Rows.{row_words};
 ghost use Rattle.myi_tail.specs.Spelled.{AreSpelled, spelled};
 ghost use Rattle.myi_tail.specs.Rule.{Moment, Kept};
-ghost use Rattle.myi_tail.specs.Plays.{opening};
+ghost use Rattle.myi_tail.specs.Runs.{new_table, published_in, IsRun, ReadersFollow};
 ghost use Rattle.myi_tail.specs.Steps.{AppenderView, ReaderView, appends, reads, StoresWord, StoresCount, LoadsCount, LoadsWord, SplitsSeat, JoinsSeat};
+
+/// Whatever steps the appender and any number of readers make, in any order: at each moment each reader
+/// saw no more than is published, and knows the first of the published words.
+pub fn readers_follow_the_tail()
+    ensures { (words : ℕ) (run : List Moment) → IsRun (new_table words) run → All ReadersFollow run }
+{}
 
 /// At each moment of the rule a reader saw no more than the published words, and the words that it knows
 /// are the first of these. So are those that the readers knew whose seats were joined.
 pub fn known_words_are_published()
     ensures published { (m : Moment) (k : Kept m)
-        → take k.published k.words ≡ take (slice_index m.cells 0) (drop 1 m.cells) }
+        → take k.published k.words ≡ published_in m }
     ensures seen { (m : Moment) → Kept m → (seat : ℕ) (r : ReaderView)
         → get_elem? m.views seat ≡ some (reads r) → r.seen ≤ slice_index m.cells 0 }
     ensures known { (m : Moment) (k : Kept m) (seat : ℕ) (r : ReaderView)
@@ -30,8 +36,7 @@ pub fn known_words_are_published()
 /// The stores and the loads are what happens to a tail: a word is added; all words are published; a
 /// reader sees the published count; a reader knows one more of the words, the next.
 pub fn steps_keep_the_rule()
-    ensures opening { (words : ℕ)
-        → Kept record { cells = replicate (words + 1) 0; views = opening (words + 1) ∷ [] } }
+    ensures opening { (words : ℕ) → Kept (new_table words) }
 
     ensures word_stored { (seat : ℕ) (a : AppenderView) (word : ℕ) (before after : Moment)
         → (k : Kept before) → StoresWord seat a word before after
