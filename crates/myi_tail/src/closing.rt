@@ -1,7 +1,7 @@
 //! The appender as it takes its readers back. `ClosingAppender` joins their seats to its own one after
 //! the other, so that its view says what each of them knew, and then looks at the count, by which it
 //! learns of the rule that these are published words.
-ghost use Rattle.std.specs.Prelude.{◌≡◌, [], ◌∷◌, ◌++◌, length, take, vec_len, All};
+ghost use Rattle.std.specs.Prelude.{◌≡◌, [], ◌∷◌, ◌++◌, take, vec_len, All};
 ghost use Rattle.myi_tail.specs.Rule.{IsKnown};
 
 use crate::reader::ReaderSeat;

@@ -1,6 +1,6 @@
 //! What one thread does, a turn at a time: `Append` adds one row and publishes it, `Read` looks at the
 //! count and compares each new word with the one that stands at its place in the rows.
-ghost use Rattle.std.specs.Prelude.{◌≡◌, ◌<◌, ◌≤◌};
+ghost use Rattle.std.specs.Prelude.{◌≡◌, ◌<◌};
 ghost use Rattle.myi_tail_tests.specs.Jobs.{tail_of};
 
 use myi_tail::{Appender, ReaderSeat};

@@ -1,6 +1,6 @@
 //! Jobs side by side: a list is run by halves, each on a thread of its own, until at most three jobs are
 //! left, which take turns. Nine jobs run on four threads.
-ghost use Rattle.std.specs.Prelude.{◌≡◌, length, map};
+ghost use Rattle.std.specs.Prelude.{◌≡◌, map};
 ghost use Rattle.std.specs.Thread.{IsSync};
 ghost use Rattle.myi_tail_tests.specs.Jobs.{tail_of};
 

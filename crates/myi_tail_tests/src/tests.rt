@@ -1,5 +1,4 @@
-ghost use Rattle.std.specs.Prelude.{◌≡◌, ◌≤◌, ◌<◌, take, vec_len, All, IfOk};
-ghost use Rattle.myi_tail.specs.Prefix.{IsPrefixOf};
+ghost use Rattle.std.specs.Prelude.{◌≡◌, ◌≤◌, ◌<◌, All, IfOk};
 
 use crate::{expected_word, run_round};
 use myi_tail::{Appender, ReaderSeat, Tail};
