@@ -9,7 +9,7 @@ use lib.ListN.{get_elem?}
 use Rattle.atomic_table.proofs.Lists.{at_set, set_here, set_else}
 use Rattle.myi_tail.specs.declared.table.View.{View}
 use Rattle.myi_tail.specs.declared.table.View.TheVariants.{Appends, Reads, Spent}
-use Rattle.myi_tail.specs.Prefix.{IsPrefixOf}
+use Rattle.myi_tail.specs.Prefix.{BeginsWith}
 use Rattle.myi_tail.specs.Seats.{Reading}
 use Rattle.myi_tail.specs.Rule.{Moment, IsKnown, IsOther, Kept}
 use Rattle.myi_tail.specs.Steps.{AppenderView, ReaderView, appends, reads}
@@ -40,7 +40,7 @@ known_next count words known x lt le is k =
       within = omega arith;
     }
 
-pub known_prefix : (count : ℕ) (words known : List ℕ) → IsKnown count words known → IsPrefixOf (take count words) known
+pub known_prefix : (count : ℕ) (words known : List ℕ) → IsKnown count words known → BeginsWith (take count words) known
 known_prefix count words known k = k.front ∙ sym (take-take (length known) count words k.within)
 
 -- which seat has which view
@@ -95,7 +95,7 @@ other_turned m k seat w apart is = (
 
 -- the rule after a change of the appender's view, and of the cells with it
 pub appender_turned : (m : Moment) (k : Kept m) (cells words : List ℕ) (published : ℕ) (joined : List (List ℕ)) → length cells ≡ length m.cells
-    → length words < length cells → published ≤ length words → get_or cells 0 0 ≡ published → IsPrefixOf (drop 1 cells) words
+    → length words < length cells → published ≤ length words → get_or cells 0 0 ≡ published → BeginsWith (drop 1 cells) words
     → All (IsKnown published words) joined → ((v : View) → IsOther (length m.cells) k.words k.published v → IsOther (length m.cells) words published v)
     → (l : Kept record { cells = cells; views = set m.views k.appender (Appends (length m.cells) words published joined) }) × (l.words ≡ words) × (l.published ≡ published)
 appender_turned m k cells words published joined long fits within counted stored all_known others_stay =
@@ -120,7 +120,7 @@ appender_turned m k cells words published joined long fits within counted stored
 
 -- what these readers know are the first of the published words
 pub all_known_prefixes : (count : ℕ) (words : List ℕ) (readers : List Reading) → All (IsKnown count words) (map (λ (r : Reading). r.known) readers)
-    → All (λ (r : Reading). IsPrefixOf (take count words) r.known) readers
+    → All (λ (r : Reading). BeginsWith (take count words) r.known) readers
 all_known_prefixes count words readers all k d h =
     let long : length (map (λ (r : Reading). r.known) readers) ≡ length readers = length-map readers (λ (r : Reading). r.known) in
     known_prefix count words (get_or readers k d).known

@@ -8,7 +8,7 @@ use Rattle.std.proofs.lemmas.Option.{none-some}
 use Rattle.std.proofs.Math.Seq.{take-append_seam, drop-append_seam}
 use Rattle.std.specs.List.{flat_map, starts_with}
 use Rattle.myi_base.specs.Numbers.{AreBytes}
-use Rattle.myi_tail.specs.Prefix.{IsPrefixOf}
+use Rattle.myi_tail.specs.Prefix.{BeginsWith}
 use Rattle.myi_tail.specs.Rows.{row_words, words_of}
 use Rattle.myi_tail.specs.Spelled.{AreSpelled, bytes_in, first_row, before_others, first_rows, spelled}
 use Rattle.myi_tail.proofs.RowLemmas.{row_back, bytes-bytes_in}
@@ -131,7 +131,7 @@ pub once : (words : List ℕ) (rows : List (List ℕ)) → AreSpelled words rows
 once words rows s =
     sym (ap spelled s.one_by_one ∙ read rows s.rest s.of_bytes ∙ ap (λ l. rows ++ l) (nothing s.rest s.no_more (first_row s.rest) refl) ∙ append-nil rows)
 
-pub first_spelled : (all words : List ℕ) → IsPrefixOf all words → IsPrefixOf (spelled all) (spelled words)
+pub first_spelled : (all words : List ℕ) → BeginsWith all words → BeginsWith (spelled all) (spelled words)
 first_spelled all words front =
     let s = found words in
     let rows : List (List ℕ) = spelled words in

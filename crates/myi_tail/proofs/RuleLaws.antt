@@ -7,15 +7,11 @@ use lib.ListN.{get_elem?}
 use Rattle.atomic_table.proofs.Lists.{at_longer, at_snoc, set_else}
 use Rattle.myi_tail.specs.declared.table.View.{View}
 use Rattle.myi_tail.specs.declared.table.View.TheVariants.{Appends, Reads, Spent}
-use Rattle.myi_tail.specs.Prefix.{IsPrefixOf}
-use Rattle.myi_tail.specs.Rule.{Moment, IsKnown, IsOther, Kept}
+use Rattle.myi_tail.specs.Prefix.{BeginsWith}
+use Rattle.myi_tail.specs.Rule.{Moment, IsKnown, IsOther, Kept, Keeps}
 use Rattle.myi_tail.specs.Plays.{opening}
-use Rattle.myi_tail.specs.Steps.{AppenderView, ReaderView, appends, reads, StoresWord, StoresCount, LoadsCount, LoadsWord, SplitsSeat, JoinsSeat}
+use Rattle.myi_tail.specs.Steps.{AppenderView, ReaderView, appends, reads, StoresWord, StoresCount, LooksAtCount, LoadsCount, LoadsWord, SplitsSeat, JoinsSeat}
 use Rattle.myi_tail.proofs.KeptLemmas.{known_longer, known_more, known_next, known_prefix, appender_is, reader_is, other_turned, appender_turned}
-
--- the rule holds after, with these words and so many of them published
-abbrev pub Keeps : Moment → List ℕ → ℕ → Type 0
-Keeps after words published = (l : Kept after) × (l.words ≡ words) × (l.published ≡ published)
 
 keeps_at : (m n : Moment) (words : List ℕ) (published : ℕ) → m.cells ≡ n.cells → m.views ≡ n.views → Keeps m words published → Keeps n words published
 keeps_at m n words published cells views k = subst (λ (z : Moment). Keeps z words published) (λ i. record { cells = cells i; views = views i }) k
@@ -61,7 +57,7 @@ drop-set-first [] x = refl
 drop-set-first (c ∷ cells) x = refl
 
 -- the words with one more, as the cells hold them
-stored_more : (cells words : List ℕ) (x : ℕ) → length words + 1 < length cells → IsPrefixOf (drop 1 cells) words → IsPrefixOf (drop 1 (set cells (length words + 1) x)) (words ++ x ∷ [])
+stored_more : (cells words : List ℕ) (x : ℕ) → length words + 1 < length cells → BeginsWith (drop 1 cells) words → BeginsWith (drop 1 (set cells (length words + 1) x)) (words ++ x ∷ [])
 stored_more cells words x room stored =
     let n : length (words ++ x ∷ []) ≡ length words + 1 = length-append words (x ∷ []) in
     let behind : length (drop 1 cells) ≡ length cells - 1 = length-drop 1 cells in
@@ -186,7 +182,7 @@ published_cells m k =
 pub seen_published : (m : Moment) → Kept m → (seat : ℕ) (r : ReaderView) → get_elem? m.views seat ≡ some (reads r) → r.seen ≤ get_or m.cells 0 0
 seen_published m k seat r here = subst (λ n. r.seen ≤ n) (sym k.counted) (reader_is m k seat r here).1.1
 
-pub known_published : (m : Moment) (k : Kept m) (seat : ℕ) (r : ReaderView) → get_elem? m.views seat ≡ some (reads r) → IsPrefixOf (take k.published k.words) r.known
+pub known_published : (m : Moment) (k : Kept m) (seat : ℕ) (r : ReaderView) → get_elem? m.views seat ≡ some (reads r) → BeginsWith (take k.published k.words) r.known
 known_published m k seat r here =
     let is = (reader_is m k seat r here).1 in
     known_prefix k.published k.words r.known (known_more r.seen k.published k.words r.known is.1 is.2)
@@ -194,7 +190,12 @@ known_published m k seat r here =
 pub joined_known : (m : Moment) (k : Kept m) (seat : ℕ) (a : AppenderView) → get_elem? m.views seat ≡ some (appends a) → All (IsKnown a.published a.words) a.joined
 joined_known m k seat a here = subst (λ (z : AppenderView). All (IsKnown z.published z.words) z.joined) (sym (appender_is m k seat a here).1) k.all_known
 
-pub joined_published : (m : Moment) (k : Kept m) (seat : ℕ) (a : AppenderView) → get_elem? m.views seat ≡ some (appends a) → All (IsPrefixOf (take k.published k.words)) a.joined
+pub joined_published : (m : Moment) (k : Kept m) (seat : ℕ) (a : AppenderView) → get_elem? m.views seat ≡ some (appends a) → All (BeginsWith (take k.published k.words)) a.joined
 joined_published m k seat a here =
-    subst (λ (z : AppenderView). All (IsPrefixOf (take k.published k.words)) z.joined) (sym (appender_is m k seat a here).1)
+    subst (λ (z : AppenderView). All (BeginsWith (take k.published k.words)) z.joined) (sym (appender_is m k seat a here).1)
     (λ j d h. known_prefix k.published k.words (get_or k.joined j d) (k.all_known j d h))
+
+pub looks_at_count : (seat : ℕ) (a : AppenderView) (before after : Moment) (k : Kept before) → LooksAtCount seat a before after
+    → Keeps after k.words k.published × All (IsKnown a.published a.words) a.joined
+looks_at_count seat a before after k step =
+    (subst (λ (m : Moment). Keeps m k.words k.published) (sym step.same) (k, refl, refl), joined_known before k seat a step.was)

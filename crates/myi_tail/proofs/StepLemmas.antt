@@ -9,7 +9,7 @@ use Rattle.myi_tail.specs.declared.table.View.TheVariants.{Appends, Reads, Spent
 use Rattle.myi_tail.specs.Rule.{Moment, Kept}
 use Rattle.myi_tail.specs.Plays.{Seated, new_reader, with_joined, WordStored, CountStored, CountLoaded, WordLoaded, CountLookedAt}
 use Rattle.myi_tail.proofs.KeptLemmas.{reader_is}
-use Rattle.myi_tail.proofs.RuleLaws.{stores_word, stores_count, loads_count, loads_word, splits_seat, joins_seat, joined_known}
+use Rattle.myi_tail.proofs.RuleLaws.{stores_word, stores_count, looks_at_count, loads_count, loads_word, splits_seat, joins_seat}
 
 abbrev moment : State ℕ View → Moment
 moment s = record { cells = s.words; views = s.views }
@@ -48,8 +48,8 @@ looks slots id size words published joined s k _ here _ =
     let w : View = Appends size words published joined in
     let same : record { cells = set s.words 0 (get_or s.words 0 0); views = set s.views id w } ≡ moment s =
     λ i. record { cells = same_cells s 0 i; views = set_again s.views id w here i } in
-    let known = joined_known (moment s) k id record { size = size; words = words; published = published; joined = joined } here in
-    (w, keeps, tt, subst Kept (sym same) k, (refl, known))
+    let l = looks_at_count id record { size = size; words = words; published = published; joined = joined } (moment s) record { cells = set s.words 0 (get_or s.words 0 0); views = set s.views id w } k record { was = here; same = same } in
+    (w, keeps, tt, l.0.0, (refl, l.1))
 
 counts : (slots id size seen : ℕ) (known : List ℕ)
     → Allows Rule slots id (Reads size seen known, []) 0 (λ x. x) (CountLoaded (step slots 0 0 0 none) (Reads size seen known, []))

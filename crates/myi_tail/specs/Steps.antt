@@ -1,6 +1,5 @@
--- The kinds of step that change something. Each is one operation on one cell through one seat, whose view
--- alone it changes (at a split there is a new seat, and at a join one is spent). Besides, the appender may
--- look at the count, which changes nothing.
+-- The kinds of step. Each is one operation on one cell through one seat, and at most the view of that seat
+-- changes by it; at a split there is a new seat besides, and at a join one is spent.
 use Rattle.std.specs.Prelude.{◌≡◌, ℕ, ◌+◌, ◌<◌, List, [], ◌∷◌, ◌++◌, length, slice_index, slice_set}
 use mathlib.Core.Option.{some}
 use lib.ListN.{get_elem?}
@@ -42,6 +41,11 @@ pub record StoresWord (seat : ℕ) (a : AppenderView) (word : ℕ) (before after
 pub record StoresCount (seat : ℕ) (a : AppenderView) (before after : Moment) : Type 0 where
   pub cells : after.cells ≡ slice_set before.cells 0 (length a.words)
   pub view : Turns seat (appends a) (appends record a { published = length a.words }) before.views after.views
+
+-- the appender looks at the count, which changes nothing
+pub record LooksAtCount (seat : ℕ) (a : AppenderView) (before after : Moment) : Type 0 where
+  pub was : get_elem? before.views seat ≡ some (appends a)
+  pub same : after ≡ before
 
 -- a reader loads the count
 pub record LoadsCount (seat : ℕ) (r : ReaderView) (count : ℕ) (before after : Moment) : Type 0 where

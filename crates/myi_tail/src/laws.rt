@@ -5,12 +5,12 @@ ghost use Rattle.std.specs.List.{flat_map};
 ghost use mathlib.Core.Option.{some};
 ghost use lib.ListN.{get_elem?};
 ghost use Rattle.myi_base.specs.Numbers.{AreBytes};
-ghost use Rattle.myi_tail.specs.Prefix.{IsPrefixOf};
+ghost use Rattle.myi_tail.specs.Prefix.{BeginsWith};
 ghost use Rattle.myi_tail.specs.Rows.{row_words};
 ghost use Rattle.myi_tail.specs.Spelled.{AreSpelled, spelled};
-ghost use Rattle.myi_tail.specs.Rule.{Moment, Kept};
+ghost use Rattle.myi_tail.specs.Rule.{Moment, IsKnown, Kept, Keeps};
 ghost use Rattle.myi_tail.specs.Runs.{new_table, published_in, IsRun, ReadersFollow};
-ghost use Rattle.myi_tail.specs.Steps.{AppenderView, ReaderView, appends, reads, StoresWord, StoresCount, LoadsCount, LoadsWord, SplitsSeat, JoinsSeat};
+ghost use Rattle.myi_tail.specs.Steps.{AppenderView, ReaderView, appends, reads, StoresWord, StoresCount, LooksAtCount, LoadsCount, LoadsWord, SplitsSeat, JoinsSeat};
 
 /// Whatever steps the appender and any number of readers make, in any order: at each moment each reader
 /// saw no more than is published, and knows the first of the published words.
@@ -26,38 +26,40 @@ pub fn known_words_are_published()
     ensures seen { (m : Moment) → Kept m → (seat : ℕ) (r : ReaderView)
         → get_elem? m.views seat ≡ some (reads r) → r.seen ≤ slice_index m.cells 0 }
     ensures known { (m : Moment) (k : Kept m) (seat : ℕ) (r : ReaderView)
-        → get_elem? m.views seat ≡ some (reads r) → IsPrefixOf (take k.published k.words) r.known }
+        → get_elem? m.views seat ≡ some (reads r) → BeginsWith (take k.published k.words) r.known }
     ensures joined { (m : Moment) (k : Kept m) (seat : ℕ) (a : AppenderView)
         → get_elem? m.views seat ≡ some (appends a)
-        → All (IsPrefixOf (take k.published k.words)) a.joined }
+        → All (BeginsWith (take k.published k.words)) a.joined }
 {}
 
 /// The rule holds of a new table, and each kind of step keeps it, from any moment and through any seat.
 /// The stores and the loads are what happens to a tail: a word is added; all words are published; a
-/// reader sees the published count; a reader knows one more of the words, the next.
+/// reader sees the published count; a reader knows one more of the words, the next. When the appender looks
+/// at the count, it learns that what joined readers knew are the first of the published words.
 pub fn steps_keep_the_rule()
     ensures opening { (words : ℕ) → Kept (new_table words) }
 
     ensures word_stored { (seat : ℕ) (a : AppenderView) (word : ℕ) (before after : Moment)
         → (k : Kept before) → StoresWord seat a word before after
-        → (l : Kept after) × (l.words ≡ k.words ++ word ∷ []) × (l.published ≡ k.published) }
+        → Keeps after (k.words ++ word ∷ []) k.published }
     ensures count_stored { (seat : ℕ) (a : AppenderView) (before after : Moment)
         → (k : Kept before) → StoresCount seat a before after
-        → (l : Kept after) × (l.words ≡ k.words) × (l.published ≡ length k.words) }
+        → Keeps after k.words (length k.words) }
+    ensures count_looked_at { (seat : ℕ) (a : AppenderView) (before after : Moment)
+        → (k : Kept before) → LooksAtCount seat a before after
+        → Keeps after k.words k.published × All (IsKnown a.published a.words) a.joined }
     ensures count_loaded { (seat : ℕ) (r : ReaderView) (count : ℕ) (before after : Moment)
         → (k : Kept before) → LoadsCount seat r count before after
-        → (l : Kept after) × (l.words ≡ k.words) × (l.published ≡ k.published)
-        × (count ≡ k.published) × (r.seen ≤ count) }
+        → Keeps after k.words k.published × (count ≡ k.published) × (r.seen ≤ count) }
     ensures word_loaded { (seat : ℕ) (r : ReaderView) (word : ℕ) (before after : Moment)
         → (k : Kept before) → LoadsWord seat r word before after
-        → (l : Kept after) × (l.words ≡ k.words) × (l.published ≡ k.published)
-        × (word ≡ slice_index k.words (length r.known)) }
+        → Keeps after k.words k.published × (word ≡ slice_index k.words (length r.known)) }
     ensures seat_split { (seat : ℕ) (a : AppenderView) (before after : Moment)
         → (k : Kept before) → SplitsSeat seat a before after
-        → (l : Kept after) × (l.words ≡ k.words) × (l.published ≡ k.published) }
+        → Keeps after k.words k.published }
     ensures seat_joined { (seat other : ℕ) (a : AppenderView) (r : ReaderView) (before after : Moment)
         → (k : Kept before) → JoinsSeat seat other a r before after
-        → (l : Kept after) × (l.words ≡ k.words) × (l.published ≡ k.published) }
+        → Keeps after k.words k.published }
 {}
 
 /// Rows of bytes that are spelled one after the other are read back, whatever words follow; of any words
@@ -72,5 +74,5 @@ pub fn rows_read_back()
 
 /// The first of some words spell the first of the rows that all of them spell.
 pub fn spelled_rows_are_first()
-    ensures { (all words : List ℕ) → IsPrefixOf all words → IsPrefixOf (spelled all) (spelled words) }
+    ensures { (all words : List ℕ) → BeginsWith all words → BeginsWith (spelled all) (spelled words) }
 {}

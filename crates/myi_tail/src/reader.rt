@@ -1,6 +1,6 @@
 //! One that reads. `ReaderSeat` keeps the words that it loaded, so that each is loaded once.
 ghost use Rattle.std.specs.Prelude.{◌≡◌, ◌≤◌, length};
-ghost use Rattle.myi_tail.specs.Prefix.{IsPrefixOf};
+ghost use Rattle.myi_tail.specs.Prefix.{BeginsWith};
 ghost use Rattle.myi_tail.specs.Seats.{room_of};
 
 use crate::table::{Cells, LoadCount, LoadWord, TailSeat};
@@ -35,7 +35,8 @@ impl ReaderSeat {
     /// The count of published words at this moment: at least what this reader saw before. It takes no
     /// memory.
     ///
-    /// No clause says that the count is loaded anew, since none can name what other threads did.
+    /// No clause says that the count is loaded anew, since none can name what other threads did: a body
+    /// that answers what it saw last meets them all. A test in `myi_tail_tests` refuses it.
     pub fn lock(&mut self) -> u64
         ensures later { self.old.seen ≤ result }
         ensures known { length self.old.known ≤ result }
@@ -52,7 +53,7 @@ impl ReaderSeat {
         requires { upto ≤ self.old.seen }
         ensures reached { upto ≤ length self.new.known }
         ensures within { length self.new.known ≤ self.old.seen }
-        ensures more { IsPrefixOf self.new.known self.old.known }
+        ensures more { BeginsWith self.new.known self.old.known }
         ensures rest { self.new ≡ record self.old { known = self.new.known } }
     {
         while (self.known.len() as u64) < upto {

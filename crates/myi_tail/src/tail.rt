@@ -1,7 +1,7 @@
 //! An appender with its readers. A caller takes a `Tail` apart, moves its parts into jobs that run side
 //! by side, and puts together what came back.
 ghost use Rattle.std.specs.Prelude.{◌≡◌, ◌<◌, [], take, All, IfOk, IsOk, vec_len};
-ghost use Rattle.myi_tail.specs.Prefix.{IsPrefixOf};
+ghost use Rattle.myi_tail.specs.Prefix.{BeginsWith};
 ghost use Rattle.myi_tail.specs.Seats.{room_of, IsNew};
 
 use crate::appender::Appender;
@@ -37,14 +37,14 @@ impl Tail {
     }
 
     /// The published words; what each reader knows are the first of them. What is staged and not published
-    /// is gone. The `Result` is that of the calls above, which hand it on: here it is never an error, since
-    /// the words come in the memory that the appender has.
+    /// is gone. It is never an error, since the words come in the memory that the appender has; the
+    /// `Result` lets a caller hand on its own.
     pub fn close(self) -> Result<Vec<u64>, AllocError>
         requires { All (λ r. r.tail ≡ self.appender.tail) self.readers.items }
         ensures never { IsOk result }
         ensures words { IfOk result (λ v. v.items ≡ take self.appender.published self.appender.words) }
         ensures count { IfOk result (λ v. vec_len v ≡ self.appender.published) }
-        ensures known { IfOk result (λ v. All (λ r. IsPrefixOf v.items r.known) self.readers.items) }
+        ensures known { IfOk result (λ v. All (λ r. BeginsWith v.items r.known) self.readers.items) }
     {
         let Tail { appender, readers } = self;
         let mut closing = appender.into_closing();

@@ -1,6 +1,6 @@
 use Rattle.std.proofs.Common.{◌≡◌, ◌≤◌, ◌-◌, vec_len}
 use Rattle.myi_tail.specs.Inside.{IsReader}
-use Rattle.myi_tail.specs.Prefix.{IsPrefixOf}
+use Rattle.myi_tail.specs.Prefix.{BeginsWith}
 use Rattle.myi_tail.proofs.reader.ReaderSeat.catch_up.Given as goal
 
 abbrev pub invariant-loop-self : goal.invariant-loop-self
@@ -8,7 +8,7 @@ invariant-loop-self l = record {
   kept : IsReader l.self-inside;
   tail : l.self-inside.seat.table_id ≡ l.fn.self.tail;
   seen : l.self-inside.seen ≡ l.fn.self.seen;
-  more : IsPrefixOf l.self-inside.known.items l.fn.self.known;
+  more : BeginsWith l.self-inside.known.items l.fn.self.known;
   upto : l.upto ≤ l.self-inside.seen;
 }
 

@@ -2,7 +2,7 @@ use Rattle.std.proofs.Common.{rules, ◌≡◌, List, ℕ, map, subst, sym, All,
 use Rattle.std.proofs.lemmas.List.{map-id}
 use Rattle.std.proofs.lemmas.Iterator.Consumers.{YieldsList-end}
 use Rattle.std.proofs.lemmas.Iterator.Adapters.{YieldsList-from_vec}
-use Rattle.myi_tail.specs.Prefix.{IsPrefixOf}
+use Rattle.myi_tail.specs.Prefix.{BeginsWith}
 use Rattle.myi_tail.specs.Seats.{Closing, Reading, closing}
 use Rattle.myi_tail.specs.Rule.{IsKnown}
 use Rattle.myi_tail.proofs.KeptLemmas.{all_known_prefixes}
@@ -15,5 +15,5 @@ returns-clause-known c =
     let same : c.loop-reader.yielded ≡ c.args.self.readers.items = sym (map-id c.loop-reader.yielded) ∙ whole.0 in
     let end : c.loop-reader.closing ≡ closing start (map (λ (r : Reading). r.known) c.args.self.readers.items) = c.loop-reader.invariant.2 ∙ ap (λ (rs : List Reading). closing start (map (λ (r : Reading). r.known) rs)) same in
     let all = subst (λ (z : Closing). All (IsKnown z.published z.words) z.joined) end c.look_at_count.ensures.known in
-    subst (λ (v : List ℕ). All (λ (r : Reading). IsPrefixOf v r.known) c.args.self.readers.items) (sym (search rules))
+    subst (λ (v : List ℕ). All (λ (r : Reading). BeginsWith v r.known) c.args.self.readers.items) (sym (search rules))
     (all_known_prefixes start.published start.words c.args.self.readers.items all)
