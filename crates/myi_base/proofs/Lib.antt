@@ -1,2 +1,5 @@
+pub mod CallerLemmas
 pub mod NumberLaws
+pub mod BytesLaws
 pub mod ItemLaws
+pub mod ToldLemmas

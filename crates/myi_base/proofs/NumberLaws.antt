@@ -7,6 +7,7 @@ use Rattle.std.specs.Int.{byte_at, bytes_high_first, bytes_low_first}
 use Rattle.byteorder.specs.Endian.{big_from, little_from}
 use Rattle.byteorder.specs.Numbers.{big_number-reads_back, little_number-reads_back, length-bytes_high_first, length-bytes_low_first, big_from-cons, little_from-cons, big_from-take, little_from-take, big_from-lt, little_from-lt}
 use Rattle.myi_base.specs.Numbers.{num, num_bytes, low_num, low_num_bytes, AreBytes}
+use Rattle.myi_base.proofs.BytesLaws.{bytes-take}
 
 pub length-num_bytes : (n v : ℕ) → length (num_bytes n v) ≡ n
 unfolding num_bytes
@@ -63,17 +64,6 @@ bytes-num_bytes n v = high_bytes n v
 pub bytes-low_num_bytes : (n v : ℕ) → AreBytes (low_num_bytes n v)
 unfolding low_num_bytes
 bytes-low_num_bytes n v = low_bytes 0 n v
-
-pub bytes-take : (n : ℕ) (x : List ℕ) → AreBytes x → AreBytes (take n x)
-bytes-take zero x bytes i = lit< tt
-bytes-take (suc n) [] bytes i = lit< tt
-bytes-take (suc n) (b ∷ x) bytes zero = bytes zero
-bytes-take (suc n) (b ∷ x) bytes (suc i) = bytes-take n x (λ j. bytes (suc j)) i
-
-pub bytes-drop : (n : ℕ) (x : List ℕ) → AreBytes x → AreBytes (drop n x)
-bytes-drop zero x bytes i = bytes i
-bytes-drop (suc n) [] bytes i = bytes i
-bytes-drop (suc n) (b ∷ x) bytes i = bytes-drop n x (λ j. bytes (suc j)) i
 
 -- a digit above a rest below its place is found again
 digit_once : (a b r s p : ℕ) → r < p → s < p → a * p + r ≡ b * p + s → (a ≡ b) × (r ≡ s)

@@ -6,7 +6,7 @@ use Rattle.std.specs.List.{list_all}
 abbrev pub Range : Type 0
 Range = ℕ × ℕ
 
--- no byte belongs to both
+-- no byte belongs to both; of a range without bytes: it does not lie inside the other
 abbrev pub are_apart : Range → Range → Bool
 are_apart r s = nat_le r.1 s.0 || nat_le s.1 r.0
 

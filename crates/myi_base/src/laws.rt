@@ -1,6 +1,6 @@
 //! Laws over the definitions of this crate. Each is the contract of a function that does nothing, so
 //! that it is proved with the crate and stands for the crates above.
-ghost use Rattle.std.specs.Prelude.{◌≡◌, ◌≤◌, ◌<◌, ◌+◌, ◌^◌, ◌++◌, ℕ, List, length, take};
+ghost use Rattle.std.specs.Prelude.{◌≡◌, ◌≤◌, ◌<◌, ◌+◌, ◌^◌, ◌++◌, ℕ, List, [], length, take, drop, replicate};
 ghost use Rattle.myi_base.specs.Numbers.{num, num_bytes, low_num, low_num_bytes, AreBytes};
 ghost use Rattle.myi_base.specs.Items.{numbers, spelling, Fit, total_width};
 
@@ -31,6 +31,15 @@ pub fn items_read_back()
     ensures read { (at : ℕ) (ws vs front back : List ℕ) → length front ≡ at → Fit ws vs → numbers at ws (front ++ (spelling ws vs ++ back)) ≡ vs }
     ensures length { (ws vs : List ℕ) → Fit ws vs → length (spelling ws vs) ≡ total_width ws }
     ensures same { (at k : ℕ) (ws x y : List ℕ) → at + total_width ws ≤ k → take k x ≡ take k y → numbers at ws x ≡ numbers at ws y }
+{}
+
+/// Parts of a list of bytes are bytes, and so is what is put together of bytes.
+pub fn bytes_in_parts()
+    ensures none { AreBytes [] }
+    ensures take { (n : ℕ) (x : List ℕ) → AreBytes x → AreBytes (take n x) }
+    ensures drop { (n : ℕ) (x : List ℕ) → AreBytes x → AreBytes (drop n x) }
+    ensures append { (x y : List ℕ) → AreBytes x → AreBytes y → AreBytes (x ++ y) }
+    ensures zeros { (n : ℕ) → AreBytes (replicate n 0) }
 {}
 
 /// A slice of bytes holds bytes, whatever else is known of it.

@@ -11,7 +11,9 @@ mod laws;
 mod numbers;
 mod sequence;
 
-pub use laws::{items_read_back, low_numbers_read_back, numbers_read_back, slices_are_bytes};
+pub use laws::{
+    bytes_in_parts, items_read_back, low_numbers_read_back, numbers_read_back, slices_are_bytes,
+};
 pub use numbers::{
     append_number, append_u8, append_u16, append_u32, append_u64, be, le, number_at,
     pointer_number, pointer_of, put_number, u8_at, u16_at, u32_at, u64_at,

@@ -1,13 +1,14 @@
 -- A row in words, and the bytes that words hold.
-use Rattle.std.proofs.Common.{◌≡◌, ℕ, zero, suc, ◌+◌, ◌-◌, ◌*◌, ◌/◌, ◌%◌, ◌^◌, ◌<◌, ◌≤◌, List, [], ◌∷◌, ◌++◌, length, take, drop, replicate, get_or, sym, refl, ap, ◌∙◌, subst, arith, length-append, append_assoc, min, inl, inr}
-use Rattle.std.proofs.lemmas.List.{take_all, drop_all, take-append-drop, length-drop, length-take, length-replicate, replicate-append-replicate, append-nil, nil_from_length}
+use Rattle.std.proofs.Common.{◌≡◌, ℕ, zero, suc, ◌+◌, ◌-◌, ◌*◌, ◌/◌, ◌%◌, ◌^◌, ◌<◌, ◌≤◌, List, [], ◌∷◌, ◌++◌, length, take, drop, replicate, sym, refl, ap, ◌∙◌, subst, arith, le_refl, lit<, length-append, append_assoc, min, inl, inr}
+use Rattle.std.proofs.lemmas.List.{take_all, drop_all, take-append-drop, length-drop, length-take, replicate-append-replicate, append-nil, nil_from_length}
 use Rattle.std.proofs.lemmas.Bool.{cases_lt}
-use Rattle.std.proofs.Math.Seq.{take-append_seam, drop-append_seam}
+use Rattle.std.proofs.Math.Seq.{take-length, take-append_seam, drop-append_seam}
 use Rattle.std.proofs.lemmas.List.Concat.{flat_map-append}
-use Rattle.std.proofs.lemmas.Nat.{le_bytes_8}
+use Rattle.std.proofs.Math.Nat.{pow-le-pow_right, div-eq_of_lt}
 use Rattle.std.specs.List.{flat_map}
-use Rattle.std.specs.Int.{w64, from_le_bytes, to_le_bytes, byte_at, bytes_low_first}
-use Rattle.myi_base.specs.Numbers.{AreBytes}
+use Rattle.std.specs.Int.{byte_at, bytes_low_first}
+use Rattle.myi_base.specs.Numbers.{low_num_bytes, AreBytes}
+use Rattle.myi_base.proofs.CallerLemmas.{bytes-none, bytes-append, bytes-take, bytes-drop, bytes-low_num_bytes, low_num-below, low_num_bytes-low_num}
 use Rattle.myi_tail.specs.Rows.{word_of, words_of}
 use Rattle.myi_tail.specs.Spelled.{bytes_in}
 
@@ -43,56 +44,46 @@ words_of-chunk all chunk rest parts size some =
     let p = chunk_parts all chunk rest parts size in
     words_of-more all some ∙ (λ i. word_of (p.0 i) ∷ words_of ((length (p.1 i) + 7) / 8) (p.1 i))
 
--- bytes are below 256
+-- the bytes above a number are zeros
 
-zeros : (k i : ℕ) → get_or {A = ℕ} (replicate k 0) i 0 ≡ 0
-zeros zero i = refl
-zeros (suc k) zero = refl
-zeros (suc k) (suc i) = zeros k i
+byte_above : (j v : ℕ) → v < 256 ^ j → byte_at j v ≡ 0
+byte_above zero v below = ap (λ n. n % 256) (let none : v ≡ 0 = omega arith in none)
+byte_above (suc j) v below = ap (λ n. n % 256) (div-eq_of_lt below)
 
-bytes-append : (xs ys : List ℕ) → AreBytes xs → AreBytes ys → AreBytes (xs ++ ys)
-bytes-append [] ys a b i = b i
-bytes-append (x ∷ xs) ys a b zero = a zero
-bytes-append (x ∷ xs) ys a b (suc i) = bytes-append xs ys (λ j. a (suc j)) b i
+zeros_above : (j k v : ℕ) → v < 256 ^ j → bytes_low_first j k v ≡ replicate k 0
+zeros_above j zero v below = refl
+zeros_above j (suc k) v below =
+    let more : 256 ^ j ≤ 256 ^ suc j = pow-le-pow_right (lit< tt) (omega arith) in
+    (λ i. byte_above j v below i ∷ zeros_above (suc j) k v (omega arith) i)
 
-bytes-take : (n : ℕ) (xs : List ℕ) → AreBytes xs → AreBytes (take n xs)
-bytes-take zero xs all i = omega arith
-bytes-take (suc n) [] all i = omega arith
-bytes-take (suc n) (x ∷ xs) all zero = all zero
-bytes-take (suc n) (x ∷ xs) all (suc i) = bytes-take n xs (λ j. all (suc j)) i
+low_first-parts : (j n k m i v : ℕ) → n + k ≡ m → j + n ≡ i → bytes_low_first j m v ≡ bytes_low_first j n v ++ bytes_low_first i k v
+low_first-parts j zero k m i v sum next =
+    let all : m ≡ k = omega arith in
+    let here : j ≡ i = omega arith in
+    (λ t. bytes_low_first (here t) (all t) v)
+low_first-parts j (suc n) k zero i v sum next = absurd (omega arith)
+low_first-parts j (suc n) k (suc m) i v sum next = ap (λ l. byte_at j v ∷ l) (low_first-parts (suc j) n k m i v (omega arith) (omega arith))
 
-bytes-drop : (n : ℕ) (xs : List ℕ) → AreBytes xs → AreBytes (drop n xs)
-bytes-drop zero xs all = all
-bytes-drop (suc n) [] all = all
-bytes-drop (suc n) (x ∷ xs) all = bytes-drop n xs (λ j. all (suc j))
+low_num_bytes-more : (n k m v : ℕ) → n + k ≡ m → v < 256 ^ n → low_num_bytes m v ≡ low_num_bytes n v ++ replicate k 0
+unfolding low_num_bytes
+low_num_bytes-more n k m v sum below = low_first-parts 0 n k m n v sum (omega arith) ∙ ap (λ l. bytes_low_first 0 n v ++ l) (zeros_above n k v below)
 
-bytes-zeros : (k : ℕ) → AreBytes (replicate k 0)
-bytes-zeros k i = let none = zeros k i in omega arith
+-- words hold bytes
 
-byte-below : (i n : ℕ) → byte_at i n < 256
-byte-below zero n = omega arith
-byte-below (suc i) n = let q : ℕ = n / 256 ^ suc i in let below : q % 256 < 256 = omega arith in below
-
-bytes-low : (i k n : ℕ) → AreBytes (bytes_low_first i k n)
-bytes-low i zero n j = omega arith
-bytes-low i (suc k) n zero = byte-below i n
-bytes-low i (suc k) n (suc j) = bytes-low (suc i) k n j
-
-bytes-words : (words : List ℕ) → AreBytes (flat_map (to_le_bytes w64) words)
-bytes-words [] = λ i. omega arith
-bytes-words (w ∷ words) = bytes-append (to_le_bytes w64 w) (flat_map (to_le_bytes w64) words) (bytes-low 0 8 w) (bytes-words words)
+bytes-words : (words : List ℕ) → AreBytes (flat_map (low_num_bytes 8) words)
+bytes-words [] = bytes-none
+bytes-words (w ∷ words) = bytes-append (low_num_bytes 8 w) (flat_map (low_num_bytes 8) words) (bytes-low_num_bytes 8 w) (bytes-words words)
 
 pub bytes-bytes_in : (n : ℕ) (words : List ℕ) → AreBytes (bytes_in n words)
-bytes-bytes_in n words = bytes-take n (flat_map (to_le_bytes w64) words) (bytes-words words)
+bytes-bytes_in n words = bytes-take n (flat_map (low_num_bytes 8) words) (bytes-words words)
 
 -- the bytes of words
 
-word_back : (bytes : List ℕ) → AreBytes bytes → length bytes ≤ 8 → to_le_bytes w64 (word_of bytes) ≡ bytes ++ replicate (8 - length bytes) 0
-unfolding word_of
+word_back : (bytes : List ℕ) → AreBytes bytes → length bytes ≤ 8 → low_num_bytes 8 (word_of bytes) ≡ bytes ++ replicate (8 - length bytes) 0
 word_back bytes all few =
-    let fill : List ℕ = replicate (8 - length bytes) 0 in
-    let filled : length fill ≡ 8 - length bytes = length-replicate (8 - length bytes) 0 in
-    le_bytes_8 (bytes ++ fill) (from_le_bytes w64 (bytes ++ fill)) (omega (arith, length-append bytes fill)) (bytes-append bytes fill all (bytes-zeros (8 - length bytes))) refl
+    let n : ℕ = length bytes in
+    low_num_bytes-more n (8 - n) 8 (word_of bytes) (omega arith) (low_num-below n bytes all)
+    ∙ ap (λ l. l ++ replicate (8 - n) 0) (low_num_bytes-low_num n bytes all (le_refl n) ∙ take-length bytes)
 
 -- two fills are one
 filled_twice : (j k m : ℕ) (bytes : List ℕ) → j + k ≡ m → (bytes ++ replicate j 0) ++ ([] ++ replicate k 0) ≡ bytes ++ replicate m 0
@@ -117,7 +108,7 @@ filled_long n bytes front back parts long full rest =
     ∙ (ap (λ l. l ++ (back ++ replicate k 0)) (append-nil front)
     ∙ (sym (append_assoc front back (replicate k 0)) ∙ (λ i. parts i ++ replicate (same i) 0)))
 
-bytes_back : (n : ℕ) (bytes : List ℕ) → AreBytes bytes → length bytes ≤ 8 * n → flat_map (to_le_bytes w64) (words_of n bytes) ≡ bytes ++ replicate (8 * n - length bytes) 0
+bytes_back : (n : ℕ) (bytes : List ℕ) → AreBytes bytes → length bytes ≤ 8 * n → flat_map (low_num_bytes 8) (words_of n bytes) ≡ bytes ++ replicate (8 * n - length bytes) 0
 bytes_back zero bytes all few =
     let none : bytes ≡ [] = nil_from_length bytes (omega arith) in
     subst (λ (b : List ℕ). [] ≡ b ++ replicate (8 * 0 - length b) 0) (sym none) refl
@@ -128,7 +119,7 @@ bytes_back (suc n) bytes all few =
     let backs : length back ≡ length bytes - 8 = length-drop 8 bytes in
     let here = word_back front (bytes-take 8 bytes all) (omega arith) in
     let there = bytes_back n back (bytes-drop 8 bytes all) (omega arith) in
-    let joined : to_le_bytes w64 (word_of front) ++ flat_map (to_le_bytes w64) (words_of n back)
+    let joined : low_num_bytes 8 (word_of front) ++ flat_map (low_num_bytes 8) (words_of n back)
     ≡ (front ++ replicate (8 - length front) 0) ++ (back ++ replicate (8 * n - length back) 0) = λ i. here i ++ there i in
     joined ∙ elim (cases_lt (length bytes) 8) [
       | inl short ↦ filled_short n bytes front back (take_all 8 bytes (omega arith)) (drop_all 8 bytes (omega arith)) short
@@ -140,7 +131,7 @@ pub row_back : (row back : List ℕ) → AreBytes row → bytes_in (length row) 
 row_back row back all =
     let n : ℕ = (length row + 7) / 8 in
     let fill : List ℕ = replicate (8 * n - length row) 0 in
-    let rest : List ℕ = flat_map (to_le_bytes w64) back in
-    ap (take (length row)) (flat_map-append (to_le_bytes w64) (words_of n row) back
+    let rest : List ℕ = flat_map (low_num_bytes 8) back in
+    ap (take (length row)) (flat_map-append (low_num_bytes 8) (words_of n row) back
     ∙ ap (λ l. l ++ rest) (bytes_back n row all (omega arith))
     ∙ append_assoc row fill rest) ∙ take-append_seam row (fill ++ rest)

@@ -1,10 +1,10 @@
 -- A row in words of eight bytes (this project's own form: MyISAM has no such words).
-use Rattle.std.specs.Prelude.{ℕ, zero, suc, ◌+◌, ◌-◌, ◌/◌, List, [], ◌∷◌, ◌++◌, length, take, drop, replicate}
-use Rattle.std.specs.Int.{w64, from_le_bytes}
+use Rattle.std.specs.Prelude.{ℕ, zero, suc, ◌+◌, ◌/◌, List, [], ◌∷◌, length, take, drop}
+use Rattle.myi_base.specs.Numbers.{low_num}
 
--- at most eight bytes as a number, low byte first, filled up with zeros
-unfoldable pub word_of : List ℕ → ℕ
-word_of bytes = from_le_bytes w64 (bytes ++ replicate (8 - length bytes) 0)
+-- at most eight bytes as a number, low byte first
+abbrev pub word_of : List ℕ → ℕ
+word_of bytes = low_num (length bytes) bytes
 
 -- the words of the first n times eight bytes, the last of which may be fewer
 abbrev pub words_of : ℕ → List ℕ → List ℕ

@@ -2,8 +2,7 @@
 -- rows a table takes is not asked here.
 use Rattle.std.specs.Prelude.{◌≡◌, ◌≢◌, ℕ, zero, suc, List, [], ◌∷◌, ◌++◌, length, take, drop, Option, Some, None, All, nat_eq, if◌then◌else◌}
 use Rattle.std.specs.List.{flat_map, starts_with}
-use Rattle.std.specs.Int.{w64, to_le_bytes}
-use Rattle.myi_base.specs.Numbers.{AreBytes}
+use Rattle.myi_base.specs.Numbers.{low_num_bytes, AreBytes}
 use Rattle.myi_tail.specs.Rows.{row_words}
 
 -- the words begin with these rows, each of bytes, and behind them no whole row stands
@@ -15,7 +14,7 @@ pub record AreSpelled (words : List ℕ) (rows : List (List ℕ)) : Type 0 where
 
 -- the first n bytes that are in the words
 abbrev pub bytes_in : ℕ → List ℕ → List ℕ
-bytes_in n words = take n (flat_map (to_le_bytes w64) words)
+bytes_in n words = take n (flat_map (low_num_bytes 8) words)
 
 -- the row that stands in front: the one whose words these are when it is written again
 unfoldable pub first_row : List ℕ → Option (List ℕ)

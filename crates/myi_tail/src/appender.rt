@@ -7,7 +7,7 @@ ghost use Rattle.myi_tail.specs.Seats.{free_words, room_of, IsNew, closing};
 use crate::closing::ClosingAppender;
 use crate::reader::ReaderSeat;
 use crate::table::{Cells, SplitReader, StoreCount, StoreWord, TailSeat};
-use crate::word::word_of;
+use myi_base::le;
 use std::alloc::{AllocError, Global};
 use std::marker::Model;
 use std::sync::Arc;
@@ -111,7 +111,7 @@ impl Appender {
         ensures { self.new ≡ record self.old { words = self.old.words ++ bytes_words row.now } }
     {
         for eight in row.chunks(8) {
-            self.push_word(word_of(eight));
+            self.push_word(le(eight));
         }
     }
 

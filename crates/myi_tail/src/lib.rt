@@ -22,7 +22,6 @@ mod laws;
 mod reader;
 mod table;
 mod tail;
-mod word;
 
 pub use appender::{Appender, NoRoom};
 pub use laws::{

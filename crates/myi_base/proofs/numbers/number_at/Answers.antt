@@ -1,5 +1,6 @@
 use Rattle.std.proofs.Common.{arith, drop}
-use Rattle.myi_base.proofs.NumberLaws.{num-below, bytes-drop}
+use Rattle.myi_base.proofs.NumberLaws.{num-below, }
+use Rattle.myi_base.proofs.BytesLaws.{bytes-drop}
 use Rattle.std.proofs.lemmas.List.{take_rest}
 use Rattle.myi_base.specs.Numbers.{num}
 use Rattle.myi_base.proofs.numbers.number_at.Goals as goal
