@@ -60,12 +60,14 @@ impl Appender {
         ensures room { IfOk result (λ a. room_of a.tail ≡ words) }
         ensures empty { IfOk result (λ a. (a.words ≡ []) × (a.published ≡ 0)) }
     {
-        let zeros = vec![in alloc; 0u64; words + 1]?;
+        let mut zeros = vec![in alloc; 0u64; words + 1]?;
         let (table, seat) = Cells::of_words(alloc, zeros.as_slice(), &(words as u64 + 1))?;
+        // The cells have them now; the words take their memory.
+        zeros.clear();
         Ok(Appender {
             table: Arc::new(alloc, table)?,
             seat,
-            words: Vec::with_capacity(alloc, words)?,
+            words: zeros,
             published: 0,
             room: words,
         })

@@ -22,7 +22,7 @@ fn jobs_of(alloc: Global, tail: Tail) -> Result<Vec<Job>, AllocError>
     ensures { IfOk result (λ v. All (λ j. tail_of j ≡ tail.appender.tail) v.items) }
 {
     let Tail { appender, readers } = tail;
-    let mut jobs = Vec::with_capacity(alloc, 1)?;
+    let mut jobs = Vec::new(alloc);
     jobs.push(Job::Append(Append { appender, rows: 0 }))?;
     for reader in readers {
         let read = Read {

@@ -1,3 +1,4 @@
+//! Calls of a tail one after the other, and a round on threads.
 ghost use Rattle.std.specs.Prelude.{◌≡◌, ◌≤◌, ◌<◌, All, IfOk};
 
 use crate::{expected_word, run_round};
@@ -62,14 +63,19 @@ fn a_lock_loads_the_count_anew(rt: HostRuntime) -> Result<(), Fail> {
     Ok(())
 }
 
-// The bytes of rows from 0 to 17 bytes long, the last word filled up with zeros.
+// Rows of 0, 1, 7, 9, 16 and 17 bytes: what is left of a last word is zeros.
 #[test]
-fn rows_of_each_length(rt: HostRuntime) -> Result<(), Fail> {
-    let (mut appender, mut reader) = pair(rt.alloc(), 8)?;
-    let bytes = [0xF1, 0xF2, 0xF3, 0xF4, 0xF5, 0xF6, 0xF7, 0xF8, 0xF9];
+fn rows_of_some_lengths(rt: HostRuntime) -> Result<(), Fail> {
+    let (mut appender, mut reader) = pair(rt.alloc(), 15)?;
+    let bytes = [
+        0xF1, 0xF2, 0xF3, 0xF4, 0xF5, 0xF6, 0xF7, 0xF8, 0xE1, 0xE2, 0xE3, 0xE4, 0xE5, 0xE6, 0xE7,
+        0xE8, 0xD1,
+    ];
     assert!(rt; appender.stage(&[]).is_ok());
     assert!(rt; appender.stage(&bytes[..1]).is_ok());
     assert!(rt; appender.stage(&bytes[..7]).is_ok());
+    assert!(rt; appender.stage(&bytes[..9]).is_ok());
+    assert!(rt; appender.stage(&bytes[..16]).is_ok());
     assert!(rt; appender.stage(&bytes).is_ok());
     appender.publish();
     let count = reader.lock();
@@ -82,7 +88,14 @@ fn rows_of_each_length(rt: HostRuntime) -> Result<(), Fail> {
         0xF7_F6F5_F4F3_F2F1,
         9,
         0xF8F7_F6F5_F4F3_F2F1,
-        0xF9,
+        0xE1,
+        16,
+        0xF8F7_F6F5_F4F3_F2F1,
+        0xE8E7_E6E5_E4E3_E2E1,
+        17,
+        0xF8F7_F6F5_F4F3_F2F1,
+        0xE8E7_E6E5_E4E3_E2E1,
+        0xD1,
     ];
     assert_eq!(rt; reader.known(), words.as_slice());
     Ok(())
