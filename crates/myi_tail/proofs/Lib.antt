@@ -1,0 +1,6 @@
+mod KeptLemmas
+pub mod RuleLaws
+pub mod RunLaws
+pub mod StepLemmas
+pub mod RowLemmas
+pub mod RowLaws

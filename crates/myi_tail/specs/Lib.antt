@@ -1,0 +1,9 @@
+pub mod Prefix
+pub mod Rows
+pub mod Spelled
+pub mod Seats
+pub mod Rule
+pub mod Steps
+pub mod Runs
+pub mod Plays
+pub mod Inside
