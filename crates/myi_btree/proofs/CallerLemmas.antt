@@ -1,8 +1,18 @@
--- What the crates above cite.
+-- What the crates above cite. Each lemma states a clause of the law of its group in src/laws.rt.
+
+-- walks_exist_once
+pub use Rattle.myi_btree.proofs.Once.{one_walk}
+-- laid_pages_walk
+pub use Rattle.myi_btree.proofs.LaidWalks.{laid_walks}
+-- levels_are_laid
+pub use Rattle.myi_btree.proofs.LaidRead.{good_count}
+pub use Rattle.myi_btree.proofs.LaidWalks.{count_pos, level_lt, length-places_from}
+pub use Rattle.myi_btree.proofs.LevelsLaws.{level_count, multiple}
+pub use Rattle.myi_btree.proofs.PutLaws.{ends}
+-- laid_pages_are_written
+pub use Rattle.myi_btree.proofs.LaidRead.{laid_written, written_read}
+-- These hold of any fact or any function, which no clause can say.
 pub use Rattle.myi_btree.proofs.BodyLaws.{all_drop}
 pub use Rattle.myi_btree.proofs.Frames.{bind_some}
-pub use Rattle.myi_btree.proofs.LaidRead.{AreKeys, IsWritten, good_count, laid_written, written_read}
-pub use Rattle.myi_btree.proofs.LaidWalks.{cons_each, count_pos, laid_walks, length-places_from, level_lt}
-pub use Rattle.myi_btree.proofs.LevelsLaws.{level_all, level_count, multiple}
-pub use Rattle.myi_btree.proofs.Once.{one_walk}
-pub use Rattle.myi_btree.proofs.PutLaws.{ends}
+pub use Rattle.myi_btree.proofs.LaidWalks.{cons_each}
+pub use Rattle.myi_btree.proofs.LevelsLaws.{level_all}

@@ -19,7 +19,7 @@ use Rattle.myi_btree.specs.Nodes.{entry_of, entries_of, page_of_node, node_in}
 use Rattle.myi_btree.specs.Reading.{node_lent}
 use Rattle.myi_btree.specs.Sizes.{IsPlaced, IsSized, AreSized, fits_in, IsCount}
 use Rattle.myi_btree.specs.Laid.{greatest, count_of, Level, after_page, level_of, places_from, levels_from, laid, Stands, IsRooted}
-use Rattle.myi_btree.specs.Building.{page_for, AreLent, Lays}
+use Rattle.myi_btree.specs.Building.{page_for, AreKeys, IsWritten, AreLent, Lays}
 use Rattle.myi_btree.proofs.NodeLaws.{pairs_again, node_again}
 use Rattle.myi_btree.proofs.CountLaws.{not_one}
 use Rattle.myi_btree.proofs.FitCount.{one_fits, two_fit, entries-take}
@@ -80,15 +80,6 @@ good_count place node ps sized some =
     last_one n c e = let d : n - c ≡ 1 = omega arith in rw d refl
 
 -- ---- each laid page is one that is read back
-
-abbrev pub AreKeys : List Pair → Type 0
-AreKeys pairs = AllByRecursion (λ (p : Pair). IsKey p.key) pairs
-
-pub record IsWritten (place : Place) (node : Node) : Type 0 where
-  pub page : IsWritable place.rec_ref (page_of_node node)
-  pub branching : IsBranching (page_of_node node)
-  pub keys : AreKeys node.pairs
-  pub fits : used_length place.rec_ref (is_node (page_of_node node)) (page_of_node node).entries ≤ place.block_length
 
 written_page : (place : Place) (node : Node) (page : Page) → IsPlaced place → page ≡ page_of_node node → 0 < length page.entries → AllByRecursion (λ (e : Entry). e.row < 256 ^ place.rec_ref) page.entries → AllByRecursion IsPlace page.children → IsBranching page
     → used_length place.rec_ref (is_node page) page.entries ≤ place.block_length → AreKeys node.pairs → IsWritten place node

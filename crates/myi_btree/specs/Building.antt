@@ -1,10 +1,14 @@
 -- What building a tree does to a key cache and the files.
 use Rattle.std.specs.Prelude.{◌≡◌, ◌⊎◌, ℕ, ◌+◌, ◌*◌, ◌<◌, ◌≤◌, true, List, [], ◌∷◌, length, Some}
 use Rattle.myi_base.specs.Holding.{Holding, overwritten, OthersStay}
-use Rattle.myi_keypage.specs.Page.{Page as IndexPage, page_bytes}
+use Rattle.std.specs.List.{AllByRecursion}
+use Rattle.myi_keys.specs.Limits.{IsKey}
+use Rattle.myi_keypage.specs.Page.{Page as IndexPage, page_bytes, is_node, IsBranching, IsWritable}
+use Rattle.myi_keypage.specs.Fitting.{used_length}
 use Rattle.myi_keypage.specs.Writing.{filled_up}
 use Rattle.myi_keycache.specs.Kept.{Page, is_kept}
 use Rattle.myi_keycache.specs.Caching.{Caching, lends, contents, IsCurrent, Puts, PutsPart}
+use Rattle.myi_btree.specs.declared.pair.Pair.{Pair}
 use Rattle.myi_btree.specs.declared.place.Place.{Place}
 use Rattle.myi_btree.specs.declared.level.Level.{Level as LaidLevel}
 use Rattle.myi_btree.specs.Walk.{Node}
@@ -18,6 +22,17 @@ whole_page place page = filled_up (page_bytes place.rec_ref page) place.block_le
 -- the page of a node
 unfoldable pub page_for : Place → Node → List ℕ
 page_for place node = whole_page place (page_of_node node)
+
+-- the key of each pair is a key
+abbrev pub AreKeys : List Pair → Type 0
+AreKeys pairs = AllByRecursion (λ (p : Pair). IsKey p.key) pairs
+
+-- a node that can be written as a page of the tree, and whose pairs have keys
+pub record IsWritten (place : Place) (node : Node) : Type 0 where
+  pub page : IsWritable place.rec_ref (page_of_node node)
+  pub branching : IsBranching (page_of_node node)
+  pub keys : AreKeys node.pairs
+  pub fits : used_length place.rec_ref (is_node (page_of_node node)) (page_of_node node).entries ≤ place.block_length
 
 -- a page was put, and files of other names hold what they held
 abbrev pub PutsPage : ℕ → List ℕ → Caching → Caching → Holding → Holding → Type 0

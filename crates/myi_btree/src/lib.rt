@@ -25,8 +25,8 @@ mod walk;
 
 pub use fault::TreeFault;
 pub use laws::{
-    built_trees_walk, laid_pages_walk, trees_are_shallow, visits_find_walks,
-    walks_depend_on_their_pages, walks_exist_once,
+    built_trees_walk, laid_pages_are_written, laid_pages_walk, levels_are_laid, trees_are_shallow,
+    visits_find_walks, walks_depend_on_their_pages, walks_exist_once,
 };
 pub use pair::Pair;
 pub use place::{Place, Room};

@@ -1,4 +1,10 @@
--- What the crates above cite.
+-- What the crates above cite. Each lemma states clauses of the law of its group in src/laws.rt.
+
+-- chains_are_found
 pub use Rattle.myi_chain.proofs.BlockLemmas.{blocks_read}
+-- rows_are_met
 pub use Rattle.myi_chain.proofs.ReadableLemmas.{rest_fine}
+-- sound_files_are_read
+pub use Rattle.myi_chain.proofs.LaidLemmas.{laid_rows}
+-- pieces_show_rows
 pub use Rattle.myi_chain.proofs.ScanLemmas.{shown_bytes}

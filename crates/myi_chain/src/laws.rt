@@ -5,10 +5,13 @@ ghost use Rattle.std.specs.List.{AllByRecursion};
 ghost use Rattle.myi_base.specs.Ranges.{Range};
 ghost use Rattle.myi_frames.specs.Block.{Block, block_of};
 ghost use Rattle.myi_chain.specs.Chain.{Reading, IsReading, AreApart, IsChain, chain_of};
-ghost use Rattle.myi_chain.specs.Readable.{items, places, rest, rows_of, readable, items_in};
+ghost use Rattle.myi_chain.specs.Readable.{Row, items, places, rest, rows_of, readable, items_in};
 ghost use Rattle.myi_chain.specs.Meeting.{IsItemOf, IsRowOf, ranges_of, AreRising};
 ghost use Rattle.myi_chain.specs.Laid.{AreLaid, whole_row};
 ghost use Rattle.myi_chain.specs.Parts.{Part, IsMadeOf, parts_met};
+ghost use Rattle.myi_chain.specs.Pieces.{shown};
+ghost use Rattle.myi_chain.specs.Scanning.{IsPiece};
+ghost use Rattle.myi_chain.specs.declared.piece.Piece.{Piece};
 
 /// The blocks of a file of bytes are read so. At each place there is one chain or none, and the
 /// definition that is followed finds it exactly where there is one. No chain has more blocks than a
@@ -51,4 +54,9 @@ pub fn sound_files_are_read()
         → AreLaid (block_of d) accepts (length d) 0 bs → readable extend accepts d ≡ map whole_row bs }
     ensures parts { (accepts : List ℕ → Bool) (d : List ℕ) (parts : List Part)
         → IsMadeOf (block_of d) accepts (length d) parts → items_in false accepts d ≡ parts_met parts }
+{}
+
+/// The bytes that a piece shows are those of the row that it is a piece of.
+pub fn pieces_show_rows()
+    ensures { (r : Row) (p : Piece) → IsPiece r p → shown p ≡ r.bytes }
 {}

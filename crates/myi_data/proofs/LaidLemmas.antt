@@ -19,7 +19,7 @@ use Rattle.myi_pack.proofs.CallerLemmas.{row-spelled, row-reads}
 use Rattle.myi_chain.specs.Readable.{Row, Item, rows_of}
 use Rattle.myi_chain.specs.Readable as chains
 use Rattle.myi_chain.specs.Laid.{AreLaid, whole_row}
-use Rattle.myi_chain.proofs.LaidLemmas as chains_laid
+use Rattle.myi_chain.proofs.CallerLemmas as chains_laid
 use Rattle.myi_data.specs.Slots.{Slot, slots_in}
 use Rattle.myi_data.specs.Readable.{packs, slot_row, slot_items, items_at, items_by, items_in, readable}
 use Rattle.myi_data.specs.Laid.{own_block, stored, laid_file, laid_rows, IsStorable}

@@ -19,5 +19,5 @@ mod slots;
 
 pub use data_file::DataFile;
 pub use keys::key_of;
-pub use laws::{laid_files_are_read, plain_tables_are_read, rows_are_readable};
+pub use laws::{laid_files_are_read, plain_tables_are_read, rows_are_readable, rows_have_keys};
 pub use scan::DataScan;

@@ -1,5 +1,12 @@
+-- what a reader of the contracts must believe
+
+-- the conditions on a cache's setup
 pub mod Setup
+-- the pages that a cache keeps
 pub mod Kept
+-- what is lent of a range, and the file with all puts
 pub mod Lent
+-- the counters after each call
 pub mod Counts
+-- what each call does to a cache and its file
 pub mod Caching

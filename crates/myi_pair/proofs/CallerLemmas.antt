@@ -1,8 +1,16 @@
--- What the crates above cite.
-pub use Rattle.myi_pair.proofs.FileLaws.{tree_behind}
+-- What the crates above cite. Each lemma states a clause of the law of its group in src/laws.rt.
+
+-- first_rows_are_distinct
 pub use Rattle.myi_pair.proofs.FirstRowsLaws.{noted}
-pub use Rattle.myi_pair.proofs.HeaderLaws.{new_rest}
+-- key_lists_are_sorted
 pub use Rattle.myi_pair.proofs.KeyListLaws.{sorted_is, sorted_permutes}
+-- pairs_are_sized
+pub use Rattle.myi_pair.proofs.SizedLaws.{placed, is_key, sized}
+-- laid_pages_stand_behind
+pub use Rattle.myi_pair.proofs.FileLaws.{tree_behind}
+-- recovered_bytes_recover
 pub use Rattle.myi_pair.proofs.RecoveredLaws.{recovered}
+-- written_parts_are_measured
 pub use Rattle.myi_pair.proofs.ShorterLaws.{length-slot}
-pub use Rattle.myi_pair.proofs.SizedLaws.{is_key, placed, pointer_near, sized}
+pub use Rattle.myi_pair.proofs.SizedLaws.{pointer_near}
+pub use Rattle.myi_pair.proofs.HeaderLaws.{new_rest}

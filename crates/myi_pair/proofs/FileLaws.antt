@@ -8,7 +8,8 @@ use Rattle.myi_btree.specs.declared.pair.Pair.{Pair}
 use Rattle.myi_btree.specs.declared.place.Place.{Place}
 use Rattle.myi_btree.specs.Walk.{Node}
 use Rattle.myi_btree.specs.Building.{page_for, laid_over}
-use Rattle.myi_btree.proofs.CallerLemmas.{IsWritten, laid_written}
+use Rattle.myi_btree.specs.Building.{IsWritten}
+use Rattle.myi_btree.proofs.CallerLemmas.{laid_written}
 use Rattle.myi_pair.specs.TreePages.{tree_nodes, tree_pages, tree_end, with_tree, CanBeLaid, HasBehind}
 use Rattle.myi_pair.proofs.TreesLaws.{page_long, pages_long}
 

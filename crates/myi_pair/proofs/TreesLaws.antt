@@ -19,7 +19,8 @@ use Rattle.myi_btree.specs.Sizes.{IsPlaced, AreSized, fits_in}
 use Rattle.myi_btree.specs.Laid.{laid, Stands, root_of}
 use Rattle.myi_btree.specs.Building.{page_for}
 use Rattle.myi_btree.specs.Visit.{HasWalk}
-use Rattle.myi_btree.proofs.CallerLemmas.{AreKeys, IsWritten, laid_written, written_read}
+use Rattle.myi_btree.specs.Building.{AreKeys, IsWritten}
+use Rattle.myi_btree.proofs.CallerLemmas.{laid_written, written_read}
 use Rattle.myi_pair.specs.KeyList.{PlacedRow, key_list}
 use Rattle.myi_pair.specs.Trees.{block_of_key, place_of, node_at, HasTree, HaveTrees, total}
 use Rattle.myi_pair.specs.RecoveredBytes.{LaidTrees, laid_trees}

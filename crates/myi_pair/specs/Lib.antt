@@ -1,7 +1,16 @@
+-- what a reader of the contracts must believe
+
+-- the rows that unique keys let stand
 pub mod FirstRows
+-- the sorted pairs of a key
 pub mod KeyList
+-- the trees of an index file
 pub mod Trees
+-- the pages of trees behind a header
 pub mod TreePages
+-- a clean pair of files
 pub mod Clean
+-- the two files that a repair leaves, as bytes
 pub mod RecoveredBytes
+-- what is to hold of them
 pub mod Recovered

@@ -8,24 +8,26 @@ ghost use Rattle.myi_defs.specs.declared.types.Defs.{Defs};
 ghost use Rattle.myi_defs.specs.ReadDefs.{read_defs, AreDefs};
 ghost use Rattle.myi_defs.specs.Sound.{IsSound};
 ghost use Rattle.myi_defs.specs.Addressable.{is_addressable};
+ghost use Rattle.myi_defs.specs.declared.types.RowFormat.TheVariants.{Static};
 ghost use Rattle.myi_header.specs.Layout.{first_page_of};
+ghost use Rattle.myi_header.specs.StateOf.{rest_length, state_of};
 ghost use Rattle.myi_pack.specs.Packed.{Values};
 ghost use Rattle.myi_pack.specs.Spelling.{fits};
 ghost use Rattle.myi_keys.specs.Limits.{IsKey};
 ghost use Rattle.myi_data.specs.Readable.{readable};
 ghost use Rattle.myi_data.specs.Keys.{key_of};
-ghost use Rattle.myi_data.specs.Laid.{IsStorable, laid_rows};
+ghost use Rattle.myi_data.specs.Laid.{IsStorable, laid_rows, stored};
 ghost use Rattle.myi_btree.specs.declared.place.Place.{Place};
 ghost use Rattle.myi_btree.specs.Walk.{Places};
 ghost use Rattle.myi_btree.specs.Laid.{Fits, laid, Stands};
 ghost use Rattle.myi_btree.specs.Nodes.{entry_of};
 ghost use Rattle.myi_btree.specs.Sizes.{IsPlaced, IsSized, AreSized};
 ghost use Rattle.myi_pair.specs.FirstRows.{key_numbers, repeats, repeats_code, first_rows, AreDistinct};
-ghost use Rattle.myi_pair.specs.KeyList.{PlacedRow, pair_cmp, pair_of, pairs_of, sorted, key_list};
+ghost use Rattle.myi_pair.specs.KeyList.{PlacedRow, pair_cmp, pointer, pair_of, pairs_of, sorted, key_list};
 ghost use Rattle.myi_pair.specs.Trees.{place_of, HaveTrees, total};
 ghost use Rattle.myi_pair.specs.TreePages.{tree_pages, tree_end, with_tree, CanBeLaid, HasBehind, WalksOnce};
 ghost use Rattle.myi_pair.specs.Clean.{values_of, IsClean};
-ghost use Rattle.myi_pair.specs.RecoveredBytes.{kept, new_data, placed_from, new_trees, new_index};
+ghost use Rattle.myi_pair.specs.RecoveredBytes.{without_free_pages, kept, new_data, placed_from, new_trees, new_index};
 ghost use Rattle.myi_pair.specs.Recovered.{IsRepairable, Recovered};
 
 use myi_btree::Pair;
@@ -154,4 +156,15 @@ pub fn second_repairs_change_nothing()
     ensures index_file { (d : Defs) (extend : Bool) (x : List ℕ) (now : ℕ) → IsRepairable d x now
         → (again : Defs) → read_defs (new_index d extend x now) ≡ Ok again
         → (any : Bool) (later : ℕ) → new_index again any (new_data d extend x) later ≡ new_index d extend x later }
+{}
+
+/// The measures of what a repair writes: a static row takes its slot, a place in a file within reach fits
+/// a row pointer, and what is kept of the header behind the state's own numbers is as long as before.
+pub fn written_parts_are_measured()
+    ensures slot { (d : Defs) (row : Values) → IsSound d → d.format ≡ Static → IsStorable d row
+        → length (stored d row) ≡ d.slot_length }
+    ensures pointer { (d : Defs) (at len : ℕ) → IsSound d → is_addressable d len ≡ true → at ≤ len
+        → pointer d at < 256 ^ d.rec_ref }
+    ensures rest { (d : Defs) → IsSound d
+        → length (without_free_pages d (state_of d d.raw).rest) ≡ rest_length d }
 {}

@@ -1,9 +1,22 @@
+-- what a reader of the contracts must believe
+
+-- which faults cut a repair off
 pub mod Faults
+-- the four files of a table, and what a repair leaves of others
 pub mod Names
+-- the table of a name, or why it cannot be repaired
 pub mod Opening
-pub mod Sized
-pub mod Keeping
+-- what was gathered
 pub mod Gathering
-pub mod Building
+-- what the end of a repair does
 pub mod Finishing
+-- what a repair does to the files
 pub mod Repairs
+-- what serves private contracts
+
+-- pairs that can be laid
+pub mod Sized
+-- the rows that are kept so far
+pub mod Keeping
+-- the trees that are built so far
+pub mod Building
