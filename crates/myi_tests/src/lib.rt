@@ -8,5 +8,3 @@ mod failing_calls;
 mod memory_files;
 #[cfg(test)]
 mod real_folder;
-#[cfg(test)]
-mod wide_blobs;
