@@ -1,0 +1,10 @@
+pub mod CallerLemmas
+mod FirstLemmas
+mod CaseLemmas
+mod HoldLemmas
+mod EndLemmas
+mod OpeningLemmas
+mod ExclusionLemmas
+mod TogetherLemmas
+mod SingleLemmas
+mod PlacingLemmas
