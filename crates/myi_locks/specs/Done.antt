@@ -8,7 +8,7 @@ use Rattle.myi_locks.specs.declared.steps.Round.{Round}
 use Rattle.myi_locks.specs.declared.steps.Round.TheVariants.{Finished, Alone, Together}
 use Rattle.myi_locks.specs.Steps.{lock_after}
 use Rattle.myi_locks.specs.Sessions.{Session}
-use Rattle.myi_locks.specs.Rounds.{LockState, session_of}
+use Rattle.myi_locks.specs.Rounds.{LockState, lock_state, session_of}
 
 -- a session after its next step
 abbrev pub after : Step → Session → Session
@@ -30,11 +30,12 @@ run_steps (Some run) = run.steps
 abbrev pub steps_of : Round → List Step
 steps_of Finished = []
 steps_of (Alone x) = x ∷ []
-steps_of (Together inserter readers) = run_steps inserter ++ flat_map (λ run. run.steps) readers.runs
+steps_of (Together inserter readers) =
+    run_steps inserter ++ flat_map (λ run. run.steps) readers.runs
 
 -- where the sessions stand after a round
 abbrev pub advanced : LockState → Round → LockState
-advanced r round = record { setting = r.setting; sessions = fold stepped r.sessions (steps_of round) }
+advanced r round = lock_state r.setting (fold stepped r.sessions (steps_of round))
 
 -- the lock that the session of that number holds, and none where no session has it
 abbrev pub lock_in : Option Session → Option LockKind

@@ -1,8 +1,8 @@
--- The rule of rounds: which steps of the sessions are done next. It follows the MySQL Reference Manual on table
--- locks ("LOCK TABLES and UNLOCK TABLES Statements", "Table Locking Issues") and on concurrent inserts
--- ("Concurrent Inserts", `concurrent_insert` 0, 1 and 2): a write waits until no other session holds a lock,
--- reads wait for a write that waits, and an insert at the end may go beside reads. That steps go in rounds, and
--- which is the first, is this project's own.
+-- The rule of rounds: which steps of the sessions are done next. It follows the MySQL Reference
+-- Manual on table locks ("LOCK TABLES and UNLOCK TABLES Statements", "Table Locking Issues") and on
+-- concurrent inserts ("Concurrent Inserts", `concurrent_insert` 0, 1 and 2): a write waits until no
+-- other session holds a lock, reads wait for a write that waits, and an insert at the end may go
+-- beside reads. That steps go in rounds, and which is the first, is this project's own.
 use Rattle.std.specs.Prelude.{ℕ, Bool, true, ◌==◌, ◌||◌, ◌&&◌, not, map, filter, List, Option, Some, None, option_map, if◌then◌else◌}
 use Rattle.std.specs.List.{find, list_any, take_while}
 use Rattle.myi_locks.specs.declared.steps.Step.{Step}
@@ -13,24 +13,29 @@ use Rattle.myi_locks.specs.declared.steps.Round.TheVariants.{Finished, Alone, To
 use Rattle.myi_locks.specs.Steps.{waits_for_none, writes_rows, is_insert, is_read, is_always_write, takes_read}
 use Rattle.myi_locks.specs.Sessions.{Session, holds_read, holds_local, holds_write, holds_any, is_next, others_hold, first}
 
--- where the sessions stand: the setting of concurrent inserts, 0, 1 or 2, and the sessions in the order of
--- their numbers
+-- where the sessions stand: the setting of concurrent inserts, 0, 1 or 2, and the sessions in the
+-- order of their numbers
 pub record LockState : Type 0 where
   pub setting : ℕ
   pub sessions : List Session
 
--- A table is in use for a session where another session holds READ LOCAL or has a read as its next step.
+abbrev pub lock_state : ℕ → List Session → LockState
+lock_state setting ss = record { setting = setting; sessions = ss }
+
+-- A table is in use for a session where another session holds READ LOCAL or has a read as its next
+-- step.
 abbrev pub is_in_use : List Session → ℕ → Bool
 is_in_use ss n = list_any (λ s. not (s.number == n) && (holds_local s.held || is_next is_read s)) ss
 
--- An insert may be concurrent where no other session holds READ, and either the setting is 1 or 2 and the
--- table has no hole, or the setting is 2 and the table is in use for the inserting session.
+-- An insert may be concurrent where no other session holds READ, and either the setting is 1 or 2
+-- and the table has no hole, or the setting is 2 and the table is in use for the inserting session.
 abbrev pub may_be_concurrent : LockState → Bool → ℕ → Bool
 may_be_concurrent r holes n =
     not (others_hold holds_read n r.sessions)
     && ((r.setting == 1 || r.setting == 2) && not holes || r.setting == 2 && is_in_use r.sessions n)
 
--- A session's next step is a write: a delete, an update, `lock write`, or an insert that may not be concurrent.
+-- A session's next step is a write: a delete, an update, `lock write`, or an insert that may not be
+-- concurrent.
 abbrev pub is_write : LockState → Bool → Session → Bool
 is_write r holes s =
     is_next is_always_write s || is_next is_insert s && not (may_be_concurrent r holes s.number)
@@ -52,10 +57,11 @@ session_of n ss = find (λ s. s.number == n) ss
 
 -- ---- the six cases
 
--- 1. Some next step is Release, Unlock, End, Stats, or an insert, delete or update of a session that itself
--- holds READ or READ LOCAL: the first of these goes alone.
+-- 1. Some next step is Release, Unlock, End, Stats, or an insert, delete or update of a session
+-- that itself holds READ or READ LOCAL: the first of these goes alone.
 abbrev pub at_once : Session → Bool
-at_once s = is_next waits_for_none s || is_next writes_rows s && (holds_read s.held || holds_local s.held)
+at_once s =
+    is_next waits_for_none s || is_next writes_rows s && (holds_read s.held || holds_local s.held)
 
 unfoldable pub case_at_once : List Session → Option Step
 case_at_once ss = first at_once ss
@@ -64,22 +70,25 @@ case_at_once ss = first at_once ss
 unfoldable pub case_write_held : List Session → Option Step
 case_write_held ss = first (λ s. holds_write s.held) ss
 
--- 3. Some next step is a write, and no other session than its own holds a lock: the first such goes alone.
+-- 3. Some next step is a write, and no other session than its own holds a lock: the first such goes
+-- alone.
 unfoldable pub case_write : LockState → Bool → Option Step
-case_write r holes = first (λ s. is_write r holes s && not (others_hold holds_any s.number r.sessions)) r.sessions
+case_write r holes =
+    first (λ s. is_write r holes s && not (others_hold holds_any s.number r.sessions)) r.sessions
 
--- 4. Some next step is a write: the runs of reads of all sessions that hold a lock go together, and nobody else
--- runs.
+-- 4. Some next step is a write: the runs of reads of all sessions that hold a lock go together, and
+-- nobody else runs.
 unfoldable pub case_write_waits : LockState → Bool → Option Round
 case_write_waits r holes =
-    if list_any (is_write r holes) r.sessions then Some (together None (reads (λ s. holds_any s.held) r.sessions)) else None
+    if list_any (is_write r holes) r.sessions
+    then Some (together None (reads (λ s. holds_any s.held) r.sessions)) else None
 
 -- 5. Some next step takes READ or READ LOCAL: the first goes alone.
 unfoldable pub case_takes_read : List Session → Option Step
 case_takes_read ss = first (is_next takes_read) ss
 
--- 6. The runs of reads of all sessions go together, with the run of inserts of the first session whose next
--- step is an insert.
+-- 6. The runs of reads of all sessions go together, with the run of inserts of the first session
+-- whose next step is an insert.
 abbrev pub session_at : Option Step → List Session → Option Session
 session_at None ss = None
 session_at (Some x) ss = session_of x.session ss
@@ -109,7 +118,8 @@ has_step s = is_next (λ kind. true) s
 abbrev pub has_steps : LockState → Bool
 has_steps r = list_any has_step r.sessions
 
--- Where no step is left the rounds are finished. Else the next round is the first of the six cases that holds.
+-- Where no step is left the rounds are finished. Else the next round is the first of the six cases
+-- that holds.
 unfoldable pub next_round : LockState → Bool → Round
 next_round r holes =
     if not (has_steps r) then Finished

@@ -46,13 +46,13 @@ is_next test s = passes test (head s.left)
 abbrev pub others_hold : (Option LockKind → Bool) → ℕ → List Session → Bool
 others_hold test n ss = list_any (λ s. not (s.number == n) && test s.held) ss
 
--- of two next steps the first; of two that no line orders, as two added Ends, the one of the session that
--- stands first
+-- of two next steps the first; of two that no line orders, as two added Ends, the one of the
+-- session that stands first
 abbrev pub earlier : Option Step → Step → Option Step
 earlier None b = Some b
 earlier (Some a) b = if comes_before b a then Some b else Some a
 
--- of the next steps of the sessions that pass the test the first, where the sessions stand in the order of
--- their numbers
+-- of the next steps of the sessions that pass the test the first, where the sessions stand in the
+-- order of their numbers
 abbrev pub first : (Session → Bool) → List Session → Option Step
 first test ss = fold earlier None (filter_map (λ s. head s.left) (filter test ss))

@@ -1,5 +1,5 @@
--- The kinds of steps of a script, and what they do to the session's table lock (MySQL Reference Manual,
--- "LOCK TABLES and UNLOCK TABLES Statements").
+-- The kinds of steps of a script, and what they do to the session's table lock (MySQL Reference
+-- Manual, "LOCK TABLES and UNLOCK TABLES Statements").
 use Rattle.std.specs.Prelude.{Bool, true, false, ◌==◌, ◌||◌, ◌&&◌, not, nat_lt, Option, Some, None}
 use Rattle.myi_locks.specs.declared.steps.LockKind.{LockKind}
 use Rattle.myi_locks.specs.declared.steps.LockKind.TheVariants.{Read, ReadLocal, Write}
@@ -50,7 +50,7 @@ lock_after Unlock held = None
 lock_after End held = None
 lock_after kind held = held
 
--- of two steps this one is the first: it has the lower line; an added End, which has line 0, comes after all
--- lines
+-- of two steps this one is the first: it has the lower line; an added End, which has line 0, comes
+-- after all lines
 abbrev pub comes_before : Step → Step → Bool
 comes_before a b = not (a.line == 0) && (b.line == 0 || nat_lt a.line b.line)

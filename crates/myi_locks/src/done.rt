@@ -1,4 +1,5 @@
-//! The steps of a round are done: each leaves the front of its session, and changes that session's lock.
+//! The steps of a round are done: each leaves the front of its session, and changes that session's
+//! lock.
 ghost use Rattle.std.specs.Prelude.{◌≡◌, fold};
 ghost use Rattle.std.specs.List.{flat_map};
 ghost use Rattle.myi_locks.specs.Done.{stepped, steps_of};

@@ -31,9 +31,10 @@ impl Model for Locks {
 }
 
 impl Locks {
-    /// The sessions of a script with these steps, before the first round. `setting` is that of concurrent
-    /// inserts: 0 never, 1 at the end of a table without holes, 2 also at the end of a table with holes
-    /// that other sessions use. A session whose steps have no `End` gets one, of line 0.
+    /// The sessions of a script with these steps, before the first round. `setting` is that of
+    /// concurrent inserts: 0 never, 1 at the end of a table without holes, 2 also at the end of a
+    /// table with holes that other sessions use. A session whose steps have no `End` gets one, of
+    /// line 0.
     pub fn new(alloc: Global, steps: Vec<Step>, setting: u8) -> Result<Locks, AllocError>
         requires setting { setting ≤ 2 }
         requires script { IsScript steps.items }
@@ -44,8 +45,9 @@ impl Locks {
         Ok(Locks { setting, sessions })
     }
 
-    /// The next round, where `holes` says whether the table has a hole. It is `Finished` exactly where no
-    /// step is left. Its cost goes by the number of sessions and the steps that it answers.
+    /// The next round, where `holes` says whether the table has a hole. It is `Finished` exactly
+    /// where no step is left. Its cost goes by the number of sessions and the steps that it
+    /// answers.
     pub fn round(&self, holes: bool) -> Result<Round, AllocError>
         ensures rule { IfOk result (λ round. round ≡ spec.next_round self.now holes) }
         ensures some { IfOk result (λ round. has_steps self.now ≡ true → HoldsStep round) }
@@ -55,7 +57,8 @@ impl Locks {
         Ok(round)
     }
 
-    /// The steps of a round are done, which is the next one for some answer on holes. It takes no memory.
+    /// The steps of a round are done, which is the next one for some answer on holes. It takes no
+    /// memory.
     pub fn advance(&mut self, round: &Round)
         requires { (holes : Bool) × (round.now ≡ spec.next_round self.old holes) }
         ensures { self.new ≡ advanced self.old round.now }
@@ -63,7 +66,8 @@ impl Locks {
         do_round(&mut self.sessions, round);
     }
 
-    /// The lock that a session holds after the steps that are done. A number that no session has holds none.
+    /// The lock that a session holds after the steps that are done. A number that no session has
+    /// holds none.
     pub fn held(&self, session: u32) -> Option<LockKind>
         ensures { result ≡ held self.now session }
     {

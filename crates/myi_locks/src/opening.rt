@@ -1,7 +1,7 @@
 //! The sessions of a script before the first round.
 //!
-//! The steps are gone through once: each goes to the end of its session, which is put where its number
-//! belongs at its first step. Then each session without an `End` gets one.
+//! The steps are gone through once: each goes to the end of its session, which is put where its
+//! number belongs at its first step. Then each session without an `End` gets one.
 ghost use Rattle.std.specs.Prelude.{◌≡◌, map, fold, IfOk, OnOk};
 ghost use Rattle.myi_locks.specs.Placing.{placed, all_placed, ended};
 

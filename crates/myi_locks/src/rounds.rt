@@ -1,9 +1,9 @@
-//! The next round: each of the six cases of the rule as one function, and `next_round`, which answers the
-//! first that holds.
+//! The next round: each of the six cases of the rule as one function, and `next_round`, which
+//! answers the first that holds.
 //!
-//! Each function mirrors one definition of `specs/Rounds`. A case looks at the next step and the lock of
-//! each session; only runs that are answered are gone through.
-ghost use Rattle.std.specs.Prelude.{◌≡◌, ◌==◌, ◌&&◌, ◌||◌, not, map, filter, fold, IfOk, Bool, true};
+//! Each function mirrors one definition of `specs/Rounds`. A case looks at the next step and the
+//! lock of each session; only runs that are answered are gone through.
+ghost use Rattle.std.specs.Prelude.{◌≡◌, ◌||◌, not, IfOk, Bool};
 ghost use Rattle.std.specs.List.{list_any};
 ghost use Rattle.std.specs.Option.{option_copied};
 ghost use Rattle.myi_locks.specs.Rounds as spec;
@@ -30,8 +30,8 @@ fn earlier(best: Option<Step>, step: Step) -> Option<Step>
     }
 }
 
-/// Some next step is `Release`, `Unlock`, `End`, `Stats`, or an insert, delete or update of a session that
-/// itself holds a read lock: the first of these.
+/// Some next step is `Release`, `Unlock`, `End`, `Stats`, or an insert, delete or update of a
+/// session that itself holds a read lock: the first of these.
 #[tactic(auto, unfolding(crate::specs::Rounds::case_at_once))]
 fn at_once(sessions: &[Session]) -> Option<Step>
     ensures { result ≡ spec.case_at_once sessions.now }
@@ -58,7 +58,7 @@ fn write_held(sessions: &[Session]) -> Option<Step>
 /// Some next step is a write, and no other session than its own holds a lock: the first such.
 #[tactic(auto, unfolding(crate::specs::Rounds::case_write))]
 fn write(setting: u8, sessions: &[Session], holes: bool) -> Option<Step>
-    ensures { result ≡ spec.case_write (record { setting = setting; sessions = sessions.now }) holes }
+    ensures { result ≡ spec.case_write (spec.lock_state setting sessions.now) holes }
 {
     sessions
         .iter()
@@ -78,7 +78,8 @@ fn write_waits(
     sessions: &[Session],
     holes: bool,
 ) -> Result<Option<Round>, AllocError>
-    ensures { IfOk result (λ round. round ≡ spec.case_write_waits (record { setting = setting; sessions = sessions.now }) holes) }
+    ensures { IfOk result (λ round. round
+        ≡ spec.case_write_waits (spec.lock_state setting sessions.now) holes) }
 {
     if !some_write(setting, sessions, holes) {
         return Ok(None);
@@ -104,7 +105,8 @@ fn takes_read(sessions: &[Session]) -> Option<Step>
         .fold(None, earlier)
 }
 
-/// The runs of reads of all sessions, with the run of inserts of the first session whose next step is one.
+/// The runs of reads of all sessions, with the run of inserts of the first session whose next step
+/// is one.
 #[tactic(auto, unfolding(crate::specs::Rounds::case_together))]
 fn together(alloc: Global, sessions: &[Session]) -> Result<Round, AllocError>
     ensures { IfOk result (λ round. round ≡ spec.case_together sessions.now) }
@@ -151,14 +153,14 @@ fn is_in_use(sessions: &[Session], number: u32) -> bool
 
 /// Whether an insert of that session may go beside reads.
 fn may_be_concurrent(setting: u8, sessions: &[Session], holes: bool, number: u32) -> bool
-    ensures { result ≡ spec.may_be_concurrent (record { setting = setting; sessions = sessions.now }) holes number }
+    ensures { result ≡ spec.may_be_concurrent (spec.lock_state setting sessions.now) holes number }
 {
     !others_hold_read(sessions, number)
         && ((setting == 1 || setting == 2) && !holes || setting == 2 && is_in_use(sessions, number))
 }
 
 fn is_write(setting: u8, sessions: &[Session], holes: bool, session: &Session) -> bool
-    ensures { result ≡ spec.is_write (record { setting = setting; sessions = sessions.now }) holes session.now }
+    ensures { result ≡ spec.is_write (spec.lock_state setting sessions.now) holes session.now }
 {
     session.is_next_always_write()
         || session.is_next_insert()
@@ -166,7 +168,8 @@ fn is_write(setting: u8, sessions: &[Session], holes: bool, session: &Session) -
 }
 
 fn some_write(setting: u8, sessions: &[Session], holes: bool) -> bool
-    ensures { result ≡ list_any (spec.is_write (record { setting = setting; sessions = sessions.now }) holes) sessions.now }
+    ensures { result
+        ≡ list_any (spec.is_write (spec.lock_state setting sessions.now) holes) sessions.now }
 {
     sessions
         .iter()
@@ -187,7 +190,8 @@ pub(crate) fn session_of(sessions: &[Session], number: u32) -> Option<&Session>
 
 /// The runs of reads of all sessions, or of those that hold a lock.
 fn reads(alloc: Global, sessions: &[Session], holders: bool) -> Result<Vec<Run>, AllocError>
-    ensures { IfOk result (λ v. v.items ≡ spec.reads (λ s. not holders || session.holds_any s.held) sessions.now) }
+    ensures { IfOk result (λ v. v.items
+        ≡ spec.reads (λ s. not holders || session.holds_any s.held) sessions.now) }
 {
     let mut runs = Vec::new(alloc);
     for session in sessions {
@@ -218,7 +222,8 @@ pub(crate) fn next_round(
     sessions: &[Session],
     holes: bool,
 ) -> Result<Round, AllocError>
-    ensures { IfOk result (λ round. round ≡ spec.next_round (record { setting = setting; sessions = sessions.now }) holes) }
+    ensures { IfOk result (λ round. round
+        ≡ spec.next_round (spec.lock_state setting sessions.now) holes) }
 {
     if !some_step(sessions) {
         return Ok(Round::Finished);

@@ -1,7 +1,8 @@
 //! `Session`: a session's number, the steps that it has not done, and its lock.
 //!
-//! The steps stand in a queue, so that a step is done without moving the others. Contracts see a session as
-//! the record `Session` of `specs/Sessions`, and each question that the rule asks is one method here.
+//! The steps stand in a queue, so that a step is done without moving the others. Contracts see a
+//! session as the record `Session` of `specs/Sessions`, and each question that the rule asks is one
+//! method here.
 ghost use Rattle.std.specs.Prelude.{◌≡◌, IfOk, OnOk};
 ghost use Rattle.std.specs.List.{take_while};
 ghost use Rattle.myi_locks.specs.Sessions as spec;

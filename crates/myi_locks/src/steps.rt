@@ -35,8 +35,8 @@ pub enum StepKind {
     End,
 }
 
-/// A step of a session. `line` is the script's line that it comes from, counted from 1; an `End` that no line
-/// says has line 0, and comes after all lines.
+/// A step of a session. `line` is the script's line that it comes from, counted from 1; an `End`
+/// that no line says has line 0, and comes after all lines.
 #[derive(Clone, Copy, Debug, PartialEq, Eq)]
 pub struct Step {
     pub session: u32,
@@ -64,8 +64,8 @@ pub enum Round {
     Finished,
     /// One step, while no other session does anything.
     Alone(Step),
-    /// The runs of reads of several sessions, in any order and side by side, and beside them the run of
-    /// inserts of one session, if any.
+    /// The runs of reads of several sessions, in any order and side by side, and beside them the
+    /// run of inserts of one session, if any.
     Together {
         inserter: Option<Run>,
         readers: Runs,
