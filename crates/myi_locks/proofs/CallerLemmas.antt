@@ -5,3 +5,4 @@ pub use Rattle.myi_locks.proofs.OpeningLemmas.{opens, finishes, rounds_end}
 pub use Rattle.myi_locks.proofs.ExclusionLemmas.{exclusive_opening, exclusive_kept, refused_alone}
 pub use Rattle.myi_locks.proofs.TogetherLemmas.{one_writer, together_kinds, concurrent_inserts}
 pub use Rattle.myi_locks.proofs.SingleLemmas.{one_kind, still_one}
+pub use Rattle.myi_locks.proofs.HeldLemmas.{held_by_steps, none_held}

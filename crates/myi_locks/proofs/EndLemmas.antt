@@ -215,7 +215,7 @@ alone_belongs ss ok test x e =
     let can = all_in (λ (q : Session). CanDo q.number q.held q.left) ss w.0 ok.each w.1 in
     ((w.0, w.1, (own_head _ _ _ x can w.3).0), tt)
 
-belong : (r : LockState) (holes : Bool) → IsLawful r.sessions → AllByRecursion (Belongs r.sessions) (steps_of (next_round r holes))
+pub belong : (r : LockState) (holes : Bool) → IsLawful r.sessions → AllByRecursion (Belongs r.sessions) (steps_of (next_round r holes))
 belong r holes ok =
     by_case (λ round. AllByRecursion (Belongs r.sessions) (steps_of round)) r holes (λ e. tt) (λ x e. alone_belongs r.sessions ok _ x e) (λ x e. alone_belongs r.sessions ok _ x e) (λ x p e. alone_belongs r.sessions ok _ x e)
     (λ p e. reads_belong (λ s. holds_any s.held) r.sessions r.sessions (λ s i. i) ok.each)

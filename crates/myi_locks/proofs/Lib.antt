@@ -6,5 +6,6 @@ mod EndLemmas
 mod OpeningLemmas
 mod ExclusionLemmas
 mod TogetherLemmas
+mod HeldLemmas
 mod SingleLemmas
 mod PlacingLemmas

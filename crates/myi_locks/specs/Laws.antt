@@ -1,5 +1,5 @@
 -- What the sessions of a script keep from round to round, and what the laws say of a round.
-use Rattle.std.specs.Prelude.{◌≡◌, ℕ, ◌<◌, Bool, true, false, not, ◌&&◌, ◌||◌, List, [], ◌∷◌, length, ◌+◌, Option, Some, None, Contains, ◌⊎◌}
+use Rattle.std.specs.Prelude.{◌≡◌, ℕ, ◌<◌, Bool, true, false, not, ◌&&◌, ◌||◌, List, [], ◌∷◌, length, ◌+◌, fold, Option, Some, None, Contains, ◌⊎◌}
 use Rattle.std.specs.List.{AllByRecursion, list_any}
 use Rattle.myi_locks.specs.declared.steps.LockKind.{LockKind}
 use Rattle.myi_locks.specs.declared.steps.Step.{Step}
@@ -94,7 +94,11 @@ abbrev pub AreReadsOrNone : List Step → Type 0
 AreReadsOrNone xs =
     AllByRecursion (λ x. is_read x.kind ≡ true) xs ⊎ AllByRecursion (λ x. is_read x.kind ≡ false) xs
 
--- ---- what a lock keeps out
+-- ---- locks
+
+-- the lock that some steps of a session leave it, where it held this one before
+abbrev pub lock_left : Option LockKind → List Step → Option LockKind
+lock_left held xs = fold (λ h x. lock_after x.kind h) held xs
 
 -- Where a session holds WRITE, no other session holds a lock.
 abbrev pub IsExclusive : List Session → Type 0

@@ -4,17 +4,17 @@
 //! `EachRound` says something of the next round of any sessions that keep what those of a script
 //! keep (`IsLawful`), whatever the setting is and whether the table has holes. That the sessions of
 //! a script begin so and stay so is `rounds_end`.
-ghost use Rattle.std.specs.Prelude.{◌≡◌, ◌<◌, ◌≤◌, ℕ, Bool, true, false, Some, List, length};
+ghost use Rattle.std.specs.Prelude.{◌≡◌, ◌<◌, ◌≤◌, ℕ, Bool, true, false, None, Some, List, length};
 ghost use Rattle.myi_locks.specs.declared.steps.Step.{Step};
 ghost use Rattle.myi_locks.specs.declared.steps.Round.TheVariants.{Finished};
 ghost use Rattle.myi_locks.specs.Sessions.{Session, first};
 ghost use Rattle.myi_locks.specs.Rounds.{LockState, next_round, has_steps};
-ghost use Rattle.myi_locks.specs.Done.{steps_of, advanced};
-ghost use Rattle.myi_locks.specs.Script.{opening, IsScript};
+ghost use Rattle.myi_locks.specs.Done.{steps_of, advanced, held};
+ghost use Rattle.myi_locks.specs.Script.{opening, own, IsScript};
 ghost use Rattle.myi_locks.specs.Laws.{EachRound, HoldsStep, HasOneWriter, ReadsOrInserts};
 ghost use Rattle.myi_locks.specs.Laws.{AreReadsOrNone, InsertsAreConcurrent};
 ghost use Rattle.myi_locks.specs.Laws.{IsExclusive, IsRefused, IsLawful, IsFirst};
-ghost use Rattle.myi_locks.specs.Laws.{steps_left, after_rounds};
+ghost use Rattle.myi_locks.specs.Laws.{steps_left, after_rounds, lock_left};
 
 /// A round is `Finished` exactly where no step is left, and every other round holds a step.
 pub fn rounds_hold_steps()
@@ -55,6 +55,14 @@ pub fn inserts_are_concurrent()
 pub fn first_is_lowest()
     ensures { (test : Session → Bool) (ss : List Session) (x : Step)
         → first test ss ≡ Some x → IsFirst test x ss }
+{}
+
+/// The lock that a session holds is the one that its steps have left it: before the first round it
+/// holds none, and its steps of a round change its lock one after the other.
+pub fn locks_follow_steps()
+    ensures opening { (setting : ℕ) (xs : List Step) (n : ℕ) → held (opening setting xs) n ≡ None }
+    ensures round { EachRound (λ r holes round. (n : ℕ)
+        → held (advanced r round) n ≡ lock_left (held r n) (own n (steps_of round))) }
 {}
 
 /// A WRITE lock excludes all others. And where a session holds a read lock, nothing but inserts

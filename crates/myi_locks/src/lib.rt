@@ -23,8 +23,8 @@ mod session;
 mod steps;
 
 pub use laws::{
-    first_is_lowest, inserts_are_concurrent, locks_exclude, one_session, one_session_changes,
-    rounds_end, rounds_hold_steps,
+    first_is_lowest, inserts_are_concurrent, locks_exclude, locks_follow_steps, one_session,
+    one_session_changes, rounds_end, rounds_hold_steps,
 };
 pub use locks::Locks;
 pub use steps::{LockKind, Round, Run, Runs, Step, StepKind};
