@@ -11,6 +11,7 @@ mod caches;
 mod files;
 mod keys;
 mod pages;
+mod rounds;
 mod rows;
 mod runs;
 mod scans;
@@ -25,7 +26,7 @@ use std::alloc::AllocError;
 use std::io;
 use std::io::{BufRead, BufReader, BufWriter, Write};
 
-// The answer to a call on bytes, or on a table's definitions or its state.
+// The answer to a call on bytes, on a table's definitions or its state, or on the steps of sessions.
 fn answer(words: &Words, name: &str, args: &[&str]) -> Result<String, Fault> {
     if let Some(answer) = blocks::answer(words, name, args) {
         return answer;
@@ -43,6 +44,9 @@ fn answer(words: &Words, name: &str, args: &[&str]) -> Result<String, Fault> {
         return answer;
     }
     if let Some(answer) = states::answer(words, name, args) {
+        return answer;
+    }
+    if let Some(answer) = rounds::answer(words, name, args) {
         return answer;
     }
     answer_on_files(words, name, args)
