@@ -1,6 +1,7 @@
 //! Laws over the definitions of this crate. Each is the contract of a function that does nothing, so
 //! that it is proved with the crate and stands for the crates above.
-ghost use Rattle.std.specs.Prelude.{◌≡◌, ◌≤◌, ◌<◌, ◌+◌, ◌^◌, ◌++◌, ℕ, List, [], length, take, drop, replicate};
+ghost use Rattle.std.specs.Prelude.{◌≡◌, ◌≤◌, ◌<◌, ◌+◌, ◌^◌, ◌++◌};
+ghost use Rattle.std.specs.Prelude.{ℕ, List, [], length, take, drop, replicate};
 ghost use Rattle.myi_base.specs.Numbers.{num, num_bytes, low_num, low_num_bytes, AreBytes};
 ghost use Rattle.myi_base.specs.Items.{numbers, spelling, Fit, total_width};
 
@@ -12,25 +13,30 @@ pub fn numbers_read_back()
     ensures read { (n v : ℕ) (rest : List ℕ) → v < 256 ^ n → num n (num_bytes n v ++ rest) ≡ v }
     ensures below { (n : ℕ) (x : List ℕ) → AreBytes x → num n x < 256 ^ n }
     ensures front { (n m : ℕ) (x : List ℕ) → n ≤ m → num n (take m x) ≡ num n x }
-    ensures once { (n : ℕ) (x : List ℕ) → AreBytes x → n ≤ length x → num_bytes n (num n x) ≡ take n x }
+    ensures once { (n : ℕ) (x : List ℕ) → AreBytes x → n ≤ length x
+        → num_bytes n (num n x) ≡ take n x }
 {}
 
 /// The same laws for numbers low byte first.
 pub fn low_numbers_read_back()
     ensures length { (n v : ℕ) → length (low_num_bytes n v) ≡ n }
     ensures bytes { (n v : ℕ) → AreBytes (low_num_bytes n v) }
-    ensures read { (n v : ℕ) (rest : List ℕ) → v < 256 ^ n → low_num n (low_num_bytes n v ++ rest) ≡ v }
+    ensures read { (n v : ℕ) (rest : List ℕ) → v < 256 ^ n
+        → low_num n (low_num_bytes n v ++ rest) ≡ v }
     ensures below { (n : ℕ) (x : List ℕ) → AreBytes x → low_num n x < 256 ^ n }
     ensures front { (n m : ℕ) (x : List ℕ) → n ≤ m → low_num n (take m x) ≡ low_num n x }
-    ensures once { (n : ℕ) (x : List ℕ) → AreBytes x → n ≤ length x → low_num_bytes n (low_num n x) ≡ take n x }
+    ensures once { (n : ℕ) (x : List ℕ) → AreBytes x → n ≤ length x
+        → low_num_bytes n (low_num n x) ≡ take n x }
 {}
 
 /// Numbers of given widths one after the other: what is spelled is read, and numbers that stand in a
 /// front that two lists share are the same in both.
 pub fn items_read_back()
-    ensures read { (at : ℕ) (ws vs front back : List ℕ) → length front ≡ at → Fit ws vs → numbers at ws (front ++ (spelling ws vs ++ back)) ≡ vs }
+    ensures read { (at : ℕ) (ws vs front back : List ℕ) → length front ≡ at → Fit ws vs
+        → numbers at ws (front ++ (spelling ws vs ++ back)) ≡ vs }
     ensures length { (ws vs : List ℕ) → Fit ws vs → length (spelling ws vs) ≡ total_width ws }
-    ensures same { (at k : ℕ) (ws x y : List ℕ) → at + total_width ws ≤ k → take k x ≡ take k y → numbers at ws x ≡ numbers at ws y }
+    ensures same { (at k : ℕ) (ws x y : List ℕ) → at + total_width ws ≤ k → take k x ≡ take k y
+        → numbers at ws x ≡ numbers at ws y }
 {}
 
 /// Parts of a list of bytes are bytes, and so is what is put together of bytes.

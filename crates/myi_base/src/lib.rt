@@ -5,6 +5,13 @@
 //! ranges of bytes (`Ranges`), what files hold and how one call changes it (`Holding`), and when a
 //! fault may be told (`Causes`). It has the few functions that read and write numbers, in `numbers`,
 //! and the laws over these definitions that other crates build on, in `laws`.
+//!
+//! ```
+//! let number = number_at(&bytes, at, width);
+//! let place = pointer_of(number);
+//! ```
+//!
+//! The case `number` in `crates/cases_formats/src/numbers.rt` runs it.
 #![tactic(auto)]
 
 mod laws;

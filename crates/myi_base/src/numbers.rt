@@ -4,7 +4,8 @@
 //! byte first, which is the order of index files and of block headers. A pointer of eight bytes is a
 //! place in a file, or eight bytes FF where it points to nothing.
 ghost use Rattle.std.specs.Prelude.{◌≡◌, ◌≤◌, ◌<◌, ◌+◌, ◌^◌, ◌++◌, length, take, drop, OnOk, OnErr};
-ghost use Rattle.myi_base.specs.Numbers.{num, num_bytes, low_num, num_at, pointer_of, pointer_number};
+ghost use Rattle.myi_base.specs.Numbers.{num, num_bytes, low_num, num_at};
+ghost use Rattle.myi_base.specs.Numbers.{pointer_of, pointer_number};
 
 use byteorder::{BigEndian, ByteOrder, LittleEndian};
 use std::alloc::AllocError;

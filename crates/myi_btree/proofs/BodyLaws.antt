@@ -10,16 +10,17 @@ use Rattle.myi_keypage.specs.Fitting.{used_length}
 use Rattle.myi_keypage.specs.Writing.{filled_up}
 use Rattle.myi_keypage.proofs.CallerLemmas.{page_length}
 use Rattle.myi_keycache.specs.Kept.{AddsOnly}
-use Rattle.myi_keycache.specs.Caching.{Caching, CanPut}
+use Rattle.myi_keycache.specs.Caching.{pages_of, Caching}
 use Rattle.myi_btree.specs.declared.pair.Pair.{Pair}
 use Rattle.myi_btree.specs.declared.place.Place.{Place}
 use Rattle.myi_btree.specs.declared.entries.Entries.{Entries}
 use Rattle.myi_btree.specs.Walk.{Node, node_with}
 use Rattle.myi_btree.specs.Nodes.{entry_of, entries_of, page_of_node}
-use Rattle.myi_btree.specs.Entries.{coded_of, left_of}
+use Rattle.myi_btree.specs.Entries.{coded_of, entries_left}
 use Rattle.myi_btree.specs.Sizes.{IsSized, AreSized, fits_in, IsCount}
-use Rattle.myi_btree.specs.Laid.{level_of}
-use Rattle.myi_btree.specs.Building.{whole_page, page_for, PutsPage, CanLay, Lays}
+use Rattle.myi_btree.specs.LaidPages.{level_of}
+use Rattle.myi_btree.specs.Building.{whole_page, page_for, MayPut, MayLay}
+use Rattle.myi_btree.specs.Levels.{FitsPage}
 use Rattle.myi_btree.proofs.Frames.{all_left, all_right}
 use Rattle.myi_btree.proofs.FitCount.{entries-take}
 use Rattle.myi_btree.proofs.PutLaws.{told_next}
@@ -41,14 +42,11 @@ pub all_drop : {A : Type 0} (P : A → Type 0) (n : ℕ) (xs : List A) → AllBy
 all_drop P n xs all = all_right P (take n xs) (drop n xs) (subst (λ t. AllByRecursion P t) (sym (take-append-drop n xs)) all)
 
 pub record Body (place : Place) (node : Bool) (left : List Pair) (count : ℕ) (children : List ℕ) (coded more : List Entry) (below others : List ℕ) (s : Split coded more left count) : Type 0 where
-  pub rows : AllByRecursion (λ (e : Entry). e.row < 256 ^ place.rec_ref) (take count coded)
-  pub branching : IsBranching (page_with (take count coded) below)
-  pub fits : used_length place.rec_ref (is_node (page_with (take count coded) below)) (take count coded) ≤ place.block_length
+  pub page : FitsPage place (page_with (take count coded) below)
   pub node_is : page_with (take count coded) below ≡ page_of_node (node_with (take count left) (take (suc count) children))
   pub others_is : others ≡ drop (suc count) children
   pub others_branching : IsBranching (page_with (entries_of s.rest) others)
   pub flag : not (eqb (length others) 0) ≡ node
-  pub below_places : AllByRecursion IsPlace below
   pub others_places : AllByRecursion IsPlace others
   pub sized : AreSized place s.rest
   pub some : 0 < length s.rest
@@ -73,14 +71,17 @@ body place node left count children coded more below others s is sized flag bran
     let total : length (entries_of left) ≡ length left = length-map left entry_of in
     let rest_len : suc (length s.rest) ≡ length left - count = ap length (sym s.is) ∙ length-drop count left in
     record {
-      rows = subst (λ (t : List Entry). AllByRecursion (λ (e : Entry). e.row < 256 ^ place.rec_ref) t) (sym s.front) (rows_of place (take count left) (all_take (λ p. IsSized place (entry_of p)) count left sized));
-      branching = branches;
-      fits = subst (λ (b : Bool). used_length place.rec_ref b (take count coded) ≤ place.block_length) (sym is_flag) (subst (λ (t : List Entry). used_length place.rec_ref node t ≤ place.block_length) same is.fit);
+      page = record {
+        some = omega (arith, ap length s.front, long, is.some);
+        rows = subst (λ (t : List Entry). AllByRecursion (λ (e : Entry). e.row < 256 ^ place.rec_ref) t) (sym s.front) (rows_of place (take count left) (all_take (λ p. IsSized place (entry_of p)) count left sized));
+        places = subst (λ (t : List ℕ). AllByRecursion IsPlace t) (sym below_is) (all_take IsPlace (count + 1) children places);
+        branching = branches;
+        fits = subst (λ (b : Bool). used_length place.rec_ref b (take count coded) ≤ place.block_length) (sym is_flag) (subst (λ (t : List Entry). used_length place.rec_ref node t ≤ place.block_length) same is.fit);
+      };
       node_is = ap (λ (t : List Entry). page_with t below) s.front ∙ ap (λ (t : List ℕ). page_with front t) (below_is ∙ ap (λ (t : ℕ). take t children) one);
       others_is = others_is ∙ ap (λ (t : ℕ). drop t children) one;
       others_branching = subst (λ (t : List ℕ). IsBranching (page_with (entries_of s.rest) t)) (sym others1) p.rest_branches;
       flag = ap (λ (t : List ℕ). not (eqb (length t) 0)) others1 ∙ p.rest_node ∙ flag;
-      below_places = subst (λ (t : List ℕ). AllByRecursion IsPlace t) (sym below_is) (all_take IsPlace (count + 1) children places);
       others_places = subst (λ (t : List ℕ). AllByRecursion IsPlace t) (sym others_is) (all_drop IsPlace (count + 1) children places);
       sized = (subst (λ (t : List Pair). AreSized place t) s.is (all_drop (λ p. IsSized place (entry_of p)) count left sized)).1;
       some = omega (arith, rest_len, is.one);
@@ -93,7 +94,7 @@ pub record NextPage (place : Place) (pairs : List Pair) (entries : Entries) (nod
   pub body : Body place node left count children coded (entries_of (drop entries.taken pairs)) below others split
 
 pub next_page : (place : Place) (pairs : List Pair) (entries : Entries) (node : Bool) (left : List Pair) (count n : ℕ) (children : List ℕ) (coded : List Entry) (below others : List ℕ)
-    → coded ≡ coded_of entries → left_of pairs entries ≡ entries_of left → n ≡ length left → count < n → count < length (coded_of entries)
+    → coded ≡ coded_of entries → entries_left pairs entries ≡ entries_of left → n ≡ length left → count < n → count < length (coded_of entries)
     → IsCount place node left count → AreSized place left → not (eqb (length children) 0) ≡ node → IsBranching (page_with (entries_of left) children) → AllByRecursion IsPlace children
     → below ≡ take (count + 1) children → others ≡ drop (count + 1) children → NextPage place pairs entries node left count children coded below others
 next_page place pairs entries node left count n children coded below others coded_is left_are long more inside is sized flag branching places below_is others_is =
@@ -103,9 +104,7 @@ next_page place pairs entries node left count n children coded below others code
 
 -- the last page of a level
 pub record Last (place : Place) (left : List Pair) (children : List ℕ) (coded : List Entry) : Type 0 where
-  pub rows : AllByRecursion (λ (e : Entry). e.row < 256 ^ place.rec_ref) coded
-  pub branching : IsBranching (page_with coded children)
-  pub fits : used_length place.rec_ref (is_node (page_with coded children)) coded ≤ place.block_length
+  pub page : FitsPage place (page_with coded children)
   pub node_is : page_with coded children ≡ page_of_node (node_with left children)
 
 no_more : (xs ys zs : List Entry) → xs ++ ys ≡ zs → length zs ≤ length xs → xs ≡ zs
@@ -116,23 +115,27 @@ take_whole : (n : ℕ) (xs : List Entry) → length xs ≤ n → take n xs ≡ x
 take_whole n xs le = take_all n xs le
 
 pub last : (place : Place) (node : Bool) (left : List Pair) (count : ℕ) (children : List ℕ) (coded more : List Entry) → IsCount place node left count → AreSized place left → not (eqb (length children) 0) ≡ node
-    → IsBranching (page_with (entries_of left) children) → coded ++ more ≡ entries_of left → length left ≤ count → count ≤ length coded → Last place left children coded
-last place node left count children coded more is sized flag branching whole le inside =
+    → IsBranching (page_with (entries_of left) children) → AllByRecursion IsPlace children → coded ++ more ≡ entries_of left → length left ≤ count → count ≤ length coded → Last place left children coded
+last place node left count children coded more is sized flag branching places whole le inside =
     let long : length (entries_of left) ≡ length left = length-map left entry_of in
     let same : coded ≡ entries_of left = no_more coded more (entries_of left) whole (omega arith) in
     let all : take count (entries_of left) ≡ coded = take_whole count (entries_of left) (omega arith) ∙ sym same in
     record {
-      rows = subst (λ (t : List Entry). AllByRecursion (λ (e : Entry). e.row < 256 ^ place.rec_ref) t) (sym same) (rows_of place left sized);
-      branching = subst (λ (t : List Entry). IsBranching (page_with t children)) (sym same) branching;
-      fits = subst (λ (b : Bool). used_length place.rec_ref b coded ≤ place.block_length) (sym (node_flag coded children ∙ flag)) (subst (λ (t : List Entry). used_length place.rec_ref node t ≤ place.block_length) all is.fit);
+      page = record {
+        some = omega (arith, ap length same, long, is.some, is.inside);
+        rows = subst (λ (t : List Entry). AllByRecursion (λ (e : Entry). e.row < 256 ^ place.rec_ref) t) (sym same) (rows_of place left sized);
+        places = places;
+        branching = subst (λ (t : List Entry). IsBranching (page_with t children)) (sym same) branching;
+        fits = subst (λ (b : Bool). used_length place.rec_ref b coded ≤ place.block_length) (sym (node_flag coded children ∙ flag)) (subst (λ (t : List Entry). used_length place.rec_ref node t ≤ place.block_length) all is.fit);
+      };
       node_is = ap (λ (t : List Entry). page_with t children) same;
     }
 
-pub last_page : (place : Place) (pairs : List Pair) (entries : Entries) (node : Bool) (left : List Pair) (count : ℕ) (children : List ℕ) (coded : List Entry) → coded ≡ coded_of entries → left_of pairs entries ≡ entries_of left
-    → length left ≤ count → count ≤ length (coded_of entries) → IsCount place node left count → AreSized place left → not (eqb (length children) 0) ≡ node → IsBranching (page_with (entries_of left) children) → Last place left children coded
-last_page place pairs entries node left count children coded coded_is left_are le inside is sized flag branching =
+pub last_page : (place : Place) (pairs : List Pair) (entries : Entries) (node : Bool) (left : List Pair) (count : ℕ) (children : List ℕ) (coded : List Entry) → coded ≡ coded_of entries → entries_left pairs entries ≡ entries_of left
+    → length left ≤ count → count ≤ length (coded_of entries) → IsCount place node left count → AreSized place left → not (eqb (length children) 0) ≡ node → IsBranching (page_with (entries_of left) children) → AllByRecursion IsPlace children → Last place left children coded
+last_page place pairs entries node left count children coded coded_is left_are le inside is sized flag branching places =
     let rest : List Entry = entries_of (drop entries.taken pairs) in
-    last place node left count children coded rest is sized flag branching (ap (λ (t : List Entry). t ++ rest) coded_is ∙ left_are) le (subst (λ (t : List Entry). count ≤ length t) (sym coded_is) inside)
+    last place node left count children coded rest is sized flag branching places (ap (λ (t : List Entry). t ++ rest) coded_is ∙ left_are) le (subst (λ (t : List Entry). count ≤ length t) (sym coded_is) inside)
 
 filled_length : (text : List ℕ) (len : ℕ) → length text ≤ len → length (filled_up text len) ≡ len
 filled_length text len le = omega (arith, length-append text (replicate (len - length text) 0), length-replicate {A = ℕ} (len - length text) 0)
@@ -142,17 +145,16 @@ unfolding page_for
 page_is place page node e = ap (whole_page place) e
 
 -- a page that was put
-pub put_told : (a b c : Option Holding) (place : Place) (first at : ℕ) (nodes : List Node) (node : Node) (page : Page) (old mid new : Caching) → page ≡ page_of_node node → IsBranching page
-    → used_length place.rec_ref (is_node page) page.entries ≤ place.block_length → at ≡ first + place.block_length * length nodes → mid.name ≡ old.name
-    → Told a b (λ m n. CanLay old m first → Lays place first nodes old mid m n)
-    → Told b c (λ m n. CanPut mid m at (length (whole_page place page)) → PutsPage at (whole_page place page) mid new m n) → AddsOnly at (length (whole_page place page)) mid.pages new.pages
-    → Told a c (λ m n. CanLay old m first → Lays place first (nodes ++ node ∷ []) old new m n)
-put_told a b c place first at nodes node page old mid new is branching fits at_is name done put adds =
+pub put_told : (a b c : Option Holding) (place : Place) (first at : ℕ) (nodes : List Node) (node : Node) (page : Page) (old mid new : Caching) → page ≡ page_of_node node → FitsPage place page → at ≡ first + place.block_length * length nodes → mid.name ≡ old.name
+    → Told a b (MayLay place first nodes old mid)
+    → Told b c (MayPut at (whole_page place page) mid new) → AddsOnly at (length (whole_page place page)) (pages_of mid) (pages_of new)
+    → Told a c (MayLay place first (nodes ++ node ∷ []) old new)
+put_told a b c place first at nodes node page old mid new is fits at_is name done put adds =
     let same : whole_page place page ≡ page_for place node = page_is place page node is in
-    let len : length (whole_page place page) ≡ place.block_length = filled_length (page_bytes place.rec_ref page) place.block_length (omega (arith, page_length place.rec_ref page branching)) in
+    let len : length (whole_page place page) ≡ place.block_length = filled_length (page_bytes place.rec_ref page) place.block_length (omega (arith, page_length place.rec_ref page fits.branching, fits.fits)) in
     told_next a b c place first at nodes node old mid new (ap length (sym same) ∙ len) (sym at_is) name done
-    (subst (λ (t : List ℕ). Told b c (λ m n. CanPut mid m at (length t) → PutsPage at t mid new m n)) same put)
-    (subst (λ (t : List ℕ). AddsOnly at (length t) mid.pages new.pages) same adds)
+    (subst (λ (t : List ℕ). Told b c (MayPut at t mid new)) same put)
+    (subst (λ (t : List ℕ). AddsOnly at (length t) (pages_of mid) (pages_of new)) same adds)
 
 drop_none : (n : ℕ) → drop {A = Entry} n [] ≡ []
 drop_none zero = refl
@@ -165,19 +167,19 @@ drop_on (suc n) k (x ∷ es) = let e : suc n + k ≡ suc (n + k) = omega arith i
 
 -- the entries behind a page
 pub behind_left : (pairs : List Pair) (old new : Entries) (count : ℕ) (rest : List Pair) → new.coded ≡ old.coded → new.start ≡ old.start + (count + 1) → new.taken ≡ old.taken
-    → drop (suc count) (coded_of old) ++ entries_of (drop old.taken pairs) ≡ entries_of rest → left_of pairs new ≡ entries_of rest
+    → drop (suc count) (coded_of old) ++ entries_of (drop old.taken pairs) ≡ entries_of rest → entries_left pairs new ≡ entries_of rest
 behind_left pairs old new count rest coded start taken e =
     let one : old.start + suc count ≡ old.start + (count + 1) = omega arith in
     let there : drop (suc count) (coded_of old) ≡ drop (old.start + (count + 1)) old.coded.items = drop_on old.start (suc count) old.coded.items ∙ ap (λ (t : ℕ). drop t old.coded.items) one in
     rw (coded, start, taken) (ap (λ (t : List Entry). t ++ entries_of (drop old.taken pairs)) (sym there) ∙ e)
 
 pub next_behind : (pairs : List Pair) (entries new : Entries) (left : List Pair) (count : ℕ) (coded : List Entry) (split : Split coded (entries_of (drop entries.taken pairs)) left count) → coded ≡ coded_of entries
-    → new.coded ≡ entries.coded → new.start ≡ entries.start + (count + 1) → new.taken ≡ entries.taken → left_of pairs new ≡ entries_of split.rest
+    → new.coded ≡ entries.coded → new.start ≡ entries.start + (count + 1) → new.taken ≡ entries.taken → entries_left pairs new ≡ entries_of split.rest
 next_behind pairs entries new left count coded split is coded_is start taken =
     behind_left pairs entries new count split.rest coded_is start taken (subst (λ (t : List Entry). drop (suc count) t ++ entries_of (drop entries.taken pairs) ≡ entries_of split.rest) is split.behind)
 
 -- all entries of a level
-pub start_left : (pairs : List Pair) (coded : List Entry) (new : Entries) → new.coded.items ≡ coded → new.start ≡ 0 → new.taken ≡ 0 → left_of pairs new ≡ coded ++ entries_of pairs
+pub start_left : (pairs : List Pair) (coded : List Entry) (new : Entries) → new.coded.items ≡ coded → new.start ≡ 0 → new.taken ≡ 0 → entries_left pairs new ≡ coded ++ entries_of pairs
 start_left pairs coded new is start taken = rw (is, start, taken) refl
 
 pub same_level : (place : Place) (node flag : Bool) (all others : List Pair) (children : List ℕ) → all ≡ others → node ≡ flag

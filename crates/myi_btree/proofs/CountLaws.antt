@@ -2,7 +2,7 @@
 use Rattle.std.proofs.Common.{◌≡◌, ◌⊎◌, ℕ, zero, suc, ◌+◌, ◌-◌, ◌<◌, ◌≤◌, ◌≢◌, Bool, true, false, not, ◌&&◌, eqb, cond, List, length, take, refl, sym, subst, ◌∙◌, arith, inl, inr}
 use Rattle.std.proofs.lemmas.Bool.{cases_lt, cases_Bool, eq-eqb, eqb-true, ne_eqb, and_from}
 use Rattle.myi_btree.specs.declared.pair.Pair.{Pair}
-use Rattle.myi_btree.specs.Laid.{greatest, count_of}
+use Rattle.myi_btree.specs.LaidPages.{greatest, count_of}
 
 -- the greatest that passes, by what is known of those above it
 pub greatest_at : (passes : ℕ → Bool) (n c : ℕ) → 0 < c → c ≤ n → passes c ≡ true → ((d : ℕ) → c < d → d ≤ n → passes d ≡ false) → greatest passes n ≡ c

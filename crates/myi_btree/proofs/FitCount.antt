@@ -10,7 +10,7 @@ use Rattle.myi_btree.specs.declared.pair.Pair.{Pair}
 use Rattle.myi_btree.specs.declared.place.Place.{Place}
 use Rattle.myi_btree.specs.Nodes.{entry_of, entries_of}
 use Rattle.myi_btree.specs.Sizes.{IsPlaced, IsSized, AreSized, fits_in, IsFitting, IsCount}
-use Rattle.myi_btree.specs.Laid.{count_of}
+use Rattle.myi_btree.specs.LaidPages.{count_of}
 use Rattle.myi_btree.proofs.Frames.{all_left}
 use Rattle.myi_btree.proofs.CountLaws.{count_is, cases_one}
 

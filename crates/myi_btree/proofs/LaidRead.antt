@@ -2,24 +2,25 @@
 use Rattle.std.proofs.Common.{◌≡◌, ℕ, zero, suc, ◌+◌, ◌-◌, ◌*◌, ◌%◌, ◌^◌, ◌<◌, ◌≤◌, Bool, true, false, not, ◌&&◌, eqb, ltb, Some, List, [], ◌∷◌, ◌++◌, length, replicate, take, drop, append-nil, refl, sym, ap, subst, ◌∙◌, arith, inl, inr}
 use Rattle.std.specs.List.{AllByRecursion}
 use Rattle.std.proofs.lemmas.Bool.{cases_lt, cases_Bool, le-leb, leb-true, ltb-true, eq-eqb, ne_eqb, and_from, and_parts}
-use Rattle.std.proofs.lemmas.List.{length-append, length-map, length-drop, length-take}
+use Rattle.std.proofs.lemmas.List.{length-append, length-map, length-drop}
 use Rattle.myi_base.specs.Holding.{Holding}
 use Rattle.myi_keys.specs.Limits.{IsKey}
 use Rattle.myi_keys.proofs.CallerLemmas.{key_read}
 use Rattle.myi_keypage.specs.declared.entry.Entry.{Entry}
 use Rattle.myi_keypage.specs.Page.{Page, page_with, page_bytes, is_node, IsPlace, IsBranching, IsWritable}
 use Rattle.myi_keypage.specs.Fitting.{used_length}
-use Rattle.myi_keypage.specs.Showing.{page_in}
+use Rattle.myi_keypage.specs.Views.{page_in}
 use Rattle.myi_keypage.proofs.CallerLemmas.{page_again, page_writable}
 use Rattle.myi_keycache.specs.Caching.{Caching, lends}
 use Rattle.myi_btree.specs.declared.pair.Pair.{Pair}
 use Rattle.myi_btree.specs.declared.place.Place.{Place}
 use Rattle.myi_btree.specs.Walk.{Node, node_with}
 use Rattle.myi_btree.specs.Nodes.{entry_of, entries_of, page_of_node, node_in}
-use Rattle.myi_btree.specs.Reading.{node_lent}
+use Rattle.myi_btree.specs.CachedTrees.{node_lent}
 use Rattle.myi_btree.specs.Sizes.{IsPlaced, IsSized, AreSized, fits_in, IsCount}
-use Rattle.myi_btree.specs.Laid.{greatest, count_of, Level, after_page, level_of, places_from, levels_from, laid, Stands, IsRooted}
+use Rattle.myi_btree.specs.LaidPages.{greatest, count_of, Level, after_page, level_of, places_from, levels_from, laid, Stands, IsRooted}
 use Rattle.myi_btree.specs.Building.{page_for, AreKeys, IsWritten, AreLent, Lays}
+use Rattle.myi_btree.specs.Levels.{FitsPage}
 use Rattle.myi_btree.proofs.NodeLaws.{pairs_again, node_again}
 use Rattle.myi_btree.proofs.CountLaws.{not_one}
 use Rattle.myi_btree.proofs.FitCount.{one_fits, two_fit, entries-take}
@@ -81,10 +82,9 @@ good_count place node ps sized some =
 
 -- ---- each laid page is one that is read back
 
-written_page : (place : Place) (node : Node) (page : Page) → IsPlaced place → page ≡ page_of_node node → 0 < length page.entries → AllByRecursion (λ (e : Entry). e.row < 256 ^ place.rec_ref) page.entries → AllByRecursion IsPlace page.children → IsBranching page
-    → used_length place.rec_ref (is_node page) page.entries ≤ place.block_length → AreKeys node.pairs → IsWritten place node
-written_page place node page placed is some rows places branching used keys =
-    record { page = subst (λ (p : Page). IsWritable place.rec_ref p) is (page_writable place.rec_ref page branching some rows places (omega (arith, placed.most))); branching = subst IsBranching is branching; keys = keys; fits = subst (λ (p : Page). used_length place.rec_ref (is_node p) p.entries ≤ place.block_length) is used }
+written_page : (place : Place) (node : Node) (page : Page) → IsPlaced place → page ≡ page_of_node node → FitsPage place page → AreKeys node.pairs → IsWritten place node
+written_page place node page placed is fits keys =
+    record { page = subst (λ (p : Page). IsWritable place.rec_ref p) is (page_writable place.rec_ref page fits.branching fits.some fits.rows fits.places (omega (arith, placed.most, fits.fits))); branching = subst IsBranching is fits.branching; keys = keys; fits = subst (λ (p : Page). used_length place.rec_ref (is_node p) p.entries ≤ place.block_length) is fits.fits }
 
 pub level_written : (n : ℕ) (place : Place) (node : Bool) (left : List Pair) (children : List ℕ) → IsPlaced place → length left ≤ n → 0 < length left → AreSized place left → AreKeys left → not (eqb (length children) 0) ≡ node → IsBranching (page_with (entries_of left) children) → AllByRecursion IsPlace children
     → AllByRecursion (IsWritten place) (level_of n (fits_in place node) left children).pages
@@ -98,8 +98,8 @@ level_written (suc n) place node left children placed le some sized keys flag br
         → AllByRecursion (IsWritten place) (after_page (level_of n (fits_in place node)) count left children tail).pages
     step count is [] e again =
         let none : length left ≤ count = omega (arith, ap length e, length-drop count left) in
-        let l = last place node left count children (entries_of left) [] is sized flag branching (append-nil (entries_of left)) none (omega (arith, is.inside, length-map left entry_of)) in
-        (written_page place (node_with left children) (page_with (entries_of left) children) placed refl (omega (arith, some, length-map left entry_of)) l.rows places branching l.fits keys, tt)
+        let l = last place node left count children (entries_of left) [] is sized flag branching places (append-nil (entries_of left)) none (omega (arith, is.inside, length-map left entry_of)) in
+        (written_page place (node_with left children) (page_with (entries_of left) children) placed refl l.page keys, tt)
     step count is (s ∷ r) e again =
         let long : length (entries_of left) ≡ length left = length-map left entry_of in
         let lt : count < length left = omega (arith, ap length e, length-drop count left) in
@@ -107,9 +107,8 @@ level_written (suc n) place node left children placed le some sized keys flag br
         let rest_is : sp.rest ≡ r = ap (drop 1) (sym sp.is ∙ e) in
         let one : suc count ≡ count + 1 = omega arith in
         let b = body place node left count children (entries_of left) [] (take (suc count) children) (drop (suc count) children) sp is sized flag branching places lt (ap (λ (t : ℕ). take t children) one) (ap (λ (t : ℕ). drop t children) one) in
-        let page_some : 0 < length (take count (entries_of left)) = omega (arith, length-take count (entries_of left), is.some, is.inside, long) in
         let keys_left : AreKeys (s ∷ r) = subst AreKeys e (all_drop (λ (p : Pair). IsKey p.key) count left keys) in (
-          written_page place (node_with (take count left) (take (suc count) children)) (page_with (take count (entries_of left)) (take (suc count) children)) placed b.node_is page_some b.rows b.below_places b.branching b.fits (all_take (λ (p : Pair). IsKey p.key) count left keys),
+          written_page place (node_with (take count left) (take (suc count) children)) (page_with (take count (entries_of left)) (take (suc count) children)) placed b.node_is b.page (all_take (λ (p : Pair). IsKey p.key) count left keys),
           again r (drop (suc count) children) (omega (arith, ap length rest_is, b.len, le, is.some)) (subst (λ (t : List Pair). 0 < length t) rest_is b.some) (subst (AreSized place) rest_is b.sized) keys_left.1 b.flag (subst (λ (t : List Pair). IsBranching (page_with (entries_of t) (drop (suc count) children))) rest_is b.others_branching) b.others_places,
         )
 

@@ -11,8 +11,8 @@ use Rattle.myi_btree.specs.declared.place.Place.{Place}
 use Rattle.myi_btree.specs.declared.level.Level.{Level as LaidLevel}
 use Rattle.myi_btree.specs.Walk.{Node, node_with}
 use Rattle.myi_btree.specs.Nodes.{entry_of, entries_of, pair_with}
-use Rattle.myi_btree.specs.Laid.{count_of, Level, level_of, with_page, places_from}
-use Rattle.myi_btree.specs.Building.{IsLevel}
+use Rattle.myi_btree.specs.LaidPages.{count_of, Level, level_of, with_page, places_from}
+use Rattle.myi_btree.specs.Levels.{IsLevel}
 
 -- some pages are laid, and what is left gives the others
 pub record Laying (place : Place) (first : ℕ) (fits : List Pair → Bool) (level : Level) (left : List Pair) (children : List ℕ) (found : LaidLevel) (written : List Node) : Type 0 where

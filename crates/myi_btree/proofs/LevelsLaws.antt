@@ -6,15 +6,16 @@ use Rattle.std.proofs.lemmas.List.{length-append, length-map, take-append-drop}
 use Rattle.myi_base.specs.Holding.{Holding, Told}
 use Rattle.myi_base.proofs.CallerLemmas.{told_then}
 use Rattle.myi_keypage.specs.Page.{page_with, IsBranching, IsPlace}
-use Rattle.myi_keycache.specs.Caching.{Caching, contents}
+use Rattle.myi_keycache.specs.Caching.{pages_of, Caching, contents}
 use Rattle.myi_btree.specs.declared.pair.Pair.{Pair}
 use Rattle.myi_btree.specs.declared.place.Place.{Place}
 use Rattle.myi_btree.specs.declared.level.Level.{Level as LaidLevel}
 use Rattle.myi_btree.specs.Walk.{Node}
 use Rattle.myi_btree.specs.Nodes.{entry_of, entries_of}
 use Rattle.myi_btree.specs.Sizes.{IsPlaced, IsSized, AreSized, fits_in}
-use Rattle.myi_btree.specs.Laid.{Fits, count_of, Level, after_page, level_of, places_from, above, levels_from, laid}
-use Rattle.myi_btree.specs.Building.{page_for, AreLent, laid_over, EndBefore, CanLay, Spares, Lays, IsLevel}
+use Rattle.myi_btree.specs.LaidPages.{Fits, count_of, Level, after_page, level_of, places_from, above, levels_from, laid}
+use Rattle.myi_btree.specs.Building.{page_for, AreLent, laid_over, EndBefore, CanLay, Spares, Lays}
+use Rattle.myi_btree.specs.Levels.{IsLevel}
 use Rattle.myi_btree.proofs.Frames.{all_right}
 use Rattle.myi_btree.proofs.LaidWalks.{level_lt, count_pos, length-places_from}
 use Rattle.myi_btree.proofs.PutLaws.{ends}
@@ -37,8 +38,8 @@ over_both place first at (x ∷ xs) ys file e = over_both place (first + place.b
 pub lays_both : (place : Place) (first at : ℕ) (xs ys : List Node) (old mid new : Caching) (m k n : Holding) → first + place.block_length * length xs ≡ at → mid.name ≡ old.name → CanLay old m first → Lays place first xs old mid m k
     → (CanLay mid k at → Lays place at ys mid new k n) → Lays place first (xs ++ ys) old new m n
 lays_both place first at xs ys old mid new m k n e name can one then =
-    let end : EndBefore mid.pages (first + place.block_length * length xs) = ends place first (length xs) old.pages mid.pages can.before one.kept in
-    let two = then (record { current = one.spares.current; before = subst (λ (t : ℕ). EndBefore mid.pages t) e end }) in
+    let end : EndBefore (pages_of mid) (first + place.block_length * length xs) = ends place first (length xs) (pages_of old) (pages_of mid) can.before one.kept in
+    let two = then (record { current = one.spares.current; before = subst (λ (t : ℕ). EndBefore (pages_of mid) t) e end }) in
     record {
       spares = record {
         current = two.spares.current;
@@ -68,8 +69,8 @@ told_both a b c place first at xs ys old mid new e name one two =
 spares_both : (place : Place) (first at : ℕ) (xs : List Node) (old mid new : Caching) (m k n : Holding) → first + place.block_length * length xs ≡ at → mid.name ≡ old.name → CanLay old m first → Lays place first xs old mid m k
     → (CanLay mid k at → Spares at mid new k n) → Spares first old new m n
 spares_both place first at xs old mid new m k n e name can one then =
-    let end : EndBefore mid.pages (first + place.block_length * length xs) = ends place first (length xs) old.pages mid.pages can.before one.kept in
-    let two = then (record { current = one.spares.current; before = subst (λ (t : ℕ). EndBefore mid.pages t) e end }) in
+    let end : EndBefore (pages_of mid) (first + place.block_length * length xs) = ends place first (length xs) (pages_of old) (pages_of mid) can.before one.kept in
+    let two = then (record { current = one.spares.current; before = subst (λ (t : ℕ). EndBefore (pages_of mid) t) e end }) in
     record {
       current = two.current;
       lent = λ p l x le is. two.lent p l x (omega arith) (one.spares.lent p l x le is);

@@ -22,3 +22,5 @@ pub mod ServeLaws
 pub mod Within
 pub mod PathWithin
 pub mod StartLaws
+pub mod CanLaws
+pub mod ClearLaws

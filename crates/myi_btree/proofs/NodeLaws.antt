@@ -4,8 +4,8 @@ use Rattle.std.proofs.lemmas.Option.{same_Some}
 use Rattle.std.specs.Option.{option_to_list}
 use Rattle.std.specs.List.{slice_get}
 use Rattle.myi_keypage.specs.declared.entry.Entry.{Entry}
-use Rattle.myi_keypage.specs.Reading.{Item, key_after}
-use Rattle.myi_keypage.specs.Showing.{Shown, page_in, shown_in, entries_after, children_of, with_child}
+use Rattle.myi_keypage.specs.PageItems.{Item, key_after}
+use Rattle.myi_keypage.specs.Views.{ViewedPage, page_in, viewed_in, entries_after, children_of, with_child}
 use Rattle.myi_keys.specs.declared.values.KeySeg.{KeySeg}
 use Rattle.myi_btree.specs.declared.pair.Pair.{Pair}
 use Rattle.myi_btree.specs.Walk.{◌>>=◌, Node, node_with, each}
@@ -13,7 +13,7 @@ use Rattle.myi_btree.specs.Nodes.{page_of_node, key_in, pair_with, pair_in, node
 use Rattle.std.specs.List.{AllByRecursion}
 use Rattle.myi_keys.specs.Limits.{IsKey}
 use Rattle.myi_keys.specs.Codes.{key_code}
-use Rattle.myi_keys.specs.Reading.{key_at}
+use Rattle.myi_keys.specs.Decoding.{key_at}
 
 -- what is still to be read gives, behind what has been read, what all gives
 abbrev pub Reads : List Entry → List ℕ → List Item → List Pair → Type 0
@@ -54,15 +54,15 @@ pub child_first : (child : Option ℕ) (places : List ℕ) → with_child child 
 child_first None places = refl
 child_first (Some p) places = refl
 
-pub node_none : (rec : ℕ) (bytes : List ℕ) → None ≡ shown_in rec bytes → None ≡ node_in rec bytes
+pub node_none : (rec : ℕ) (bytes : List ℕ) → None ≡ viewed_in rec bytes → None ≡ node_in rec bytes
 unfolding node_in
 node_none rec bytes e = rw (← e) refl
 
-pub node_failed : (rec : ℕ) (bytes : List ℕ) (s : Shown) → Some s ≡ shown_in rec bytes → each pair_in (entries_after [] s.items) ≡ None → None ≡ node_in rec bytes
+pub node_failed : (rec : ℕ) (bytes : List ℕ) (s : ViewedPage) → Some s ≡ viewed_in rec bytes → each pair_in (entries_after [] s.items) ≡ None → None ≡ node_in rec bytes
 unfolding node_in
 node_failed rec bytes s e f = rw (← e, f) refl
 
-pub node_made : (rec : ℕ) (bytes : List ℕ) (s : Shown) (pairs : List Pair) (children : List ℕ) → Some s ≡ shown_in rec bytes → each pair_in (entries_after [] s.items) ≡ Some pairs → children ≡ with_child s.first (children_of s.items) → Some (node_with pairs children) ≡ node_in rec bytes
+pub node_made : (rec : ℕ) (bytes : List ℕ) (s : ViewedPage) (pairs : List Pair) (children : List ℕ) → Some s ≡ viewed_in rec bytes → each pair_in (entries_after [] s.items) ≡ Some pairs → children ≡ with_child s.first (children_of s.items) → Some (node_with pairs children) ≡ node_in rec bytes
 unfolding node_in
 node_made rec bytes s pairs children e f c = rw (← e, f, c) refl
 

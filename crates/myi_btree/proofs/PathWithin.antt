@@ -1,11 +1,11 @@
 -- The places that a visit goes into along a path of open pages.
 use Rattle.std.proofs.Common.{◌≡◌, ℕ, zero, suc, ◌+◌, Bool, true, Result, Ok, Err, List, [], ◌∷◌, ◌++◌, length, append-nil, sym, ap, subst, ◌∙◌, arith, inl, inr}
 use Rattle.std.specs.Vec.Iter.{into_iter_items}
-use Rattle.myi_btree.specs.declared.met.Met.{Met}
-use Rattle.myi_btree.specs.declared.met.OpenPage.{OpenPage}
+use Rattle.myi_btree.specs.declared.visited.Visited.{Visited}
+use Rattle.myi_btree.specs.declared.visited.OpenPage.{OpenPage}
 use Rattle.myi_btree.specs.Walk.{Node, Places, Walked, as_leaf}
 use Rattle.myi_btree.specs.Visit.{found_at, entered, visit_each, visit, IsDepth}
-use Rattle.myi_btree.specs.Meeting.{left_of, places_of, with_first, IsPath, Descends, IsBelow}
+use Rattle.myi_btree.specs.Visited.{node_left, places_of, with_first, IsPath, Descends, IsBelow}
 use Rattle.myi_btree.specs.Serving.{IsWithin, AreWithin}
 use Rattle.myi_btree.proofs.VisitLaws.{bind_ok, same_ok, same_depth}
 use Rattle.myi_btree.proofs.Within.{asked_here, children_within, first_within, rest_within}
@@ -42,11 +42,11 @@ path_within block read place met (q ∷ path) below level (suc total) asked is p
 pub down_within : (block : ℕ) (read : Places) (h root : ℕ) (path : List OpenPage) (leaf : OpenPage) (asked : ℕ → Bool) → Descends block read root path leaf → IsWithin asked (visit block read h root []) → IsWithin asked (visit block read (length path) root [])
 down_within block read h root path leaf asked d (inl all) = inl all
 down_within block read h root path leaf asked d (inr (w, e, t)) =
-    let depth : IsDepth block read (length path) root [] = path_depth block read root [] path leaf.at 0 (length path) (omega arith) d.above (λ node f. let same : left_of leaf ≡ node = same_ok (left_of leaf) node (sym d.here ∙ f) in subst (λ (n : Node). n.children ≡ []) same d.none) in
+    let depth : IsDepth block read (length path) root [] = path_depth block read root [] path leaf.at 0 (length path) (omega arith) d.above (λ node f. let same : node_left leaf ≡ node = same_ok (node_left leaf) node (sym d.here ∙ f) in subst (λ (n : Node). n.children ≡ []) same d.none) in
     let same : h ≡ length path = same_depth block read h (length path) root [] w e depth in
     inr (w, ap (λ (h : ℕ). visit block read h root []) (sym same) ∙ e, t)
 
-pub up_within : (block : ℕ) (read : Places) (level root total : ℕ) (path : List OpenPage) (page : OpenPage) (met : Met) (asked : ℕ → Bool) → (b : IsBelow block read level root (path ++ page ∷ []) met) → suc level + length path ≡ total → IsWithin asked (visit block read total root [])
+pub up_within : (block : ℕ) (read : Places) (level root total : ℕ) (path : List OpenPage) (page : OpenPage) (met : Visited) (asked : ℕ → Bool) → (b : IsBelow block read level root (path ++ page ∷ []) met) → suc level + length path ≡ total → IsWithin asked (visit block read total root [])
     → AreWithin asked (visit_each (visit block read level) (into_iter_items page.children) (places_of (path ++ page ∷ []) ++ b.walked.pages))
 up_within block read level root total path page met asked b is w =
     let k = path_less block read root [] path b.place page b.above in

@@ -6,16 +6,17 @@ use Rattle.myi_base.specs.Ranges.{are_apart}
 use Rattle.myi_base.specs.Holding.{Holding, Told, overwritten}
 use Rattle.myi_base.proofs.CallerLemmas.{told_same, told_more, told_then}
 use Rattle.myi_keycache.specs.Kept.{Page, AddsOnly}
-use Rattle.myi_keycache.specs.Caching.{Caching, lends, contents, IsCurrent, CanPut, Puts}
+use Rattle.myi_keycache.specs.Caching.{pages_of, Caching, lends, contents, IsCurrent, CanPut, Puts}
+use Rattle.myi_keycache.proofs.CallerLemmas.{stays_start}
 use Rattle.myi_btree.specs.declared.place.Place.{Place}
 use Rattle.myi_btree.specs.Walk.{Node}
-use Rattle.myi_btree.specs.Building.{page_for, PutsPage, PutsSome, AreLent, laid_over, EndBefore, CanLay, Spares, AddsLaid, Lays}
+use Rattle.myi_btree.specs.Building.{page_for, PutsPage, PutsNone, MayPut, NotPut, MayLay, NotLaid, AreLent, laid_over, EndBefore, CanLay, Spares, AddsLaid, Lays}
 
 -- ranges that end before another begins have no byte of it
 apart_before : (p n at size : ℕ) → p + n ≤ at → are_apart (p, p + n) (at, at + size) ≡ true
 apart_before p n at size le = or_left _ _ (le-leb (p + n) at le)
 
-pub can_put : (cache : Caching) (m : Holding) (at size : ℕ) → IsCurrent cache m → EndBefore cache.pages at → CanPut cache m at size
+pub can_put : (cache : Caching) (m : Holding) (at size : ℕ) → IsCurrent cache m → EndBefore (pages_of cache) at → CanPut cache m at size
 can_put cache m at size current before = record { current = current; apart = λ p n kept. inr (apart_before p n at size (before p n kept)) }
 
 lent_still : (place : Place) (old new : Caching) (m n : Holding) (first at : ℕ) (bytes : List ℕ) (nodes : List Node) → length bytes ≡ place.block_length → first + place.block_length * length nodes ≡ at
@@ -62,11 +63,11 @@ lays_none place first cache m current = record {
 
 pub lays_more : (place : Place) (first at : ℕ) (nodes : List Node) (node : Node) (old mid new : Caching) (m k n : Holding)
     → length (page_for place node) ≡ place.block_length → first + place.block_length * length nodes ≡ at → mid.name ≡ old.name → CanLay old m first → Lays place first nodes old mid m k
-    → (CanPut mid k at (length (page_for place node)) → PutsPage at (page_for place node) mid new k n) → AddsOnly at (length (page_for place node)) mid.pages new.pages
+    → (CanPut mid k at (length (page_for place node)) → PutsPage at (page_for place node) mid new k n) → AddsOnly at (length (page_for place node)) (pages_of mid) (pages_of new)
     → Lays place first (nodes ++ node ∷ []) old new m n
 lays_more place first at nodes node old mid new m k n len at_is name can lays put adds =
-    let end : EndBefore mid.pages (first + place.block_length * length nodes) = ends place first (length nodes) old.pages mid.pages can.before lays.kept in
-    let end1 : EndBefore mid.pages at = subst (λ (t : ℕ). EndBefore mid.pages t) at_is end in
+    let end : EndBefore (pages_of mid) (first + place.block_length * length nodes) = ends place first (length nodes) (pages_of old) (pages_of mid) can.before lays.kept in
+    let end1 : EndBefore (pages_of mid) at = subst (λ (t : ℕ). EndBefore (pages_of mid) t) at_is end in
     let puts = put (can_put mid k at (length (page_for place node)) lays.spares.current end1) in
     let more : suc (length nodes) ≡ length (nodes ++ node ∷ []) = omega (arith, length-append nodes (node ∷ [])) in
     record {
@@ -84,39 +85,38 @@ lays_more place first at nodes node old mid new m k n len at_is name can lays pu
     }
 
 -- a put that was refused
-pub spares_more : (place : Place) (first at : ℕ) (nodes : List Node) (bytes : List ℕ) (old mid new : Caching) (m k n : Holding)
-    → first + place.block_length * length nodes ≡ at → mid.name ≡ old.name → CanLay old m first → Lays place first nodes old mid m k
-    → (CanPut mid k at (length bytes) → PutsSome at bytes mid new k n) → Spares first old new m n
-spares_more place first at nodes bytes old mid new m k n at_is name can lays put =
-    let end : EndBefore mid.pages (first + place.block_length * length nodes) = ends place first (length nodes) old.pages mid.pages can.before lays.kept in
-    let end1 : EndBefore mid.pages at = subst (λ (t : ℕ). EndBefore mid.pages t) at_is end in
-    let puts = put (can_put mid k at (length bytes) lays.spares.current end1) in
+pub spares_more : (place : Place) (first : ℕ) (nodes : List Node) (old mid new : Caching) (m k n : Holding) → mid.name ≡ old.name → Lays place first nodes old mid m k
+    → (IsCurrent mid k → PutsNone mid new k n) → Spares first old new m n
+spares_more place first nodes old mid new m k n name lays put =
+    let puts = put lays.spares.current in
     record {
       current = puts.0.current;
-      lent = λ p l x le e. puts.0.lent p l x (apart_before p l at (length bytes) (omega arith)) (lays.spares.lent p l x le e);
+      lent = λ p l x le e. puts.0.lent p l x (lays.spares.lent p l x le e);
       others = λ q ne. puts.1 q (λ same. ne (same ∙ name)) ∙ lays.spares.others q ne;
     }
 
 -- ---- where the files tell what they hold
 
-pub told_start : (a : Option Holding) (place : Place) (first : ℕ) (cache : Caching) → Told a a (λ m n. CanLay cache m first → Lays place first [] cache cache m n)
+pub told_none : (a : Option Holding) (cache : Caching) → Told a a (NotPut cache cache)
+told_none a cache = told_same a a _ refl (λ m held current. (stays_start cache m current, λ q other. refl))
+
+pub told_start : (a : Option Holding) (place : Place) (first : ℕ) (cache : Caching) → Told a a (MayLay place first [] cache cache)
 told_start a place first cache = told_same a a _ refl (λ m held can. lays_none place first cache m can.current)
 
 pub told_next : (a b c : Option Holding) (place : Place) (first at : ℕ) (nodes : List Node) (node : Node) (old mid new : Caching)
     → length (page_for place node) ≡ place.block_length → first + place.block_length * length nodes ≡ at → mid.name ≡ old.name
-    → Told a b (λ m n. CanLay old m first → Lays place first nodes old mid m n)
-    → Told b c (λ m n. CanPut mid m at (length (page_for place node)) → PutsPage at (page_for place node) mid new m n) → AddsOnly at (length (page_for place node)) mid.pages new.pages
-    → Told a c (λ m n. CanLay old m first → Lays place first (nodes ++ node ∷ []) old new m n)
+    → Told a b (MayLay place first nodes old mid)
+    → Told b c (MayPut at (page_for place node) mid new) → AddsOnly at (length (page_for place node)) (pages_of mid) (pages_of new)
+    → Told a c (MayLay place first (nodes ++ node ∷ []) old new)
 told_next a b c place first at nodes node old mid new len at_is name done put adds =
     told_then a b c _ _ _ done put (λ m k n laid puts can. lays_more place first at nodes node old mid new m k n len at_is name can (laid can) puts adds)
 
-pub told_refused : (a b c : Option Holding) (place : Place) (first at : ℕ) (nodes : List Node) (bytes : List ℕ) (old mid new : Caching)
-    → first + place.block_length * length nodes ≡ at → mid.name ≡ old.name
-    → Told a b (λ m n. CanLay old m first → Lays place first nodes old mid m n)
-    → Told b c (λ m n. CanPut mid m at (length bytes) → PutsSome at bytes mid new m n)
-    → Told a c (λ m n. CanLay old m first → Spares first old new m n)
-told_refused a b c place first at nodes bytes old mid new at_is name done put =
-    told_then a b c _ _ _ done put (λ m k n laid puts can. spares_more place first at nodes bytes old mid new m k n at_is name can (laid can) puts)
+pub told_refused : (a b c : Option Holding) (place : Place) (first : ℕ) (nodes : List Node) (old mid new : Caching) → mid.name ≡ old.name
+    → Told a b (MayLay place first nodes old mid)
+    → Told b c (NotPut mid new)
+    → Told a c (NotLaid first old new)
+told_refused a b c place first nodes old mid new name done put =
+    told_then a b c _ _ _ done put (λ m k n laid puts can. spares_more place first nodes old mid new m k n name (laid can) puts)
 
-pub told_spares : (a b : Option Holding) (place : Place) (first : ℕ) (nodes : List Node) (old new : Caching) → Told a b (λ m n. CanLay old m first → Lays place first nodes old new m n) → Told a b (λ m n. CanLay old m first → Spares first old new m n)
+pub told_spares : (a b : Option Holding) (place : Place) (first : ℕ) (nodes : List Node) (old new : Caching) → Told a b (MayLay place first nodes old new) → Told a b (NotLaid first old new)
 told_spares a b place first nodes old new done = told_more a b _ _ done (λ m n held laid can. (laid can).spares)

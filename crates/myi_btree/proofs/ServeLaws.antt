@@ -1,25 +1,25 @@
 -- The cache serves a walk: what it lends at the places that may be asked for stays as it was.
-use Rattle.std.proofs.Common.{◌≡◌, ◌⊎◌, ℕ, ◌%◌, Bool, true, false, cond, eqb, Option, Some, None, List, refl, sym, ap, ◌∙◌, inl, inr}
+use Rattle.std.proofs.Common.{◌≡◌, ◌⊎◌, ℕ, ◌%◌, Bool, true, false, cond, eqb, Option, Some, None, List, refl, sym, ap, subst, ◌∙◌, inl, inr}
 use Rattle.std.proofs.lemmas.Option.{same_Some}
 use Rattle.myi_base.specs.Holding.{Holding, Told, bytes_of}
 use Rattle.myi_base.proofs.CallerLemmas.{told_same, told_then}
-use Rattle.myi_keycache.specs.Kept.{ChangesNone, AllWritten}
+use Rattle.myi_keycache.specs.Kept.{AddsOnly, ChangesNone, AllWritten}
 use Rattle.myi_keycache.specs.Lent.{bytes_at}
-use Rattle.myi_keycache.specs.Caching.{Caching, lends, CanGet, Stays}
+use Rattle.myi_keycache.specs.Caching.{pages_of, Caching, lends, CanGet, Stays}
 use Rattle.myi_keycache.proofs.CallerLemmas.{lends_file, stays_on}
 use Rattle.myi_btree.specs.declared.place.Place.{Place}
 use Rattle.myi_btree.specs.Walk.{◌>>=◌, Node}
 use Rattle.myi_btree.specs.Nodes.{node_in}
-use Rattle.myi_btree.specs.Reading.{node_lent, ReadsOnly}
-use Rattle.myi_btree.specs.Serving.{View, shown, Serves}
+use Rattle.myi_btree.specs.CachedTrees.{node_lent, ReadsOnly}
+use Rattle.myi_btree.specs.Serving.{View, nodes_at, Serves, CanAsk}
 use Rattle.myi_btree.proofs.Frames.{bind_some}
 
 -- ---- calls that put nothing
 
-pub keeps_written : (a b : Caching) → ChangesNone a.pages b.pages → AllWritten a.pages → AllWritten b.pages
+pub keeps_written : (a b : Caching) → ChangesNone (pages_of a) (pages_of b) → AllWritten (pages_of a) → AllWritten (pages_of b)
 keeps_written a b none written = λ p n u. written p n (none p n u)
 
-pub kept_on : {A : Type 0} (a b : Caching) → ChangesNone a.pages b.pages → A ⊎ AllWritten a.pages → A ⊎ AllWritten b.pages
+pub kept_on : {A : Type 0} (a b : Caching) → ChangesNone (pages_of a) (pages_of b) → A ⊎ AllWritten (pages_of a) → A ⊎ AllWritten (pages_of b)
 kept_on a b none (inl x) = inl x
 kept_on a b none (inr written) = inr (keeps_written a b none written)
 
@@ -34,12 +34,12 @@ reads_on one two three a b c x y = record {
   others = told_then one two three _ _ _ x.others y.others (λ m n k before then q other. then q (λ e. other (e ∙ x.name)) ∙ before q other);
 }
 
--- ---- what is shown
+-- ---- what stood there
 
-pub can_ask : (place : Place) (v : View) (told : Option Holding) (cache : Caching) (at : ℕ) → (s : Serves place v told cache) → v.asked at ≡ true → CanGet cache s.now at place.block_length
-can_ask place v told cache at s a = record { current = s.stays.current; apart = λ p n u. s.apart at a p n (s.unwritten p n u) }
+pub can_ask : (place : Place) (v : View) (told : Option Holding) (cache : Caching) (at : ℕ) → (k : CanAsk place v told cache at) → CanGet cache k.serves.now at place.block_length
+can_ask place v told cache at k = let s = k.serves in record { current = s.stays.current; apart = λ p n u. s.apart at k.asked p n (s.unwritten p n u) }
 
-lent_bytes : (place : Place) (cache : Caching) (m : Holding) (at : ℕ) (node : Node) → node_lent place cache m at ≡ Some node → (bytes : List ℕ) × (lends cache m at place.block_length ≡ Some bytes)
+pub lent_bytes : (place : Place) (cache : Caching) (m : Holding) (at : ℕ) (node : Node) → node_lent place cache m at ≡ Some node → (bytes : List ℕ) × (lends cache m at place.block_length ≡ Some bytes)
 unfolding node_lent
 lent_bytes place cache m at node e = by (eqb (at % 1024) 0) e
   where
@@ -47,30 +47,31 @@ lent_bytes place cache m at node e = by (eqb (at % 1024) 0) e
     by true e = let a = bind_some (lends cache m at place.block_length) (node_in place.rec_ref) node e in (a.0, a.1)
     by false e = absurd cc
 
-same_bytes : (place : Place) (one two : Caching) (m n : Holding) (at : ℕ) → lends one m at place.block_length ≡ lends two n at place.block_length → node_lent place one m at ≡ node_lent place two n at
+pub same_bytes : (place : Place) (one two : Caching) (m n : Holding) (at : ℕ) → lends one m at place.block_length ≡ lends two n at place.block_length → node_lent place one m at ≡ node_lent place two n at
 unfolding node_lent
 same_bytes place one two m n at e = rw e refl
 
--- what the cache lends there now is what was shown
-pub shown_now : (place : Place) (v : View) (told : Option Holding) (cache : Caching) (at : ℕ) → (s : Serves place v told cache) → v.asked at ≡ true → node_lent place cache s.now at ≡ shown place v at
-shown_now place v told cache at s a = by s.there
+-- what the cache lends there now is what stood there
+pub shown_now : (place : Place) (v : View) (told : Option Holding) (cache : Caching) (at : ℕ) → (k : CanAsk place v told cache at) → node_lent place cache k.serves.now at ≡ nodes_at place v at
+shown_now place v told cache at k = by k.serves k.asked k.serves.there
   where
-    by : AllWritten v.first.pages ⊎ ((at : ℕ) → v.asked at ≡ true → (node : Node) × (shown place v at ≡ Some node)) → node_lent place cache s.now at ≡ shown place v at
-    by (inl written) =
+    by : (s : Serves place v told cache) → v.asked at ≡ true → AllWritten (pages_of v.first) ⊎ ((at : ℕ) → v.asked at ≡ true → (node : Node) × (nodes_at place v at ≡ Some node)) → node_lent place cache s.now at ≡ nodes_at place v at
+    by s a (inl written) =
         let one : lends cache s.now at place.block_length ≡ bytes_at (bytes_of cache.name s.now) at place.block_length = lends_file cache s.now at place.block_length (keeps_written v.first cache s.unwritten written) s.stays.current in
         let two : lends v.first v.start at place.block_length ≡ bytes_at (bytes_of v.first.name v.start) at place.block_length = lends_file v.first v.start at place.block_length written s.current in
         same_bytes place cache v.first s.now v.start at
         (one ∙ ap (λ (n : List ℕ). bytes_at (bytes_of n s.now) at place.block_length) s.name ∙ ap (λ (m : Holding). bytes_at (bytes_of v.first.name m) at place.block_length) (s.same written) ∙ sym two)
-    by (inr there) =
+    by s a (inr there) =
         let node = there at a in
         let bytes = lent_bytes place v.first v.start at node.0 node.1 in
         same_bytes place cache v.first s.now v.start at (s.stays.lent at place.block_length bytes.0 bytes.1 ∙ sym bytes.1)
 
 -- ---- a page is asked for
 
-pub serves_on : (place : Place) (v : View) (told next : Option Holding) (old new : Caching) (at : ℕ) → (s : Serves place v told old) → v.asked at ≡ true → ReadsOnly told next old new
-    → Told told next (λ m n. CanGet old m at place.block_length → Stays old new m n) → Serves place v next new
-serves_on place v told next old new at s a r t =
+pub serves_on : (place : Place) (v : View) (told next : Option Holding) (old new : Caching) (at : ℕ) → (k : CanAsk place v told old at) → ReadsOnly told next old new
+    → Told told next (λ m n. CanGet old m at place.block_length → Stays old new m n) → AddsOnly at place.block_length (pages_of old) (pages_of new) → Serves place v next new
+serves_on place v told next old new at k r t adds =
+    let s = k.serves in
     let n = t.told s.now s.held in
     record {
       current = s.current;
@@ -79,7 +80,11 @@ serves_on place v told next old new at s a r t =
       now = n.0;
       held = n.1;
       name = r.name ∙ s.name;
-      unwritten = λ p k u. s.unwritten p k (r.unwritten p k u);
-      stays = stays_on v.first old new v.start s.now n.0 s.stays (n.2 (can_ask place v told old at s a));
+      unwritten = λ p len u. s.unwritten p len (r.unwritten p len u);
+      stays = stays_on v.first old new v.start s.now n.0 s.stays (n.2 (can_ask place v told old at k));
+      added = λ p len kept. elim (adds p len kept) [
+        | inl was ↦ s.added p len was
+        | inr now ↦ inr (now.1, subst (λ (q : ℕ). v.asked q ≡ true) (sym now.0) k.asked)
+      ];
       same = λ written. same_Some n.0 s.now (sym n.1 ∙ r.clean (keeps_written v.first old s.unwritten written) ∙ s.held) ∙ s.same written;
     }

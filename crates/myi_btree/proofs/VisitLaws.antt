@@ -50,23 +50,23 @@ leaf_none place node (c ∷ cs) w e = absurd cc
 
 -- ---- a visit is the walk
 
-pub record Visited (block : ℕ) (read : Places) (h place : ℕ) (met : List ℕ) (w : Walked) : Type 0 where
+pub record WalkFound (block : ℕ) (read : Places) (h place : ℕ) (met : List ℕ) (w : Walked) : Type 0 where
   pub walk : walk_of read h place ≡ Some w
   pub new : AreNew block met w.pages
 
-pub record VisitedAll (block : ℕ) (read : Places) (h : ℕ) (places met : List ℕ) (ws : List Walked) : Type 0 where
+pub record WalksFound (block : ℕ) (read : Places) (h : ℕ) (places met : List ℕ) (ws : List Walked) : Type 0 where
   pub walks : each (walk_of read h) places ≡ Some ws
   pub new : AreNew block met (flat_map (λ (w : Walked). w.pages) ws)
 
-all_visited : (block : ℕ) (read : Places) (h : ℕ) → ((place : ℕ) (met : List ℕ) (w : Walked) → visit block read h place met ≡ Ok w → Visited block read h place met w)
-    → (places met : List ℕ) (ws : List Walked) → visit_each (visit block read h) places met ≡ Ok ws → VisitedAll block read h places met ws
-all_visited block read h ih [] met ws e = subst (λ (t : List Walked). VisitedAll block read h [] met t) (same_ok [] ws e) (record { walks = refl; new = tt })
+all_visited : (block : ℕ) (read : Places) (h : ℕ) → ((place : ℕ) (met : List ℕ) (w : Walked) → visit block read h place met ≡ Ok w → WalkFound block read h place met w)
+    → (places met : List ℕ) (ws : List Walked) → visit_each (visit block read h) places met ≡ Ok ws → WalksFound block read h places met ws
+all_visited block read h ih [] met ws e = subst (λ (t : List Walked). WalksFound block read h [] met t) (same_ok [] ws e) (record { walks = refl; new = tt })
 all_visited block read h ih (p ∷ ps) met ws e =
     let a = bind_ok (visit block read h p met) (λ w. visit_each (visit block read h) ps (met ++ w.pages) >>> λ ws. Ok (w ∷ ws)) ws e in
     let b = bind_ok (visit_each (visit block read h) ps (met ++ a.0.pages)) (λ ws. Ok (a.0 ∷ ws)) ws a.2 in
     let v = ih p met a.0 a.1 in
     let vs = all_visited block read h ih ps (met ++ a.0.pages) b.0 b.1 in
-    subst (λ (t : List Walked). VisitedAll block read h (p ∷ ps) met t) (same_ok (a.0 ∷ b.0) ws b.2)
+    subst (λ (t : List Walked). WalksFound block read h (p ∷ ps) met t) (same_ok (a.0 ∷ b.0) ws b.2)
     (record { walks = cons_each (walk_of read h) p ps a.0 b.0 v.walk vs.walks; new = new-append block met a.0.pages (flat_map (λ (w : Walked). w.pages) b.0) v.new vs.new })
 
 leaf_walks : (read : Places) (place : ℕ) (node : Node) (w : Walked) → read place ≡ Some node → as_leaf place node node.children ≡ Some w → walk_of read zero place ≡ Some w
@@ -81,7 +81,7 @@ children_are place node go (c ∷ cs) w e =
     let b = bind_ok (go (c ∷ cs)) (λ ws. Ok (at_node place node ws)) w e in
     (omega arith, (b.0, b.1, same_ok (at_node place node b.0) w b.2))
 
-pub visited : (block : ℕ) (read : Places) (h place : ℕ) (met : List ℕ) (w : Walked) → visit block read h place met ≡ Ok w → Visited block read h place met w
+pub visited : (block : ℕ) (read : Places) (h place : ℕ) (met : List ℕ) (w : Walked) → visit block read h place met ≡ Ok w → WalkFound block read h place met w
 visited block read zero place met w e =
     let a = bind_ok (entered block read place met) (λ node. found_at place (as_leaf place node node.children)) w e in
     let f = entered_is block read place met a.0 a.1 in
@@ -95,7 +95,7 @@ visited block read (suc h) place met w e =
     let k = children_are place a.0 go a.0.children w a.2 in
     let v = all_visited block read h (visited block read h) a.0.children (met ++ place ∷ []) k.1.0 k.1.1 in
     let some : ltb 0 (length a.0.children) ≡ true = lt-ltb 0 (length a.0.children) k.0 in
-    subst (λ (t : Walked). Visited block read (suc h) place met t) k.1.2
+    subst (λ (t : Walked). WalkFound block read (suc h) place met t) k.1.2
     (record { walk = node_walks read h place a.0 k.1.0 f.1 v.walks some; new = (f.0, v.new) })
 
 -- ---- a walk of new pages is visited

@@ -2,10 +2,10 @@
 use Rattle.std.proofs.Common.{◌≡◌, ℕ, zero, suc, ◌<◌, Bool, Result, Ok, Err, List, [], ◌∷◌, ◌++◌, length, map, take, drop, append_assoc, append-nil, refl, sym, ap, subst, ◌∙◌, arith}
 use Rattle.std.specs.List.{flat_map}
 use Rattle.myi_btree.specs.declared.pair.Pair.{Pair}
-use Rattle.myi_btree.specs.declared.met.Met.{Met}
+use Rattle.myi_btree.specs.declared.visited.Visited.{Visited}
 use Rattle.myi_btree.specs.Walk.{Node, node_with, Places, Walked, between_pairs, at_node, as_leaf}
 use Rattle.myi_btree.specs.Visit.{◌>>>◌, found_at, entered, visit_each, as_node, visit}
-use Rattle.myi_btree.specs.Meeting.{HasMet, Visits, VisitsEach, Breaks, BreaksEach}
+use Rattle.myi_btree.specs.Visited.{HasPlaces, Visits, VisitsEach, Breaks, BreaksEach}
 use Rattle.myi_btree.specs.Serving.{IsWithin, AreWithin}
 use Rattle.myi_btree.proofs.VisitLaws.{bind_ok, same_ok}
 use Rattle.myi_btree.proofs.Within.{first_within, rest_within}
@@ -72,29 +72,29 @@ maps_long : (ws : List Walked) → length (map (λ (w : Walked). w.pairs) ws) �
 maps_long [] = refl
 maps_long (x ∷ ws) = ap suc (maps_long ws)
 
-pub record IsOnWay (block : ℕ) (read : Places) (level place : ℕ) (pairs : List Pair) (done left met : List ℕ) (asked : ℕ → Bool) (old new : Met) : Type 0 where
+pub record IsOnWay (block : ℕ) (read : Places) (level place : ℕ) (pairs : List Pair) (done left met : List ℕ) (asked : ℕ → Bool) (old new : Visited) : Type 0 where
   pub each : VisitsEach block read level place (node_with pairs done) met old new
   pub within : AreWithin asked (visit_each (visit block read level) left (met ++ flat_map (λ (w : Walked). w.pages) each.walks))
 
-pub on_way : (block : ℕ) (read : Places) (level place : ℕ) (pairs : List Pair) (left met : List ℕ) (asked : ℕ → Bool) (old : Met) → AreWithin asked (visit_each (visit block read level) left met) → HasMet old.places.keys met → IsOnWay block read level place pairs [] left met asked old old
+pub on_way : (block : ℕ) (read : Places) (level place : ℕ) (pairs : List Pair) (left met : List ℕ) (asked : ℕ → Bool) (old : Visited) → AreWithin asked (visit_each (visit block read level) left met) → HasPlaces old.places.keys met → IsOnWay block read level place pairs [] left met asked old old
 on_way block read level place pairs left met asked old within has = record {
   each = record {
     walks = [];
     visited = refl;
     pairs = sym (append-nil old.pairs.items);
-    met_all = subst (λ (t : List ℕ). HasMet old.places.keys t) (sym (append-nil met)) has;
+    met_all = subst (λ (t : List ℕ). HasPlaces old.places.keys t) (sym (append-nil met)) has;
   };
   within = subst (λ (t : List ℕ). AreWithin asked (visit_each (visit block read level) left t)) (sym (append-nil met)) within;
 }
 
-pub next_way : (block : ℕ) (read : Places) (level place : ℕ) (pairs : List Pair) (done all : List ℕ) (c : ℕ) (left met : List ℕ) (asked : ℕ → Bool) (old new : Met) → all ≡ c ∷ left → IsOnWay block read level place pairs done all met asked old new → IsOnWay block read level place pairs done (c ∷ left) met asked old new
+pub next_way : (block : ℕ) (read : Places) (level place : ℕ) (pairs : List Pair) (done all : List ℕ) (c : ℕ) (left met : List ℕ) (asked : ℕ → Bool) (old new : Visited) → all ≡ c ∷ left → IsOnWay block read level place pairs done all met asked old new → IsOnWay block read level place pairs done (c ∷ left) met asked old new
 next_way block read level place pairs done all c left met asked old new e o = subst (λ (t : List ℕ). IsOnWay block read level place pairs done t met asked old new) e o
 
-pub child_way : (block : ℕ) (read : Places) (level place : ℕ) (pairs : List Pair) (done : List ℕ) (c : ℕ) (left met : List ℕ) (asked : ℕ → Bool) (old new : Met) → (o : IsOnWay block read level place pairs done (c ∷ left) met asked old new)
+pub child_way : (block : ℕ) (read : Places) (level place : ℕ) (pairs : List Pair) (done : List ℕ) (c : ℕ) (left met : List ℕ) (asked : ℕ → Bool) (old new : Visited) → (o : IsOnWay block read level place pairs done (c ∷ left) met asked old new)
     → IsWithin asked (visit block read level c (met ++ flat_map (λ (w : Walked). w.pages) o.each.walks))
 child_way block read level place pairs done c left met asked old new o = first_within (visit block read level) c left (met ++ flat_map (λ (w : Walked). w.pages) o.each.walks) asked o.within
 
-pub on_way_next : (block : ℕ) (read : Places) (level place : ℕ) (pairs : List Pair) (done : List ℕ) (c : ℕ) (left met : List ℕ) (asked : ℕ → Bool) (old mid next new : Met) → (o : IsOnWay block read level place pairs done (c ∷ left) met asked old mid)
+pub on_way_next : (block : ℕ) (read : Places) (level place : ℕ) (pairs : List Pair) (done : List ℕ) (c : ℕ) (left met : List ℕ) (asked : ℕ → Bool) (old mid next new : Visited) → (o : IsOnWay block read level place pairs done (c ∷ left) met asked old mid)
     → Visits block read level c (met ++ flat_map (λ (w : Walked). w.pages) o.each.walks) mid next
     → new.pairs.items ≡ next.pairs.items ++ map (λ (p : Pair). (p, place)) (take 1 (drop (length done) pairs)) → new.places ≡ next.places
     → IsOnWay block read level place pairs (done ++ c ∷ []) left met asked old new
@@ -103,7 +103,7 @@ on_way_next block read level place pairs done c left met asked old mid next new 
     walks = e.walks ++ v.walked ∷ [];
     visited = each_more (visit block read level) done met e.walks c v.walked e.visited v.visited;
     pairs = pairs_more o.each;
-    met_all = subst (λ (t : List ℕ). HasMet new.places.keys t) (pages_all e.walks) (subst (λ t. HasMet t.keys ((met ++ pages_of e.walks) ++ v.walked.pages)) (sym places) v.met_all);
+    met_all = subst (λ (t : List ℕ). HasPlaces new.places.keys t) (pages_all e.walks) (subst (λ t. HasPlaces t.keys ((met ++ pages_of e.walks) ++ v.walked.pages)) (sym places) v.met_all);
   };
   within = subst (λ (t : List ℕ). AreWithin asked (visit_each (visit block read level) left t)) (pages_all e.walks) (rest_within (visit block read level) c left (met ++ pages_of e.walks) asked v.walked v.visited o.within);
 }
@@ -124,7 +124,7 @@ on_way_next block read level place pairs done c left met asked old mid next new 
         more ∙ ap (λ (t : List (Pair × ℕ)). t ++ last) (v.pairs ∙ ap (λ (t : List (Pair × ℕ)). t ++ v.walked.pairs) e.pairs)
         ∙ append_assoc (old.pairs.items ++ before_it) v.walked.pairs last ∙ append_assoc old.pairs.items before_it (v.walked.pairs ++ last) ∙ ap (λ (t : List (Pair × ℕ)). old.pairs.items ++ t) (sym all)
 
-pub each_stops : (block : ℕ) (read : Places) (level place : ℕ) (pairs : List Pair) (done : List ℕ) (c : ℕ) (rest met : List ℕ) (old mid : Met) (bad : ℕ) → (e : VisitsEach block read level place (node_with pairs done) met old mid)
+pub each_stops : (block : ℕ) (read : Places) (level place : ℕ) (pairs : List Pair) (done : List ℕ) (c : ℕ) (rest met : List ℕ) (old mid : Visited) (bad : ℕ) → (e : VisitsEach block read level place (node_with pairs done) met old mid)
     → Breaks block read level c (met ++ flat_map (λ (w : Walked). w.pages) e.walks) bad → BreaksEach block read level (done ++ c ∷ rest) met bad
 each_stops block read level place pairs done c rest met old mid bad e b = each_breaks (visit block read level) done met e.walks c rest bad e.visited b
 
@@ -162,26 +162,26 @@ deep_breaks block read at seen node some e = rw e (by node.children some)
     by [] some = absurd (some refl)
     by (c ∷ cs) some = refl
 
-pub leaf_visits : (block : ℕ) (read : Places) (at : ℕ) (seen : List ℕ) (node : Node) (old mid new : Met) → node.children ≡ [] → entered block read at seen ≡ Ok node → mid.pairs ≡ old.pairs → HasMet mid.places.keys (seen ++ at ∷ [])
+pub leaf_visits : (block : ℕ) (read : Places) (at : ℕ) (seen : List ℕ) (node : Node) (old mid new : Visited) → node.children ≡ [] → entered block read at seen ≡ Ok node → mid.pairs ≡ old.pairs → HasPlaces mid.places.keys (seen ++ at ∷ [])
     → new.pairs.items ≡ mid.pairs.items ++ map (λ (p : Pair). (p, at)) node.pairs → new.places ≡ mid.places → Visits block read 0 at seen old new
 leaf_visits block read at seen node old mid new none e pairs has more places = record {
   walked = record { pairs = map (λ p. (p, at)) node.pairs; pages = at ∷ [] };
   visited = rw e (ap (λ (cs : List ℕ). found_at at (as_leaf at node cs)) none);
   pairs = more ∙ ap (λ v. v.items ++ map (λ (p : Pair). (p, at)) node.pairs) pairs;
-  met_all = subst (λ t. HasMet t.keys (seen ++ at ∷ [])) (sym places) has;
+  met_all = subst (λ t. HasPlaces t.keys (seen ++ at ∷ [])) (sym places) has;
 }
 
 some_length : (cs : List ℕ) → (cs ≡ [] → ⊥) → 0 < length cs
 some_length [] some = absurd (some refl)
 some_length (c ∷ cs) some = omega arith
 
-pub node_found : (block : ℕ) (read : Places) (h at : ℕ) (seen : List ℕ) (node : Node) (old mid new : Met) → (node.children ≡ [] → ⊥) → entered block read at seen ≡ Ok node → mid.pairs ≡ old.pairs
+pub node_found : (block : ℕ) (read : Places) (h at : ℕ) (seen : List ℕ) (node : Node) (old mid new : Visited) → (node.children ≡ [] → ⊥) → entered block read at seen ≡ Ok node → mid.pairs ≡ old.pairs
     → VisitsEach block read h at node (seen ++ at ∷ []) mid new → Visits block read (suc h) at seen old new
 node_found block read h at seen node old mid new some e pairs v = record {
   walked = at_node at node v.walks;
   visited = node_visits block read h at seen node v.walks e (some_length node.children some) v.visited;
   pairs = v.pairs ∙ ap (λ t. t.items ++ between_pairs at (map (λ (w : Walked). w.pairs) v.walks) node.pairs) pairs;
-  met_all = subst (λ (t : List ℕ). HasMet new.places.keys t) (append_assoc seen (at ∷ []) (pages_of v.walks)) v.met_all;
+  met_all = subst (λ (t : List ℕ). HasPlaces new.places.keys t) (append_assoc seen (at ∷ []) (pages_of v.walks)) v.met_all;
 }
 
 pub node_stops : (block : ℕ) (read : Places) (h at : ℕ) (seen : List ℕ) (node : Node) (bad : ℕ) → (node.children ≡ [] → ⊥) → entered block read at seen ≡ Ok node → BreaksEach block read h node.children (seen ++ at ∷ []) bad → Breaks block read (suc h) at seen bad

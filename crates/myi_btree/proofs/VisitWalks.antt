@@ -7,7 +7,7 @@ use Rattle.myi_btree.specs.Walk.{Places, Walked}
 use Rattle.myi_btree.specs.Visit.{page_range, is_new, AreNew, visit, Finds, HasWalk}
 use Rattle.myi_btree.proofs.VisitLaws.{visited, visits, visit_depth, same_visit}
 
-apart_both : (r s : Range) → are_apart r s ≡ true → are_apart s r ≡ true
+pub apart_both : (r s : Range) → are_apart r s ≡ true → are_apart s r ≡ true
 apart_both r s e = swap (leb r.1 s.0) (leb s.1 r.0) e
   where
     swap : (a b : Bool) → (a || b) ≡ true → (b || a) ≡ true

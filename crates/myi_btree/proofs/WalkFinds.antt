@@ -4,15 +4,15 @@ use Rattle.std.specs.Prelude.{OnOk, IfErr}
 use Rattle.std.specs.List.{list_all, flat_map}
 use Rattle.std.specs.Vec.Iter.{into_iter_items}
 use Rattle.myi_btree.specs.declared.pair.Pair.{Pair}
-use Rattle.myi_btree.specs.declared.met.Met.{Met}
-use Rattle.myi_btree.specs.declared.met.OpenPage.{OpenPage}
+use Rattle.myi_btree.specs.declared.visited.Visited.{Visited}
+use Rattle.myi_btree.specs.declared.visited.OpenPage.{OpenPage}
 use Rattle.myi_btree.specs.Walk.{Node, node_with, Places, Walked, between_pairs, at_node, as_leaf}
 use Rattle.myi_btree.specs.Visit.{found_at, entered, visit_each, visit, HasFirst, IsDepth, Finds, FindsPairs, FindsBad}
-use Rattle.myi_btree.specs.Meeting.{HasMet, left_of, VisitsEach, Breaks, BreaksEach, places_of, with_first, IsPath, Descends, IsBelow}
+use Rattle.myi_btree.specs.Visited.{HasPlaces, node_left, VisitsEach, Breaks, BreaksEach, places_of, with_first, IsPath, Descends, IsBelow}
 use Rattle.myi_btree.proofs.VisitLaws.{same_ok, visit_depth}
 use Rattle.myi_btree.proofs.VisitSteps.{node_breaks, node_visits}
 
-pub none_met : (keys : List ℕ) → keys ≡ [] → HasMet keys []
+pub none_met : (keys : List ℕ) → keys ≡ [] → HasPlaces keys []
 none_met keys e = λ test. ap (list_all test) e
 
 -- ---- the path
@@ -71,7 +71,7 @@ finds_on_path block read root path at bad p e =
       is = path_breaks block read root [] path at 0 (length path) bad total p (rw e refl);
     }
 
-pub descends : (block : ℕ) (read : Places) (root : ℕ) (path : List OpenPage) (at : ℕ) (old new : OpenPage) → IsPath block read root [] path at → new.at ≡ at → entered block read at (places_of path) ≡ Ok (left_of old) → left_of old ≡ left_of new → into_iter_items new.children ≡ []
+pub descends : (block : ℕ) (read : Places) (root : ℕ) (path : List OpenPage) (at : ℕ) (old new : OpenPage) → IsPath block read root [] path at → new.at ≡ at → entered block read at (places_of path) ≡ Ok (node_left old) → node_left old ≡ node_left new → into_iter_items new.children ≡ []
     → Descends block read root path new
 descends block read root path at old new p is e same none = record {
   above = subst (λ (q : ℕ). IsPath block read root [] path q) (sym is) p;
@@ -87,15 +87,15 @@ bad_of block at read root bad e f = rw e f
 
 -- ---- on the way up
 
-pub below_leaf : (block : ℕ) (read : Places) (root : ℕ) (path : List OpenPage) (leaf : OpenPage) (old new : Met) → Descends block read root path leaf → HasMet old.places.keys (places_of path ++ leaf.at ∷ []) → old.pairs.items ≡ []
+pub below_leaf : (block : ℕ) (read : Places) (root : ℕ) (path : List OpenPage) (leaf : OpenPage) (old new : Visited) → Descends block read root path leaf → HasPlaces old.places.keys (places_of path ++ leaf.at ∷ []) → old.pairs.items ≡ []
     → new.pairs.items ≡ old.pairs.items ++ map (λ (p : Pair). (p, leaf.at)) (into_iter_items leaf.pairs) → new.places ≡ old.places → IsBelow block read 0 root path new
 below_leaf block read root path leaf old new d has none more places = record {
   place = leaf.at;
   above = d.above;
   walked = record { pairs = map (λ (p : Pair). (p, leaf.at)) (into_iter_items leaf.pairs); pages = leaf.at ∷ [] };
-  visited = rw d.here (ap (λ (cs : List ℕ). found_at leaf.at (as_leaf leaf.at (left_of leaf) cs)) d.none);
+  visited = rw d.here (ap (λ (cs : List ℕ). found_at leaf.at (as_leaf leaf.at (node_left leaf) cs)) d.none);
   pairs = more ∙ ap (λ (t : List (Pair × ℕ)). t ++ map (λ (p : Pair). (p, leaf.at)) (into_iter_items leaf.pairs)) none;
-  met_all = subst (λ t. HasMet t.keys (places_of path ++ leaf.at ∷ [])) (sym places) has;
+  met_all = subst (λ t. HasPlaces t.keys (places_of path ++ leaf.at ∷ [])) (sym places) has;
 }
 
 pub places_end : (path : List OpenPage) (page : OpenPage) → places_of (path ++ page ∷ []) ≡ places_of path ++ page.at ∷ []
@@ -113,7 +113,7 @@ first_then_bad : (block : ℕ) (read : Places) (level c : ℕ) (cs met : List �
 first_then_bad block read level c cs met w bad e f = rw (e, f) refl
 
 -- the page at the end of the path was met, with all that is below it
-pub below_next : (block : ℕ) (read : Places) (level root : ℕ) (path : List OpenPage) (page : OpenPage) (old mid new : Met) → (b : IsBelow block read level root (path ++ page ∷ []) old)
+pub below_next : (block : ℕ) (read : Places) (level root : ℕ) (path : List OpenPage) (page : OpenPage) (old mid new : Visited) → (b : IsBelow block read level root (path ++ page ∷ []) old)
     → mid.pairs.items ≡ old.pairs.items ++ map (λ (p : Pair). (p, page.at)) (take 1 (into_iter_items page.pairs)) → mid.places ≡ old.places
     → VisitsEach block read level page.at (node_with (drop 1 (into_iter_items page.pairs)) (into_iter_items page.children)) (places_of (path ++ page ∷ []) ++ b.walked.pages) mid new
     → IsBelow block read (suc level) root path new
@@ -133,14 +133,14 @@ below_next block read level root path page old mid new b more places v =
       walked = at_node page.at node (b.walked ∷ v.walks);
       visited = node_visits block read level page.at (places_of path) node (b.walked ∷ v.walks) k.1 (omega arith) all;
       pairs = v.pairs ∙ ap (λ (t : List (Pair × ℕ)). t ++ rest) (more ∙ ap (λ (t : List (Pair × ℕ)). t ++ next) b.pairs) ∙ between_next page.at b.walked.pairs (map (λ (w : Walked). w.pairs) v.walks) (into_iter_items page.pairs);
-      met_all = subst (λ (t : List ℕ). HasMet new.places.keys t) (pages_all (places_of (path ++ page ∷ [])) (places_of path) page.at b.walked.pages (flat_map (λ (w : Walked). w.pages) v.walks) ends) v.met_all;
+      met_all = subst (λ (t : List ℕ). HasPlaces new.places.keys t) (pages_all (places_of (path ++ page ∷ [])) (places_of path) page.at b.walked.pages (flat_map (λ (w : Walked). w.pages) v.walks) ends) v.met_all;
     }
   where
     pages_all : (whole front : List ℕ) (at : ℕ) (xs ys : List ℕ) → whole ≡ front ++ at ∷ [] → (whole ++ xs) ++ ys ≡ front ++ at ∷ (xs ++ ys)
     pages_all whole front at xs ys e = append_assoc whole xs ys ∙ ap (λ (t : List ℕ). t ++ (xs ++ ys)) e ∙ append_assoc front (at ∷ []) (xs ++ ys)
 
 -- below the page at the end of the path the first bad place was met
-pub below_stops : (block : ℕ) (read : Places) (level root total : ℕ) (path : List OpenPage) (page : OpenPage) (old : Met) (bad : ℕ) → (b : IsBelow block read level root (path ++ page ∷ []) old) → suc level + length path ≡ total
+pub below_stops : (block : ℕ) (read : Places) (level root total : ℕ) (path : List OpenPage) (page : OpenPage) (old : Visited) (bad : ℕ) → (b : IsBelow block read level root (path ++ page ∷ []) old) → suc level + length path ≡ total
     → BreaksEach block read level (into_iter_items page.children) (places_of (path ++ page ∷ []) ++ b.walked.pages) bad → Breaks block read total root [] bad
 below_stops block read level root total path page old bad b is e =
     let k = path_less block read root [] path b.place page b.above in
@@ -155,7 +155,7 @@ below_stops block read level root total path page old bad b is e =
 
 -- ---- what was found
 
-pub finds_pairs : (block at : ℕ) (read : Places) (root : Option ℕ) (level : ℕ) (met : Met) → root ≡ Some at → IsBelow block read level at [] met → FindsPairs block read root met.pairs.items
+pub finds_pairs : (block at : ℕ) (read : Places) (root : Option ℕ) (level : ℕ) (met : Visited) → root ≡ Some at → IsBelow block read level at [] met → FindsPairs block read root met.pairs.items
 finds_pairs block at read root level met e b =
     let is : visit block read level at [] ≡ Ok b.walked = ap (λ (p : ℕ). visit block read level p []) b.above ∙ b.visited in
     rw e (b.walked, record { height = level; depth = visit_depth block read level at [] b.walked is; is = is }, b.pairs)
@@ -164,7 +164,7 @@ pub finds_bad : (block at : ℕ) (read : Places) (root : Option ℕ) (path : Lis
 finds_bad block at read root path leaf bad e d b =
     rw e (record {
       height = length path;
-      depth = path_depth block read at [] path leaf.at 0 (length path) (omega arith) d.above (λ node f. let same : left_of leaf ≡ node = same_ok (left_of leaf) node (sym d.here ∙ f) in subst (λ (n : Node). n.children ≡ []) same d.none);
+      depth = path_depth block read at [] path leaf.at 0 (length path) (omega arith) d.above (λ node f. let same : node_left leaf ≡ node = same_ok (node_left leaf) node (sym d.here ∙ f) in subst (λ (n : Node). n.children ≡ []) same d.none);
       is = b;
     })
 
@@ -198,8 +198,8 @@ long_more whole rest page e = ap length e ∙ by rest
     by [] = refl
     by (x ∷ xs) = ap suc (by xs)
 
-pub places_pushed : (keys : List ℕ) (whole path : List OpenPage) (page : OpenPage) (at : ℕ) → whole ≡ path ++ page ∷ [] → page.at ≡ at → HasMet keys (places_of path ++ at ∷ []) → HasMet keys (places_of whole)
-places_pushed keys whole path page at e is has = subst (λ (t : List ℕ). HasMet keys t) (sym (ap places_of e ∙ places_end path page ∙ ap (λ (q : ℕ). places_of path ++ q ∷ []) is)) has
+pub places_pushed : (keys : List ℕ) (whole path : List OpenPage) (page : OpenPage) (at : ℕ) → whole ≡ path ++ page ∷ [] → page.at ≡ at → HasPlaces keys (places_of path ++ at ∷ []) → HasPlaces keys (places_of whole)
+places_pushed keys whole path page at e is has = subst (λ (t : List ℕ). HasPlaces keys t) (sym (ap places_of e ∙ places_end path page ∙ ap (λ (q : ℕ). places_of path ++ q ∷ []) is)) has
 
 pub first_taken : (pairs : List Pair) (all rest : List ℕ) (child : ℕ) → all ≡ child ∷ rest → ◌≡◌ {A = Result Node ℕ} (Ok (node_with pairs all)) (Ok (node_with pairs (child ∷ rest)))
 first_taken pairs all rest child e = ap (λ (cs : List ℕ). Ok (node_with pairs cs)) e

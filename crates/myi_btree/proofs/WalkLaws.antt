@@ -14,7 +14,7 @@ use Rattle.std.proofs.lemmas.Bool.{cases_lt, le-leb, lt-leb, eq-eqb, ne_eqb}
 use Rattle.myi_base.specs.Ranges.{are_apart}
 use Rattle.myi_base.specs.Holding.{Holding}
 use Rattle.myi_keycache.specs.Kept.{AllWritten}
-use Rattle.myi_keycache.specs.Caching.{Caching, lends, IsCurrent, CanGet}
+use Rattle.myi_keycache.specs.Caching.{pages_of, Caching, lends, IsCurrent, CanGet}
 use Rattle.myi_keycache.specs.declared.setup.CacheFault.{CacheFault}
 use Rattle.myi_keycache.specs.declared.setup.CacheFault.TheVariants as cache
 use Rattle.myi_btree.specs.declared.fault.TreeFault.{TreeFault}
@@ -24,16 +24,16 @@ use Rattle.myi_btree.specs.Faults.{fault_of}
 use Rattle.myi_btree.specs.declared.pair.Pair.{Pair}
 use Rattle.myi_btree.specs.Walk.{Node, node_with, Places}
 use Rattle.myi_btree.specs.Nodes.{node_in}
-use Rattle.myi_btree.specs.Reading.{node_lent}
+use Rattle.myi_btree.specs.CachedTrees.{node_lent}
 use Rattle.myi_btree.specs.Visit.{page_range, is_new, entered}
-use Rattle.myi_btree.specs.Meeting.{HasMet}
+use Rattle.myi_btree.specs.Visited.{HasPlaces}
 
 -- ---- loading
 
 pub same_place : (x y : ℕ) → Damaged x ≡ Damaged y → y ≡ x
 same_place x y e = let k : x ≡ y = cc in sym k
 
-pub can_get : (cache : Caching) (m : Holding) (at len : ℕ) → AllWritten cache.pages → IsCurrent cache m → CanGet cache m at len
+pub can_get : (cache : Caching) (m : Holding) (at len : ℕ) → AllWritten (pages_of cache) → IsCurrent cache m → CanGet cache m at len
 can_get cache m at len written current = record { current = current; apart = λ p n u. absurd (written p n u) }
 
 pub lent_off : (place : Place) (cache : Caching) (m : Holding) (at : ℕ) → (at % 1024 ≡ 0 → ⊥) → node_lent place cache m at ≡ None
@@ -151,13 +151,13 @@ all-map : {A : Type 0} (test : A → Bool) (f : ℕ → A) (xs : List ℕ) → l
 all-map test f [] = refl
 all-map test f (x ∷ xs) = ap (λ (b : Bool). test (f x) && b) (all-map test f xs)
 
-new_is : (block at : ℕ) (keys met : List ℕ) (b : Bool) → HasMet keys met → b ≡ list_all (λ p. are_apart (page_range block at) (page_range block p)) keys → is_new block at met ≡ b
+new_is : (block at : ℕ) (keys met : List ℕ) (b : Bool) → HasPlaces keys met → b ≡ list_all (λ p. are_apart (page_range block at) (page_range block p)) keys → is_new block at met ≡ b
 new_is block at keys met b has e = all-map (λ s. are_apart (page_range block at) s) (page_range block) met ∙ sym (has (λ p. are_apart (page_range block at) (page_range block p))) ∙ sym e
 
-pub entered_ok : (block : ℕ) (read : Places) (at : ℕ) (keys met : List ℕ) (node : Node) (b : Bool) → HasMet keys met → b ≡ list_all (λ p. are_apart (page_range block at) (page_range block p)) keys → b ≡ true → read at ≡ Some node → entered block read at met ≡ Ok node
+pub entered_ok : (block : ℕ) (read : Places) (at : ℕ) (keys met : List ℕ) (node : Node) (b : Bool) → HasPlaces keys met → b ≡ list_all (λ p. are_apart (page_range block at) (page_range block p)) keys → b ≡ true → read at ≡ Some node → entered block read at met ≡ Ok node
 entered_ok block read at keys met node b has e yes_it r = rw (new_is block at keys met b has e ∙ yes_it, r) refl
 
-pub entered_not : (block : ℕ) (read : Places) (at : ℕ) (keys met : List ℕ) (b : Bool) → HasMet keys met → b ≡ list_all (λ p. are_apart (page_range block at) (page_range block p)) keys → b ≡ false → entered block read at met ≡ Err at
+pub entered_not : (block : ℕ) (read : Places) (at : ℕ) (keys met : List ℕ) (b : Bool) → HasPlaces keys met → b ≡ list_all (λ p. are_apart (page_range block at) (page_range block p)) keys → b ≡ false → entered block read at met ≡ Err at
 entered_not block read at keys met b has e no_it = rw (new_is block at keys met b has e ∙ no_it) refl
 
 pub entered_none : (block : ℕ) (read : Places) (at : ℕ) (met : List ℕ) → read at ≡ None → entered block read at met ≡ Err at
@@ -205,8 +205,5 @@ all_end : (test : ℕ → Bool) (met : List ℕ) (k : ℕ) → list_all test (me
 all_end test [] k = refl
 all_end test (x ∷ xs) k = ap (λ (b : Bool). test x && b) (all_end test xs k) ∙ and_turn (test x) (test k) (list_all test xs)
 
-pub met_more : (keys met new : List ℕ) (k : ℕ) → new ≡ insert_key nat_cmp keys k → HasMet keys met → HasMet new (met ++ k ∷ [])
+pub met_more : (keys met new : List ℕ) (k : ℕ) → new ≡ insert_key nat_cmp keys k → HasPlaces keys met → HasPlaces new (met ++ k ∷ [])
 met_more keys met new k e has = λ test. ap (list_all test) e ∙ all_insert test keys k ∙ ap (λ (b : Bool). test k && b) (has test) ∙ sym (all_end test met k)
-
-pub node_left : (pairs : List Pair) (children : List ℕ) (ps : List Pair) (cs : List ℕ) → ps ≡ pairs → cs ≡ children → ◌≡◌ {A = Result Node ℕ} (Ok (node_with pairs children)) (Ok (node_with ps cs))
-node_left pairs children ps cs e f = rw (e, f) refl

@@ -3,21 +3,30 @@ use Rattle.std.specs.Prelude.{◌≡◌, ◌⊎◌, ℕ, ◌+◌, ◌*◌, ◌<�
 use Rattle.myi_base.specs.Holding.{Holding, overwritten, OthersStay}
 use Rattle.std.specs.List.{AllByRecursion}
 use Rattle.myi_keys.specs.Limits.{IsKey}
-use Rattle.myi_keypage.specs.Page.{Page as IndexPage, page_bytes, is_node, IsBranching, IsWritable}
+use Rattle.myi_keypage.specs.declared.entry.Entry.{Entry}
+use Rattle.myi_keypage.specs.Page.{Page as IndexPage, page_with, page_bytes, is_node, IsBranching, IsWritable}
 use Rattle.myi_keypage.specs.Fitting.{used_length}
 use Rattle.myi_keypage.specs.Writing.{filled_up}
 use Rattle.myi_keycache.specs.Kept.{Page, is_kept}
-use Rattle.myi_keycache.specs.Caching.{Caching, lends, contents, IsCurrent, Puts, PutsPart}
+use Rattle.myi_keycache.specs.Caching.{pages_of, Caching, lends, contents, IsCurrent, CanPut, Stays, Puts}
 use Rattle.myi_btree.specs.declared.pair.Pair.{Pair}
 use Rattle.myi_btree.specs.declared.place.Place.{Place}
-use Rattle.myi_btree.specs.declared.level.Level.{Level as LaidLevel}
 use Rattle.myi_btree.specs.Walk.{Node}
-use Rattle.myi_btree.specs.Nodes.{entries_of, page_of_node}
-use Rattle.myi_btree.specs.Laid.{Level, places_from}
+use Rattle.myi_btree.specs.Nodes.{page_of_node}
+use Rattle.myi_btree.specs.Sizes.{fits_in}
+use Rattle.myi_btree.specs.LaidPages.{laid}
+
+-- the pages that building puts for these pairs, from a place on
+abbrev pub laid_at : Place → ℕ → List Pair → List Node
+laid_at place first pairs = laid (fits_in place) place.block_length first pairs
 
 -- a page with zeros behind its used bytes
 abbrev pub whole_page : Place → IndexPage → List ℕ
 whole_page place page = filled_up (page_bytes place.rec_ref page) place.block_length
+
+-- a page with these entries and children
+abbrev pub page_made : Place → List Entry → List ℕ → List ℕ
+page_made place entries children = whole_page place (page_with entries children)
 
 -- the page of a node
 unfoldable pub page_for : Place → Node → List ℕ
@@ -38,9 +47,17 @@ pub record IsWritten (place : Place) (node : Node) : Type 0 where
 abbrev pub PutsPage : ℕ → List ℕ → Caching → Caching → Holding → Holding → Type 0
 PutsPage at bytes old new m n = Puts at bytes old new m n × OthersStay old.name m n
 
--- a put was refused, and files of other names hold what they held
-abbrev pub PutsSome : ℕ → List ℕ → Caching → Caching → Holding → Holding → Type 0
-PutsSome at bytes old new m n = PutsPart at bytes old new m n × OthersStay old.name m n
+-- nothing was put, and files of other names hold what they held
+abbrev pub PutsNone : Caching → Caching → Holding → Holding → Type 0
+PutsNone old new m n = Stays old new m n × OthersStay old.name m n
+
+-- a page was put, where it could be
+abbrev pub MayPut : ℕ → List ℕ → Caching → Caching → Holding → Holding → Type 0
+MayPut at bytes old new m n = CanPut old m at (length bytes) → PutsPage at bytes old new m n
+
+-- none was put, where the file is as the cache's last call left it
+abbrev pub NotPut : Caching → Caching → Holding → Holding → Type 0
+NotPut old new m n = IsCurrent old m → PutsNone old new m n
 
 -- the pages of these nodes are lent, one behind the other from a place on
 abbrev pub AreLent : Place → Caching → Holding → ℕ → List Node → Type 0
@@ -59,7 +76,7 @@ EndBefore pages end = (p n : ℕ) → is_kept pages p n ≡ true → p + n ≤ e
 -- pages may be put from a place on: the cache's file is as its last call left it, and no page that is kept ends behind it
 pub record CanLay (cache : Caching) (m : Holding) (first : ℕ) : Type 0 where
   pub current : IsCurrent cache m
-  pub before : EndBefore cache.pages first
+  pub before : EndBefore (pages_of cache) first
 
 -- of each range before this place the same is lent, and files of other names hold what they held
 pub record Spares (first : ℕ) (old new : Caching) (m n : Holding) : Type 0 where
@@ -76,10 +93,12 @@ pub record Lays (place : Place) (first : ℕ) (nodes : List Node) (old new : Cac
   pub spares : Spares first old new m n
   pub there : AreLent place new n first nodes
   pub contents : contents new n ≡ laid_over place first nodes (contents old m)
-  pub kept : AddsLaid place first (length nodes) old.pages new.pages
+  pub kept : AddsLaid place first (length nodes) (pages_of old) (pages_of new)
 
--- what a level of the code is: the entries set aside, the places of its pages, and the place behind them
-pub record IsLevel (place : Place) (first : ℕ) (level : Level) (found : LaidLevel) : Type 0 where
-  pub separators : found.separators.items ≡ entries_of level.separators
-  pub places : found.places.items ≡ places_from (length level.pages) place.block_length first
-  pub end : found.end ≡ first + place.block_length * length level.pages
+-- the pages were put, where they could be
+abbrev pub MayLay : Place → ℕ → List Node → Caching → Caching → Holding → Holding → Type 0
+MayLay place first nodes old new m n = CanLay old m first → Lays place first nodes old new m n
+
+-- nothing before this place was changed, where pages could be put from there on
+abbrev pub NotLaid : ℕ → Caching → Caching → Holding → Holding → Type 0
+NotLaid first old new m n = CanLay old m first → Spares first old new m n

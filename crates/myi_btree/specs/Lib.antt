@@ -3,24 +3,26 @@
 -- walks of trees over a reading from places to nodes
 pub mod Walk
 -- the pages that building puts
-pub mod Laid
+pub mod LaidPages
 -- nodes and pages
 pub mod Nodes
 -- pairs that can be laid on pages, and how many a page takes
 pub mod Sizes
--- what a fault of the cache is to a tree
+-- the faults of a tree
 pub mod Faults
 -- what building does to a cache and the files
 pub mod Building
 -- the first bad place on a walk's path
 pub mod Visit
--- what stands at the places of an index file
-pub mod Reading
+-- trees in what a key cache lends
+pub mod CachedTrees
 -- what serves private contracts
 
 -- the coded entries of a level
 pub mod Entries
--- pages that were met
-pub mod Meeting
+-- what a level is laid of, and what it leaves
+pub mod Levels
+-- pages that a walk went into
+pub mod Visited
 -- what a cache goes on lending
 pub mod Serving

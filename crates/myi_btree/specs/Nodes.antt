@@ -2,11 +2,11 @@
 use Rattle.std.specs.Prelude.{ℕ, List, map, Option, Some, None, Result, Ok, Err}
 use Rattle.myi_keypage.specs.declared.entry.Entry.{Entry}
 use Rattle.myi_keypage.specs.Page.{Page, page_with}
-use Rattle.myi_keypage.specs.Showing.{page_in}
+use Rattle.myi_keypage.specs.Views.{page_in}
 use Rattle.myi_keys.specs.declared.values.KeySeg.{KeySeg}
 use Rattle.myi_keys.specs.declared.codes.KeyFault.{KeyFault}
 use Rattle.myi_keys.specs.Codes.{key_code}
-use Rattle.myi_keys.specs.Reading.{key_at}
+use Rattle.myi_keys.specs.Decoding.{key_at}
 use Rattle.myi_btree.specs.declared.pair.Pair.{Pair}
 use Rattle.myi_btree.specs.declared.node.NodeData.{NodeData}
 use Rattle.myi_btree.specs.Walk.{◌>>=◌, each, Node, node_with}

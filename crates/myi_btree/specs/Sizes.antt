@@ -6,7 +6,7 @@ use Rattle.myi_keypage.specs.Fitting.{used_length}
 use Rattle.myi_btree.specs.declared.pair.Pair.{Pair}
 use Rattle.myi_btree.specs.declared.place.Place.{Place}
 use Rattle.myi_btree.specs.Nodes.{entries_of, entry_of}
-use Rattle.myi_btree.specs.Laid.{Fits, count_of}
+use Rattle.myi_btree.specs.LaidPages.{Fits, count_of}
 
 -- the block length is a multiple of 1024 from 1024 to 16,384, and a row pointer has two to eight bytes
 pub record IsPlaced (place : Place) : Type 0 where

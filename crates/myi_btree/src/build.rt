@@ -2,167 +2,168 @@
 //!
 //! `lay_levels` lays one level above the other until one has a single page, the root. `lay_level` lays a
 //! level, page by page; `put_page` gives one page to the key cache.
-ghost use Rattle.std.specs.Prelude.{◌≡◌, ◌⊎◌, ◌+◌, ◌*◌, ◌%◌, ◌^◌, ◌++◌, ◌<◌, ◌≤◌, ◌==◌, not, ℕ, List, [], length, IfOk, IfErr, OnOk, OnErr, IsTrue};
-ghost use Rattle.std.specs.List.{AllByRecursion};
+ghost use Rattle.std.specs.Prelude.{◌≡◌, ◌+◌, ◌*◌, ◌%◌, ◌^◌, ◌<◌, ◌≤◌, ℕ, List, [], length, vec_len, IfOk, IfErr, OnOk, OnErr, IsTrue};
 ghost use Rattle.myi_base.specs.Holding.{Told};
 ghost use Rattle.myi_base.specs.Causes.{HasCause};
-ghost use Rattle.myi_keypage.specs.Page.{page_with, is_node, IsPlace, IsBranching};
-ghost use Rattle.myi_keypage.specs.Fitting.{used_length};
+ghost use Rattle.myi_keypage.specs.Page.{page_with};
 ghost use Rattle.myi_keycache.specs.Kept.{AddsOnly};
-ghost use Rattle.myi_keycache.specs.Caching.{CanPut};
-ghost use Rattle.myi_btree.specs.declared.fault.TreeFault.TheVariants.{File, Memory};
+ghost use Rattle.myi_keycache.specs.Caching.{pages_of};
+ghost use Rattle.myi_btree.specs.declared.fault.TreeFault.TheVariants.{File};
 ghost use Rattle.myi_btree.specs.declared.pair.Pair.{Pair};
-ghost use Rattle.myi_btree.specs.Nodes.{entries_of};
-ghost use Rattle.myi_btree.specs.Entries.{left_of};
-ghost use Rattle.myi_btree.specs.Sizes.{IsPlaced, AreSized, fits_in};
-ghost use Rattle.myi_btree.specs.Laid.{level_of, laid};
-ghost use Rattle.myi_btree.specs.Building.{whole_page, PutsPage, PutsSome, CanLay, Spares, Lays, IsLevel};
+ghost use Rattle.myi_btree.specs.Faults.{IsFileOrMemory};
+ghost use Rattle.myi_btree.specs.Sizes.{IsPlaced, AreSized};
+ghost use Rattle.myi_btree.specs.Building.{page_made, laid_at, MayPut, NotPut, MayLay, NotLaid};
+ghost use Rattle.myi_btree.specs.Levels.{FitsPage, HasEntries, CanLevel, level_on, IsLevel};
 
 use crate::entries::Entries;
 use crate::fault::TreeFault;
 use crate::level::{Level, children_at, next_page};
 use crate::pair::Pair;
-use crate::place::Place;
+use crate::place::TreeSetup;
 use myi_io::Files;
 use myi_keycache::KeyCache;
 use myi_keypage::{Entry, write_page};
-use std::alloc::Global;
+use std::alloc::AllocError;
 
-/// Puts a page, whose bytes are written into `page` first.
-fn put_page<F: Files>(
+// The bytes of a page.
+fn page_bytes(setup: TreeSetup, entries: &[Entry], children: &[u64]) -> Result<Vec<u8>, AllocError>
+    requires placed { IsPlaced setup.place }
+    requires page { FitsPage setup.place (page_with entries.now children.now) }
+    ensures bytes { IfOk result (λ page.
+        page.items ≡ page_made setup.place entries.now children.now) }
+    ensures long { IfOk result (λ page. vec_len page ≡ setup.place.block_length) }
+{
+    let mut page = vec![in setup.alloc; 0u8; setup.place.block_length as usize]?;
+    write_page(entries, children, setup.place.rec_ref, &mut page);
+    Ok(page)
+}
+
+// Puts the bytes of a page at a place.
+fn put_bytes<F: Files>(
     files: &mut F,
     cache: &mut KeyCache,
-    page: &mut [u8],
-    place: Place,
+    at: u64,
+    page: &[u8],
+) -> Result<(), TreeFault>
+    requires writable { IsTrue F.writable }
+    requires limit { length page.now ≤ 16384 }
+    ensures ok { OnOk result (Told (F.holds files.old) (F.holds files.new)
+        (MayPut at page.now cache.old cache.new)) }
+    ensures err { OnErr result (Told (F.holds files.old) (F.holds files.new)
+        (NotPut cache.old cache.new)) }
+    ensures added { AddsOnly at (length page.now) (pages_of cache.old) (pages_of cache.new) }
+    ensures name { cache.new.name ≡ cache.old.name }
+    ensures faults { IfErr result IsFileOrMemory }
+    ensures cause { HasCause File (F.faults files.old) (F.faults files.new) result }
+    ensures reads { F.reads files.new ≡ F.reads files.old }
+{
+    cache.put(files, at, page)?;
+    Ok(())
+}
+
+/// Puts a page at a place.
+fn put_page<F: Files>(
+    setup: TreeSetup,
+    files: &mut F,
+    cache: &mut KeyCache,
     at: u64,
     entries: &[Entry],
     children: &[u64],
 ) -> Result<(), TreeFault>
     requires writable { IsTrue F.writable }
-    requires placed { IsPlaced place }
-    requires buffer { length page.old ≡ place.block_length }
-    requires some { 0 < length entries.now }
-    requires rows { AllByRecursion (λ e. e.row < 256 ^ place.rec_ref) entries.now }
-    requires places { AllByRecursion IsPlace children.now }
-    requires branching { IsBranching (page_with entries.now children.now) }
-    requires fits { used_length place.rec_ref (is_node (page_with entries.now children.now)) entries.now ≤ place.block_length }
-    ensures buffer { length page.new ≡ place.block_length }
-    ensures ok { OnOk result (Told (F.holds files.old) (F.holds files.new) (λ m n. CanPut cache.old m at (length (whole_page place (page_with entries.now children.now))) → PutsPage at (whole_page place (page_with entries.now children.now)) cache.old cache.new m n)) }
-    ensures err { OnErr result (Told (F.holds files.old) (F.holds files.new) (λ m n. CanPut cache.old m at (length (whole_page place (page_with entries.now children.now))) → PutsSome at (whole_page place (page_with entries.now children.now)) cache.old cache.new m n)) }
-    ensures added { AddsOnly at (length (whole_page place (page_with entries.now children.now))) cache.old.pages cache.new.pages }
+    requires placed { IsPlaced setup.place }
+    requires page { FitsPage setup.place (page_with entries.now children.now) }
+    ensures ok { OnOk result (Told (F.holds files.old) (F.holds files.new)
+        (MayPut at (page_made setup.place entries.now children.now) cache.old cache.new)) }
+    ensures err { OnErr result (Told (F.holds files.old) (F.holds files.new)
+        (NotPut cache.old cache.new)) }
+    ensures added { AddsOnly at (length (page_made setup.place entries.now children.now))
+        (pages_of cache.old) (pages_of cache.new) }
     ensures name { cache.new.name ≡ cache.old.name }
-    ensures faults { IfErr result (λ fault. (fault ≡ File) ⊎ (fault ≡ Memory)) }
+    ensures faults { IfErr result IsFileOrMemory }
     ensures cause { HasCause File (F.faults files.old) (F.faults files.new) result }
     ensures reads { F.reads files.new ≡ F.reads files.old }
 {
-    write_page(entries, children, place.rec_ref, page);
-    cache.put(files, at, page)?;
+    let page = page_bytes(setup, entries, children)?;
+    put_bytes(files, cache, at, &page)?;
     Ok(())
 }
 
-/// Lays the pages of a level from a place on. The level has the entries that are coded, and behind them
-/// those of the pairs.
+/// Lays a level behind the one below it, of the entries that were set aside there and behind them those of
+/// the pairs.
 fn lay_level<F: Files>(
-    alloc: Global,
+    setup: TreeSetup,
     files: &mut F,
     cache: &mut KeyCache,
-    page: &mut [u8],
-    place: Place,
-    first: u64,
+    below: Level,
     pairs: &[Pair],
-    coded: Vec<Entry>,
-    children: &[u64],
 ) -> Result<Level, TreeFault>
     requires writable { IsTrue F.writable }
-    requires placed { IsPlaced place }
-    requires buffer { length page.old ≡ place.block_length }
-    requires at { first % 1024 ≡ 0 }
-    requires entries { (all : List Pair) × (coded.items ++ entries_of pairs.now ≡ entries_of all) × AreSized place all × (0 < length all) }
-    requires places { AllByRecursion IsPlace children.now }
-    requires branching { IsBranching (page_with (coded.items ++ entries_of pairs.now) children.now) }
-    ensures buffer { length page.new ≡ place.block_length }
-    ensures level { (all : List Pair) → coded.items ++ entries_of pairs.now ≡ entries_of all
-        → IfOk result (λ level. IsLevel place first (level_of (length all) (fits_in place (not (length children.now == 0))) all children.now) level) }
+    requires placed { IsPlaced setup.place }
+    requires entries { CanLevel setup.place below pairs.now }
+    ensures level { (all : List Pair) → HasEntries below pairs.now all → IfOk result (λ level.
+        IsLevel setup.place below.end (level_on setup.place below all) level) }
     ensures small { IfOk result (λ level. level.end < 2 ^ 64) }
-    ensures laid { (all : List Pair) → coded.items ++ entries_of pairs.now ≡ entries_of all
-        → OnOk result (Told (F.holds files.old) (F.holds files.new) (λ m n. CanLay cache.old m first → Lays place first (level_of (length all) (fits_in place (not (length children.now == 0))) all children.now).pages cache.old cache.new m n)) }
-    ensures refused { OnErr result (Told (F.holds files.old) (F.holds files.new) (λ m n. CanLay cache.old m first → Spares first cache.old cache.new m n)) }
+    ensures laid { (all : List Pair) → HasEntries below pairs.now all
+        → OnOk result (Told (F.holds files.old) (F.holds files.new)
+        (MayLay setup.place below.end (level_on setup.place below all).pages cache.old cache.new)) }
+    ensures refused { OnErr result (Told (F.holds files.old) (F.holds files.new)
+        (NotLaid below.end cache.old cache.new)) }
     ensures name { cache.new.name ≡ cache.old.name }
-    ensures faults { IfErr result (λ fault. (fault ≡ File) ⊎ (fault ≡ Memory)) }
+    ensures faults { IfErr result IsFileOrMemory }
     ensures cause { HasCause File (F.faults files.old) (F.faults files.new) result }
     ensures reads { F.reads files.new ≡ F.reads files.old }
 {
+    let mut level = Level::new(setup.alloc, below.end);
+    let (separators, places) = below.parts();
+    let mut children = places.as_slice();
     let node = !children.is_empty();
-    let mut level = Level::new(alloc, first);
-    let mut children = children;
-    let mut next = next_page(alloc, place, node, Entries::new(coded), pairs)?;
+    let mut next = next_page(setup, node, Entries::new(separators), pairs)?;
     'level: while next.count < next.left {
         let at = level.end;
         let coded = next.entries.coded();
-        let (below, others) = children_at(children, next.count + 1);
-        let aside = level.with_separator(&coded[next.count])?;
-        level = aside.with_page(place)?;
-        put_page(files, cache, page, place, at, &coded[..next.count], below)?;
+        let (first, others) = children_at(children, next.count + 1);
+        level.set_aside(&coded[next.count])?;
+        level.add_page(setup.place)?;
+        put_page(setup, files, cache, at, &coded[..next.count], first)?;
         children = others;
-        let behind = next.entries.behind(next.count + 1);
-        next = next_page(alloc, place, node, behind, pairs)?;
+        next = next_page(setup, node, next.behind(), pairs)?;
     }
     let at = level.end;
-    let level = level.with_page(place)?;
-    put_page(
-        files,
-        cache,
-        page,
-        place,
-        at,
-        next.entries.coded(),
-        children,
-    )?;
+    level.add_page(setup.place)?;
+    put_page(setup, files, cache, at, next.entries.coded(), children)?;
     Ok(level)
 }
 
 /// Lays the pages of a tree from a place on, one level above the other, and answers the place behind
 /// them.
 pub(crate) fn lay_levels<F: Files>(
-    alloc: Global,
+    setup: TreeSetup,
     files: &mut F,
     cache: &mut KeyCache,
-    page: &mut [u8],
-    place: Place,
     first: u64,
     pairs: &[Pair],
 ) -> Result<u64, TreeFault>
     requires writable { IsTrue F.writable }
-    requires placed { IsPlaced place }
-    requires buffer { length page.old ≡ place.block_length }
+    requires placed { IsPlaced setup.place }
     requires at { first % 1024 ≡ 0 }
-    requires sized { AreSized place pairs.now }
+    requires sized { AreSized setup.place pairs.now }
     requires some { 0 < length pairs.now }
-    ensures end { IfOk result (λ end. end ≡ first + place.block_length * length (laid (fits_in place) place.block_length first pairs.now)) }
-    ensures laid { OnOk result (Told (F.holds files.old) (F.holds files.new) (λ m n. CanLay cache.old m first → Lays place first (laid (fits_in place) place.block_length first pairs.now) cache.old cache.new m n)) }
-    ensures refused { OnErr result (Told (F.holds files.old) (F.holds files.new) (λ m n. CanLay cache.old m first → Spares first cache.old cache.new m n)) }
+    ensures end { IfOk result (λ end. end
+        ≡ first + setup.place.block_length * length (laid_at setup.place first pairs.now)) }
+    ensures laid { OnOk result (Told (F.holds files.old) (F.holds files.new)
+        (MayLay setup.place first (laid_at setup.place first pairs.now) cache.old cache.new)) }
+    ensures refused { OnErr result (Told (F.holds files.old) (F.holds files.new)
+        (NotLaid first cache.old cache.new)) }
     ensures name { cache.new.name ≡ cache.old.name }
-    ensures faults { IfErr result (λ fault. (fault ≡ File) ⊎ (fault ≡ Memory)) }
+    ensures faults { IfErr result IsFileOrMemory }
     ensures cause { HasCause File (F.faults files.old) (F.faults files.new) result }
     ensures reads { F.reads files.new ≡ F.reads files.old }
 {
-    let none: Vec<Entry> = Vec::new(alloc);
-    let mut level = lay_level(alloc, files, cache, page, place, first, pairs, none, &[])?;
+    let none = Level::new(setup.alloc, first);
+    let mut level = lay_level(setup, files, cache, none, pairs)?;
     'levels: while level.places.len() > 1 {
-        let separators = level.separators;
-        let places = level.places;
-        let at = level.end;
-        level = lay_level(
-            alloc,
-            files,
-            cache,
-            page,
-            place,
-            at,
-            &[],
-            separators,
-            &places,
-        )?;
+        level = lay_level(setup, files, cache, level, &[])?;
     }
     Ok(level.end)
 }

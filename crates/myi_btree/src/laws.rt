@@ -3,24 +3,25 @@
 ghost use Rattle.std.specs.Prelude.{◌≡◌, ℕ, Bool, suc, ◌+◌, ◌*◌, ◌%◌, ◌^◌, ◌<◌, ◌≤◌, List, [], ◌∷◌, length, Some, Result, Ok};
 ghost use Rattle.myi_btree.specs.declared.pair.Pair.{Pair};
 ghost use Rattle.myi_btree.specs.Walk.{Node, Places, Walked, walk_of, Agree, AreNodes};
-ghost use Rattle.myi_btree.specs.Laid.{Fits, count_of, level_of, places_from, laid, Stands, IsRooted};
+ghost use Rattle.myi_btree.specs.LaidPages.{Fits, count_of, level_of, places_from, laid, Stands, IsRooted};
 ghost use Rattle.myi_btree.specs.Visit.{Finds, HasWalk};
 ghost use Rattle.std.specs.List.{AllByRecursion};
 ghost use Rattle.myi_base.specs.Holding.{Holding};
 ghost use Rattle.myi_keys.specs.Limits.{IsKey};
-ghost use Rattle.myi_keycache.specs.Caching.{Caching};
+ghost use Rattle.myi_keycache.specs.Caching.{Caching, Stays};
 ghost use Rattle.myi_btree.specs.declared.place.Place.{Place};
-ghost use Rattle.myi_btree.specs.Reading.{node_lent};
+ghost use Rattle.myi_btree.specs.CachedTrees.{node_lent, HasPages, IsClear, AddsItsOwn, AreApart};
 ghost use Rattle.myi_btree.specs.Nodes.{node_in};
 ghost use Rattle.myi_btree.specs.Sizes.{IsPlaced, AreSized, IsCount, fits_in};
-ghost use Rattle.myi_btree.specs.Building.{AddsLaid, AreKeys, EndBefore, IsWritten, Lays, page_for};
+ghost use Rattle.myi_btree.specs.Building.{laid_at, AddsLaid, AreKeys, EndBefore, IsWritten, Lays, page_for};
 ghost use Rattle.myi_keycache.specs.Kept.{Page};
 
 /// A walk depends on its own pages alone: where two readings give the same at each of them, the walk is
 /// the same, whatever else changed.
 pub fn walks_depend_on_their_pages()
     ensures { (one two : Places) (height place : ℕ) (w : Walked)
-        → walk_of one height place ≡ Some w → Agree one two w.pages → walk_of two height place ≡ Some w }
+        → walk_of one height place ≡ Some w → Agree one two w.pages
+        → walk_of two height place ≡ Some w }
 {}
 
 /// A place has one walk at most, whatever its height.
@@ -58,39 +59,55 @@ pub fn visits_find_walks()
 /// What the key cache lends after building is a tree: the last of the laid pages is the root of one whose
 /// pairs are those that were laid.
 pub fn built_trees_walk()
-    ensures { (place : Place) (first : ℕ) (pair : Pair) (pairs : List Pair) (old new : Caching) (m n : Holding)
+    ensures { (place : Place) (first : ℕ) (pair : Pair) (pairs : List Pair) (old new : Caching)
+        (m n : Holding)
         → IsPlaced place → first % 1024 ≡ 0 → AreSized place (pair ∷ pairs)
         → AllByRecursion (λ p. IsKey p.key) (pair ∷ pairs)
-        → first + place.block_length * length (laid (fits_in place) place.block_length first (pair ∷ pairs)) < 2 ^ 64
-        → Lays place first (laid (fits_in place) place.block_length first (pair ∷ pairs)) old new m n
+        → first + place.block_length * length (laid_at place first (pair ∷ pairs)) < 2 ^ 64
+        → Lays place first (laid_at place first (pair ∷ pairs)) old new m n
         → IsRooted (node_lent place new n) place.block_length first
-        (length (laid (fits_in place) place.block_length first (pair ∷ pairs))) (pair ∷ pairs) }
+        (length (laid_at place first (pair ∷ pairs))) (pair ∷ pairs) }
 {}
 
 /// How a level is laid. A page takes some of the entries that are left, as many as fit but not all but
 /// one. There is one page more than entries are set aside, and fewer are set aside than there were.
 /// Places of pages are as many as asked for, and whole where the first and the page length are.
 pub fn levels_are_laid()
-    ensures count { (place : Place) (node : Bool) (left : List Pair) → AreSized place left → 0 < length left
-        → IsCount place node left (count_of (fits_in place node) left) }
+    ensures count { (place : Place) (node : Bool) (left : List Pair) → AreSized place left
+        → 0 < length left → IsCount place node left (count_of (fits_in place node) left) }
     ensures some { (fits : List Pair → Bool) (entries : List Pair) → 0 < count_of fits entries }
     ensures pages { (n : ℕ) (fits : List Pair → Bool) (entries : List Pair) (children : List ℕ)
-        → length (level_of n fits entries children).pages ≡ suc (length (level_of n fits entries children).separators) }
+        → length (level_of n fits entries children).pages
+        ≡ suc (length (level_of n fits entries children).separators) }
     ensures fewer { (n : ℕ) (fits : List Pair → Bool) (entries : List Pair) (children : List ℕ)
         → 0 < count_of fits entries → 0 < length entries
         → length (level_of n fits entries children).separators < length entries }
     ensures places { (n block first : ℕ) → length (places_from n block first) ≡ n }
-    ensures whole { (block n at : ℕ) → at % 1024 ≡ 0 → block % 1024 ≡ 0 → (at + block * n) % 1024 ≡ 0 }
+    ensures whole { (block n at : ℕ) → at % 1024 ≡ 0 → block % 1024 ≡ 0
+        → (at + block * n) % 1024 ≡ 0 }
     ensures ends { (place : Place) (first count : ℕ) (old new : List Page) → EndBefore old first
         → AddsLaid place first count old new → EndBefore new (first + place.block_length * count) }
 {}
 
 /// The pages that are laid can be written, and the bytes of a page that can be written are read as it.
 pub fn laid_pages_are_written()
-    ensures written { (place : Place) (first : ℕ) (pairs : List Pair) → IsPlaced place → first % 1024 ≡ 0
-        → AreSized place pairs → AreKeys pairs
-        → first + place.block_length * length (laid (fits_in place) place.block_length first pairs) < 2 ^ 64
-        → AllByRecursion (IsWritten place) (laid (fits_in place) place.block_length first pairs) }
+    ensures written { (place : Place) (first : ℕ) (pairs : List Pair) → IsPlaced place
+        → first % 1024 ≡ 0 → AreSized place pairs → AreKeys pairs
+        → first + place.block_length * length (laid_at place first pairs) < 2 ^ 64
+        → AllByRecursion (IsWritten place) (laid_at place first pairs) }
     ensures read { (place : Place) (node : Node) → IsWritten place node
         → node_in place.rec_ref (page_for place node) ≡ Some node }
+{}
+
+/// Going through a tree leaves trees clear that were: this one, and each other of whose pages none has a byte
+/// of a page of this one. A walk says of the cache what is asked here (`stays` and `added` of `Tree::walk`).
+pub fn walks_leave_trees_clear()
+    ensures this { (place : Place) (old new : Caching) (m n : Holding)
+        → IsClear place old m place.root → Stays old new m n → AddsItsOwn place old m new
+        → IsClear place new n place.root }
+    ensures others { (place other : Place) (old new : Caching) (m n : Holding)
+        (pages others : List ℕ) → HasPages place old m place.root pages
+        → HasPages other old m other.root others → AreApart place pages other others
+        → IsClear other old m other.root → Stays old new m n → AddsItsOwn place old m new
+        → IsClear other new n other.root }
 {}

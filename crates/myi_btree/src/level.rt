@@ -1,27 +1,36 @@
 //! How many entries a page takes, and what a level leaves for the one above it.
-ghost use Rattle.std.specs.Prelude.{◌≡◌, ◌≢◌, ◌⊎◌, ◌+◌, ◌-◌, ◌*◌, ◌^◌, ◌<◌, ◌≤◌, ◌==◌, ℕ, List, [], ◌∷◌, ◌++◌, length, take, drop, IfOk, if◌then◌else◌, IfErr};
+ghost use Rattle.std.specs.Prelude.{◌≡◌, ◌≢◌, ◌⊎◌, ◌+◌, ◌-◌, ◌*◌, ◌^◌, ◌<◌, ◌≤◌, ◌==◌, ℕ, List, [], ◌∷◌, ◌++◌, length, take, drop, IfOk, OnOk, if◌then◌else◌, IfErr};
 ghost use Rattle.std.specs.List.{AllByRecursion};
 ghost use Rattle.myi_keypage.specs.Fitting.{used_length};
 ghost use Rattle.myi_btree.specs.declared.pair.Pair.{Pair};
 ghost use Rattle.myi_btree.specs.Nodes.{entries_of};
-ghost use Rattle.myi_btree.specs.Entries.{coded_of, left_of};
+ghost use Rattle.myi_btree.specs.Entries.{coded_of, entries_left, IsInside};
 ghost use Rattle.myi_btree.specs.Sizes.{IsPlaced, IsSized, AreSized, IsFitting, IsCount};
 ghost use Rattle.myi_btree.specs.declared.fault.TreeFault.TheVariants.{Memory};
 
-use crate::entries::{Entries, code_ahead};
+use crate::entries::Entries;
 use crate::fault::TreeFault;
 use crate::pair::Pair;
-use crate::place::Place;
+use crate::place::{Place, TreeSetup};
 use myi_keypage::{Entry, fitting};
 use std::alloc::{AllocError, Global};
 
 /// What a level leaves: the entries that were set aside between its pages, the places of these, and the
 /// place behind the last one.
-#[derive(Drop)]
 pub(crate) struct Level {
     pub(crate) separators: Vec<Entry>,
     pub(crate) places: Vec<u64>,
     pub(crate) end: u64,
+}
+
+impl Drop for Level {
+    fn drop(self) {
+        let Level {
+            separators: _,
+            places: _,
+            end: _,
+        } = self;
+    }
 }
 
 /// More entries than a page can have: each takes four bytes at least.
@@ -39,7 +48,8 @@ pub(crate) fn page_count(place: Place, node: bool, coded: &[Entry], left: usize)
     requires some { 0 < length coded.now }
     requires inside { length coded.now ≤ left }
     requires ahead { (place.block_length < 4 * length coded.now) ⊎ (length coded.now ≡ left) }
-    ensures count { (m : ℕ) × IsFitting place node coded.now m × (result ≡ (if left - m == 1 then m - 1 else m)) }
+    ensures count { (m : ℕ) × IsFitting place node coded.now m
+        × (result ≡ (if left - m == 1 then m - 1 else m)) }
     ensures some { 0 < result }
     ensures inside { result ≤ length coded.now }
     ensures fit { used_length place.rec_ref node (take result coded.now) ≤ place.block_length }
@@ -51,38 +61,65 @@ pub(crate) fn page_count(place: Place, node: bool, coded: &[Entry], left: usize)
 }
 
 /// The entries that are left, and how many of them the next page takes.
-#[derive(Drop)]
 pub(crate) struct Next {
     pub(crate) entries: Entries,
     pub(crate) left: usize,
     pub(crate) count: usize,
 }
 
+impl Drop for Next {
+    fn drop(self) {
+        let Next {
+            entries: _,
+            left: _,
+            count: _,
+        } = self;
+    }
+}
+
+impl Next {
+    /// The entries behind the page and the one that is set aside.
+    pub(crate) fn behind(self) -> Entries
+        requires { self.entries.start + self.count + 1 ≤ length self.entries.coded.items }
+        ensures coded { result.coded ≡ self.entries.coded }
+        ensures start { result.start ≡ self.entries.start + (self.count + 1) }
+        ensures taken { result.taken ≡ self.entries.taken }
+    {
+        let Next {
+            entries,
+            left: _,
+            count,
+        } = self;
+        entries.behind(count + 1)
+    }
+}
+
 /// Codes as many of the entries as the next page may take, and counts those that it takes.
 pub(crate) fn next_page(
-    alloc: Global,
-    place: Place,
+    setup: TreeSetup,
     node: bool,
     entries: Entries,
     pairs: &[Pair],
 ) -> Result<Next, TreeFault>
-    requires placed { IsPlaced place }
-    requires start { entries.start ≤ length entries.coded.items }
-    requires taken { entries.taken ≤ length pairs.now }
-    requires entries { (left : List Pair) × (left_of pairs.now entries ≡ entries_of left) × AreSized place left × (0 < length left) }
-    ensures entries { IfOk result (λ next. left_of pairs.now next.entries ≡ left_of pairs.now entries) }
-    ensures start { IfOk result (λ next. next.entries.start ≤ length next.entries.coded.items) }
-    ensures taken { IfOk result (λ next. next.entries.taken ≤ length pairs.now) }
-    ensures left { IfOk result (λ next. next.left ≡ length (left_of pairs.now entries)) }
-    ensures count { (left : List Pair) → left_of pairs.now entries ≡ entries_of left → AreSized place left → 0 < length left
-        → IfOk result (λ next. IsCount place node left next.count) }
+    requires placed { IsPlaced setup.place }
+    requires inside { IsInside pairs.now entries }
+    requires entries { (left : List Pair) × (entries_left pairs.now entries ≡ entries_of left)
+        × AreSized setup.place left × (0 < length left) }
+    ensures entries { IfOk result (λ next. entries_left pairs.now next.entries
+        ≡ entries_left pairs.now entries) }
+    ensures ahead { IfOk result (λ next. IsInside pairs.now next.entries) }
+    ensures left { IfOk result (λ next. next.left ≡ length (entries_left pairs.now entries)) }
+    ensures count { (left : List Pair) → entries_left pairs.now entries ≡ entries_of left
+        → AreSized setup.place left → 0 < length left
+        → IfOk result (λ next. IsCount setup.place node left next.count) }
     ensures inside { IfOk result (λ next. next.count ≤ length (coded_of next.entries)) }
-    ensures more { IfOk result (λ next. next.count < next.left → next.count < length (coded_of next.entries)) }
+    ensures more { IfOk result (λ next. next.count < next.left
+        → next.count < length (coded_of next.entries)) }
     ensures memory { IfErr result (λ fault. fault ≡ Memory) }
 {
-    let entries = code_ahead(alloc, entries, pairs, most_entries(place))?;
+    let entries = entries.code_ahead(setup.alloc, pairs, most_entries(setup.place))?;
     let left = entries.count(pairs);
-    let count = page_count(place, node, entries.coded(), left);
+    let count = page_count(setup.place, node, entries.coded(), left);
     Ok(Next {
         entries,
         left,
@@ -121,39 +158,45 @@ impl Level {
         }
     }
 
-    /// The level with one more page, behind the others.
-    pub(crate) fn with_page(self, place: Place) -> Result<Level, TreeFault>
-        ensures separators { IfOk result (λ level. level.separators ≡ self.separators) }
-        ensures places { IfOk result (λ level. level.places.items ≡ self.places.items ++ self.end ∷ []) }
-        ensures end { IfOk result (λ level. level.end ≡ self.end + place.block_length) }
-        ensures small { IfOk result (λ level. level.end < 2 ^ 64) }
+    /// The entries set aside, and the places of the pages.
+    pub(crate) fn parts(self) -> (Vec<Entry>, Vec<u64>)
+        ensures separators { result.0 ≡ self.separators }
+        ensures places { result.1 ≡ self.places }
+    {
+        let Level {
+            separators,
+            places,
+            end: _,
+        } = self;
+        (separators, places)
+    }
+
+    /// One more page, behind the others.
+    pub(crate) fn add_page(&mut self, place: Place) -> Result<(), TreeFault>
+        ensures separators { self.new.separators ≡ self.old.separators }
+        ensures places { OnOk result (self.new.places.items
+            ≡ self.old.places.items ++ self.old.end ∷ []) }
+        ensures end { OnOk result (self.new.end ≡ self.old.end + place.block_length) }
+        ensures small { OnOk result (self.new.end < 2 ^ 64) }
         ensures memory { IfErr result (λ fault. fault ≡ Memory) }
     {
         let Some(end) = self.end.checked_add(place.block_length as u64) else {
             return Err(TreeFault::Memory);
         };
-        let mut places = self.places;
-        places.push(self.end)?;
-        Ok(Level {
-            separators: self.separators,
-            places,
-            end,
-        })
+        self.places.push(self.end)?;
+        self.end = end;
+        Ok(())
     }
 
-    /// The level with an entry set aside.
-    pub(crate) fn with_separator(self, entry: &Entry) -> Result<Level, TreeFault>
-        ensures separators { IfOk result (λ level. level.separators.items ≡ self.separators.items ++ entry.now ∷ []) }
-        ensures places { IfOk result (λ level. level.places ≡ self.places) }
-        ensures end { IfOk result (λ level. level.end ≡ self.end) }
+    /// Sets an entry aside.
+    pub(crate) fn set_aside(&mut self, entry: &Entry) -> Result<(), TreeFault>
+        ensures separators { OnOk result (self.new.separators.items
+            ≡ self.old.separators.items ++ entry.now ∷ []) }
+        ensures places { self.new.places ≡ self.old.places }
+        ensures end { self.new.end ≡ self.old.end }
         ensures memory { IfErr result (λ fault. fault ≡ Memory) }
     {
-        let mut separators = self.separators;
-        separators.push(copy_entry(entry)?)?;
-        Ok(Level {
-            separators,
-            places: self.places,
-            end: self.end,
-        })
+        self.separators.push(copy_entry(entry)?)?;
+        Ok(())
     }
 }

@@ -2,13 +2,24 @@
 //!
 //! A tree has the pairs of one key, sorted, each a key value and a row pointer (`Pair`), on pages of an
 //! index file. A contract speaks of its walk: the pairs in order, each with its page, by a reading from
-//! places to nodes (`specs/Walk`). `specs/Laid` says which pages building puts, and `specs/Building` what
+//! places to nodes (`specs/Walk`). `specs/LaidPages` says which pages building puts, and `specs/Building` what
 //! that does to a key cache and the files.
 //!
 //! - `Place` says how the pages of a tree are made and where its root stands, `Room` where new pages go.
 //! - `Tree::build` lays a tree from pairs; `Tree::new` takes one that stands; `Tree::root` is its root, and
 //!   `Tree::walk` answers its pairs. `specs/Visit` says which place is the first bad one of a damaged tree.
 //! - The laws over walks and laid pages are the contracts of the functions in `laws`.
+//!
+//! ```
+//! let tree = Tree::build(alloc, files, cache, place, room, &pairs)?;
+//! cache.flush(files)?;
+//! for (pair, page) in tree.walk(alloc, files, cache)?.as_slice() {
+//!     push_word(out, &encode(alloc, &pair.key)?)?;
+//!     write!(out, ":{}:{page}", pair.row)?;
+//! }
+//! ```
+//!
+//! The case `laid` in `crates/cases_indexes/src/trees.rt` runs it, in parts.
 #![tactic(auto)]
 
 mod build;
@@ -16,17 +27,17 @@ mod entries;
 mod fault;
 mod laws;
 mod level;
-mod met;
 mod node;
 mod pair;
 mod place;
 mod tree;
+mod visited;
 mod walk;
 
 pub use fault::TreeFault;
 pub use laws::{
     built_trees_walk, laid_pages_are_written, laid_pages_walk, levels_are_laid, trees_are_shallow,
-    visits_find_walks, walks_depend_on_their_pages, walks_exist_once,
+    visits_find_walks, walks_depend_on_their_pages, walks_exist_once, walks_leave_trees_clear,
 };
 pub use pair::Pair;
 pub use place::{Place, Room};

@@ -4,18 +4,43 @@
 ghost use Rattle.std.specs.Prelude.{◌≡◌, ◌≤◌, ◌++◌, length, take, IfOk, OnOk, option_map};
 ghost use Rattle.std.specs.Option.{option_to_list};
 ghost use Rattle.myi_btree.specs.Nodes.{node_view, key_in, node_in, entry_of, entries_of};
+ghost use Rattle.myi_btree.specs.Visited.{node_left};
 
 use crate::pair::Pair;
+use crate::visited::OpenPage;
 use myi_base::Sequence;
 use myi_keypage::{Entry, read_page};
 use myi_keys::{KeyFault, KeyVal, decode, encode};
 use std::alloc::{AllocError, Global};
 
 /// A page that is read: its pairs, and the places of its children, of which a leaf has none.
-#[derive(Drop)]
 pub(crate) struct NodeData {
     pub(crate) pairs: Vec<Pair>,
     pub(crate) children: Vec<u64>,
+}
+
+impl Drop for NodeData {
+    fn drop(self) {
+        let NodeData {
+            pairs: _,
+            children: _,
+        } = self;
+    }
+}
+
+impl NodeData {
+    /// The page, of which nothing was taken yet.
+    pub(crate) fn open(self, at: u64) -> OpenPage
+        ensures at { result.at ≡ at }
+        ensures left { node_left result ≡ node_view self }
+    {
+        let NodeData { pairs, children } = self;
+        OpenPage {
+            at,
+            pairs: pairs.into_iter(),
+            children: children.into_iter(),
+        }
+    }
 }
 
 #[tactic(auto, unfolding(crate::specs::Nodes::key_in))]

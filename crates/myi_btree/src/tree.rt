@@ -2,19 +2,20 @@
 ghost use Rattle.std.specs.Prelude.{◌≡◌, ◌⊎◌, ◌+◌, ◌*◌, ◌%◌, ◌≤◌, ℕ, Some, length, IfOk, IfErr, OnOk, OnErr, IsTrue};
 ghost use Rattle.myi_base.specs.Holding.{IfTold, Told};
 ghost use Rattle.myi_base.specs.Causes.{HasCause};
-ghost use Rattle.myi_btree.specs.declared.fault.TreeFault.TheVariants.{Damaged, File, Memory};
-ghost use Rattle.myi_btree.specs.Sizes.{IsPlaced, AreSized, fits_in};
-ghost use Rattle.myi_btree.specs.Laid.{laid, root_of};
-ghost use Rattle.myi_btree.specs.Building.{CanLay, Spares, Lays};
+ghost use Rattle.myi_btree.specs.declared.fault.TreeFault.TheVariants.{File};
+ghost use Rattle.myi_btree.specs.Sizes.{IsPlaced, AreSized};
+ghost use Rattle.myi_btree.specs.LaidPages.{root_of};
+ghost use Rattle.myi_btree.specs.Building.{laid_at, CanLay, Spares, Lays};
 ghost use Rattle.myi_keycache.specs.Caching.{IsCurrent, Stays};
-ghost use Rattle.myi_btree.specs.Reading.{node_lent, CanWalk, ReadsOnly};
+ghost use Rattle.myi_btree.specs.CachedTrees.{node_lent, CanWalk, ReadsOnly, AddsItsOwn};
+ghost use Rattle.myi_btree.specs.Faults.{DamagedAt, IsFileOrMemory};
 ghost use Rattle.myi_btree.specs.Visit.{FindsPairs, FindsBad};
 
 use crate::build::lay_levels;
 use crate::fault::TreeFault;
-use crate::met::Met;
 use crate::pair::Pair;
-use crate::place::{Place, Room};
+use crate::place::{Place, Room, TreeSetup};
+use crate::visited::Visited;
 use crate::walk::{climb, descend};
 use myi_io::Files;
 use myi_keycache::KeyCache;
@@ -55,7 +56,8 @@ impl Tree {
     /// a byte of one that was met before, or it is a leaf above the depth of the first leaf, or a node at that
     /// depth. What is said of pairs and places holds where the file is as the last call of the cache left it.
     /// Each page is read once, and the stack that a walk takes does not grow with the depth that a file says.
-    /// The cache keeps no unwritten page, or the tree is whole and no other page that is kept meets one of it.
+    /// The cache keeps no unwritten page, or the tree is whole and no other page that is kept meets one of it;
+    /// then that holds afterwards too, of this tree and of others (`walks_leave_trees_clear`).
     pub fn walk<F: Files>(
         &self,
         alloc: Global,
@@ -67,26 +69,33 @@ impl Tree {
 
         // The answer is the walk, or the first bad place on its path.
         ensures pairs { IfOk result (λ pairs. IfTold (F.holds files.old) (λ m. IsCurrent cache.old m
-            → FindsPairs self.now.block_length (node_lent self.now cache.old m) self.now.root pairs.items)) }
-        ensures damaged { IfErr result (λ fault. (at : ℕ) → fault ≡ Damaged at
-            → IfTold (F.holds files.old) (λ m. IsCurrent cache.old m
-            → FindsBad self.now.block_length (node_lent self.now cache.old m) self.now.root at)) }
+            → FindsPairs self.now.block_length (node_lent self.now cache.old m) self.now.root
+            pairs.items)) }
+        ensures damaged { IfErr result (DamagedAt (λ at. IfTold (F.holds files.old) (λ m.
+            IsCurrent cache.old m
+            → FindsBad self.now.block_length (node_lent self.now cache.old m) self.now.root at))) }
 
-        // Nothing was put, and the same is lent.
+        // Nothing was put, the same is lent, and no page came to be kept but those of the walk.
         ensures cache { ReadsOnly (F.holds files.old) (F.holds files.new) cache.old cache.new }
         ensures stays { Told (F.holds files.old) (F.holds files.new)
             (λ m n. IsCurrent cache.old m → Stays cache.old cache.new m n) }
+        ensures added { IfTold (F.holds files.old) (λ m. IsCurrent cache.old m
+            → AddsItsOwn self.now cache.old m cache.new) }
         ensures cause { HasCause File (F.faults files.old) (F.faults files.new) result }
         ensures reads { F.reads files.old ≤ F.reads files.new }
     {
         let Some(root) = self.place.root else {
             return Ok(Vec::new(alloc));
         };
-        let mut met = Met::new(alloc);
-        let (path, leaf) = descend(alloc, files, cache, self.place, root, &mut met)?;
-        met.push_leaf(leaf)?;
-        climb(alloc, files, cache, self.place, path, &mut met)?;
-        Ok(met.pairs)
+        let setup = TreeSetup {
+            alloc,
+            place: self.place,
+        };
+        let mut visited = Visited::new(alloc);
+        let (path, leaf) = descend(setup, files, cache, root, &mut visited)?;
+        visited.push_leaf(leaf)?;
+        climb(setup, files, cache, path, &mut visited)?;
+        Ok(visited.into_pairs())
     }
 
     /// Puts the laid pages of sorted pairs into the room from its end on, and moves the end past them. The
@@ -109,12 +118,13 @@ impl Tree {
         // The pages are those that are laid, one behind the other, and nothing else is put.
         ensures laid { OnOk result (Told (F.holds files.old) (F.holds files.new) (λ m n.
             CanLay cache.old m room.old.end
-            → Lays place room.old.end (laid (fits_in place) place.block_length room.old.end pairs.now) cache.old cache.new m n)) }
+            → Lays place room.old.end (laid_at place room.old.end pairs.now)
+            cache.old cache.new m n)) }
         ensures root { IfOk result (λ tree. tree ≡ record place {
-          root = root_of place.block_length room.old.end (laid (fits_in place) place.block_length room.old.end pairs.now);
+          root = root_of place.block_length room.old.end (laid_at place room.old.end pairs.now);
         }) }
         ensures end { OnOk result (room.new.end ≡ room.old.end
-            + place.block_length * length (laid (fits_in place) place.block_length room.old.end pairs.now)) }
+            + place.block_length * length (laid_at place room.old.end pairs.now)) }
         ensures free { room.new.free ≡ room.old.free }
 
         // After a refusal nothing before the room's end was changed.
@@ -123,7 +133,7 @@ impl Tree {
         ensures room { OnErr result (room.new.end ≡ room.old.end) }
 
         ensures name { cache.new.name ≡ cache.old.name }
-        ensures faults { IfErr result (λ fault. (fault ≡ File) ⊎ (fault ≡ Memory)) }
+        ensures faults { IfErr result IsFileOrMemory }
         ensures cause { HasCause File (F.faults files.old) (F.faults files.new) result }
         ensures reads { F.reads files.new ≡ F.reads files.old }
     {
@@ -135,8 +145,7 @@ impl Tree {
                 },
             });
         }
-        let mut page = vec![in alloc; 0u8; place.block_length as usize]?;
-        let end = lay_levels(alloc, files, cache, &mut page, place, room.end, pairs)?;
+        let end = lay_levels(TreeSetup { alloc, place }, files, cache, room.end, pairs)?;
         room.end = end;
         let root = end - place.block_length as u64;
         Ok(Tree {

@@ -14,7 +14,8 @@ use Rattle.myi_base.specs.Ranges.{Range, are_apart, is_apart}
 use Rattle.myi_chain.specs.Chain.{AreApart}
 use Rattle.myi_chain.specs.Readable.{end_of}
 use Rattle.myi_chain.specs.Used.{IsRange, AreInOrder, last_of, without}
-use Rattle.myi_chain.specs.Walk.{ranges_at, SameUsed}
+use Rattle.myi_chain.specs.Chain.{ranges_at}
+use Rattle.myi_chain.specs.Used.{SameUsed}
 use Rattle.myi_chain.proofs.CodeLemmas.{map_append}
 use Rattle.myi_chain.proofs.ChainLemmas.{both, both_again}
 use Rattle.myi_chain.proofs.SameLemmas.{is_apart-append, end_of-append, same_append, same_after}
@@ -53,20 +54,20 @@ apart_same u v rs same a = apart_less u v rs (λ r e. sym (same.apart r) ∙ e) 
 
 -- ---- one range more in a map
 
-sides : (r x : Range) → are_apart r x ≡ true → (r.1 ≤ x.0) ⊎ (x.1 ≤ r.0)
+pub sides : (r x : Range) → are_apart r x ≡ true → (r.1 ≤ x.0) ⊎ (x.1 ≤ r.0)
 sides r x e = by_test (nat_le r.1 x.0) (nat_le x.1 r.0) refl refl e
   where
     by_test : (a b : Bool) → nat_le r.1 x.0 ≡ a → nat_le x.1 r.0 ≡ b → (a || b) ≡ true → (r.1 ≤ x.0) ⊎ (x.1 ≤ r.0)
     by_test true b f g h = inl (leb-true _ _ f)
     by_test false b f g h = inr (leb-true _ _ (g ∙ h))
 
-cmp-less : (a b : ℕ) → a < b → nat_cmp a b ≡ Less
+pub cmp-less : (a b : ℕ) → a < b → nat_cmp a b ≡ Less
 cmp-less a b h = grind (arith, nat_tests)
 
-cmp-equal : (a : ℕ) → nat_cmp a a ≡ Equal
+pub cmp-equal : (a : ℕ) → nat_cmp a a ≡ Equal
 cmp-equal a = grind (arith, nat_tests)
 
-cmp-greater : (a b : ℕ) → b < a → nat_cmp a b ≡ Greater
+pub cmp-greater : (a b : ℕ) → b < a → nat_cmp a b ≡ Greater
 cmp-greater a b h = grind (arith, nat_tests)
 
 -- these ranges are the others and the one, in order
@@ -123,7 +124,7 @@ is_put low (x ∷ es) r h a le lt =
 
 -- ---- one after the other
 
-same_put : (low : ℕ) (es : List Range) (r : Range) (new : List Range) → IsPut low es r new → SameUsed new (es ++ r ∷ [])
+pub same_put : (low : ℕ) (es : List Range) (r : Range) (new : List Range) → IsPut low es r new → SameUsed new (es ++ r ∷ [])
 same_put low es r new h = record {
   apart = λ s. h.apart s ∙ turned (are_apart s r) (is_apart s es) ∙ sym (is_apart-append s es (r ∷ []));
   ends = λ p. omega (arith, h.ends p, end_of-append p es (r ∷ []));

@@ -65,7 +65,7 @@ module _ (read : Reading) (accepts : List ℕ → Bool) where
       by_test true = by_kinds (if length b.bytes == b.rec_len then Last else Broken) (if nat_lt (length b.bytes) b.rec_len then More else Broken) k
       by_test false = refl
 
-  no_chain : (p : ℕ) (b : Block) (used : List Range) → read p ≡ Some b → (b.kind ≡ Deleted) ⊎ ((b.kind ≡ Middle) ⊎ (b.kind ≡ End)) → chain_of read p used ≡ None
+  pub no_chain : (p : ℕ) (b : Block) (used : List Range) → read p ≡ Some b → (b.kind ≡ Deleted) ⊎ ((b.kind ≡ Middle) ⊎ (b.kind ≡ End)) → chain_of read p used ≡ None
   unfolding chain_of
   no_chain p b used e k = let broken = no_link b used k in rw (e, broken) refl
 

@@ -5,7 +5,8 @@ use Rattle.myi_base.specs.Ranges.{Range, are_apart, is_apart}
 use Rattle.myi_frames.specs.Block.{Block}
 use Rattle.myi_chain.specs.Chain.{Reading, range_of, ranges, row_bytes, may_take, next_link, tail_step, tail_of, tail, head_step, chain_of}
 use Rattle.myi_chain.specs.Readable.{Step, end_of, past, row_step, step_of, items, rest}
-use Rattle.myi_chain.specs.Walk.{ranges_at, SameUsed}
+use Rattle.myi_chain.specs.Chain.{ranges_at}
+use Rattle.myi_chain.specs.Used.{SameUsed}
 use Rattle.myi_chain.proofs.CodeLemmas.{map_append}
 
 pub same_refl : (u : List Range) → SameUsed u u

@@ -1,218 +1,128 @@
--- What a scan has left, before and after the file was read.
-use Rattle.std.proofs.Common.{◌≡◌, ℕ, ◌+◌, Bool, true, false, List, [], ◌∷◌, length, take, Option, Some, None, refl, sym, ap, subst, ◌∙◌, inr}
-use Rattle.std.specs.Prelude.{if◌then◌else◌}
-use Rattle.myi_base.specs.Numbers.{AreBytes}
+-- What a scan leaves, from what was found between two places of its file.
+use Rattle.std.proofs.Common.{◌≡◌, ◌⊎◌, inl, inr, ◌++◌, ◌∙◌, ◌+◌, ◌<◌, ◌≤◌, ℕ, Bool, true, List, [], ◌∷◌, length, take, unwrap_or, Option, refl, sym, ap, subst, arith}
+use Rattle.std.proofs.lemmas.List.{length-take}
+use Rattle.myi_base.specs.Holding.{Holding, bytes_of, IfTold}
 use Rattle.myi_base.specs.Ranges.{Range}
-use Rattle.myi_base.specs.Holding.{Holding, bytes_of}
-use Rattle.myi_frames.specs.Block.{block_of}
 use Rattle.myi_chain.specs.declared.piece.Piece.{Piece}
-use Rattle.myi_chain.specs.declared.piece.Piece.TheVariants as piece
-use Rattle.myi_chain.specs.declared.piece.Item.{Item as Answer}
 use Rattle.myi_chain.specs.declared.piece.Item.TheVariants as item
-use Rattle.myi_chain.specs.declared.step.Found.{Found}
-use Rattle.myi_chain.specs.declared.step.Found.TheVariants as found
-use Rattle.myi_chain.specs.Chain.{Reading}
-use Rattle.myi_chain.specs.Readable.{Item, row, free, Row, rest, items_in, rows_of}
-use Rattle.myi_chain.specs.Walk.{ranges_at, behind_row, IsFound, IsFoundRow, IsRowOfBlocks}
-use Rattle.myi_chain.specs.Scanning.{Scanning, left_or, items_left, IsSameScan, IsRead, IsKept, IsEnded, IsAnswered, IsRowAnswered, IsFirst, IsFirstRow, IsPiece}
+use Rattle.myi_chain.specs.declared.step.FoundRow.{FoundRow}
+use Rattle.myi_chain.specs.declared.step.Position.{Position}
+use Rattle.myi_chain.specs.declared.step.RowBuffer.{RowBuffer}
+use Rattle.myi_frames.specs.Block.{block_of}
+use Rattle.myi_window.specs.Excerpt.{nothing, StandsIn}
+use Rattle.myi_chain.specs.Readable.{Item, row, free, rest, items_in}
 use Rattle.myi_chain.specs.Pieces.{shown}
-use Rattle.myi_chain.proofs.CodeLemmas.{placed_ranges}
-use Rattle.myi_chain.proofs.ReadableLemmas.{AreAccepted, rest_accepted}
+use Rattle.myi_chain.specs.Used.{joined}
+use Rattle.myi_chain.specs.Chain.{ranges_at}
+use Rattle.myi_chain.specs.Source.{SourceModel, IsReady, ReadsOn}
+use Rattle.myi_chain.specs.Found.{met_at, row_held, found_at, found_blocks, MeetsShortAt}
+use Rattle.myi_chain.specs.ScanModel.{Scanning, scanned, IsSameScan, IsCurrent, FirstItem, NoItem, FirstRow, NoRow, IsItem, IsRow, LendsBlock, LendsItem, LendsRow, items_left, Answers, MeetsPlain}
+use Rattle.myi_chain.proofs.BlockLemmas.{blocks_read}
+use Rattle.myi_chain.proofs.ReadableLemmas.{rest_end}
+use Rattle.myi_chain.proofs.StepLemmas.{met_same}
 
-module _ {A : Type 0} (gives : A → List ℕ → Bool) (h : Option Holding) where
-  -- a scan, by its fields
-  abbrev pub scan_of : List ℕ → A → Bool → ℕ → Option (List Item) → List (ℕ × ℕ) → Scanning A
-  scan_of name test extend end left blocks = record { name = name; test = test; extend = extend; end = end; left = left; blocks = blocks }
+abbrev pub scan_of : {A : Type 0} → SourceModel → A → Bool → Position → List (ℕ × ℕ) → Scanning A
+scan_of s test extend p blocks = record { name = s.name; test = test; extend = extend; end = s.end; place = p.place; used = p.used; blocks = blocks; kept = s.kept }
 
-  pub same_scan : (s : Scanning A) → IsSameScan s s
-  same_scan s = record { name = refl; test = refl; extend = refl; end = refl }
+module _ {A : Type 0} (h : Option Holding) (old : Scanning A) (s : SourceModel) (test : A) (extend : Bool) (p : Position) (blocks : List (ℕ × ℕ)) (view : scan_of s test extend p blocks ≡ old) (current : IfTold h (IsCurrent old)) where
+  pub ready_scan : IfTold h (IsReady s)
+  ready_scan m held = let is = subst (λ (o : Scanning A). IsCurrent o m) (sym view) (current m held) in record { kept = is.kept; long = is.long }
 
-  one_list : (xs ys : List Item) → Some xs ≡ Some ys → xs ≡ ys
-  one_list xs ys e = ap (λ o. left_or o []) e
+  module _ (gives : A → List ℕ → Bool) (mid : SourceModel) (q : Position) (r : RowBuffer) (on : ReadsOn h s mid) where
+    left_before : (m : Holding) → items_left gives old m ≡ met_at extend (gives test) s p m
+    left_before m = subst (λ (o : Scanning A). items_left gives o m ≡ met_at extend (gives test) s p m) view refl
 
-  -- what is left is known already
-  pub known : (s : Scanning A) (name : List ℕ) (test : A) (extend : Bool) (end : ℕ) (is_read : Bool) (items : List Item) (blocks : List (ℕ × ℕ)) → scan_of name test extend end (if is_read then Some items else None) blocks ≡ s → is_read ≡ true → IsRead gives h s s
-  known s name test extend end is_read items blocks is read =
-      let left : s.left ≡ Some items = sym (ap (λ (v : Scanning A). v.left) is) ∙ ap (λ (b : Bool). if b then Some items else None) read in
-      record {
-        same = same_scan s;
-        items = items;
-        left = left;
-        blocks = refl;
-        known = λ before e. one_list before items (sym e ∙ left);
-        told = λ m told. ap (λ (l : Option (List Item)). left_or l (items_in s.extend (gives s.test) (take s.end (bytes_of s.name m)))) left;
-      }
+    left_behind : (now : List (ℕ × ℕ)) (m : Holding) → items_left gives (scan_of mid test extend q now) m ≡ met_at extend (gives test) s q m
+    left_behind now m = met_same h extend (gives test) s mid q m on
 
-  read_bytes : (name : List ℕ) (test : A) (extend : Bool) (end : ℕ) (bytes : List ℕ) (m : Holding) → bytes ≡ take end (bytes_of name m) → items_in extend (gives test) (take end (bytes_of name m)) ≡ rest extend (block_of bytes) (length bytes) (gives test) 0 []
-  unfolding items_in
-  read_bytes name test extend end bytes m e = ap (λ d. rest extend (block_of d) (length d) (gives test) 0 []) (sym e)
+    same_scan : (now : List (ℕ × ℕ)) → IsSameScan old (scan_of mid test extend q now)
+    same_scan now = subst (λ (o : Scanning A). IsSameScan o (scan_of mid test extend q now)) view (record { name = on.name; test = refl; extend = refl; end = on.end })
 
-  -- the file was read now
-  pub read_now : (s : Scanning A) (name : List ℕ) (test : A) (extend : Bool) (end : ℕ) (is_read : Bool) (before : List Item) (blocks : List (ℕ × ℕ)) (bytes : List ℕ) → scan_of name test extend end (if is_read then Some before else None) blocks ≡ s → is_read ≡ false
-      → ((m : Holding) → h ≡ Some m → bytes ≡ take end (bytes_of name m)) → IsRead gives h s (scan_of name test extend end (Some (rest extend (block_of bytes) (length bytes) (gives test) 0 [])) blocks)
-  read_now s name test extend end is_read before blocks bytes is unread told =
-      let none : scan_of name test extend end None blocks ≡ s = ap (λ b. scan_of name test extend end (if b then Some before else None) blocks) (sym unread) ∙ is in
-      let items : List Item = rest extend (block_of bytes) (length bytes) (gives test) 0 [] in
-      subst (λ (t : Scanning A). IsRead gives h t (scan_of name test extend end (Some items) blocks)) none record {
-        same = record { name = refl; test = refl; extend = refl; end = refl };
-        items = items;
-        left = refl;
-        blocks = refl;
-        known = λ before e. absurd cc;
-        told = λ m held. read_bytes name test extend end bytes m (told m held);
-      }
+    current_scan : (now : List (ℕ × ℕ)) → IfTold h (IsCurrent (scan_of mid test extend q now))
+    current_scan now m held = let is = on.ready m held in record { kept = is.kept; long = is.long }
 
-  -- what was read now is bytes
-  pub bytes_now : (s : Scanning A) (name : List ℕ) (test : A) (extend : Bool) (end : ℕ) (left : Option (List Item)) (blocks : List (ℕ × ℕ)) (bytes : List ℕ) → scan_of name test extend end left blocks ≡ s
-      → ((m : Holding) → h ≡ Some m → bytes ≡ take end (bytes_of name m)) → AreBytes bytes → (m : Holding) → h ≡ Some m → s.left ≡ None → AreBytes (take s.end (bytes_of s.name m))
-  bytes_now s name test extend end left blocks bytes is told fits m held none =
-      subst (λ (t : Scanning A). AreBytes (take t.end (bytes_of t.name m))) is (subst AreBytes (told m held) fits)
+    old_place : old.place ≡ p.place
+    old_place = sym (ap (λ (o : Scanning A). o.place) view)
 
-  -- the file was read before
-  pub bytes_known : (s : Scanning A) (name : List ℕ) (test : A) (extend : Bool) (end : ℕ) (is_read : Bool) (items : List Item) (blocks : List (ℕ × ℕ)) → scan_of name test extend end (if is_read then Some items else None) blocks ≡ s → is_read ≡ true
-      → (m : Holding) → h ≡ Some m → s.left ≡ None → AreBytes (take s.end (bytes_of s.name m))
-  bytes_known s name test extend end is_read items blocks is read m held none =
-      let was = known s name test extend end is_read items blocks is read in
-      let left : Some was.items ≡ None = sym was.left ∙ none in
-      absurd cc
+    old_end : old.end ≡ s.end
+    old_end = sym (ap (λ (o : Scanning A). o.end) view)
 
-  -- the file was read, and these are the scan's fields then
-  pub record Opened (old : Scanning A) (name : List ℕ) (test : A) (extend : Bool) (end : ℕ) (is_read : Bool) (items : List Item) (blocks : List (ℕ × ℕ)) : Type 0 where
-    pub read : is_read ≡ true
-    pub same_name : name ≡ old.name
-    pub same_test : test ≡ old.test
-    pub same_extend : extend ≡ old.extend
-    pub same_end : end ≡ old.end
-    pub same_blocks : blocks ≡ old.blocks
-    pub known : (before : List Item) → old.left ≡ Some before → before ≡ items
-    pub told : (m : Holding) → h ≡ Some m → items_left gives old m ≡ items
+    old_blocks : old.blocks ≡ blocks
+    old_blocks = sym (ap (λ (o : Scanning A). o.blocks) view)
 
-  known_items : (b : Bool) (x items : List Item) → (if b then Some x else None) ≡ Some items → (b ≡ true) × (x ≡ items)
-  known_items true x items e = (refl, one_list x items e)
-  known_items false x items e = absurd cc
-
-  pub opened : (old mid : Scanning A) (name : List ℕ) (test : A) (extend : Bool) (end : ℕ) (is_read : Bool) (items : List Item) (blocks : List (ℕ × ℕ)) → IsRead gives h old mid → scan_of name test extend end (if is_read then Some items else None) blocks ≡ mid → Opened old name test extend end is_read items blocks
-  opened old mid name test extend end is_read items blocks was is =
-      let both = known_items is_read items was.items (ap (λ (v : Scanning A). v.left) is ∙ was.left) in
-      record {
-        read = both.0;
-        same_name = ap (λ (v : Scanning A). v.name) is ∙ was.same.name;
-        same_test = ap (λ (v : Scanning A). v.test) is ∙ was.same.test;
-        same_extend = ap (λ (v : Scanning A). v.extend) is ∙ was.same.extend;
-        same_end = ap (λ (v : Scanning A). v.end) is ∙ was.same.end;
-        same_blocks = ap (λ (v : Scanning A). v.blocks) is ∙ was.blocks;
-        known = λ before e. was.known before e ∙ sym both.1;
-        told = λ m held. was.told m held ∙ sym both.1;
-      }
-
-  module _ (old : Scanning A) (name : List ℕ) (test : A) (extend : Bool) (end : ℕ) (is_read : Bool) (items : List Item) (blocks : List (ℕ × ℕ)) (o : Opened old name test extend end is_read items blocks) where
-    left_now : (left : List Item) → (if is_read then Some left else None) ≡ Some left
-    left_now left = ap (λ (b : Bool). if b then Some left else None) o.read
-
-    same_now : (left : Option (List Item)) (now : List (ℕ × ℕ)) → IsSameScan old (scan_of name test extend end left now)
-    same_now left now = record { name = o.same_name; test = o.same_test; extend = o.same_extend; end = o.same_end }
-
-    -- nothing was answered, and the same is left
-    pub kept : (left : List Item) → left ≡ items → IsKept gives h old (scan_of name test extend end (if is_read then Some left else None) blocks)
-    kept left e = inr (record {
-      same = same_now (if is_read then Some left else None) blocks;
-      items = items;
-      left = left_now left ∙ ap Some e;
-      blocks = o.same_blocks;
-      known = o.known;
-      told = o.told;
-    })
-
-    pub ended : (left : List Item) → left ≡ [] → IsEnded old (scan_of name test extend end (if is_read then Some left else None) blocks)
-    ended left e = record {
-      same = same_now (if is_read then Some left else None) blocks;
-      left = left_now left ∙ ap Some e;
-      blocks = o.same_blocks;
+    pub row_answered : (f : FoundRow) (at : ℕ) (piece : Piece) (now : List (ℕ × ℕ)) → (p.place < q.place) × (q.place ≤ s.end) → IfTold h (λ m. FirstRow (row_held mid r f) (met_at extend (gives test) s p m) (met_at extend (gives test) s q m))
+        → shown piece ≡ (row_held mid r f).bytes → found_at f ≡ at → now ≡ found_blocks r.chain.taken f → LendsBlock piece now → Answers (items_left gives) FirstRow NoRow IsRow LendsRow IsCurrent h old (at, piece) (scan_of mid test extend q now)
+    row_answered f at piece now rises told is here kept lends = record {
+      same = same_scan now;
+      rises = omega (arith, old_place, rises.0);
+      within = omega (arith, old_end, rises.1);
+      lends = lends;
+      told = λ m held.
+          let t = told m held in
+          (row_held mid r f, (t.0, t.1, left_before m ∙ t.2 ∙ ap (λ (is : List Item). t.0 ++ row (row_held mid r f) ∷ is) (sym (left_behind now m))), (here, is, ap ranges_at kept));
+      current = current_scan now;
     }
 
-    pub answered_free : (left : List Item) (at size : ℕ) → items ≡ free (at, at + size) ∷ left → IsAnswered gives h old (item.Free at size) (scan_of name test extend end (if is_read then Some left else None) blocks)
-    answered_free left at size e = record {
-      same = same_now (if is_read then Some left else None) blocks;
-      first = free (at, at + size);
-      rest = left;
-      item = refl;
-      left = left_now left;
-      blocks = o.same_blocks;
-      known = λ before k. o.known before k ∙ e;
-      told = λ m held. o.told m held ∙ e;
+    pub item_answered : (f : FoundRow) (at : ℕ) (piece : Piece) (now : List (ℕ × ℕ)) → (p.place < q.place) × (q.place ≤ s.end) → IfTold h (λ m. met_at extend (gives test) s p m ≡ row (row_held mid r f) ∷ met_at extend (gives test) s q m)
+        → shown piece ≡ (row_held mid r f).bytes → found_at f ≡ at → now ≡ found_blocks r.chain.taken f → LendsBlock piece now → Answers (items_left gives) FirstItem NoItem IsItem LendsItem IsCurrent h old (item.Row at piece) (scan_of mid test extend q now)
+    item_answered f at piece now rises told is here kept lends = record {
+      same = same_scan now;
+      rises = omega (arith, old_place, rises.0);
+      within = omega (arith, old_end, rises.1);
+      lends = lends;
+      told = λ m held. (row (row_held mid r f), left_before m ∙ told m held ∙ ap (λ (is : List Item). row (row_held mid r f) ∷ is) (sym (left_behind now m)), (here, is, ap ranges_at kept));
+      current = current_scan now;
     }
 
-    pub answered_row : (read : Reading) (left : List Item) (at : ℕ) (taken : List (ℕ × ℕ)) (joined : List ℕ) (r : Row) (p : Piece) → items ≡ row r ∷ left → IsRowOfBlocks read at taken joined r → IsPiece r p → IsAnswered gives h old (item.Row at p) (scan_of name test extend end (if is_read then Some left else None) taken)
-    answered_row read left at taken joined r p e t piece = record {
-      same = same_now (if is_read then Some left else None) taken;
-      first = row r;
-      rest = left;
-      item = (ap (λ (x : Row). x.at) t.row, piece);
-      left = left_now left;
-      blocks = ap ranges_at t.blocks ∙ placed_ranges (t.first ∷ t.more) ∙ sym (ap (λ (x : Row). x.blocks) t.row);
-      known = λ before k. o.known before k ∙ e;
-      told = λ m held. o.told m held ∙ e;
+    pub free_answered : (at size : ℕ) → (p.place < q.place) × (q.place ≤ s.end) → IfTold h (λ m. met_at extend (gives test) s p m ≡ free (at, at + size) ∷ met_at extend (gives test) s q m)
+        → Answers (items_left gives) FirstItem NoItem IsItem LendsItem IsCurrent h old (item.Free at size) (scan_of mid test extend q blocks)
+    free_answered at size rises told = record {
+      same = same_scan blocks;
+      rises = omega (arith, old_place, rises.0);
+      within = omega (arith, old_end, rises.1);
+      lends = tt;
+      told = λ m held. (free (at, at + size), left_before m ∙ told m held ∙ ap (λ (is : List Item). free (at, at + size) ∷ is) (sym (left_behind blocks m)), (refl, sym old_blocks));
+      current = current_scan blocks;
     }
 
-    pub first_told : (found : Option Answer) → ((m : Holding) → h ≡ Some m → IsFirst items found) → (m : Holding) → h ≡ Some m → IsFirst (items_left gives old m) found
-    first_told found f m held = subst (λ (is : List Item). IsFirst is found) (sym (o.told m held)) (f m held)
+    plain_cases : (m : Holding) → MeetsPlain gives old m → (s.end ≤ p.place) ⊎ MeetsShortAt (gives test) s p m
+    plain_cases m meets = subst (λ (o : Scanning A). MeetsPlain gives o m) (sym view) meets
 
-    pub first_row_told : (found : Option (ℕ × Piece)) → ((m : Holding) → h ≡ Some m → IsFirstRow (rows_of items) found) → (m : Holding) → h ≡ Some m → IsFirstRow (rows_of (items_left gives old m)) found
-    first_row_told found f m held = subst (λ (is : List Item). IsFirstRow (rows_of is) found) (sym (o.told m held)) (f m held)
+    -- while only rows in one block are met, one after the other
+    pub goes_on_plain : (p.place < q.place) × (q.place ≤ s.end) → (m : Holding) → (MeetsShortAt (gives test) s p m → q.used ≡ joined q.place) → MeetsPlain gives old m → q.used ≡ joined q.place
+    goes_on_plain rises m short meets = elim (plain_cases m meets) [
+      | inl ended ↦ absurd (omega (arith, ended, rises.0, rises.1))
+      | inr next ↦ short next
+    ]
 
-    pub answered_next : (read : Reading) (left : List Item) (at : ℕ) (taken : List (ℕ × ℕ)) (joined : List ℕ) (r : Row) (p : Piece) → rows_of items ≡ r ∷ rows_of left → behind_row items ≡ left → IsRowOfBlocks read at taken joined r → IsPiece r p → IsRowAnswered gives h old (at, p) (scan_of name test extend end (if is_read then Some left else None) taken)
-    answered_next read left at taken joined r p e b t piece = record {
-      same = same_now (if is_read then Some left else None) taken;
-      first = r;
-      rest = left;
-      at = ap (λ (x : Row). x.at) t.row;
-      piece = piece;
-      left = left_now left;
-      blocks = ap ranges_at t.blocks ∙ placed_ranges (t.first ∷ t.more) ∙ sym (ap (λ (x : Row). x.blocks) t.row);
-      known = λ before k. let same = o.known before k in (ap rows_of same ∙ e, ap behind_row same ∙ b);
-      told = λ m held. let same = o.told m held in (ap rows_of same ∙ e, ap behind_row same ∙ b);
-    }
+    pub never_plain : p.place < s.end → (m : Holding) → (MeetsShortAt (gives test) s p m → ⊥) → MeetsPlain gives old m → ⊥
+    never_plain some m never meets = elim (plain_cases m meets) [
+      | inl ended ↦ absurd (omega (arith, ended, some))
+      | inr next ↦ never next
+    ]
 
--- what was found in these bytes
-abbrev pub FoundIn : Bool → (List ℕ → Bool) → ℕ → List Range → ℕ → List Range → List (ℕ × ℕ) → List ℕ → Option Found → List ℕ → Type 0
-FoundIn extend accepts place used next now taken joined f d =
-    IsFound (block_of d) taken joined (rest extend (block_of d) (length d) accepts place used) (rest extend (block_of d) (length d) accepts next now) f
+    pub packs_old : (bytes : List ℕ) → gives test bytes ≡ true → gives old.test bytes ≡ true
+    packs_old bytes packs = subst (λ (t : A). gives t bytes ≡ true) (ap (λ (o : Scanning A). o.test) view) packs
 
--- the row that was found, with its blocks where they are held now
-pub row_found : (extend : Bool) (accepts : List ℕ → Bool) (place : ℕ) (used : List Range) (next : ℕ) (now : List Range) (taken held : List (ℕ × ℕ)) (joined : List ℕ) (f : Option Found) (d bytes : List ℕ) (at : ℕ) → d ≡ bytes → held ≡ taken → f ≡ Some (found.Row at) → FoundIn extend accepts place used next now taken joined f d
-    → (r : Row) × (rest extend (block_of bytes) (length bytes) accepts place used ≡ row r ∷ rest extend (block_of bytes) (length bytes) accepts next now) × IsRowOfBlocks (block_of bytes) at held joined r
-row_found extend accepts place used next now taken held joined f d bytes at same blocks is t =
-    let s = subst (FoundIn extend accepts place used next now taken joined (Some (found.Row at))) same (subst (λ (f : Option Found). FoundIn extend accepts place used next now taken joined f d) is t) in
-    (s.0, s.1, subst (λ (b : List (ℕ × ℕ)). IsRowOfBlocks (block_of bytes) at b joined s.0) (sym blocks) s.2)
+-- ---- what is left of a file
 
-pub free_found : (extend : Bool) (accepts : List ℕ → Bool) (place : ℕ) (used : List Range) (next : ℕ) (now : List Range) (taken : List (ℕ × ℕ)) (joined : List ℕ) (f : Option Found) (d bytes : List ℕ) (at size : ℕ) → d ≡ bytes → f ≡ Some (found.Free at size) → FoundIn extend accepts place used next now taken joined f d
-    → rest extend (block_of bytes) (length bytes) accepts place used ≡ free (at, at + size) ∷ rest extend (block_of bytes) (length bytes) accepts next now
-free_found extend accepts place used next now taken joined f d bytes at size same is t =
-    subst (FoundIn extend accepts place used next now taken joined (Some (found.Free at size))) same (subst (λ (f : Option Found). FoundIn extend accepts place used next now taken joined f d) is t)
+pub fresh_all : {A : Type 0} (gives : A → List ℕ → Bool) (s : Scanning A) (m : Holding) → s.place ≡ 0 → s.used ≡ [] → items_left gives s m ≡ items_in s.extend (gives s.test) (scanned s m)
+unfolding items_in
+fresh_all gives s m start none =
+    let x = scanned s m in
+    ap (λ p. rest s.extend (block_of x) (length x) (gives s.test) p s.used) start ∙ ap (λ (u : List Range). rest s.extend (block_of x) (length x) (gives s.test) 0 u) none
 
-pub none_found : (extend : Bool) (accepts : List ℕ → Bool) (place : ℕ) (used : List Range) (next : ℕ) (now : List Range) (taken : List (ℕ × ℕ)) (joined : List ℕ) (f : Option Found) (d bytes : List ℕ) → d ≡ bytes → f ≡ None → FoundIn extend accepts place used next now taken joined f d
-    → (rest extend (block_of bytes) (length bytes) accepts place used ≡ []) × (rest extend (block_of bytes) (length bytes) accepts next now ≡ [])
-none_found extend accepts place used next now taken joined f d bytes same is t =
-    subst (FoundIn extend accepts place used next now taken joined None) same (subst (λ (f : Option Found). FoundIn extend accepts place used next now taken joined f d) is t)
+pub fresh_current : {A : Type 0} (s : Scanning A) (m : Holding) → s.kept ≡ nothing → s.end ≤ length (bytes_of s.name m) → IsCurrent s m
+fresh_current s m none long = record { kept = subst (λ e. StandsIn e (bytes_of s.name m)) (sym none) refl; long = long }
 
--- what was found of rows in these bytes
-abbrev pub FoundRowIn : Bool → (List ℕ → Bool) → ℕ → List Range → ℕ → List Range → List (ℕ × ℕ) → List ℕ → Option ℕ → List ℕ → Type 0
-FoundRowIn extend accepts place used next now taken joined f d =
-    IsFoundRow (block_of d) taken joined (rest extend (block_of d) (length d) accepts place used) (rest extend (block_of d) (length d) accepts next now) f
+pub scan_ended : {A : Type 0} (gives : A → List ℕ → Bool) (s : Scanning A) (m : Holding) → s.end ≤ s.place → items_left gives s m ≡ []
+scan_ended gives s m ended =
+    let x = scanned s m in
+    rest_end (block_of x) (length x) (blocks_read x) s.extend (gives s.test) s.place s.used (omega (arith, length-take s.end (bytes_of s.name m)))
 
-pub next_found : (extend : Bool) (accepts : List ℕ → Bool) (place : ℕ) (used : List Range) (next : ℕ) (now : List Range) (taken held : List (ℕ × ℕ)) (joined : List ℕ) (f : Option ℕ) (d bytes : List ℕ) (at : ℕ) → d ≡ bytes → held ≡ taken → f ≡ Some at → FoundRowIn extend accepts place used next now taken joined f d
-    → (r : Row) × (rows_of (rest extend (block_of bytes) (length bytes) accepts place used) ≡ r ∷ rows_of (rest extend (block_of bytes) (length bytes) accepts next now)) × (behind_row (rest extend (block_of bytes) (length bytes) accepts place used) ≡ rest extend (block_of bytes) (length bytes) accepts next now) × IsRowOfBlocks (block_of bytes) at held joined r
-next_found extend accepts place used next now taken held joined f d bytes at same blocks is t =
-    let s = subst (FoundRowIn extend accepts place used next now taken joined (Some at)) same (subst (λ (f : Option ℕ). FoundRowIn extend accepts place used next now taken joined f d) is t) in
-    (s.0, s.1, s.2, subst (λ (b : List (ℕ × ℕ)). IsRowOfBlocks (block_of bytes) at b joined s.0) (sym blocks) s.3)
-
--- the bytes that are shown of a row are its own
-pub shown_bytes : (r : Row) (p : Piece) → IsPiece r p → shown p ≡ r.bytes
-shown_bytes r (piece.Lent bytes) is = is.0
-shown_bytes r (piece.Joined bytes) is = is.0
-
--- the bytes that are shown of the first row that was to come pack a row
-pub first_packs : (extend : Bool) (accepts : List ℕ → Bool) (place : ℕ) (used : List Range) (bytes : List ℕ) (r : Row) (rows : List Row) (p : Piece) → rows_of (rest extend (block_of bytes) (length bytes) accepts place used) ≡ r ∷ rows → IsPiece r p → accepts (shown p) ≡ true
-first_packs extend accepts place used bytes r rows p first is =
-    let all = subst (AreAccepted extend (block_of bytes) (length bytes) accepts) first (rest_accepted extend (block_of bytes) (length bytes) accepts place used) in
-    ap accepts (shown_bytes r p is) ∙ all.0
+pub others_change : {A : Type 0} (gives : A → List ℕ → Bool) (s : Scanning A) (m n : Holding) → n s.name ≡ m s.name → (items_left gives s n ≡ items_left gives s m) × (IsCurrent s m → IsCurrent s n)
+others_change gives s m n same =
+    let bytes : bytes_of s.name n ≡ bytes_of s.name m = ap (λ (o : Option (List ℕ)). unwrap_or o []) same in (
+      ap (λ (d : List ℕ). rest s.extend (block_of (take s.end d)) (length (take s.end d)) (gives s.test) s.place s.used) bytes,
+      λ is. record { kept = subst (λ (d : List ℕ). StandsIn s.kept d) (sym bytes) is.kept; long = subst (λ (d : List ℕ). s.end ≤ length d) (sym bytes) is.long },
+    )

@@ -1,149 +1,269 @@
--- One step of a scan, and what comes of it.
-use Rattle.std.proofs.Common.{◌≡◌, ℕ, ◌+◌, ◌<◌, ◌≤◌, ◌^◌, Bool, true, false, List, [], ◌∷◌, ◌++◌, Option, Some, None, refl, sym, ap, subst, ◌∙◌, arith}
-use Rattle.std.specs.Prelude.{nat_lt, option_to_list}
-use Rattle.std.specs.List.{AllByRecursion}
-use Rattle.std.proofs.lemmas.Bool.{lt-ltb, le-ltb}
-use Rattle.myi_base.specs.Ranges.{Range}
-use Rattle.myi_frames.specs.Block.{Block}
-use Rattle.myi_chain.specs.declared.step.Met.{Met}
-use Rattle.myi_chain.specs.declared.step.Met.TheVariants as met
-use Rattle.myi_chain.specs.Chain.{Reading, IsReading, AreApart, ranges, chain_of}
-use Rattle.myi_chain.specs.Used.{IsRange}
-use Rattle.myi_chain.specs.Readable.{Row, Item, row, free, end_of, skip_by, free_by, past, row_at, row_step, step_of, rest, rows_of}
-use Rattle.myi_chain.specs.Walk.{ranges_at, SameUsed, IsRowHere, NoRowHere, Tells, IsRowOfBlocks, IsRowItem, IsPassed, IsMet, IsStepped, IsFoundRow, behind_row, is_row}
+-- What is found at a place, and what is left behind it.
+use Rattle.std.proofs.Common.{◌≡◌, ◌∙◌, ℕ, zero, suc, ◌+◌, ◌-◌, ◌<◌, ◌≤◌, min, max, Bool, true, false, List, [], ◌∷◌, ◌++◌, append_assoc, length, Option, Some, None, Result, Ok, Err, refl, sym, ap, subst, arith, inl, inr}
+use Rattle.std.specs.Prelude.{nat_lt, ◌==◌, option_to_list, IfErr, IfSome}
+use Rattle.std.specs.Option.{option_map}
+use Rattle.std.proofs.lemmas.Bool.{lt-ltb, le-ltb, le-leb, eq-eqb, cases_lt}
+use Rattle.std.proofs.lemmas.List.{append-nil}
+use Rattle.myi_base.specs.Holding.{Holding, IfTold}
+use Rattle.myi_base.specs.Ranges.{Range, is_apart}
+use Rattle.myi_frames.specs.declared.head.Header.{Header}
+use Rattle.myi_frames.specs.Block.{Block, block_of}
+use Rattle.myi_frames.specs.Seeing.{Heads, HeadsBlock}
+use Rattle.myi_window.specs.Excerpt.{Excerpt}
+use Rattle.myi_chain.specs.declared.chain.Link.{Link}
+use Rattle.myi_chain.specs.declared.chain.Link.TheVariants.{Broken, Last, More}
+use Rattle.myi_chain.specs.declared.step.FoundRow.{FoundRow}
+use Rattle.myi_chain.specs.declared.step.Found.{Found}
+use Rattle.myi_chain.specs.declared.step.Found.TheVariants as found
+use Rattle.myi_chain.specs.declared.step.Position.{Position}
+use Rattle.myi_chain.specs.declared.step.RowBuffer.{RowBuffer}
+use Rattle.myi_chain.specs.Chain.{range_of, ranges, row_bytes, first_link, chain_of}
+use Rattle.myi_chain.specs.Readable.{Row, Item, row, free, Step, end_of, skip_by, free_by, past, row_at, row_step, step_of, rows_of}
+use Rattle.myi_chain.specs.Used.{joined, SameFrom, AddsBlocks, NeedsMemory}
+use Rattle.myi_chain.specs.Chain.{placed, ranges_at}
+use Rattle.myi_chain.specs.ScanModel.{MeetsShort, FirstRow}
+use Rattle.myi_chain.specs.Source.{SourceModel, IsReady, ReadsOn, read_bytes, read_blocks, AreRead, first_by}
+use Rattle.myi_chain.specs.Found.{is_short, found_at, found_bytes, found_blocks, found_row, found_items, met_from, NoRowAt, FindsRow, IsPassed, IsFree, HoldsItem, met_at, MeetsShortAt}
+use Rattle.myi_chain.proofs.BlockLemmas.{blocks_read}
 use Rattle.myi_chain.proofs.CodeLemmas.{placed_ranges}
 use Rattle.myi_chain.proofs.ChainLemmas.{chain_sound}
-use Rattle.myi_chain.proofs.CountLemmas.{IsBlock, chain_blocks}
-use Rattle.myi_chain.proofs.SameLemmas.{same_of, rest_same}
-use Rattle.myi_chain.proofs.ReadableLemmas.{step_after, rest_step}
+use Rattle.myi_chain.proofs.ReadableLemmas.{first_block, rest_step, rest_end}
+use Rattle.myi_chain.proofs.JoinedLemmas.{front_apart, front_end, rest_from}
+use Rattle.myi_chain.proofs.FollowLemmas.{first_is, chain_last, first_place}
+use Rattle.myi_chain.proofs.JoinLemmas.{chain_read}
+use Rattle.myi_chain.proofs.SourceLemmas.{same_bytes, long_bytes}
 
-pub passed_met : (read : Reading) (p : ℕ) (taken : List (ℕ × ℕ)) (joined : List ℕ) (o : Option Item) (m : Met) → IsPassed p o m → IsMet read p taken joined o m
-passed_met read p taken joined o met.Passed h = h
-passed_met read p taken joined o (met.Free size) h = h
-passed_met read p taken joined None met.Row h = absurd h
-passed_met read p taken joined (Some (free a)) met.Row h = absurd h
-passed_met read p taken joined (Some (row r)) met.Row h = absurd h
+-- ---- the row that starts with a block
 
-module _ (extend : Bool) (read : Reading) (accepts : List ℕ → Bool) (p : ℕ) (used : List Range) where
-  pub step_over : (taken : List (ℕ × ℕ)) (joined : List ℕ) (e : ℕ) (now : List Range) → e ≡ end_of p used → p < e → now ≡ used → IsStepped read (step_of extend read accepts p used) p e now taken joined met.Passed
+last_by : (l : Link) (h : Header) → is_short l h ≡ true → l ≡ Last
+last_by Broken h e = absurd cc
+last_by Last h e = refl
+last_by More h e = absurd cc
+
+module _ (x : List ℕ) (used : List Range) (h : Header) (here : HeadsBlock x (Some h) (block_of x h.head.at)) where
+  pub short_row : (l : Link) (bytes : List ℕ) → l ≡ first_by h used → is_short l h ≡ true → here.0.bytes ≡ bytes
+      → (bs : List Block) × (chain_of (block_of x) h.head.at used ≡ Some bs) × (placed bs ≡ (h.head.at, h.head.size) ∷ []) × (row_bytes bs ≡ bytes)
+  short_row l bytes is short same =
+      let b = here.0 in (
+        b ∷ [],
+        chain_last (block_of x) h.head.at used b here.1 (sym (first_is x h b used here.2) ∙ sym is ∙ last_by l h short),
+        ap (λ (q : ℕ × ℕ). q ∷ []) (first_place x (block_of x) used h here),
+        append-nil b.bytes ∙ same,
+      )
+
+chain_there : (taken : List (ℕ × ℕ)) (o : Option (List Block)) → option_map placed o ≡ Some taken → (bs : List Block) × (o ≡ Some bs) × (taken ≡ placed bs)
+chain_there taken None e = absurd cc
+chain_there taken (Some bs) e = let same : placed bs ≡ taken = cc in (bs, refl, sym same)
+
+pub long_row : (x : List ℕ) (p : ℕ) (used : List Range) (accepts : List ℕ → Bool) (taken : List (ℕ × ℕ)) (bytes : List ℕ) (is : Bool) → option_map placed (chain_of (block_of x) p used) ≡ Some taken
+    → ((bs : List Block) → taken ≡ placed bs → AreRead (block_of x) bs → (is ≡ accepts (row_bytes bs)) × (bytes ≡ row_bytes bs))
+    → (bs : List Block) × (chain_of (block_of x) p used ≡ Some bs) × (placed bs ≡ taken) × (row_bytes bs ≡ bytes) × (is ≡ accepts (row_bytes bs))
+long_row x p used accepts taken bytes is followed told =
+    let t = chain_there taken (chain_of (block_of x) p used) followed in
+    let j = told t.0 t.2 (chain_read x p used t.0 t.1) in
+    (t.0, t.1, sym t.2, sym j.1, j.0)
+
+pub no_row : (accepts : List ℕ → Bool) (o : Option (List Block)) (bs : List Block) → o ≡ Some bs → accepts (row_bytes bs) ≡ false → NoRowAt accepts o
+no_row accepts o bs is refused = subst (NoRowAt accepts) (sym is) refused
+
+-- ---- one step
+
+joined_under : (p : ℕ) → end_of p (joined p) ≡ 0
+joined_under zero = refl
+joined_under (suc p) = front_end (suc p) (suc p) (omega arith)
+
+module _ (x : List ℕ) (extend : Bool) (accepts : List ℕ → Bool) (p : ℕ) (used : List Range) (under : p < length x) where
+  at_min : (to : ℕ) (now u : List Range) → SameFrom (min to (length x)) now u → met_from extend accepts x (min to (length x)) now ≡ met_from extend accepts x to u
+  at_min to now u same = elim (cases_lt to (length x)) [
+    | inl before ↦
+        let here : min to (length x) ≡ to = omega arith in
+        rest_from (block_of x) (length x) (blocks_read x) (min to (length x)) extend accepts (min to (length x)) now u (omega arith) same ∙ ap (λ n. met_from extend accepts x n u) here
+    | inr behind ↦
+        rest_end (block_of x) (length x) (blocks_read x) extend accepts (min to (length x)) now (omega arith) ∙ sym (rest_end (block_of x) (length x) (blocks_read x) extend accepts to u behind)
+  ]
+
+  after : (s : Step) (next : ℕ) (now : List Range) → step_of extend (block_of x) accepts p used ≡ s → next ≡ min s.to (length x) → SameFrom next now s.used → met_from extend accepts x p used ≡ option_to_list s.item ++ met_from extend accepts x next now
+  after s next now is to same =
+      let more = at_min s.to now s.used (subst (λ n. SameFrom n now s.used) to same) in
+      rest_step (block_of x) (length x) (blocks_read x) extend accepts p used under ∙ ap (λ (s : Step). option_to_list s.item ++ met_from extend accepts x s.to s.used) is ∙ ap (λ (is : List Item). option_to_list s.item ++ is) (sym more ∙ ap (λ n. met_from extend accepts x n now) (sym to))
+
+  from_self : (n : ℕ) → SameFrom n used used
+  from_self n = record { apart = λ r byte. refl; ends = λ q later. refl }
+
+  pub over_used : (e next : ℕ) → e ≡ max p (end_of p used) → p < e → next ≡ min e (length x) → met_from extend accepts x p used ≡ met_from extend accepts x next used
   unfolding step_of
-  step_over taken joined e now same h keep =
-      let t : nat_lt p (end_of p used) ≡ true = lt-ltb _ _ (omega arith) in rw t (record { item = tt; to = same; used = same_of now used keep })
+  over_used e next same later to =
+      let test : nat_lt p (end_of p used) ≡ true = lt-ltb _ _ (omega arith) in
+      after (record { item = None; to = end_of p used; used = used }) next used (rw test refl) (omega arith) (from_self next)
 
-  step_under : end_of p used ≤ p → step_of extend read accepts p used ≡ row_step extend read accepts p used (chain_of read p used)
+  step_under : end_of p used ≤ p → step_of extend (block_of x) accepts p used ≡ row_step extend (block_of x) accepts p used (chain_of (block_of x) p used)
   unfolding step_of
-  step_under h = let t : nat_lt p (end_of p used) ≡ false = le-ltb _ _ h in rw t refl
+  step_under low = let test : nat_lt p (end_of p used) ≡ false = le-ltb _ _ low in rw test refl
 
-  no_chain : read p ≡ None → chain_of read p used ≡ None
+  no_chain : block_of x p ≡ None → chain_of (block_of x) p used ≡ None
   unfolding chain_of
   no_chain e = rw e refl
 
-  pub step_empty : (taken : List (ℕ × ℕ)) (joined : List ℕ) (next : ℕ) (now : List Range) → end_of p used ≤ p → read p ≡ None → next ≡ p + 4 → now ≡ used → IsStepped read (step_of extend read accepts p used) p next now taken joined met.Passed
-  step_empty taken joined next now h e to keep =
-      let none = no_chain e in
-      rw (step_under h, none, e) (record { item = tt; to = to; used = same_of now used keep })
+  refused : (o : Option (List Block)) → NoRowAt accepts o → row_step extend (block_of x) accepts p used o ≡ past extend (block_of x) p used
+  refused None none = refl
+  refused (Some []) none = refl
+  refused (Some (b ∷ bs)) none = rw none refl
 
-  refused : (o : Option (List Block)) → NoRowHere read accepts p used o → row_step extend read accepts p used o ≡ past extend read p used
-  refused None h = refl
-  refused (Some []) h = refl
-  refused (Some (b ∷ bs)) h = rw h refl
+  past_at : end_of p used ≤ p → NoRowAt accepts (chain_of (block_of x) p used) → (o : Option Block) → block_of x p ≡ o → step_of extend (block_of x) accepts p used ≡ record { item = free_by extend o; to = p + skip_by extend o; used = used }
+  past_at low none o here = step_under low ∙ refused (chain_of (block_of x) p used) none ∙ (rw here refl)
 
-  pub step_past : (taken : List (ℕ × ℕ)) (joined : List ℕ) (b : Block) (skip next : ℕ) (m : Met) (now : List Range) → end_of p used ≤ p → NoRowHere read accepts p used (chain_of read p used) → read p ≡ Some b → skip ≡ skip_by extend (Some b) → IsPassed p (free_by extend (Some b)) m → next ≡ p + skip → now ≡ used → IsStepped read (step_of extend read accepts p used) p next now taken joined m
-  step_past taken joined b skip next m now h none here far goes to keep =
-      let is : step_of extend read accepts p used ≡ past extend read p used = step_under h ∙ refused (chain_of read p used) none in
-      rw (is, here) (record { item = passed_met read p taken joined _ m goes; to = to ∙ ap (λ x. p + x) far; used = same_of now used keep })
+  pub over_none : (next : ℕ) → end_of p used ≤ p → block_of x p ≡ None → next ≡ p + min 4 (length x - p) → met_from extend accepts x p used ≡ met_from extend accepts x next used
+  over_none next low none to =
+      let chain = no_chain none in
+      after (record { item = None; to = p + 4; used = used }) next used (past_at low (subst (NoRowAt accepts) (sym chain) tt) None none) (omega arith) (from_self next)
 
-  pub step_found : (taken : List (ℕ × ℕ)) (joined : List ℕ) (b : Block) (next : ℕ) (now : List Range) → end_of p used ≤ p → IsRowHere read accepts p used taken joined → read p ≡ Some b → next ≡ p + b.size → SameUsed now (used ++ ranges_at taken) → IsStepped read (step_of extend read accepts p used) p next now taken joined met.Row
-  step_found taken joined b next now h r here to same =
-      let f = r.first in
-      let bs = f ∷ r.more in
-      let packs = r.packs in
-      let is : step_of extend read accepts p used ≡ record { item = Some (row (row_at p bs)); to = p + f.size; used = used ++ ranges bs } = step_under h ∙ ap (row_step extend read accepts p used) r.chain ∙ (rw packs refl) in
-      let one : Some b ≡ Some f = sym here ∙ r.here in
-      let first : b ≡ f = cc in
-      let adds : ranges_at taken ≡ ranges bs = ap ranges_at r.blocks ∙ placed_ranges bs in
-      rw is (record {
-        item = record { first = f; more = r.more; row = refl; here = r.here; blocks = r.blocks; joins = r.joins };
-        to = to ∙ ap (λ (x : Block). p + x.size) first;
-        used = subst (λ (x : List Range). SameUsed now (used ++ x)) adds same;
-      })
+  pub over_block : (next skip : ℕ) (h : Header) (f : Option Found) (e : Excerpt) (taken : List (ℕ × ℕ)) (bytes : List ℕ) → end_of p used ≤ p → HeadsBlock x (Some h) (block_of x p) → NoRowAt accepts (chain_of (block_of x) p used) → IsPassed extend h skip f → next ≡ p + min skip (length x - p)
+      → met_from extend accepts x p used ≡ found_items e taken bytes f ++ met_from extend accepts x next used
+  over_block next skip h f e taken bytes low here none passed to =
+      let b = here.0 in
+      let over = passed b here.2.head in
+      after (record { item = free_by extend (Some b); to = p + skip_by extend (Some b); used = used }) next used (past_at low none (Some b) here.1) (omega (arith, to, over.0)) (from_self next)
+      ∙ ap (λ (is : List Item). is ++ met_from extend accepts x next used) (sym (over.1 e taken bytes))
 
-pub told_row : (read : Reading) (accepts : List ℕ → Bool) (p : ℕ) (used : List Range) (taken : List (ℕ × ℕ)) (joined : List ℕ) (b : Bool) → b ≡ true → Tells read accepts p used taken joined b → IsRowHere read accepts p used taken joined
-told_row read accepts p used taken joined true e t = t
-told_row read accepts p used taken joined false e t = absurd cc
+  pub found_at_place : (next : ℕ) (now : List Range) (h : Header) (r : FoundRow) (e : Excerpt) (taken : List (ℕ × ℕ)) (bytes : List ℕ) → end_of p used ≤ p → HeadsBlock x (Some h) (block_of x p) → FindsRow accepts e taken bytes (chain_of (block_of x) p used) (Some r) → accepts (found_bytes e bytes r) ≡ true → found_at r ≡ p → AddsBlocks used (found_blocks taken r) now → next ≡ p + h.head.size
+      → met_from extend accepts x p used ≡ row (found_row e taken bytes r) ∷ met_from extend accepts x next now
+  found_at_place next now h r e taken bytes low here finds packs place adds to = by_blocks finds.0 finds.1 finds.2 finds.3
+    where
+      by_blocks : (bs : List Block) → chain_of (block_of x) p used ≡ Some bs → placed bs ≡ found_blocks taken r → row_bytes bs ≡ found_bytes e bytes r → met_from extend accepts x p used ≡ row (found_row e taken bytes r) ∷ met_from extend accepts x next now
+      by_blocks [] chain blocks same = absurd (chain_sound (block_of x) p used [] chain).linked
+      by_blocks (b ∷ bs) chain blocks same =
+          let read : block_of x p ≡ Some b = first_block (block_of x) p used b bs (chain_sound (block_of x) p used (b ∷ bs) chain) in
+          let one : here.0 ≡ b = let s : Some here.0 ≡ Some b = sym here.1 ∙ read in cc in
+          let size : b.size ≡ h.head.size = subst (λ c. c.size ≡ h.head.size) one (ap (λ k. k.size) here.2.head) in
+          let stands = blocks_read x p b read in
+          let at : b.at ≡ p = stands.at in
+          let accepted : accepts (row_bytes (b ∷ bs)) ≡ true = ap accepts same ∙ packs in
+          let is : step_of extend (block_of x) accepts p used ≡ record { item = Some (row (row_at p (b ∷ bs))); to = p + b.size; used = used ++ ranges (b ∷ bs) } = step_under low ∙ ap (row_step extend (block_of x) accepts p used) chain ∙ (rw accepted refl) in
+          let added : SameFrom (b.at + b.size) now (used ++ ranges_at (placed (b ∷ bs))) = (subst (λ q. AddsBlocks used q now) (sym blocks) adds).0 in
+          let goes : next ≡ b.at + b.size = omega (arith, to, at, size) in
+          let kept : SameFrom next now (used ++ ranges (b ∷ bs)) = subst (λ u. SameFrom next now (used ++ u)) (placed_ranges (b ∷ bs)) (subst (λ n. SameFrom n now (used ++ ranges_at (placed (b ∷ bs)))) (sym goes) added) in
+          let item : row_at p (b ∷ bs) ≡ found_row e taken bytes r = row_is (sym place) same (sym (placed_ranges (b ∷ bs)) ∙ ap ranges_at blocks) in
+          after (record { item = Some (row (row_at p (b ∷ bs))); to = p + b.size; used = used ++ ranges (b ∷ bs) }) next now is (omega (arith, to, size, stands.inside)) kept ∙ ap (λ (q : Row). row q ∷ met_from extend accepts x next now) item
+        where
+          row_is : {a c : ℕ} {u v : List ℕ} {s t : List Range} → a ≡ c → u ≡ v → s ≡ t → ◌≡◌ {A = Row} (record { at = a; bytes = u; blocks = s }) (record { at = c; bytes = v; blocks = t })
+          row_is i j k = rw (i, j, k) refl
 
-pub told_none : (read : Reading) (accepts : List ℕ → Bool) (p : ℕ) (used : List Range) (taken : List (ℕ × ℕ)) (joined : List ℕ) (b : Bool) → b ≡ false → Tells read accepts p used taken joined b → NoRowHere read accepts p used (chain_of read p used)
-told_none read accepts p used taken joined true e t = absurd cc
-told_none read accepts p used taken joined false e t = t
+-- ---- a row in one block that a window can hold
 
--- ---- the ranges of a row's blocks
+module _ (x : List ℕ) (accepts : List ℕ → Bool) (p : ℕ) (used : List Range) (meets : MeetsShort accepts x p used) where
+  pub short_under : end_of p used ≡ 0
+  short_under = ap (end_of p) meets.plain ∙ joined_under p
 
-row_is_range : (len : ℕ) (rs : List Range) → len < 2 ^ 64 → AllByRecursion (IsBlock len) rs → AllByRecursion IsRange rs
-row_is_range len [] small h = tt
-row_is_range len (r ∷ rs) small h = ((omega (arith, h.0.0), omega (arith, h.0.1, small)), row_is_range len rs small h.1)
+  pub short_over : (e : ℕ) → e ≡ max p (end_of p used) → p < e → ⊥
+  short_over e same later = absurd (omega (arith, same, later, short_under))
 
-pub row_apart : (read : Reading) (accepts : List ℕ → Bool) (p : ℕ) (used : List Range) (taken : List (ℕ × ℕ)) (joined : List ℕ) → IsRowHere read accepts p used taken joined → AreApart used (ranges_at taken)
-row_apart read accepts p used taken joined r =
-    let bs = r.first ∷ r.more in
-    subst (AreApart used) (sym (ap ranges_at r.blocks ∙ placed_ranges bs)) (chain_sound read p used bs r.chain).apart
+  pub short_none : block_of x p ≡ None → ⊥
+  short_none none = let no : None ≡ Some meets.block = sym none ∙ meets.whole.here in cc
 
-pub row_filled : (read : Reading) (len : ℕ) (stands : IsReading read len) → len < 2 ^ 64 → (accepts : List ℕ → Bool) (p : ℕ) (used : List Range) (taken : List (ℕ × ℕ)) (joined : List ℕ) → IsRowHere read accepts p used taken joined → AllByRecursion IsRange (ranges_at taken)
-row_filled read len stands small accepts p used taken joined r =
-    let bs = r.first ∷ r.more in
-    subst (AllByRecursion IsRange) (sym (ap ranges_at r.blocks ∙ placed_ranges bs)) (row_is_range len (ranges bs) small (chain_blocks read len stands p bs (chain_sound read p used bs r.chain).linked))
+  short_first : first_link meets.block used ≡ Last
+  short_first =
+      let kind = meets.whole.kind in
+      let some : nat_lt 0 (length meets.block.bytes) ≡ true = lt-ltb _ _ meets.whole.some in
+      let all : (length meets.block.bytes == meets.block.rec_len) ≡ true = eq-eqb _ _ meets.whole.all in
+      let at : meets.block.at ≡ p = (blocks_read x p meets.block meets.whole.here).at in
+      let least = (blocks_read x p meets.block meets.whole.here).least in
+      let apart : is_apart (range_of meets.block) used ≡ true = ap (is_apart (range_of meets.block)) meets.plain ∙ front_apart p meets.block.at (meets.block.at + meets.block.size) (omega arith) ∙ le-leb _ _ (omega (arith, at)) in
+      rw (kind, some, apart, all) refl
 
--- ---- what is left after a step
+  short_chain : chain_of (block_of x) p used ≡ Some (meets.block ∷ [])
+  short_chain = chain_last (block_of x) p used meets.block meets.whole.here short_first
 
-module _ (read : Reading) (len : ℕ) (stands : IsReading read len) (extend : Bool) (accepts : List ℕ → Bool) (p : ℕ) (used : List Range) (under : p < len) (next : ℕ) (now : List Range) (taken : List (ℕ × ℕ)) (joined : List ℕ) where
-  pub moves_on : (m : Met) → IsStepped read (step_of extend read accepts p used) p next now taken joined m → p < next
-  moves_on m s = omega (arith, step_after read len stands extend accepts p used, s.to)
+  short_packs : accepts (row_bytes (meets.block ∷ [])) ≡ true
+  short_packs = ap accepts (append-nil meets.block.bytes) ∙ meets.whole.packs
 
-  after_step : (m : Met) → IsStepped read (step_of extend read accepts p used) p next now taken joined m → rest extend read len accepts p used ≡ option_to_list (step_of extend read accepts p used).item ++ rest extend read len accepts next now
-  after_step m s =
-      let same = rest_same extend read len accepts next now (step_of extend read accepts p used).used s.used in
-      let to : rest extend read len accepts next (step_of extend read accepts p used).used ≡ rest extend read len accepts (step_of extend read accepts p used).to (step_of extend read accepts p used).used = ap (λ x. rest extend read len accepts x (step_of extend read accepts p used).used) s.to in
-      rest_step read len stands extend accepts p used under ∙ ap (λ x. option_to_list (step_of extend read accepts p used).item ++ x) (sym (same ∙ to))
+  pub short_refused : NoRowAt accepts (chain_of (block_of x) p used) → ⊥
+  short_refused none =
+      let refused : accepts (row_bytes (meets.block ∷ [])) ≡ false = subst (NoRowAt accepts) short_chain none in
+      let both : true ≡ false = sym short_packs ∙ refused in
+      cc
 
-  passed_item : (o : Option Item) → IsPassed p o met.Passed → o ≡ None
-  passed_item None h = refl
-  passed_item (Some (free a)) h = absurd h
-  passed_item (Some (row r)) h = absurd h
+  pub short_is : (h : Header) → HeadsBlock x (Some h) (block_of x p) → is_short (first_by h used) h ≡ true
+  short_is h here =
+      let one : here.0 ≡ meets.block = let s : Some here.0 ≡ Some meets.block = sym here.1 ∙ meets.whole.here in cc in
+      let heads : Heads x h meets.block = subst (λ b. Heads x h b) one here.2 in
+      let link : first_by h used ≡ Last = first_is x h meets.block used heads ∙ short_first in
+      let size : meets.block.size ≡ h.head.size = ap (λ k. k.size) heads.head in
+      ap (λ l. is_short l h) link ∙ le-leb _ _ (omega (arith, size, meets.short))
 
-  free_item : (o : Option Item) (size : ℕ) → IsPassed p o (met.Free size) → o ≡ Some (free (p, p + size))
-  free_item None size h = absurd h
-  free_item (Some (free a)) size h = ap (λ x. Some (free x)) h
-  free_item (Some (row r)) size h = absurd h
+  short_blocks : (bs : List Block) → chain_of (block_of x) p used ≡ Some bs → bs ≡ meets.block ∷ []
+  short_blocks bs is = let s : Some bs ≡ Some (meets.block ∷ []) = sym is ∙ short_chain in cc
 
-  row_item : (o : Option Item) → IsRowItem read p taken joined o → (r : Row) × (o ≡ Some (row r)) × IsRowOfBlocks read p taken joined r
-  row_item None h = absurd h
-  row_item (Some (free a)) h = absurd h
-  row_item (Some (row r)) h = (r, refl, h)
+  found_one : (r : FoundRow) (e : Excerpt) (taken : List (ℕ × ℕ)) (bytes : List ℕ) → FindsRow accepts e taken bytes (chain_of (block_of x) p used) (Some r) → found_blocks taken r ≡ (meets.block.at, meets.block.size) ∷ []
+  found_one r e taken bytes finds = sym finds.2 ∙ ap placed (short_blocks finds.0 finds.1)
 
-  pub passes : (m : Met) → m ≡ met.Passed → IsStepped read (step_of extend read accepts p used) p next now taken joined m → rest extend read len accepts next now ≡ rest extend read len accepts p used
-  passes m e t =
-      let s = subst (IsStepped read (step_of extend read accepts p used) p next now taken joined) e t in
-      let none = passed_item (step_of extend read accepts p used).item s.item in
-      sym (after_step met.Passed s ∙ ap (λ x. option_to_list x ++ rest extend read len accepts next now) none)
+  old_joined : used ≡ joined meets.block.at
+  old_joined = meets.plain ∙ ap joined (sym (blocks_read x p meets.block meets.whole.here).at)
 
-  pub meets_free : (m : Met) (size : ℕ) → m ≡ met.Free size → IsStepped read (step_of extend read accepts p used) p next now taken joined m → rest extend read len accepts p used ≡ free (p, p + size) ∷ rest extend read len accepts next now
-  meets_free m size e t =
-      let s = subst (IsStepped read (step_of extend read accepts p used) p next now taken joined) e t in
-      let one = free_item (step_of extend read accepts p used).item size s.item in
-      after_step (met.Free size) s ∙ ap (λ x. option_to_list x ++ rest extend read len accepts next now) one
+  pub short_adds : (next : ℕ) (now : List Range) (h : Header) (r : FoundRow) (e : Excerpt) (taken : List (ℕ × ℕ)) (bytes : List ℕ) → HeadsBlock x (Some h) (block_of x p) → FindsRow accepts e taken bytes (chain_of (block_of x) p used) (Some r) → AddsBlocks used (found_blocks taken r) now → next ≡ p + h.head.size → now ≡ joined next
+  short_adds next now h r e taken bytes here finds adds to =
+      let one : here.0 ≡ meets.block = let s : Some here.0 ≡ Some meets.block = sym here.1 ∙ meets.whole.here in cc in
+      let size : meets.block.size ≡ h.head.size = subst (λ c. c.size ≡ h.head.size) one (ap (λ k. k.size) here.2.head) in
+      let at : meets.block.at ≡ p = (blocks_read x p meets.block meets.whole.here).at in
+      (subst (λ q. AddsBlocks used q now) (found_one r e taken bytes finds) adds).1 old_joined refl ∙ ap joined (omega (arith, to, at, size))
 
-  pub meets_row : (m : Met) → m ≡ met.Row → IsStepped read (step_of extend read accepts p used) p next now taken joined m → (r : Row) × (rest extend read len accepts p used ≡ row r ∷ rest extend read len accepts next now) × IsRowOfBlocks read p taken joined r
-  meets_row m e t =
-      let s = subst (IsStepped read (step_of extend read accepts p used) p next now taken joined) e t in
-      let one = row_item (step_of extend read accepts p used).item s.item in
-      (one.0, after_step met.Row s ∙ ap (λ x. option_to_list x ++ rest extend read len accepts next now) one.1, one.2)
+  pub short_needs : (r : FoundRow) (e : Excerpt) (taken : List (ℕ × ℕ)) (bytes : List ℕ) → FindsRow accepts e taken bytes (chain_of (block_of x) p used) (Some r) → NeedsMemory used (found_blocks taken r) → ⊥
+  short_needs r e taken bytes finds needs = subst (NeedsMemory used) (found_one r e taken bytes finds) needs old_joined refl
 
-  pub goes_by : (m : Met) → is_row m ≡ false → IsStepped read (step_of extend read accepts p used) p next now taken joined m
-      → (rows_of (rest extend read len accepts next now) ≡ rows_of (rest extend read len accepts p used)) × (behind_row (rest extend read len accepts next now) ≡ behind_row (rest extend read len accepts p used))
-  goes_by met.Passed e s = let same = passes met.Passed refl s in (ap rows_of same, ap behind_row same)
-  goes_by (met.Free size) e s = let same = sym (meets_free (met.Free size) size refl s) in (ap rows_of same, ap behind_row same)
-  goes_by met.Row e s = absurd cc
+-- ---- what a call told, said of the file as it was read before
 
-  pub comes_to : (m : Met) → is_row m ≡ true → IsStepped read (step_of extend read accepts p used) p next now taken joined m → IsFoundRow read taken joined (rest extend read len accepts p used) (rest extend read len accepts next now) (Some p)
-  comes_to met.Passed e s = absurd cc
-  comes_to (met.Free size) e s = absurd cc
-  comes_to met.Row e s = let t = meets_row met.Row refl s in (t.0, ap rows_of t.1, ap behind_row t.1, t.2)
+pub if_err : {T E : Type 0} (r : Result T E) (P : E → Type 0) → ((e : E) → P e) → IfErr r P
+if_err (Ok v) P each = tt
+if_err (Err e) P each = each e
+
+pub heads_now : (h k : Option Holding) (old mid : SourceModel) (at : ℕ) (o : Option Header) (b : Header) → k ≡ h → ReadsOn h old mid → o ≡ Some b → b.head.at ≡ at → IfTold h (λ m. HeadsBlock (read_bytes old m) o (read_blocks old m at)) → IfTold k (λ m. HeadsBlock (read_bytes mid m) (Some b) (read_blocks mid m b.head.at))
+heads_now h k old mid at o b same on is here told m held =
+    subst (λ p. HeadsBlock (read_bytes mid m) (Some b) (read_blocks mid m p)) (sym here) (subst (λ o. HeadsBlock (read_bytes mid m) o (read_blocks mid m at)) is (subst (λ (x : List ℕ). HeadsBlock x o (block_of x at)) (sym (same_bytes h old mid m on)) (told m (sym same ∙ held))))
+
+pub finds_here : (h : Option Holding) (old mid : SourceModel) (m : Holding) (at p : ℕ) (used : List Range) (accepts : List ℕ → Bool) (e : Excerpt) (taken : List (ℕ × ℕ)) (bytes : List ℕ) (f g : Option FoundRow) → ReadsOn h old mid → at ≡ p → f ≡ g → FindsRow accepts e taken bytes (chain_of (read_blocks mid m) at used) f → FindsRow accepts e taken bytes (chain_of (block_of (read_bytes old m)) p used) g
+finds_here h old mid m at p used accepts e taken bytes f g on here is told =
+    subst (λ (x : List ℕ). FindsRow accepts e taken bytes (chain_of (block_of x) p used) g) (same_bytes h old mid m on) (subst (λ q. FindsRow accepts e taken bytes (chain_of (read_blocks mid m) q used) g) here (subst (λ f. FindsRow accepts e taken bytes (chain_of (read_blocks mid m) at used) f) is told))
+
+pub free_held : (accepts : List ℕ → Bool) (s : SourceModel) (r : RowBuffer) (f : Option Found) → IfSome f IsFree → IfSome f (HoldsItem accepts s r)
+free_held accepts s r None is = tt
+free_held accepts s r (Some (found.Row q)) is = absurd is
+free_held accepts s r (Some (found.Free at size)) is = tt
+
+-- nothing is met at the end
+pub met_end : (extend : Bool) (accepts : List ℕ → Bool) (s : SourceModel) (p : Position) (m : Holding) → IsReady s m → s.end ≤ p.place → met_at extend accepts s p m ≡ []
+met_end extend accepts s p m ready ended = rest_end (read_blocks s m) (length (read_bytes s m)) (blocks_read (read_bytes s m)) extend accepts p.place p.used (omega (arith, long_bytes s m ready))
+
+-- the same is met in the file that is read on
+pub met_same : (h : Option Holding) (extend : Bool) (accepts : List ℕ → Bool) (old mid : SourceModel) (p : Position) (m : Holding) → ReadsOn h old mid → met_at extend accepts mid p m ≡ met_at extend accepts old p m
+met_same h extend accepts old mid p m on = ap (λ x. met_from extend accepts x p.place p.used) (same_bytes h old mid m on)
+
+pub meets_same : (h : Option Holding) (accepts : List ℕ → Bool) (old mid : SourceModel) (p : Position) (m : Holding) → ReadsOn h old mid → MeetsShortAt accepts old p m → MeetsShortAt accepts mid p m
+meets_same h accepts old mid p m on meets = subst (λ x. MeetsShort accepts x p.place p.used) (sym (same_bytes h old mid m on)) meets
+
+-- no short row is met at the end
+pub short_ended : (accepts : List ℕ → Bool) (s : SourceModel) (p : Position) (m : Holding) → IsReady s m → s.end ≤ p.place → MeetsShortAt accepts s p m → ⊥
+short_ended accepts s p m ready ended meets =
+    let stands = blocks_read (read_bytes s m) p.place meets.block meets.whole.here in
+    absurd (omega (arith, stands.inside, stands.least, long_bytes s m ready))
+
+-- ---- deleted blocks that are passed on the way to a row
+
+rows-append : (is js : List Item) → rows_of (is ++ js) ≡ rows_of is ++ rows_of js
+rows-append [] js = refl
+rows-append (row r ∷ is) js = ap (λ (rs : List Row). r ∷ rs) (rows-append is js)
+rows-append (free a ∷ is) js = rows-append is js
+
+-- only deleted blocks come before the rest of a list
+abbrev pub OverFrees : List Item → List Item → Type 0
+OverFrees before after = (frees : List Item) × (rows_of frees ≡ []) × (before ≡ frees ++ after)
+
+pub over_same : (a b : List Item) → a ≡ b → OverFrees a b
+over_same a b e = ([], refl, e)
+
+pub over_free : (a b c : List Item) (r : Range) → OverFrees a b → b ≡ free r ∷ c → OverFrees a c
+over_free a b c r over is = (over.0 ++ free r ∷ [], rows-append over.0 (free r ∷ []) ∙ ap (λ (rs : List Row). rs ++ []) over.1, over.2 ∙ ap (λ (xs : List Item). over.0 ++ xs) is ∙ sym (append_assoc over.0 (free r ∷ []) c))
+
+pub over_row : (a b c : List Item) (r : Row) → OverFrees a b → b ≡ row r ∷ c → FirstRow r a c
+over_row a b c r over is = (over.0, over.1, over.2 ∙ ap (λ (xs : List Item). over.0 ++ xs) is)
+
+pub over_end : (a b : List Item) → OverFrees a b → b ≡ [] → rows_of a ≡ []
+over_end a b over is = ap rows_of (over.2 ∙ ap (λ (xs : List Item). over.0 ++ xs) is) ∙ rows-append over.0 [] ∙ append-nil (rows_of over.0) ∙ over.1

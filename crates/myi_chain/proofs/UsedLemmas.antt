@@ -14,7 +14,7 @@ lower low high (r ∷ rs) le h = (omega (arith, h.0), h.1, h.2)
 
 -- ---- the last before a place
 
-abbrev or_else : Option Range → Option Range → Option Range
+abbrev pub or_else : Option Range → Option Range → Option Range
 or_else None o = o
 or_else (Some r) o = Some r
 
@@ -30,19 +30,19 @@ last_of-cons r (s ∷ t ∷ rs) = some_more (last_of (s ∷ t ∷ rs)) s (last_o
     some_more : (o : Option Range) (s : Range) → o ≡ or_else (last_of (t ∷ rs)) (Some s) → o ≡ or_else o (Some r)
     some_more o s e = rw e (sym (some_or (last_of (t ∷ rs)) s))
 
-before-none : (end low : ℕ) (rs : List Range) → AreInOrder low rs → end ≤ low → last_before end rs ≡ None
+pub before-none : (end low : ℕ) (rs : List Range) → AreInOrder low rs → end ≤ low → last_before end rs ≡ None
 before-none end low [] h le = refl
 before-none end low (r ∷ rs) h le =
     let f : nat_lt r.0 end ≡ false = le-ltb _ _ (omega (arith, h.0)) in
     let more = before-none end r.1 rs h.2 (omega (arith, h.0, h.1)) in
     rw f more
 
-before-some : (end : ℕ) (r : Range) (rs : List Range) → r.0 < end → last_before end (r ∷ rs) ≡ or_else (last_before end rs) (Some r)
+pub before-some : (end : ℕ) (r : Range) (rs : List Range) → r.0 < end → last_before end (r ∷ rs) ≡ or_else (last_before end rs) (Some r)
 before-some end r rs h =
     let t : nat_lt r.0 end ≡ true = lt-ltb _ _ h in
     rw t (last_of-cons r (filter (λ (x : Range). nat_lt x.0 end) rs))
 
-before-later : (end low : ℕ) (rs : List Range) (x : Range) → AreInOrder low rs → last_before end rs ≡ Some x → (low ≤ x.0) × (x.0 < x.1)
+pub before-later : (end low : ℕ) (rs : List Range) (x : Range) → AreInOrder low rs → last_before end rs ≡ Some x → (low ≤ x.0) × (x.0 < x.1)
 before-later end low [] x h e = absurd cc
 before-later end low (r ∷ rs) x h e = by_order (λ k. before-later end r.1 rs x h.2 k) (cases_lt r.0 end)
   where

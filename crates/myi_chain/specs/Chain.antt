@@ -30,6 +30,14 @@ range_of b = (b.at, b.at + b.size)
 abbrev pub ranges : List Block → List Range
 ranges bs = map range_of bs
 
+-- the place and the size of each block
+abbrev pub placed : List Block → List (ℕ × ℕ)
+placed bs = map (λ b. (b.at, b.size)) bs
+
+-- the ranges of blocks at places, of sizes
+abbrev pub ranges_at : List (ℕ × ℕ) → List Range
+ranges_at bs = map (λ b. (b.0, b.0 + b.1)) bs
+
 -- the bytes of the row, one block after the other
 abbrev pub row_bytes : List Block → List ℕ
 row_bytes bs = flat_map (λ b. b.bytes) bs

@@ -12,11 +12,13 @@ pub mod Laid
 pub mod Parts
 -- the bytes of a row that is answered
 pub mod Pieces
--- what a scan is, and what its calls answer
-pub mod Scanning
+-- what a scan is, what is left of its file, and what its calls leave
+pub mod ScanModel
+-- used ranges: the one from the file's start, and what a scan can tell of them
+pub mod Used
 -- what serves private contracts
 
--- ranges of blocks that were used
-pub mod Used
--- a chain that is followed
-pub mod Walk
+-- a file that is read through a window, block by block
+pub mod Source
+-- what a scan finds at a place
+pub mod Found

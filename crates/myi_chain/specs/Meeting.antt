@@ -1,5 +1,5 @@
 -- What holds of the readable rows and of the deleted blocks that are passed, said of any reading.
-use Rattle.std.specs.Prelude.{◌≡◌, ◌+◌, ◌≤◌, ℕ, Bool, true, List, [], ◌∷◌, Some}
+use Rattle.std.specs.Prelude.{◌≡◌, ◌+◌, ◌≤◌, ℕ, Bool, true, false, List, [], ◌∷◌, Some}
 use Rattle.std.specs.List.{flat_map}
 use Rattle.myi_base.specs.Ranges.{Range}
 use Rattle.myi_frames.specs.declared.form.FrameKind.TheVariants.{Deleted}
@@ -34,3 +34,7 @@ ranges_of rows = flat_map (λ r. r.blocks) rows
 abbrev pub AreRising : ℕ → List Row → Type 0
 AreRising low [] = Unit {0}
 AreRising low (r ∷ rs) = (low ≤ r.at) × AreRising (r.at + 1) rs
+
+-- no chain at a place packs a row
+abbrev pub HasNoRow : Reading → (List ℕ → Bool) → ℕ → List Range → Type 0
+HasNoRow read accepts p used = (bs : List Block) → IsChain read p used bs → accepts (row_bytes bs) ≡ false

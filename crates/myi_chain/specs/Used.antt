@@ -1,10 +1,18 @@
 -- The used ranges as a scan keeps them: in order, so that the last one that begins before a place answers
 -- for them all.
-use Rattle.std.specs.Prelude.{◌<◌, ◌≤◌, ◌^◌, ◌==◌, ℕ, Bool, true, nat_lt, nat_le, if◌then◌else◌, List, [], ◌∷◌, filter, Option, Some, None}
+use Rattle.std.specs.Prelude.{◌≡◌, ◌⊎◌, ◌+◌, ◌<◌, ◌≤◌, ◌^◌, ◌==◌, ℕ, zero, suc, Bool, true, nat_lt, nat_le, if◌then◌else◌, List, [], ◌∷◌, ◌++◌, filter, Option, Some, None}
 use Rattle.std.specs.Ordering.{nat_cmp}
 use Rattle.std.specs.Map.{remove_entry}
 use Rattle.std.specs.BTreeMap.{is_at}
-use Rattle.myi_base.specs.Ranges.{Range}
+use Rattle.myi_base.specs.Ranges.{Range, is_apart}
+use Rattle.myi_chain.specs.Readable.{end_of}
+use Rattle.myi_chain.specs.Chain.{ranges_at}
+
+-- Used ranges of which nobody can tell a difference: the same ranges are apart from them, and the same
+-- ones begin at each place.
+pub record SameUsed (u v : List Range) : Type 0 where
+  pub apart : (r : Range) → is_apart r u ≡ is_apart r v
+  pub ends : (p : ℕ) → end_of p u ≡ end_of p v
 
 -- a range of at least one byte, at places of eight bytes
 abbrev pub IsRange : Range → Type 0
@@ -43,3 +51,31 @@ end_from at (Some r) = if r.0 == at then r.1 else 0
 abbrev pub without : List Range → List Range → List Range
 without kept [] = kept
 without kept (r ∷ rs) = remove_entry (is_at (nat_cmp r.0)) (without kept rs)
+
+-- ---- one range from the file's start
+
+-- the range from the file's start up to a place, and none where the place is the start
+abbrev pub joined : ℕ → List Range
+joined zero = []
+joined (suc n) = (0, suc n) ∷ []
+
+-- Used ranges of which a scan that goes on from a place can tell no difference: the same ranges of a byte or more are
+-- apart from them, and the same ones begin at each place from there on.
+pub record SameFrom (place : ℕ) (u v : List Range) : Type 0 where
+  pub apart : (r : Range) → r.0 < r.1 → is_apart r u ≡ is_apart r v
+  pub ends : (p : ℕ) → place ≤ p → end_of p u ≡ end_of p v
+
+-- ranges are those of a scan and the blocks of a row that was met, for a scan that goes on behind the first of them
+abbrev pub AddsBlocks : List Range → List (ℕ × ℕ) → List Range → Type 0
+AddsBlocks old [] new = new ≡ old
+AddsBlocks old (b ∷ bs) new = SameFrom (b.0 + b.1) new (old ++ ranges_at (b ∷ bs)) × (old ≡ joined b.0 → bs ≡ [] → new ≡ joined (b.0 + b.1))
+
+-- the blocks are not one that stands where the one used range from the file's start ends
+abbrev pub NeedsMemory : List Range → List (ℕ × ℕ) → Type 0
+NeedsMemory old [] = ⊥
+NeedsMemory old (b ∷ bs) = old ≡ joined b.0 → bs ≡ [] → ⊥
+
+-- the ranges beside the one from the file's start are in order, and none of them begins at the start where there is no such one
+pub record AreBeside (front : ℕ) (others : List Range) : Type 0 where
+  pub order : AreInOrder 0 others
+  pub start : front ≡ 0 → end_of 0 others ≡ 0

@@ -1,19 +1,32 @@
-//! The chain of blocks that holds one row: how it is followed in the bytes of a file.
-ghost use Rattle.std.specs.Prelude.{◌≡◌, true, ℕ, ◌+◌, ◌-◌, ◌<◌, ◌≤◌, ◌^◌, ◌++◌, ◌∷◌, [], length, MatchOption, OnOk, OnErr, IfSome, Some, None, IfOk};
+//! `Chain`: the blocks that hold one row, while they are followed.
+//!
+//! A `Link` says what a block is in a chain, by its header. `begin` takes the first block, `follow` those
+//! behind it, each at the place that the one before it names, and `join` appends the row bytes of the
+//! blocks that were taken to a buffer, once the chain has ended.
+ghost use Rattle.std.specs.Prelude.{◌≡◌, ◌<◌, ◌≤◌, ◌++◌, true, List, length, IfOk};
+ghost use Rattle.myi_base.specs.Holding.{IfTold};
+ghost use Rattle.myi_base.specs.Causes.{HasCause};
 ghost use Rattle.myi_base.specs.Ranges.{is_apart};
-ghost use Rattle.myi_frames.specs.Block.{Block, block_of};
-ghost use Rattle.myi_frames.specs.Seeing.{shown};
-ghost use Rattle.myi_chain.specs.Chain.{range_of, may_take, next_link, first_link, tail};
-ghost use Rattle.myi_chain.specs.Walk.{ranges_at, ending, SameUsed, Ends, Tells};
+ghost use Rattle.myi_frames.specs.Block.{Block};
+ghost use Rattle.myi_chain.specs.declared.piece.ScanFault.TheVariants.{File};
+ghost use Rattle.myi_chain.specs.Chain.{tail, row_bytes};
+ghost use Rattle.myi_chain.specs.Used.{IsRange};
+ghost use Rattle.myi_chain.specs.Chain.{placed, ranges_at};
+ghost use Rattle.myi_chain.specs.Source.{read_blocks, IsReady, range_by, first_by, next_by, with_rest, HasFollowed, CanAdd, AreRead};
 
-use crate::piece::Accepts;
+use crate::piece::ScanFault;
+use crate::ranges::Ranges;
+use crate::source::Source;
 use crate::used::Used;
-use myi_frames::{Frame, FrameKind, Seen, frame_at};
-use std::alloc::AllocError;
+use myi_frames::{FrameKind, Header};
+use myi_io::Files;
+use std::alloc::{AllocError, Global};
+use std::marker::Model;
+use std::mem;
 
 /// What a block is in a chain.
-#[derive(Clone, Copy, Debug, PartialEq, Eq)]
-pub enum Link {
+#[derive(Clone, Copy)]
+pub(crate) enum Link {
     /// It is not the next block of the chain, and so there is none.
     Broken,
     /// It is the last block.
@@ -22,159 +35,251 @@ pub enum Link {
     More,
 }
 
-/// The block at a place of a file of these bytes.
-pub(crate) fn block_at(bytes: &[u8], at: u64) -> Option<Frame<'_>>
-    ensures block { MatchOption result (block_of bytes.now at ≡ None) (λ f. block_of bytes.now at ≡ Some (shown f)) }
-    ensures inside { IfSome result (λ f. (f.at ≡ at) × (f.at + f.size ≤ length bytes.now) × (20 ≤ f.size)) }
+/// What a block is as the first of a chain.
+pub(crate) fn first_link(block: &Header, used: &Used) -> Link
+    requires { IsRange (range_by block.now) }
+    ensures link { result ≡ first_by block.now used.now }
+    ensures below { result ≡ Link.More → block.now.data_len < block.now.head.rec_len }
 {
-    let len = bytes.len() as u64;
-    if len < at {
-        return None;
-    }
-    match frame_at(&bytes[at as usize..], at, len) {
-        Seen::Frame(frame) => Some(frame),
-        Seen::Nothing | Seen::Longer(_) => None,
-    }
-}
-
-fn is_apart(block: &Frame, used: &Used) -> bool
-    requires { block.now.at < 2 ^ 63 }
-    ensures { result ≡ is_apart (range_of (shown block.now)) used.now }
-{
-    used.is_apart(block.at, block.at + block.size as u64)
-}
-
-/// Whether a block holds a row byte and is apart from used ranges.
-fn may_take(block: &Frame, used: &Used) -> bool
-    requires { block.now.at < 2 ^ 63 }
-    ensures { result ≡ may_take (shown block.now) used.now }
-{
-    !block.bytes.is_empty() && is_apart(block, used)
-}
-
-fn first_link(block: &Frame, used: &Used) -> Link
-    requires { block.now.at < 2 ^ 63 }
-    ensures link { result ≡ first_link (shown block.now) used.now }
-    ensures below { result ≡ Link.More → length block.now.bytes.now < block.now.rec_len }
-{
-    if !may_take(block, used) {
+    let at = block.head.at;
+    if block.data_len == 0 || !used.is_apart(at, at + block.head.size as u64) {
         return Link::Broken;
     }
-    let len = block.bytes.len() as u64;
-    let whole = u64::from(block.rec_len);
-    match block.kind {
-        FrameKind::Whole if len == whole => Link::Last,
-        FrameKind::Start if len < whole => Link::More,
+    let whole = block.head.rec_len as usize;
+    match block.head.kind {
+        FrameKind::Whole if block.data_len == whole => Link::Last,
+        FrameKind::Start if block.data_len < whole => Link::More,
         _ => Link::Broken,
     }
 }
 
 /// What a block is behind others of its chain, whose ranges are its own.
-fn next_link(block: &Frame, used: &Used, own: &Used, left: u64) -> Link
-    requires { block.now.at < 2 ^ 63 }
-    ensures link { result ≡ next_link (shown block.now) (used.now ++ own.now) left }
-    ensures apart { result ≡ Link.More → is_apart (range_of (shown block.now)) own.now ≡ true }
-    ensures below { result ≡ Link.More → (0 < length block.now.bytes.now) × (length block.now.bytes.now < left) }
-    ensures last { result ≡ Link.Last → 0 < length block.now.bytes.now }
+fn next_link(block: &Header, used: &Used, own: &Ranges, left: u64) -> Link
+    requires { IsRange (range_by block.now) }
+    ensures link { result ≡ next_by block.now (used.now ++ own.now) left }
+    ensures last { result ≡ Link.Last → is_apart (range_by block.now) own.now ≡ true }
+    ensures more { result ≡ Link.More → is_apart (range_by block.now) own.now ≡ true }
 {
-    if !(may_take(block, used) && is_apart(block, own)) {
+    let at = block.head.at;
+    let end = at + block.head.size as u64;
+    if block.data_len == 0 || !used.is_apart(at, end) || !own.is_apart(at, end) {
         return Link::Broken;
     }
-    let len = block.bytes.len() as u64;
-    match block.kind {
+    let len = block.data_len as u64;
+    match block.head.kind {
         FrameKind::Middle if len < left => Link::More,
         FrameKind::End if len == left => Link::Last,
         _ => Link::Broken,
     }
 }
 
-fn take_block(
-    block: &Frame,
-    taken: &mut Vec<(u64, u32)>,
-    joined: &mut Vec<u8>,
-) -> Result<(), AllocError>
-    ensures taken { OnOk result (taken.new.items ≡ taken.old.items ++ (block.now.at, block.now.size) ∷ []) }
-    ensures joined { OnOk result (joined.new.items ≡ joined.old.items ++ block.now.bytes.now) }
-{
-    taken.push((block.at, block.size))?;
-    joined.extend_from_slice(block.bytes)
+/// The blocks of a row while they are followed.
+pub(crate) struct Chain {
+    /// The blocks that were taken, each by its place and its size.
+    taken: Vec<(u64, u32)>,
+    /// Their ranges.
+    own: Ranges,
+    /// Where the next block is to be.
+    next: Option<u64>,
+    /// How many row bytes it and those behind it are to hold.
+    left: u64,
 }
 
-/// Takes the blocks of a chain behind its first, for so many row bytes. The ranges of those that are taken
-/// are the chain's own.
-#[tactic(auto, using(crate::proofs::CodeLemmas::tail_broken, crate::proofs::CodeLemmas::tail_last, crate::proofs::CodeLemmas::tail_more, crate::proofs::CodeLemmas::tail_none, crate::proofs::CodeLemmas::tail_no_block))]
-fn tail_at(
-    bytes: &[u8],
-    first: Option<u64>,
-    used: &Used,
-    own: &mut Used,
-    taken: &mut Vec<(u64, u32)>,
-    joined: &mut Vec<u8>,
-    promised: u64,
-) -> Result<bool, AllocError>
-    requires more { 0 < promised }
-    requires own { SameUsed own.old (ranges_at taken.old.items) }
-    ensures { IfOk result (λ found. Ends found taken.new.items joined.new.items
-        (ending taken.old.items joined.old.items (tail (block_of bytes.now) first (used.now ++ ranges_at taken.old.items) promised))) }
-{
-    let mut next = first;
-    let mut left = promised;
-    loop {
-        let Some(at) = next else {
-            return Ok(false);
-        };
-        let Some(block) = block_at(bytes, at) else {
-            return Ok(false);
-        };
-        match next_link(&block, used, own, left) {
-            Link::Broken => return Ok(false),
-            Link::Last => {
-                take_block(&block, taken, joined)?;
-                return Ok(true);
+impl Drop for Chain {
+    fn drop(self) {
+        let Chain {
+            taken: _,
+            own: _,
+            next: _,
+            left: _,
+        } = self;
+    }
+}
+
+impl Model for Chain {
+    ghost use Rattle.myi_chain.specs.Chain.{ranges_at};
+    ghost use Rattle.myi_chain.specs.Used.{SameUsed};
+    ghost use Rattle.myi_chain.specs.Source.{ChainModel};
+
+    ghost Value = { ChainModel };
+
+    ghost view = { λ s. record { taken = s.taken.items; next = s.next; left = s.left } };
+
+    ghost invariant = { λ s. SameUsed s.own (ranges_at s.taken.items) };
+}
+
+impl Chain {
+    ghost use Rattle.std.specs.Prelude.{◌≡◌, ◌≤◌, ◌-◌, ◌<◌, ◌+◌, ◌^◌, ◌++◌, ◌∷◌, [], true, IfOk, OnOk, OnErr};
+    ghost use Rattle.myi_base.specs.Ranges.{is_apart};
+    ghost use Rattle.myi_chain.specs.declared.chain.Link.TheVariants.{Broken, Last, More};
+    ghost use Rattle.myi_chain.specs.Used.{IsRange};
+    ghost use Rattle.myi_chain.specs.Chain.{ranges_at};
+    ghost use Rattle.myi_chain.specs.Source.{range_by, next_by, IsTaken, with_block, begun_with};
+
+    /// A chain without blocks.
+    pub(crate) fn new(alloc: Global) -> Chain
+        ensures { result.taken ≡ [] }
+    {
+        Chain {
+            taken: Vec::new(alloc),
+            own: Ranges::new(alloc),
+            next: None,
+            left: 0,
+        }
+    }
+
+    /// The blocks that were taken, each by its place and its size.
+    pub(crate) fn taken(&self) -> &[(u64, u32)]
+        ensures { result.now ≡ self.now.taken }
+    {
+        &self.taken
+    }
+
+    /// Moves the blocks that were taken into a list, in place of what it held.
+    pub(crate) fn move_into(&mut self, blocks: &mut Vec<(u64, u32)>)
+        ensures { blocks.new.items ≡ self.old.taken }
+    {
+        mem::swap(blocks, &mut self.taken);
+        self.taken.clear();
+        self.own = Ranges::new(*self.taken.allocator());
+    }
+
+    fn clear(&mut self)
+        ensures { self.new ≡ record { taken = []; next = self.old.next; left = self.old.left } }
+    {
+        self.taken.clear();
+        self.own = Ranges::new(*self.taken.allocator());
+    }
+
+    // Puts a block behind the others, or leaves all as it was.
+    fn put(&mut self, at: u64, size: u32) -> Result<(), AllocError>
+        requires some { IsRange (at, at + size) }
+        requires apart { is_apart (at, at + size) (ranges_at self.old.taken) ≡ true }
+        ensures ok { OnOk result (self.new ≡ with_block self.old at size) }
+        ensures err { OnErr result (self.new ≡ self.old) }
+    {
+        self.taken.push((at, size))?;
+        match self.own.add(&[(at, size)]) {
+            Ok(()) => Ok(()),
+            Err(fault) => {
+                self.taken.pop();
+                Err(fault)
             }
+        }
+    }
+
+    /// Begins with the first block of a chain, in place of what was taken before.
+    pub(crate) fn begin(&mut self, block: &Header) -> Result<(), AllocError>
+        requires some { IsRange (range_by block.now) }
+        requires below { block.now.data_len ≤ block.now.head.rec_len }
+        ensures { OnOk result (self.new ≡ begun_with block.now) }
+    {
+        self.clear();
+        self.put(block.head.at, block.head.size)?;
+        self.next = block.head.next;
+        self.left = block.head.rec_len as u64 - block.data_len as u64;
+        Ok(())
+    }
+
+    // Where the next block is to be.
+    fn next(&self) -> Option<u64>
+        ensures { result ≡ self.now.next }
+    {
+        self.next
+    }
+
+    // What a block is in this chain.
+    fn link(&self, block: &Header, used: &Used) -> Link
+        requires { IsRange (range_by block.now) }
+        ensures link { result
+            ≡ next_by block.now (used.now ++ ranges_at self.now.taken) self.now.left }
+        ensures last { result ≡ Link.Last
+            → is_apart (range_by block.now) (ranges_at self.now.taken) ≡ true }
+        ensures more { result ≡ Link.More
+            → is_apart (range_by block.now) (ranges_at self.now.taken) ≡ true }
+    {
+        next_link(block, used, &self.own, self.left)
+    }
+
+    // Takes a block, if it is the next one.
+    fn take(&mut self, block: &Header, used: &Used) -> Result<Link, AllocError>
+        requires { IsRange (range_by block.now) }
+        ensures link { IfOk result (λ link. link
+            ≡ next_by block.now (used.now ++ ranges_at self.old.taken) self.old.left) }
+        ensures taken { IfOk result (IsTaken block.now self.old self.new) }
+    {
+        let link = self.link(block, used);
+        match link {
+            Link::Broken => {}
+            Link::Last => self.put(block.head.at, block.head.size)?,
             Link::More => {
-                take_block(&block, taken, joined)?;
-                own.add(&[(block.at, block.size)])?;
-                next = block.next;
-                left -= block.bytes.len() as u64;
+                self.put(block.head.at, block.head.size)?;
+                self.next = block.head.next;
+                self.left -= block.data_len as u64;
             }
+        }
+        Ok(link)
+    }
+}
+
+/// Follows a chain behind its first block, and says whether it ends as it should. Its blocks are taken.
+pub(crate) fn follow<F: Files>(
+    files: &mut F,
+    source: &Source,
+    used: &Used,
+    chain: &mut Chain,
+) -> Result<bool, ScanFault>
+    requires more { 0 < chain.old.left }
+    requires ready { IfTold (F.holds files.old) (IsReady source.now) }
+    requires can { CanAdd used.now chain.old.taken }
+    ensures told { IfOk result (λ found. IfTold (F.holds files.old) (λ m.
+        HasFollowed found chain.new.taken (with_rest chain.old.taken
+        (tail (read_blocks source.now m) chain.old.next
+        (used.now ++ ranges_at chain.old.taken) chain.old.left)))) }
+    ensures can { IfOk result (λ found. found ≡ true → CanAdd used.now chain.new.taken) }
+    ensures many { IfOk result (λ found. found ≡ true
+        → length chain.old.taken < length chain.new.taken) }
+    ensures holds { F.holds files.new ≡ F.holds files.old }
+    ensures cause { HasCause File (F.faults files.old) (F.faults files.new) result }
+{
+    loop {
+        let Some(at) = chain.next() else {
+            return Ok(false);
+        };
+        let Some(block) = source.header(files, at)? else {
+            return Ok(false);
+        };
+        match chain.take(&block, used)? {
+            Link::Broken => return Ok(false),
+            Link::Last => return Ok(true),
+            Link::More => {}
         }
     }
 }
 
-/// Whether a chain starts with this block whose bytes pack a row. Its blocks are left in `taken`, and
-/// its bytes, where it has several blocks, in `joined`.
-#[tactic(auto, unfolding(crate::specs::Chain::chain_of))]
-pub(crate) fn row_from<A: Accepts>(
-    bytes: &[u8],
-    block: &Frame,
-    test: &A,
-    used: &Used,
-    taken: &mut Vec<(u64, u32)>,
+/// Appends the row bytes of blocks, each read at its place, and says whether all were there.
+pub(crate) fn join<F: Files>(
+    files: &mut F,
+    source: &Source,
+    taken: &[(u64, u32)],
     joined: &mut Vec<u8>,
-) -> Result<bool, AllocError>
-    requires here { block_of bytes.now block.now.at ≡ Some (shown block.now) }
-    requires inside { block.now.at < 2 ^ 63 }
-    ensures { IfOk result (λ found. Tells (block_of bytes.now) (A.accepts_gives test.now) block.now.at used.now taken.new.items joined.new.items found) }
+) -> Result<bool, ScanFault>
+    requires ready { IfTold (F.holds files.old) (IsReady source.now) }
+    ensures told { IfOk result (λ whole. IfTold (F.holds files.old) (λ m.
+        (bs : List Block) → taken.now ≡ placed bs → AreRead (read_blocks source.now m) bs
+        → (whole ≡ true) × (joined.new.items ≡ joined.old.items ++ row_bytes bs))) }
+    ensures holds { F.holds files.new ≡ F.holds files.old }
+    ensures cause { HasCause File (F.faults files.old) (F.faults files.new) result }
 {
-    taken.clear();
-    match first_link(block, used) {
-        Link::Broken => Ok(false),
-        Link::Last => {
-            if !test.accepts(block.bytes) {
-                return Ok(false);
-            }
-            taken.push((block.at, block.size))?;
-            Ok(true)
+    let mut rest = taken;
+    while let Some((first, more)) = rest.split_first() {
+        let Some(block) = source.header(files, first.0)? else {
+            return Ok(false);
+        };
+        if !source.append(files, &block, joined)? {
+            return Ok(false);
         }
-        Link::More => {
-            joined.clear();
-            take_block(block, taken, joined)?;
-            let mut own = Used::new(*taken.allocator());
-            own.add(taken)?;
-            let left = u64::from(block.rec_len) - block.bytes.len() as u64;
-            let ends = tail_at(bytes, block.next, used, &mut own, taken, joined, left)?;
-            Ok(ends && test.accepts(joined))
-        }
+        rest = more;
     }
+    Ok(true)
 }

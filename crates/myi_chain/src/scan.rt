@@ -1,112 +1,131 @@
 //! `Scan`: what stands in a data file of dynamic rows, one after the other.
 //!
-//! The first call reads the file whole. A row of one short block is lent as a slice of what was read;
-//! the bytes of a row of several blocks are joined in a buffer of the scan. What a scan has still to
-//! answer is the model of a `Scan`.
-ghost use Rattle.std.specs.Prelude.{◌≡◌, ◌≤◌, ◌<◌, ◌+◌, ◌^◌, ℕ, List, [], Option, Some, None, length, take, string_bytes, IfOk, IfSome, OnOk, OnErr};
+//! The file is read through a window that slides forward. A row in one block that a window can hold is
+//! lent as a slice of it; the bytes of any other row are joined in a buffer of the scan. The model of a
+//! `Scan` is where it stands, from which the definition of readable rows says what is left of the file.
+ghost use Rattle.std.specs.Prelude.{◌≡◌, ◌≤◌, ◌∷◌, [], IfOk, IfErr, IfSome};
 ghost use Rattle.std.specs.Borrow.{sem};
 ghost use Rattle.std.specs.Io.BufRead.{Rests};
 ghost use Rattle.myi_base.specs.Holding.{IfTold};
 ghost use Rattle.myi_base.specs.Causes.{HasCause};
-ghost use Rattle.myi_frames.specs.Block.{Block, block_of};
-ghost use Rattle.myi_chain.specs.Readable.{Row};
-ghost use Rattle.myi_chain.specs.Walk.{ranges_at, IsRowOfBlocks};
-ghost use Rattle.myi_chain.specs.Scanning.{is_lent, IsPiece};
 ghost use Rattle.myi_chain.specs.declared.piece.ScanFault.TheVariants.{File, Memory};
 
-use crate::chain::block_at;
+use crate::chain::Chain;
 use crate::piece::{Accepts, Item, Piece, ScanFault, ScanSetup};
-use crate::step::{Found, advance, advance_row};
+use crate::source::Source;
+use crate::step::{Found, FoundRow, Position, RowBuffer, Rules, advance, advance_row};
 use crate::used::Used;
-use myi_base::slices_are_bytes;
-use myi_io::{Files, read_front};
+use myi_io::Files;
 use std::alloc::{AllocError, Global};
 use std::marker::Model;
-use std::mem;
 
-/// The longest block that is lent, in bytes.
-const WINDOW: u32 = 131_072;
-
-/// What the answers of a scan are lent from.
+/// The blocks of the row that was answered last, each by its place and its size.
 #[derive(Drop)]
-struct Held {
-    /// The bytes of the file.
-    bytes: Vec<u8>,
-    /// The blocks of the row answered last, each by its place and its size.
-    blocks: Vec<(u64, u32)>,
-    /// The bytes of a row of several blocks.
-    joined: Vec<u8>,
+struct Blocks {
+    /// The block of a row in one block, for which no memory is taken.
+    one: Option<(u64, u32)>,
+    /// Those of any other row.
+    several: Vec<(u64, u32)>,
 }
 
-/// The row bytes of the block at a place, and none where no block starts.
-fn bytes_at(bytes: &[u8], at: u64) -> &[u8]
-    ensures { (b : Block) → block_of bytes.now at ≡ Some b → result.now ≡ b.bytes }
-{
-    match block_at(bytes, at) {
-        Some(block) => block.bytes,
-        None => &[],
-    }
+impl Model for Blocks {
+    ghost use Rattle.std.specs.Prelude.{ℕ, List};
+    ghost use Rattle.myi_chain.specs.ScanModel.{one_or};
+
+    ghost Value = { List (ℕ × ℕ) };
+
+    ghost view = { λ b. one_or b.several.items b.one };
 }
 
-fn is_lent(blocks: &[(u64, u32)]) -> bool
-    ensures { result ≡ is_lent (ranges_at blocks.now) }
-{
-    blocks.len() == 1 && blocks[0].1 <= WINDOW
-}
+impl Blocks {
+    ghost use Rattle.std.specs.Prelude.{◌≡◌, ◌∷◌, []};
 
-/// The bytes of the row at a place, whose blocks are held.
-fn piece_at(held: &Held, at: u64) -> Piece<'_>
-    ensures { (r : Row)
-        → IsRowOfBlocks (block_of held.now.bytes.items) at held.now.blocks.items held.now.joined.items r
-        → IsPiece r result }
-{
-    if is_lent(&held.blocks) {
-        return Piece::Lent(bytes_at(&held.bytes, at));
+    fn new(alloc: Global) -> Blocks
+        ensures { result ≡ [] }
+    {
+        Blocks {
+            one: None,
+            several: Vec::new(alloc),
+        }
     }
-    if held.blocks.len() > 1 {
-        return Piece::Joined(&held.joined);
+
+    fn set_one(&mut self, at: u64, size: u32)
+        ensures { self.new ≡ (at, size) ∷ [] }
+    {
+        self.one = Some((at, size));
     }
-    Piece::Joined(bytes_at(&held.bytes, at))
+
+    // Takes the blocks of a chain.
+    fn take(&mut self, chain: &mut Chain)
+        ensures { self.new ≡ chain.old.taken }
+    {
+        self.one = None;
+        chain.move_into(&mut self.several);
+    }
+
+    fn as_slice(&self) -> &[(u64, u32)]
+        ensures { result.now ≡ self.now }
+    {
+        if self.one.is_some() {
+            return self.one.as_slice();
+        }
+        &self.several
+    }
 }
 
 /// A scan of the rows and the deleted blocks of a data file.
-#[derive(Drop)]
 pub struct Scan<A: Accepts> {
-    name: String,
-    test: A,
-    extend: bool,
-    end: u64,
-    /// Whether the file was read into `bytes`.
-    is_read: bool,
-    held: Held,
-    /// The place from which on the rest is to be answered.
-    place: u64,
-    used: Used,
-    /// The blocks of a chain while it is followed.
-    taken: Vec<(u64, u32)>,
+    rules: Rules<A>,
+    source: Source,
+    position: Position,
+    row: RowBuffer,
+    blocks: Blocks,
+}
+
+impl<A: Accepts + Drop> Drop for Scan<A> {
+    fn drop(self) {
+        let Scan {
+            rules: _,
+            source: _,
+            position: _,
+            row: _,
+            blocks: _,
+        } = self;
+    }
 }
 
 impl<A: Accepts> Model for Scan<A> {
-    ghost use Rattle.std.specs.Prelude.{◌≤◌, ◌<◌, ◌^◌, length, string_bytes, Some, None, if◌then◌else◌};
-    ghost use Rattle.myi_frames.specs.Block.{block_of};
-    ghost use Rattle.myi_chain.specs.Readable.{rest};
-    ghost use Rattle.myi_chain.specs.Scanning.{Scanning};
+    ghost use Rattle.std.specs.Prelude.{◌≤◌};
+    ghost use Rattle.myi_chain.specs.ScanModel.{Scanning};
 
     ghost Value = { Scanning A };
 
-    ghost view = { λ s. record { name = string_bytes s.name; test = s.test; extend = s.extend; end = s.end; left = if s.is_read then Some (rest s.extend (block_of s.held.bytes.items) (length s.held.bytes.items) (A.accepts_gives s.test) s.place s.used) else None; blocks = s.held.blocks.items } };
+    ghost view = { λ s. record {
+      name = s.source.name;
+      test = s.rules.test;
+      extend = s.rules.extend;
+      end = s.source.end;
+      place = s.position.place;
+      used = s.position.used;
+      blocks = s.blocks;
+      kept = s.source.kept;
+    } };
 
-    ghost invariant = { λ s. length s.held.bytes.items ≤ s.end };
+    ghost invariant = { λ s. s.position.place ≤ s.source.end };
 }
 
 impl<A: Accepts> Scan<A> {
-    ghost use Rattle.std.specs.Prelude.{◌≡◌, Option, Some, None, [], IfOk, OnOk, OnErr, string_bytes};
+    ghost use Rattle.std.specs.Prelude.{◌≡◌, Option, IfOk, IfErr, IfSome};
+    ghost use Rattle.std.specs.Borrow.{sem};
+    ghost use Rattle.std.specs.Io.BufRead.{Rests};
     ghost use Rattle.myi_base.specs.Holding.{IfTold};
     ghost use Rattle.myi_base.specs.Causes.{HasCause};
-    ghost use Rattle.myi_chain.specs.declared.piece.ScanFault.TheVariants.{File};
-    ghost use Rattle.myi_chain.specs.Scanning.{Scanning, fresh_scan, ReadsBytes, IsRead};
+    ghost use Rattle.myi_chain.specs.declared.piece.ScanFault.TheVariants.{File, Memory};
+    ghost use Rattle.myi_chain.specs.ScanModel.{Scanning, fresh_scan, IsCurrent, Passes, PassesRow, MeetsPlain, AfterItem, AfterRow};
+    ghost use Rattle.myi_chain.specs.contracts.scan.Scan.{the_row};
 
-    /// A scan of the file of that name. Nothing is read yet. For want of memory the test is lost.
+    /// A scan of the file of a name. Nothing is read yet; the memory of its window is taken. For want of
+    /// memory the test is lost.
     pub fn new(
         alloc: Global,
         name: &str,
@@ -115,130 +134,105 @@ impl<A: Accepts> Scan<A> {
     ) -> Result<Scan<A>, AllocError>
     where
         A: Drop,
-        ensures { IfOk result (λ scan. scan ≡ fresh_scan name.now accepts setup.extend setup.file_len) }
+        ensures { IfOk result (λ scan. scan
+            ≡ fresh_scan name.now accepts setup.extend setup.file_len) }
     {
-        let name = String::from_str(alloc, name)?;
+        let source = Source::new(alloc, name, setup.file_len)?;
         Ok(Scan {
-            name,
-            test: accepts,
-            extend: setup.extend,
-            end: setup.file_len,
-            is_read: false,
-            held: Held {
-                bytes: Vec::new(alloc),
-                blocks: Vec::new(alloc),
+            rules: Rules {
+                test: accepts,
+                extend: setup.extend,
+            },
+            source,
+            position: Position {
+                place: 0,
+                used: Used::new(alloc),
+            },
+            row: RowBuffer {
+                chain: Chain::new(alloc),
                 joined: Vec::new(alloc),
             },
-            place: 0,
-            used: Used::new(alloc),
-            taken: Vec::new(alloc),
+            blocks: Blocks::new(alloc),
         })
     }
 
-    /// Reads the file, if it was not read yet.
-    fn read<F: Files>(&mut self, files: &mut F) -> Result<(), ScanFault>
-        ensures ok { OnOk result (IsRead A.accepts_gives (F.holds files.old) self.old self.new) }
-        ensures bytes { OnOk result (IfTold (F.holds files.old) (ReadsBytes self.old)) }
-        ensures err { OnErr result (self.new ≡ self.old) }
-        ensures holds { F.holds files.new ≡ F.holds files.old }
-        ensures cause { HasCause File (F.faults files.old) (F.faults files.new) result }
-    {
-        if self.is_read {
-            return Ok(());
-        }
-        let alloc = *self.held.bytes.allocator();
-        self.held.bytes = read_front(alloc, files, self.name.as_str(), self.end)?;
-        slices_are_bytes(&self.held.bytes);
-        self.used = Used::new(alloc);
-        self.place = 0;
-        self.is_read = true;
-        Ok(())
-    }
-}
-
-impl<A: Accepts> Scan<A> {
-    ghost use Rattle.std.specs.Prelude.{◌≡◌, true, Option, IfOk, IfSome, OnOk};
-    ghost use Rattle.std.specs.Borrow.{sem};
-    ghost use Rattle.std.specs.Io.BufRead.{Rests};
-    ghost use Rattle.myi_base.specs.Holding.{IfTold};
-    ghost use Rattle.myi_base.specs.Causes.{HasCause};
-    ghost use Rattle.myi_chain.specs.declared.piece.ScanFault.TheVariants.{File};
-    ghost use Rattle.myi_chain.specs.Readable.{rows_of};
-    ghost use Rattle.myi_chain.specs.Pieces.{shown};
-    ghost use Rattle.myi_chain.specs.Scanning.{Scanning, items_left, ReadsBytes, IsFirst, IsFirstRow, Passes, Leaves, LeavesRows};
-    ghost use Rattle.myi_chain.specs.contracts.scan.Scan.{the_row};
-
     /// The next row or deleted block, and None where none is left. The bytes of a row pass the test. After
-    /// an error the next call answers as this one would have.
+    /// an error the same is left. While only rows in one block of at most 131,072 bytes are met, one
+    /// directly after the other from the file's start on, no memory is taken, and the answer is not Memory.
     pub fn next_item<F: Files>(&mut self, files: &mut F) -> Result<Option<Item<'_>>, ScanFault>
-        ensures item { IfOk result (λ found. IfTold (F.holds files.old) (λ m.
-            IsFirst (items_left A.accepts_gives self.old m) found)) }
-        ensures packs { IfOk result (λ found. IfSome found (Passes (A.accepts_gives self.old.test))) }
-        ensures bytes { OnOk result (IfTold (F.holds files.old) (ReadsBytes self.old)) }
+        requires current { IfTold (F.holds files.old) (IsCurrent self.old) }
+        ensures packs { IfOk result (λ found. IfSome found
+            (Passes (A.accepts_gives self.old.test))) }
+        ensures never { IfErr result (λ e. e ≡ Memory → IfTold (F.holds files.old) (λ m.
+            MeetsPlain A.accepts_gives self.old m → ⊥)) }
         ensures holds { F.holds files.new ≡ F.holds files.old }
         ensures cause { HasCause File (F.faults files.old) (F.faults files.new) result }
         ensures* after { sem 𝓛 (Rests (the_row A.row A.Accepts) self.entry
-            (Leaves A.accepts_gives (F.holds files.old) self.old result)) }
+            (AfterItem A.accepts_gives (F.holds files.old) self.old result)) }
     {
-        self.read(files)?;
-        let found = match advance(
-            &self.held.bytes,
-            &self.test,
-            self.extend,
-            &mut self.place,
-            &mut self.used,
-            &mut self.taken,
-            &mut self.held.joined,
-        ) {
-            Ok(found) => found,
-            Err(_) => return Err(ScanFault::Memory),
-        };
-        let Some(found) = found else {
+        let Some(found) = advance(
+            files,
+            &self.rules,
+            &mut self.source,
+            &mut self.position,
+            &mut self.row,
+        )?
+        else {
             return Ok(None);
         };
         match found {
-            Found::Row(at) => {
-                mem::swap(&mut self.held.blocks, &mut self.taken);
-                Ok(Some(Item::Row(at, piece_at(&self.held, at))))
-            }
             Found::Free(at, size) => Ok(Some(Item::Free { at, size })),
+            Found::Row(row) => match row {
+                FoundRow::Kept(block) => {
+                    let at = block.head.at;
+                    self.blocks.set_one(at, block.head.size);
+                    Ok(Some(Item::Row(at, Piece::Lent(self.source.row_bytes(&block)))))
+                }
+                FoundRow::Joined(at) => {
+                    self.blocks.take(&mut self.row.chain);
+                    Ok(Some(Item::Row(at, Piece::Joined(&self.row.joined))))
+                }
+            },
         }
     }
 
-    /// The next row with its position, and None where no row is left. Its bytes pass the test. Deleted
-    /// blocks before it are passed. After an error the next call answers as this one would have.
+    /// The next row with its position, and None where no row is left. Deleted blocks before it are
+    /// passed. Otherwise as `next_item`.
     pub fn next_row<F: Files>(
         &mut self,
         files: &mut F,
     ) -> Result<Option<(u64, Piece<'_>)>, ScanFault>
-        ensures row { IfOk result (λ found. IfTold (F.holds files.old) (λ m.
-            IsFirstRow (rows_of (items_left A.accepts_gives self.old m)) found)) }
-        ensures packs { IfOk result (λ found. IfSome found (λ r.
-            A.accepts_gives self.old.test (shown r.1) ≡ true)) }
-        ensures bytes { OnOk result (IfTold (F.holds files.old) (ReadsBytes self.old)) }
+        requires current { IfTold (F.holds files.old) (IsCurrent self.old) }
+        ensures packs { IfOk result (λ found. IfSome found
+            (PassesRow (A.accepts_gives self.old.test))) }
+        ensures never { IfErr result (λ e. e ≡ Memory → IfTold (F.holds files.old) (λ m.
+            MeetsPlain A.accepts_gives self.old m → ⊥)) }
         ensures holds { F.holds files.new ≡ F.holds files.old }
         ensures cause { HasCause File (F.faults files.old) (F.faults files.new) result }
         ensures* after { sem 𝓛 (Rests (the_row A.row A.Accepts) self.entry
-            (LeavesRows A.accepts_gives (F.holds files.old) self.old result)) }
+            (AfterRow A.accepts_gives (F.holds files.old) self.old result)) }
     {
-        self.read(files)?;
-        let found = match advance_row(
-            &self.held.bytes,
-            &self.test,
-            self.extend,
-            &mut self.place,
-            &mut self.used,
-            &mut self.taken,
-            &mut self.held.joined,
-        ) {
-            Ok(found) => found,
-            Err(_) => return Err(ScanFault::Memory),
-        };
-        let Some(at) = found else {
+        let Some(found) = advance_row(
+            files,
+            &self.rules,
+            &mut self.source,
+            &mut self.position,
+            &mut self.row,
+        )?
+        else {
             return Ok(None);
         };
-        mem::swap(&mut self.held.blocks, &mut self.taken);
-        Ok(Some((at, piece_at(&self.held, at))))
+        match found {
+            FoundRow::Kept(block) => {
+                let at = block.head.at;
+                self.blocks.set_one(at, block.head.size);
+                Ok(Some((at, Piece::Lent(self.source.row_bytes(&block)))))
+            }
+            FoundRow::Joined(at) => {
+                self.blocks.take(&mut self.row.chain);
+                Ok(Some((at, Piece::Joined(&self.row.joined))))
+            }
+        }
     }
 
     /// The blocks of the row that was answered last, each by its place and its size in bytes, in the
@@ -246,6 +240,6 @@ impl<A: Accepts> Scan<A> {
     pub fn blocks(&self) -> &[(u64, u32)]
         ensures { result.now ≡ self.now.blocks }
     {
-        &self.held.blocks
+        self.blocks.as_slice()
     }
 }

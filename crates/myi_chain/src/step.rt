@@ -1,154 +1,402 @@
-//! What is met in the bytes of a file, one place after the other.
+//! What a scan finds in a file, one place after the other.
 //!
-//! A step does what the definition of readable rows says of one place; `advance` does steps up to the
-//! next row or deleted block, and `advance_row` up to the next row.
-ghost use Rattle.std.specs.Prelude.{◌≡◌, false, ℕ, ◌+◌, ◌<◌, ◌≤◌, ◌^◌, List, length, OnErr, IfOk, Some};
-ghost use Rattle.myi_frames.specs.Block.{block_of};
-ghost use Rattle.myi_frames.specs.Seeing.{shown};
-ghost use Rattle.myi_chain.specs.Readable.{skip_by, free_by, step_of, rest};
-ghost use Rattle.myi_chain.specs.Walk.{is_row, IsPassed, IsStepped, IsFound, IsFoundRow};
+//! `step` does what the definition of readable rows says of one place: it looks at the used ranges and at
+//! the block there, and at its chain where one may start. `advance` does steps up to the next row or
+//! deleted block, a `Found`, and `advance_row` up to the next row, a `FoundRow`. `Rules` says what packs
+//! a row and how the file is scanned, `Position` where the scan stands, and a `RowBuffer` holds a row
+//! of several blocks while it is looked for.
+ghost use Rattle.std.specs.Prelude.{◌≡◌, ℕ, ◌+◌, ◌<◌, ◌≤◌, ◌++◌, true, false, List, OnOk, OnErr, IfOk, IfErr, IfSome, Some};
+ghost use Rattle.std.specs.Option.{option_map};
+ghost use Rattle.myi_base.specs.Holding.{IfTold};
+ghost use Rattle.myi_base.specs.Causes.{HasCause};
+ghost use Rattle.myi_io.specs.declared.files.FileErr.TheVariants.{Failed};
+ghost use Rattle.myi_frames.specs.Block.{Block};
+ghost use Rattle.myi_frames.specs.Seeing.{Heads, HeadsBlock};
+ghost use Rattle.myi_window.specs.declared.window.TheConstants.{WINDOW};
+ghost use Rattle.myi_chain.specs.declared.piece.ScanFault.TheVariants.{File, Memory};
+ghost use Rattle.myi_chain.specs.Chain.{row_bytes, chain_of};
+ghost use Rattle.myi_chain.specs.Readable.{skip_by, free_by, rows_of};
+ghost use Rattle.myi_chain.specs.Pieces.{is_lent};
+ghost use Rattle.myi_chain.specs.Used.{AddsBlocks, NeedsMemory};
+ghost use Rattle.myi_chain.specs.Chain.{placed, ranges_at};
+ghost use Rattle.myi_chain.specs.Source.{read_bytes, read_blocks, IsReady, ReadsOn, IsHeader, IsKept, kept_bytes, first_by, HasFollowed, CanAdd, AreRead, StandsThere};
+ghost use Rattle.myi_chain.specs.Found.{is_short, found_at, found_blocks, FindsRow, IsPassed, IsFree, met_at, items_at, HoldsItem, HoldsRow, MeetsShortAt, FindsShortAt, FindsShortRowAt, FindsItem, FindsNextRow, KeepsUsed, Rises};
 
-use crate::chain::{block_at, row_from};
-use crate::piece::Accepts;
+use crate::chain::{Chain, Link, first_link, follow, join};
+use crate::piece::{Accepts, ScanFault};
+use crate::source::Source;
 use crate::used::Used;
-use myi_frames::{Frame, FrameKind};
+use myi_frames::{FrameKind, Header};
+use myi_io::{FileErr, Files};
+use myi_window::WINDOW;
 use std::alloc::AllocError;
 
-/// What a step met.
-#[derive(Clone, Copy, Debug, PartialEq, Eq)]
-pub enum Met {
-    /// Nothing that is answered.
-    Passed,
-    /// A deleted block of this size in bytes.
-    Free(u32),
-    /// A row.
-    Row,
+/// A row that was found.
+#[derive(Clone, Copy)]
+pub(crate) enum FoundRow {
+    /// One block that the window holds whole, by its header.
+    Kept(Header),
+    /// Any other, by its place. Its blocks and its bytes are in the row buffer.
+    Joined(u64),
 }
 
-/// What comes next in a file.
-#[derive(Clone, Copy, Debug, PartialEq, Eq)]
-pub enum Found {
-    /// A row at this place.
-    Row(u64),
+/// What was found.
+#[derive(Clone, Copy)]
+pub(crate) enum Found {
+    Row(FoundRow),
     /// A deleted block at this place, of this size in bytes.
     Free(u64, u32),
 }
 
-fn is_row(met: Met) -> bool
-    ensures { result ≡ is_row met }
-{
-    matches!(met, Met::Row)
+/// How a file is scanned.
+#[derive(Drop)]
+pub(crate) struct Rules<A: Accepts> {
+    /// What packs a row.
+    pub(crate) test: A,
+    /// Whether every place is tried.
+    pub(crate) extend: bool,
+}
+
+/// Where a scan stands.
+#[derive(Drop)]
+pub(crate) struct Position {
+    /// The place from which on the rest is to be found.
+    pub(crate) place: u64,
+    /// The ranges of the blocks of the rows that were found.
+    pub(crate) used: Used,
+}
+
+/// A row of several blocks, or of one that no window can hold, while it is looked for.
+pub(crate) struct RowBuffer {
+    pub(crate) chain: Chain,
+    /// The bytes of its blocks.
+    pub(crate) joined: Vec<u8>,
+}
+
+impl Drop for RowBuffer {
+    fn drop(self) {
+        let RowBuffer {
+            chain: _,
+            joined: _,
+        } = self;
+    }
 }
 
 /// How far it is to the next place, in bytes.
 const STEP: u64 = 4;
 
 /// How far it is over a block at which no row starts, in bytes, and the deleted block that is passed.
-fn past(block: &Frame, extend: bool) -> (u64, Met)
-    requires { 20 ≤ block.now.size }
-    ensures skip { result.0 ≡ skip_by extend (Some (shown block.now)) }
-    ensures free { IsPassed block.now.at (free_by extend (Some (shown block.now))) result.1 }
+fn past(block: &Header, extend: bool) -> (u64, Option<Found>)
+    requires { 20 ≤ block.now.head.size }
+    ensures passed { IsPassed extend block.now result.0 result.1 }
+    ensures rises { 0 < result.0 }
+    ensures free { IfSome result.1 IsFree }
 {
     if extend {
-        return (STEP, Met::Passed);
+        return (STEP, None);
     }
-    match block.kind {
-        FrameKind::Deleted => (block.size as u64, Met::Free(block.size)),
-        FrameKind::Middle | FrameKind::End => (block.size as u64, Met::Passed),
-        FrameKind::Whole | FrameKind::Start => (STEP, Met::Passed),
+    let size = block.head.size;
+    match block.head.kind {
+        FrameKind::Deleted => (size as u64, Some(Found::Free(block.head.at, size))),
+        FrameKind::Middle | FrameKind::End => (size as u64, None),
+        FrameKind::Whole | FrameKind::Start => (STEP, None),
     }
 }
 
-/// Does what is done at one place.
-fn step<A: Accepts>(
-    bytes: &[u8],
-    test: &A,
-    extend: bool,
-    place: &mut u64,
-    used: &mut Used,
-    taken: &mut Vec<(u64, u32)>,
-    joined: &mut Vec<u8>,
-) -> Result<Met, AllocError>
-    requires inside { place.old < length bytes.now }
-    ensures ok { IfOk result (IsStepped (block_of bytes.now) (step_of extend (block_of bytes.now) (A.accepts_gives test.now) place.old used.old) place.old place.new used.new taken.new.items joined.new.items) }
-    ensures kept { IfOk result (λ met. is_row met ≡ false → used.new ≡ used.old) }
-    ensures err { OnErr result ((place.new ≡ place.old) × (used.new ≡ used.old)) }
+fn is_short(link: Link, block: &Header) -> bool
+    ensures { result ≡ is_short link block.now }
 {
-    let at = *place;
-    let end = used.end_from(at);
-    if at < end {
-        *place = end;
-        return Ok(Met::Passed);
+    match link {
+        Link::Last => block.head.size as usize <= WINDOW,
+        Link::Broken | Link::More => false,
     }
-    let Some(block) = block_at(bytes, at) else {
-        *place = at + STEP;
-        return Ok(Met::Passed);
+}
+
+/// Brings a block into the window, and says whether its row bytes pack a row.
+fn keeps_row<A: Accepts, F: Files>(
+    files: &mut F,
+    test: &A,
+    source: &mut Source,
+    block: &Header,
+) -> Result<bool, FileErr>
+    requires block { IsHeader block.now.head.at source.old.end block.now }
+    requires short { block.now.head.size ≤ WINDOW }
+    requires ready { IfTold (F.holds files.old) (IsReady source.old) }
+    ensures kept { IfOk result (λ is. is ≡ true → IsKept block.now source.new.kept
+        × (A.accepts_gives test.now (kept_bytes block.now source.new.kept) ≡ true)) }
+    ensures told { IfOk result (λ is. IfTold (F.holds files.old) (λ m.
+        (b : Block) → Heads (read_bytes source.old m) block.now b
+        → (is ≡ A.accepts_gives test.now b.bytes)
+        × (b.bytes ≡ kept_bytes block.now source.new.kept))) }
+    ensures reads { ReadsOn (F.holds files.old) source.old source.new }
+    ensures failed { IfErr result (λ e. e ≡ Failed) }
+    ensures holds { F.holds files.new ≡ F.holds files.old }
+    ensures cause { HasCause Failed (F.faults files.old) (F.faults files.new) result }
+{
+    if !source.ready(files, block.head.at, block.head.size as usize)? {
+        return Ok(false);
+    }
+    Ok(test.accepts(source.row_bytes(block)))
+}
+
+/// Follows the chain that starts with a block, which is this in it, and says whether there is one.
+fn chain_from<F: Files>(
+    files: &mut F,
+    source: &Source,
+    used: &Used,
+    block: &Header,
+    link: Link,
+    chain: &mut Chain,
+) -> Result<bool, ScanFault>
+    requires block { IsHeader block.now.head.at source.now.end block.now }
+    requires link { link ≡ first_by block.now used.now }
+    requires below { link ≡ Link.More → block.now.data_len < block.now.head.rec_len }
+    requires ready { IfTold (F.holds files.old) (IsReady source.now) }
+    ensures told { IfOk result (λ found. IfTold (F.holds files.old) (λ m.
+        StandsThere source.now block.now m → HasFollowed found chain.new.taken
+        (option_map placed (chain_of (read_blocks source.now m) block.now.head.at used.now)))) }
+    ensures can { IfOk result (λ found. found ≡ true → CanAdd used.now chain.new.taken) }
+    ensures long { IfOk result (λ found. found ≡ true → is_short link block.now ≡ false
+        → is_lent (ranges_at chain.new.taken) ≡ false) }
+    ensures holds { F.holds files.new ≡ F.holds files.old }
+    ensures cause { HasCause File (F.faults files.old) (F.faults files.new) result }
+{
+    match link {
+        Link::Broken => Ok(false),
+        Link::Last => {
+            chain.begin(block)?;
+            Ok(true)
+        }
+        Link::More => {
+            chain.begin(block)?;
+            let found = follow(files, source, used, chain)?;
+            Ok(found)
+        }
+    }
+}
+
+/// Joins the row bytes of the blocks that were taken, and says whether they pack a row.
+fn joins_row<A: Accepts, F: Files>(
+    files: &mut F,
+    test: &A,
+    source: &Source,
+    row: &mut RowBuffer,
+) -> Result<bool, ScanFault>
+    requires ready { IfTold (F.holds files.old) (IsReady source.now) }
+    ensures told { IfOk result (λ is. IfTold (F.holds files.old) (λ m.
+        (bs : List Block) → row.old.chain.taken ≡ placed bs → AreRead (read_blocks source.now m) bs
+        → (is ≡ A.accepts_gives test.now (row_bytes bs)) × (row.new.joined.items ≡ row_bytes bs))) }
+    ensures packs { IfOk result (λ is. is ≡ true
+        → A.accepts_gives test.now row.new.joined.items ≡ true) }
+    ensures chain { row.new.chain ≡ row.old.chain }
+    ensures holds { F.holds files.new ≡ F.holds files.old }
+    ensures cause { HasCause File (F.faults files.old) (F.faults files.new) result }
+{
+    row.joined.clear();
+    if !join(files, source, row.chain.taken(), &mut row.joined)? {
+        return Ok(false);
+    }
+    Ok(test.accepts(&row.joined))
+}
+
+/// The row that starts with a block, if one does.
+fn row_at<A: Accepts, F: Files>(
+    files: &mut F,
+    test: &A,
+    source: &mut Source,
+    used: &Used,
+    block: &Header,
+    row: &mut RowBuffer,
+) -> Result<Option<FoundRow>, ScanFault>
+    requires block { IsHeader block.now.head.at source.old.end block.now }
+    requires ready { IfTold (F.holds files.old) (IsReady source.old) }
+    requires here { IfTold (F.holds files.old) (StandsThere source.old block.now) }
+    ensures told { IfOk result (λ found. IfTold (F.holds files.old) (λ m.
+        FindsRow (A.accepts_gives test.now) source.new.kept row.new.chain.taken row.new.joined.items
+        (chain_of (read_blocks source.old m) block.now.head.at used.now) found)) }
+    ensures held { IfOk result (λ found. IfSome found
+        (HoldsRow (A.accepts_gives test.now) source.new row.new)) }
+    ensures can { IfOk result (λ found. IfSome found (λ r. (found_at r ≡ block.now.head.at)
+        × CanAdd used.now (found_blocks row.new.chain.taken r))) }
+    ensures never { IfErr result (λ e. e ≡ Memory
+        → is_short (first_by block.now used.now) block.now ≡ false) }
+    ensures reads { ReadsOn (F.holds files.old) source.old source.new }
+    ensures holds { F.holds files.new ≡ F.holds files.old }
+    ensures cause { HasCause File (F.faults files.old) (F.faults files.new) result }
+{
+    let link = first_link(block, used);
+    if is_short(link, block) {
+        if keeps_row(files, test, source, block)? {
+            return Ok(Some(FoundRow::Kept(*block)));
+        }
+        return Ok(None);
+    }
+    if !chain_from(files, source, used, block, link, &mut row.chain)? {
+        return Ok(None);
+    }
+    if !joins_row(files, test, source, row)? {
+        return Ok(None);
+    }
+    Ok(Some(FoundRow::Joined(block.head.at)))
+}
+
+/// Adds the blocks of a row that was found to the used ranges.
+fn add_row(used: &mut Used, found: FoundRow, chain: &Chain) -> Result<(), AllocError>
+    requires can { CanAdd used.old (found_blocks chain.now.taken found) }
+    ensures ok { OnOk result (AddsBlocks used.old (found_blocks chain.now.taken found) used.new) }
+    ensures err { OnErr result ((used.new ≡ used.old)
+        × NeedsMemory used.old (found_blocks chain.now.taken found)) }
+{
+    match found {
+        FoundRow::Kept(block) => used.add(&[(block.head.at, block.head.size)])?,
+        FoundRow::Joined(_) => used.add(chain.taken())?,
+    }
+    Ok(())
+}
+
+/// Does what is done at one place, and answers what was found there. After a failure nothing is done.
+fn step<A: Accepts, F: Files>(
+    files: &mut F,
+    rules: &Rules<A>,
+    source: &mut Source,
+    position: &mut Position,
+    row: &mut RowBuffer,
+) -> Result<Option<Found>, ScanFault>
+    requires inside { position.old.place < source.old.end }
+    requires ready { IfTold (F.holds files.old) (IsReady source.old) }
+    ensures told { IfOk result (λ found. IfTold (F.holds files.old) (λ m.
+        met_at rules.now.extend (A.accepts_gives rules.now.test) source.old position.old m
+        ≡ items_at source.new row.new found
+        ++ met_at rules.now.extend (A.accepts_gives rules.now.test) source.old position.new m)) }
+    ensures held { IfOk result (λ found. IfSome found
+        (HoldsItem (A.accepts_gives rules.now.test) source.new row.new)) }
+    ensures rises { OnOk result ((position.old.place < position.new.place)
+        × (position.new.place ≤ source.old.end)) }
+    ensures err { OnErr result (position.new ≡ position.old) }
+    ensures kept { IfOk result (KeepsUsed position.old.used position.new.used) }
+    ensures short { IfOk result (λ found. IfTold (F.holds files.old) (λ m.
+        MeetsShortAt (A.accepts_gives rules.now.test) source.old position.old m
+        → FindsShortAt found position.new)) }
+    ensures never { IfErr result (λ e. e ≡ Memory → IfTold (F.holds files.old) (λ m.
+        MeetsShortAt (A.accepts_gives rules.now.test) source.old position.old m → ⊥)) }
+    ensures reads { ReadsOn (F.holds files.old) source.old source.new }
+    ensures holds { F.holds files.new ≡ F.holds files.old }
+    ensures cause { HasCause File (F.faults files.old) (F.faults files.new) result }
+{
+    let at = position.place;
+    let end = source.end();
+    let used_end = position.used.end_from(at);
+    if at < used_end {
+        position.place = used_end.min(end);
+        return Ok(None);
+    }
+    let Some(block) = source.slide_to(files, at)? else {
+        if source.is_cut(at) {
+            position.place = end;
+            return Ok(None);
+        }
+        position.place = at + STEP.min(end - at);
+        return Ok(None);
     };
-    if row_from(bytes, &block, test, used, taken, joined)? {
-        used.add(taken)?;
-        *place = at + block.size as u64;
-        return Ok(Met::Row);
+    if let Some(found) = row_at(files, &rules.test, source, &position.used, &block, row)? {
+        add_row(&mut position.used, found, &row.chain)?;
+        position.place = at + block.head.size as u64;
+        return Ok(Some(Found::Row(found)));
     }
-    let (skip, met) = past(&block, extend);
-    *place = at + skip;
-    Ok(met)
+    let (skip, found) = past(&block, rules.extend);
+    position.place = at + skip.min(end - at);
+    Ok(found)
 }
 
-/// Goes to the next row or deleted block, and says where it stands.
-pub(crate) fn advance<A: Accepts>(
-    bytes: &[u8],
-    test: &A,
-    extend: bool,
-    place: &mut u64,
-    used: &mut Used,
-    taken: &mut Vec<(u64, u32)>,
-    joined: &mut Vec<u8>,
-) -> Result<Option<Found>, AllocError>
-    ensures ok { IfOk result (IsFound (block_of bytes.now) taken.new.items joined.new.items
-        (rest extend (block_of bytes.now) (length bytes.now) (A.accepts_gives test.now) place.old used.old)
-        (rest extend (block_of bytes.now) (length bytes.now) (A.accepts_gives test.now) place.new used.new)) }
-    ensures err { OnErr result (rest extend (block_of bytes.now) (length bytes.now) (A.accepts_gives test.now) place.new used.new
-        ≡ rest extend (block_of bytes.now) (length bytes.now) (A.accepts_gives test.now) place.old used.old) }
+/// Goes to the next row or deleted block. After a failure the same is to come.
+pub(crate) fn advance<A: Accepts, F: Files>(
+    files: &mut F,
+    rules: &Rules<A>,
+    source: &mut Source,
+    position: &mut Position,
+    row: &mut RowBuffer,
+) -> Result<Option<Found>, ScanFault>
+    requires within { position.old.place ≤ source.old.end }
+    requires ready { IfTold (F.holds files.old) (IsReady source.old) }
+    ensures told { IfOk result (λ found. IfTold (F.holds files.old) (λ m.
+        FindsItem source.new row.new
+        (met_at rules.now.extend (A.accepts_gives rules.now.test) source.old position.old m)
+        (met_at rules.now.extend (A.accepts_gives rules.now.test) source.old position.new m)
+        found)) }
+    ensures held { IfOk result (λ found. IfSome found
+        (HoldsItem (A.accepts_gives rules.now.test) source.new row.new)) }
+    ensures rises { IfOk result (Rises position.old.place position.new.place source.old.end) }
+    ensures later { position.old.place ≤ position.new.place }
+    ensures within { position.new.place ≤ source.old.end }
+    ensures err { OnErr result (IfTold (F.holds files.old) (λ m.
+        met_at rules.now.extend (A.accepts_gives rules.now.test) source.old position.new m
+        ≡ met_at rules.now.extend (A.accepts_gives rules.now.test) source.old position.old m)) }
+    ensures kept { IfOk result (KeepsUsed position.old.used position.new.used) }
+    ensures same { OnErr result (position.new.used ≡ position.old.used) }
+    ensures some { OnErr result (position.old.place < source.old.end) }
+    ensures short { IfOk result (λ found. IfTold (F.holds files.old) (λ m.
+        MeetsShortAt (A.accepts_gives rules.now.test) source.old position.old m
+        → FindsShortAt found position.new)) }
+    ensures never { IfErr result (λ e. e ≡ Memory → IfTold (F.holds files.old) (λ m.
+        MeetsShortAt (A.accepts_gives rules.now.test) source.old position.old m → ⊥)) }
+    ensures reads { ReadsOn (F.holds files.old) source.old source.new }
+    ensures holds { F.holds files.new ≡ F.holds files.old }
+    ensures cause { HasCause File (F.faults files.old) (F.faults files.new) result }
 {
-    while *place < bytes.len() as u64 {
-        let at = *place;
-        match step(bytes, test, extend, place, used, taken, joined)? {
-            Met::Passed => {}
-            Met::Free(size) => return Ok(Some(Found::Free(at, size))),
-            Met::Row => return Ok(Some(Found::Row(at))),
+    let end = source.end();
+    while position.place < end {
+        if let Some(found) = step(files, rules, source, position, row)? {
+            return Ok(Some(found));
         }
     }
     Ok(None)
 }
 
-/// Goes to the next row, and says where it stands. After a failure the place is as it was.
-pub(crate) fn advance_row<A: Accepts>(
-    bytes: &[u8],
-    test: &A,
-    extend: bool,
-    place: &mut u64,
-    used: &mut Used,
-    taken: &mut Vec<(u64, u32)>,
-    joined: &mut Vec<u8>,
-) -> Result<Option<u64>, AllocError>
-    ensures ok { IfOk result (IsFoundRow (block_of bytes.now) taken.new.items joined.new.items
-        (rest extend (block_of bytes.now) (length bytes.now) (A.accepts_gives test.now) place.old used.old)
-        (rest extend (block_of bytes.now) (length bytes.now) (A.accepts_gives test.now) place.new used.new)) }
-    ensures err { OnErr result ((place.new ≡ place.old) × (used.new ≡ used.old)) }
+/// Goes to the next row, over deleted blocks. After a failure nothing is done.
+pub(crate) fn advance_row<A: Accepts, F: Files>(
+    files: &mut F,
+    rules: &Rules<A>,
+    source: &mut Source,
+    position: &mut Position,
+    row: &mut RowBuffer,
+) -> Result<Option<FoundRow>, ScanFault>
+    requires within { position.old.place ≤ source.old.end }
+    requires ready { IfTold (F.holds files.old) (IsReady source.old) }
+    ensures told { IfOk result (λ found. IfTold (F.holds files.old) (λ m.
+        FindsNextRow source.new row.new
+        (met_at rules.now.extend (A.accepts_gives rules.now.test) source.old position.old m)
+        (met_at rules.now.extend (A.accepts_gives rules.now.test) source.old position.new m)
+        found)) }
+    ensures held { IfOk result (λ found. IfSome found
+        (HoldsRow (A.accepts_gives rules.now.test) source.new row.new)) }
+    ensures rises { IfOk result (Rises position.old.place position.new.place source.old.end) }
+    ensures within { position.new.place ≤ source.old.end }
+    ensures err { OnErr result (position.new ≡ position.old) }
+    ensures some { OnErr result (position.old.place < source.old.end) }
+    ensures short { IfOk result (λ found. IfTold (F.holds files.old) (λ m.
+        MeetsShortAt (A.accepts_gives rules.now.test) source.old position.old m
+        → FindsShortRowAt found position.new)) }
+    ensures never { IfErr result (λ e. e ≡ Memory → IfTold (F.holds files.old) (λ m.
+        MeetsShortAt (A.accepts_gives rules.now.test) source.old position.old m → ⊥)) }
+    ensures reads { ReadsOn (F.holds files.old) source.old source.new }
+    ensures holds { F.holds files.new ≡ F.holds files.old }
+    ensures cause { HasCause File (F.faults files.old) (F.faults files.new) result }
 {
-    let from = *place;
-    while *place < bytes.len() as u64 {
-        let at = *place;
-        let met = match step(bytes, test, extend, place, used, taken, joined) {
-            Ok(met) => met,
+    let from = position.place;
+    loop {
+        let found = match advance(files, rules, source, position, row) {
+            Ok(found) => found,
             Err(fault) => {
-                *place = from;
+                position.place = from;
                 return Err(fault);
             }
         };
-        if is_row(met) {
-            return Ok(Some(at));
+        let Some(found) = found else {
+            return Ok(None);
+        };
+        match found {
+            Found::Row(found) => return Ok(Some(found)),
+            Found::Free(..) => {}
         }
     }
-    Ok(None)
 }

@@ -1,104 +1,88 @@
 -- A scan of blocks, seen as a scan of a dynamic table.
-use Rattle.std.proofs.Common.{◌≡◌, ℕ, Bool, List, take, Option, Some, None, Result, Ok, Err, sym, ap, subst, ◌∙◌, inl, inr}
-use Rattle.std.specs.Prelude.{IfOk, IfSome}
-use Rattle.myi_base.specs.Holding.{Holding, bytes_of}
+use Rattle.std.proofs.Common.{◌≡◌, ◌∙◌, ℕ, List, Option, Some, None, Result, Ok, Err, refl, sym, ap, subst}
+use Rattle.std.specs.Prelude.{IfOk, IfErr, IfSome}
+use Rattle.myi_base.specs.Holding.{Holding, IfTold}
+use Rattle.myi_chain.specs.declared.piece.ScanFault.TheVariants.{Memory}
 use Rattle.myi_defs.specs.declared.types.RowFormat.{RowFormat}
 use Rattle.myi_defs.specs.declared.types.RowFormat.TheVariants.{Static, Dynamic}
 use Rattle.myi_defs.specs.declared.types.Defs.{Defs}
 use Rattle.myi_chain.specs.declared.piece.Piece.{Piece}
 use Rattle.myi_chain.specs.declared.piece.Item.{Item as Answer}
+use Rattle.myi_chain.specs.declared.piece.Item.TheVariants as item
 use Rattle.myi_chain.specs.declared.piece.ScanFault.{ScanFault}
-use Rattle.myi_chain.specs.Readable.{Row, Item, rows_of}
-use Rattle.myi_chain.specs.Readable as chains
-use Rattle.myi_chain.specs.Walk.{behind_row}
-use Rattle.myi_chain.specs.Scanning.{left_or, IsFirst, IsFirstRow}
-use Rattle.myi_chain.specs.Scanning as blocks
-use Rattle.myi_data.specs.Readable.{packs, items_by, items_in}
-use Rattle.myi_data.specs.Scanning.{TableScan, items_left, rows_left, IsRead, IsKept, IsAnswered, IsRowAnswered, Leaves, LeavesRows, IsSlotOf}
-
-pub dynamic_items : (d : Defs) (extend : Bool) (x : List ℕ) → d.format ≡ Dynamic → items_in d extend x ≡ chains.items_in extend (packs d) x
-unfolding items_in
-dynamic_items d extend x e = ap (λ (f : RowFormat). items_by f d extend x) e
+use Rattle.myi_chain.specs.Readable.{Item}
+use Rattle.myi_chain.specs.ScanModel.{scanned, FirstItem, NoItem, FirstRow, NoRow, IsItem, IsRow, LendsItem, LendsRow, Leaves}
+use Rattle.myi_chain.specs.ScanModel as blocks
+use Rattle.myi_data.specs.Readable.{packs}
+use Rattle.myi_data.specs.Scanning.{TableScan, left_by, items_ahead, IsAsKnown, MeetsPlainRow, IsSlotItem, IsSlotRow, AfterTableItem, AfterTableRow}
 
 module _ (h : Option Holding) (old : TableScan) (dynamic : old.test.format ≡ Dynamic) where
-  pub same_left : (m : Holding) → items_left old m ≡ blocks.items_left packs old m
-  same_left m = ap (λ (is : List Item). left_or old.left is) (dynamic_items old.test old.extend (take old.end (bytes_of old.name m)) dynamic)
+  format_of : (s : TableScan) → s.test ≡ old.test → s.test.format ≡ Dynamic
+  format_of s is = ap (λ (d : Defs). d.format) is ∙ dynamic
 
-  not_static : {P : Type 0} → old.test.format ≡ Static → P
-  not_static e = absurd (none (sym e ∙ dynamic))
+  same_items : (s : TableScan) → s.test ≡ old.test → (m : Holding) → blocks.items_left packs s m ≡ items_ahead s m
+  same_items s is m = ap (λ (f : RowFormat). left_by f s.test s.extend s.place s.used (scanned s m)) (sym (format_of s is))
+
+  known_of : (s : TableScan) → s.test ≡ old.test → (m : Holding) → blocks.IsCurrent s m → IsAsKnown s m
+  known_of s is m c = record { kept = c.kept; long = λ e. c.long }
+
+  pub known_to : (m : Holding) → IsAsKnown old m → blocks.IsCurrent old m
+  known_to m c = record { kept = c.kept; long = c.long dynamic }
+
+  -- what a call leaves of blocks is what it leaves of the table
+  module _ {X Found : Type 0} (First : X → List Item → List Item → Type 0) (NoneLeft : List Item → Type 0) (Is : X → Found → List (ℕ × ℕ) → List (ℕ × ℕ) → Type 0) (Lends : Found → List (ℕ × ℕ) → Type 0) where
+    leaves_of : (r : Result (Option Found) ScanFault) (new : TableScan) → Leaves (blocks.items_left packs) First NoneLeft Is Lends blocks.IsCurrent h old r new → Leaves items_ahead First NoneLeft Is Lends IsAsKnown h old r new
+    leaves_of (Err e) new k = record {
+      same = k.same;
+      later = k.later;
+      within = k.within;
+      blocks = k.blocks;
+      told = λ m held. sym (same_items new k.same.test m) ∙ k.told m held ∙ same_items old refl m;
+      current = λ m held. known_of new k.same.test m (k.current m held);
+    }
+    leaves_of (Ok None) new k = record {
+      same = k.same;
+      ended = k.ended;
+      blocks = k.blocks;
+      told = λ m held. (subst NoneLeft (same_items old refl m) (k.told m held).0, sym (same_items new k.same.test m) ∙ (k.told m held).1);
+      current = λ m held. known_of new k.same.test m (k.current m held);
+    }
+    leaves_of (Ok (Some found)) new k = record {
+      same = k.same;
+      rises = k.rises;
+      within = k.within;
+      lends = k.lends;
+      told = λ m held.
+          let t = k.told m held in
+          (t.0, subst (First t.0 (items_ahead old m)) (same_items new k.same.test m) (subst (λ (is : List Item). First t.0 is (blocks.items_left packs new m)) (same_items old refl m) t.1), t.2);
+      current = λ m held. known_of new k.same.test m (k.current m held);
+    }
+
+  pub item_after : (r : Result (Option Answer) ScanFault) (new : TableScan) → blocks.AfterItem packs h old r new → AfterTableItem h old r new
+  item_after r new l = (leaves_of FirstItem NoItem IsItem LendsItem r new l.0, λ e. l.1)
+
+  pub row_after : (r : Result (Option (ℕ × Piece)) ScanFault) (new : TableScan) → blocks.AfterRow packs h old r new → AfterTableRow h old r new
+  row_after r new l = (leaves_of FirstRow NoRow IsRow LendsRow r new l.0, λ e. l.1)
+
+  -- where no memory is taken of blocks, none is of the table
+  pub plain_to : {Found : Type 0} (r : Result (Option Found) ScanFault) → IfErr r (λ e. e ≡ Memory → IfTold h (λ m. blocks.MeetsPlain packs old m → ⊥)) → IfErr r (λ e. e ≡ Memory → IfTold h (λ m. MeetsPlainRow old m → ⊥))
+  plain_to (Ok found) never = tt
+  plain_to (Err e) never = λ is m held meets. never is m held meets.1
+
+  pub no_static : {P : Type 0} → old.test.format ≡ Static → P
+  no_static e = absurd (none (sym e ∙ dynamic))
     where
       none : Static ≡ Dynamic → ⊥
       none e = absurd cc
 
-  read_of : (new : TableScan) → blocks.IsRead packs h old new → IsRead h old new
-  read_of new r = record {
-    same = r.same;
-    items = r.items;
-    left = r.left;
-    blocks = r.blocks;
-    known = r.known;
-    told = λ m held. same_left m ∙ r.told m held;
-  }
+  -- nothing is said of slots
+  pub items_slot : (r : Result (Option Answer) ScanFault) → IfOk r (λ found. IfSome found (IsSlotItem old))
+  items_slot (Err e) = tt
+  items_slot (Ok None) = tt
+  items_slot (Ok (Some (item.Row at p))) = λ e. no_static e
+  items_slot (Ok (Some (item.Free at size))) = λ e. no_static e
 
-  kept_of : (new : TableScan) → blocks.IsKept packs h old new → IsKept h old new
-  kept_of new (inl same) = inl same
-  kept_of new (inr r) = inr (read_of new r)
-
-  answered_of : (found : Answer) (new : TableScan) → blocks.IsAnswered packs h old found new → IsAnswered h old found new
-  answered_of found new a = record {
-    same = a.same;
-    first = a.first;
-    rest = a.rest;
-    item = a.item;
-    left = a.left;
-    blocks = a.blocks;
-    known = a.known;
-    told = λ m held. same_left m ∙ a.told m held;
-    fewer = λ e. not_static e;
-  }
-
-  row_answered_of : (found : ℕ × Piece) (new : TableScan) → blocks.IsRowAnswered packs h old found new → IsRowAnswered h old found new
-  row_answered_of found new a = record {
-    same = a.same;
-    first = a.first;
-    rest = a.rest;
-    at = a.at;
-    piece = a.piece;
-    left = a.left;
-    blocks = a.blocks;
-    known = λ items e. let k = a.known items e in record { rows = k.0; behind = k.1 };
-    told = λ m held. let k = a.told m held in record { rows = ap rows_of (same_left m) ∙ k.0; behind = ap behind_row (same_left m) ∙ k.1 };
-    fewer = λ e. not_static e;
-  }
-
-  pub leaves_of : (r : Result (Option Answer) ScanFault) (new : TableScan) → blocks.Leaves packs h old r new → Leaves h old r new
-  leaves_of (Err e) new l = kept_of new l
-  leaves_of (Ok None) new l = l
-  leaves_of (Ok (Some found)) new l = answered_of found new l
-
-  pub rows_leave_of : (r : Result (Option (ℕ × Piece)) ScanFault) (new : TableScan) → blocks.LeavesRows packs h old r new → LeavesRows h old r new
-  rows_leave_of (Err e) new l = kept_of new l
-  rows_leave_of (Ok None) new l = l
-  rows_leave_of (Ok (Some found)) new l = row_answered_of found new l
-
-  pub first_of : (found : Option Answer) → ((m : Holding) → h ≡ Some m → IsFirst (blocks.items_left packs old m) found) → (m : Holding) → h ≡ Some m → IsFirst (items_left old m) found
-  first_of found f m held = subst (λ (is : List Item). IsFirst is found) (sym (same_left m)) (f m held)
-
-  pub first_row_of : (found : Option (ℕ × Piece)) → ((m : Holding) → h ≡ Some m → IsFirstRow (rows_of (blocks.items_left packs old m)) found) → (m : Holding) → h ≡ Some m → IsFirstRow (rows_left old m) found
-  first_row_of found f m held = subst (λ (is : List Item). IsFirstRow (rows_of is) found) (sym (same_left m)) (f m held)
-
-  pub no_slot : (r : ℕ × Piece) → IsSlotOf old r
-  no_slot r e = not_static e
-
-  pub items_ok : (r : Result (Option Answer) ScanFault) → IfOk r (λ found. (m : Holding) → h ≡ Some m → IsFirst (blocks.items_left packs old m) found) → IfOk r (λ found. (m : Holding) → h ≡ Some m → IsFirst (items_left old m) found)
-  items_ok (Err e) f = tt
-  items_ok (Ok found) f = first_of found f
-
-  pub rows_ok : (r : Result (Option (ℕ × Piece)) ScanFault) → IfOk r (λ found. (m : Holding) → h ≡ Some m → IsFirstRow (rows_of (blocks.items_left packs old m)) found) → IfOk r (λ found. (m : Holding) → h ≡ Some m → IsFirstRow (rows_left old m) found)
-  rows_ok (Err e) f = tt
-  rows_ok (Ok found) f = first_row_of found f
-
-  pub slots_ok : (r : Result (Option (ℕ × Piece)) ScanFault) → IfOk r (λ found. IfSome found (IsSlotOf old))
-  slots_ok (Err e) = tt
-  slots_ok (Ok None) = tt
-  slots_ok (Ok (Some found)) = no_slot found
+  pub rows_slot : (r : Result (Option (ℕ × Piece)) ScanFault) → IfOk r (λ found. IfSome found (IsSlotRow old))
+  rows_slot (Err e) = tt
+  rows_slot (Ok None) = tt
+  rows_slot (Ok (Some found)) = λ e. no_static e

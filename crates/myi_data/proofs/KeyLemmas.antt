@@ -1,7 +1,9 @@
 -- What a row that has the form of its definitions gives the segments of a key.
-use Rattle.std.proofs.Common.{◌≡◌, ℕ, zero, suc, ◌+◌, ◌-◌, ◌<◌, ◌≤◌, Bool, true, false, not, ◌&&◌, ◌||◌, eqb, List, [], ◌∷◌, length, map, take, drop, get_or, Some, None, refl, sym, ap, subst, ◌∙◌, arith}
+use Rattle.std.proofs.Common.{◌≡◌, ℕ, zero, suc, ◌+◌, ◌-◌, ◌<◌, ◌≤◌, Bool, true, false, not, ◌&&◌, ◌||◌, eqb, List, [], ◌∷◌, length, map, take, drop, get_or, Option, Some, None, refl, sym, ap, subst, ◌∙◌, arith}
 use Rattle.std.specs.Prelude.{IsSome, sum_by, nat_le, if◌then◌else◌}
 use Rattle.std.specs.List.{AllByRecursion}
+use Rattle.std.specs.Option.{option_map_or}
+use Rattle.std.proofs.lemmas.Option.{slice_get-get_or}
 use Rattle.std.proofs.lemmas.Bool.{and_parts, leb-true, eqb-true}
 use Rattle.std.proofs.lemmas.List.{length-take-le, length-drop, length-map, take_all}
 use Rattle.std.proofs.lemmas.List.Sums.{sum_by-cons}
@@ -19,14 +21,14 @@ use Rattle.myi_defs.specs.declared.types.Defs.{Defs}
 use Rattle.myi_defs.specs.Kinds.{is_fixed, is_variable, is_text, int_size, lies_in}
 use Rattle.myi_defs.specs.Sound.{IsSound, IsSoundSegment, IsSoundKey}
 use Rattle.myi_pack.specs.Packed.{Values}
-use Rattle.myi_pack.specs.Spelling.{fits, fits_field, fits_fields, is_live}
+use Rattle.myi_pack.specs.Spelling.{fits, fits_field, fits_fields, can_stand}
 use Rattle.myi_keys.specs.declared.values.KeySeg.{KeySeg}
 use Rattle.myi_keys.specs.declared.values.KeySeg.TheVariants.{Absent, Weights}
 use Rattle.myi_keys.specs.Collations.{collation_of}
 use Rattle.myi_keys.specs.Weights.{weights, CanWeigh, CanWeighBy}
 use Rattle.myi_keys.specs.Limits.{IsSeg, IsKey}
 use Rattle.myi_keys.proofs.CallerLemmas.{weights_short}
-use Rattle.myi_data.specs.Keys.{AreValues, part_of, start_of, is_absent, content, seg_of, segments_of, key_of}
+use Rattle.myi_data.specs.Keys.{AreValues, part_of, start_of, is_absent, content, seg_of, IsKeyNumber, key_at, segments_of, key_of}
 
 -- ---- one value for each field
 
@@ -42,7 +44,7 @@ field_fits format (f ∷ fs) [] i d e inside = absurd cc
 field_fits format (f ∷ fs) (v ∷ vs) zero d e inside = (and_parts (fits_field format f.kind f.length v) (fits_fields format fs vs) e).0
 field_fits format (f ∷ fs) (v ∷ vs) (suc i) d e inside = field_fits format fs vs i d (and_parts (fits_field format f.kind f.length v) (fits_fields format fs vs) e).1 (omega arith)
 
-start_at : (fs : List Field) (i : ℕ) (d : Field) → i < length fs → start_of fs i ≡ (get_or fs i d).start
+pub start_at : (fs : List Field) (i : ℕ) (d : Field) → i < length fs → start_of fs i ≡ (get_or fs i d).start
 start_at [] i d inside = absurd (omega arith)
 start_at (f ∷ fs) zero d inside = refl
 start_at (f ∷ fs) (suc i) d inside = start_at fs i d (omega arith)
@@ -151,28 +153,26 @@ key_is format fs rec_ref vs k fit sound = (
   All-from_recursion IsSeg (map (seg_of fs vs) k.segments) (segs_small format fs vs k.segments fit (recursion_from_All (IsSoundSegment fs) k.segments sound.segments) sound.short),
 )
 
-pub segments_at : (keys : List Key) (i : ℕ) (d : Key) → i < length keys → segments_of keys i ≡ (get_or keys i d).segments
-segments_at [] i d inside = absurd (omega arith)
-segments_at (k ∷ keys) zero d inside = refl
-segments_at (k ∷ keys) (suc i) d inside = segments_at keys i d (omega arith)
+pub key_is_at : (keys : List Key) (k : ℕ) (d : Key) → 0 < k → k ≤ length keys → key_at keys k ≡ Some (get_or keys (k - 1) d)
+key_is_at keys zero d some inside = absurd (omega arith)
+key_is_at keys (suc i) d some inside =
+    let e : i ≡ suc i - 1 = omega arith in
+    slice_get-get_or keys i d (omega arith) ∙ ap (λ j. Some (get_or keys j d)) e
+
+pub segments_at : (keys : List Key) (k : ℕ) (d : Key) → 0 < k → k ≤ length keys → segments_of keys k ≡ (get_or keys (k - 1) d).segments
+segments_at keys k d some inside = ap (λ (o : Option Key). option_map_or (λ (x : Key). x.segments) o []) (key_is_at keys k d some inside)
 
 pub values_fit : (d : Defs) (row : Values) → fits d row ≡ true → fits_fields d.format d.fields row ≡ true
 unfolding fits
-values_fit d row e = (and_parts (fits_fields d.format d.fields row) (is_live d.format d row) e).0
+values_fit d row e = (and_parts (fits_fields d.format d.fields row) (can_stand d.format d row) e).0
 
 -- the segments of the key are those of the row, and make a key
-pub key_made : (d : Defs) (row : Values) (n : ℕ) (fs : List Field) (keys : List Key) (segs : List Segment) (i : ℕ) (parts : List KeySeg) (k : Key) → IsSound d → fits d row ≡ true → fs ≡ d.fields → keys ≡ d.keys → n < length d.keys → k ≡ get_or keys n k → segs ≡ k.segments → length segs ≤ i → parts ≡ map (seg_of fs row) (take i segs)
+pub key_made : (d : Defs) (row : Values) (n : ℕ) (fs : List Field) (keys : List Key) (segs : List Segment) (i : ℕ) (parts : List KeySeg) (k : Key) → IsSound d → fits d row ≡ true → fs ≡ d.fields → keys ≡ d.keys → IsKeyNumber d n → k ≡ get_or keys (n - 1) k → segs ≡ k.segments → length segs ≤ i → parts ≡ map (seg_of fs row) (take i segs)
     → IsKey parts × (parts ≡ key_of d n row)
 unfolding key_of
 key_made d row n fs keys segs i parts k sound fit fields is_keys inside is same all made =
-    let here : k ≡ get_or d.keys n k = is ∙ ap (λ (ks : List Key). get_or ks n k) is_keys in
-    let good : IsSoundKey d.fields d.rec_ref k = subst (IsSoundKey d.fields d.rec_ref) (sym here) (All-get_or (IsSoundKey d.fields d.rec_ref) d.keys n k inside sound.keys_sound) in
+    let here : k ≡ get_or d.keys (n - 1) k = is ∙ ap (λ (ks : List Key). get_or ks (n - 1) k) is_keys in
+    let good : IsSoundKey d.fields d.rec_ref k = subst (IsSoundKey d.fields d.rec_ref) (sym here) (All-get_or (IsSoundKey d.fields d.rec_ref) d.keys (n - 1) k (omega (arith, inside.0, inside.1)) sound.keys_sound) in
     let whole : parts ≡ map (seg_of d.fields row) k.segments = made ∙ ap (map (seg_of fs row)) (take_all i segs all ∙ same) ∙ ap (λ (gs : List Field). map (seg_of gs row) k.segments) fields in
-    let found : segments_of d.keys n ≡ k.segments = segments_at d.keys n k inside ∙ ap (λ (x : Key). x.segments) (sym here) in
+    let found : segments_of d.keys n ≡ k.segments = segments_at d.keys n k inside.0 inside.1 ∙ ap (λ (x : Key). x.segments) (sym here) in
     (subst IsKey (sym whole) (key_is d.format d.fields d.rec_ref row k (values_fit d row fit) good), whole ∙ ap (map (seg_of d.fields row)) (sym found))
-
-pub sound_segment : (d : Defs) (row : Values) (n : ℕ) (fs : List Field) (keys : List Key) (k : Key) (i : ℕ) (s : Segment) → IsSound d → fs ≡ d.fields → keys ≡ d.keys → n < length d.keys → k ≡ get_or keys n k → i < length k.segments → s ≡ get_or k.segments i s → IsSoundSegment fs s
-sound_segment d row n fs keys k i s sound fields is_keys inside is at seg =
-    let here : k ≡ get_or d.keys n k = is ∙ ap (λ (ks : List Key). get_or ks n k) is_keys in
-    let good : IsSoundKey d.fields d.rec_ref k = subst (IsSoundKey d.fields d.rec_ref) (sym here) (All-get_or (IsSoundKey d.fields d.rec_ref) d.keys n k inside sound.keys_sound) in
-    subst (λ (gs : List Field). IsSoundSegment gs s) (sym fields) (subst (IsSoundSegment d.fields) (sym seg) (All-get_or (IsSoundSegment d.fields) k.segments i s at good.segments))

@@ -3,9 +3,11 @@ pub mod SlotLaws
 pub mod RowsLemmas
 pub mod PlainLaws
 pub mod SpellingLemmas
-pub mod LaidLemmas
+pub mod StoredLemmas
 pub mod KeyLemmas
-pub mod WalkLemmas
+pub mod PlaceLemmas
 pub mod SlotLemmas
+pub mod NextSlotLemmas
 pub mod ScanLaws
+pub mod FreshScans
 pub mod BlockScans

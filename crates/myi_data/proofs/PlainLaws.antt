@@ -14,7 +14,7 @@ use Rattle.myi_defs.specs.declared.types.Field.{Field}
 use Rattle.myi_defs.specs.declared.types.Defs.{Defs}
 use Rattle.myi_defs.specs.Sound.{IsSound, fields_length}
 use Rattle.myi_pack.specs.Packed.{Values}
-use Rattle.myi_pack.specs.Reading.{Cut, row_of, ended, fields_of, then_fields, put_front, field_of}
+use Rattle.myi_pack.specs.Unpacking.{Cut, row_of, ended, fields_of, then_fields, put_front, field_of}
 use Rattle.myi_pack.specs.Flags.{flag_at, next_flag}
 use Rattle.myi_chain.specs.Readable.{rows_of}
 use Rattle.myi_data.specs.Slots.{Slot, slots, slots_in}

@@ -13,7 +13,7 @@ use Rattle.myi_defs.specs.Sound.{IsSound}
 use Rattle.myi_frames.specs.Block.{Block, block_of}
 use Rattle.myi_frames.proofs.CallerLemmas.{block-bytes}
 use Rattle.myi_pack.specs.Packed.{Values}
-use Rattle.myi_pack.specs.Reading.{row_of}
+use Rattle.myi_pack.specs.Unpacking.{row_of}
 use Rattle.myi_pack.proofs.CallerLemmas.{row-takes}
 use Rattle.myi_chain.specs.Chain.{AreApart, AreLinked, IsTail, row_bytes}
 use Rattle.myi_chain.specs.Readable.{Row, Item, row, free, rows_of, rest}
@@ -23,7 +23,7 @@ use Rattle.myi_chain.proofs.CallerLemmas.{blocks_read}
 use Rattle.myi_chain.proofs.CallerLemmas.{rest_fine}
 use Rattle.myi_data.specs.Slots.{Slot, slots}
 use Rattle.myi_data.specs.Readable.{packs, slot_range, slot_row, slot_items, items_at, items_by, items_in, readable, deleted}
-use Rattle.myi_data.specs.Laid.{PackARow}
+use Rattle.myi_data.specs.Stored.{PackARow}
 
 pub either : {X : Type 0} (P : X → Type 0) (b : Bool) (x y : X) → (b ≡ true → P x) → (b ≡ false → P y) → P (cond b x y)
 either P true x y h k = h refl

@@ -1,260 +1,216 @@
--- What a scan of slots has left, before and after the file was read.
-use Rattle.std.proofs.Common.{◌≡◌, ℕ, ◌+◌, ◌-◌, ◌*◌, ◌/◌, ◌<◌, ◌≤◌, Bool, true, false, List, [], ◌∷◌, length, take, drop, Option, Some, None, refl, sym, ap, subst, ◌∙◌, arith}
-use Rattle.std.specs.Prelude.{if◌then◌else◌, nat_le}
-use Rattle.std.proofs.Math.Nat.{div-mul-le_self, le-div_iff_mul-le}
+-- What a scan of slots leaves, from what was found between two places of its file.
+use Rattle.std.proofs.Common.{◌≡◌, ◌∙◌, ◌+◌, ◌<◌, ◌≤◌, ℕ, Bool, true, List, [], ◌∷◌, length, take, drop, sym, ap, subst, arith, refl, Option, Some, None, Ok, Err}
 use Rattle.std.proofs.lemmas.Bool.{le-leb, lt-leb}
-use Rattle.myi_base.specs.Numbers.{AreBytes}
+use Rattle.std.proofs.lemmas.List.{length-take-le}
 use Rattle.myi_base.specs.Holding.{Holding, bytes_of}
-use Rattle.myi_defs.specs.declared.types.RowFormat.{RowFormat}
-use Rattle.myi_defs.specs.declared.types.RowFormat.TheVariants.{Static}
 use Rattle.myi_defs.specs.declared.types.Defs.{Defs}
+use Rattle.myi_defs.specs.declared.types.RowFormat.{RowFormat}
+use Rattle.myi_defs.specs.declared.types.RowFormat.TheVariants.{Static, Dynamic}
+use Rattle.myi_window.specs.Excerpt.{Excerpt, bytes_from, AreFront, StandsIn, EndsBy}
+use Rattle.myi_window.proofs.CallerLemmas.{excerpt_here}
 use Rattle.myi_chain.specs.declared.piece.Piece.{Piece}
+use Rattle.myi_chain.specs.declared.piece.Piece.TheVariants.{Lent, Joined}
 use Rattle.myi_chain.specs.declared.piece.Item.TheVariants as item
-use Rattle.myi_chain.specs.Readable.{Row, Item, row, free, rows_of}
+use Rattle.myi_chain.specs.declared.piece.ScanFault.TheVariants.{File}
+use Rattle.myi_chain.specs.Readable.{Item, row, free}
+use Rattle.myi_chain.specs.Chain.{ranges_at}
 use Rattle.myi_chain.specs.Pieces.{shown}
-use Rattle.myi_chain.specs.Scanning.{left_or, IsSameScan, IsEnded, IsPiece, IsFirst, IsFirstRow}
-use Rattle.myi_data.specs.Readable.{packs, items_at, items_by, items_in}
-use Rattle.myi_data.specs.Scanning.{TableScan, items_left, rows_left, most_of, most_left, ComesFirst, IsRead, IsAnswered, IsRowAnswered, PacksRow, IsSlotOf}
-use Rattle.myi_data.specs.declared.slots.NextSlot.{NextSlot}
-use Rattle.myi_data.specs.declared.slots.NextSlot.TheVariants as next
-use Rattle.myi_data.specs.NextSlot.{row_in_slot, IsNextSlot, IsNextRow}
-use Rattle.myi_chain.proofs.CallerLemmas.{shown_bytes}
-use Rattle.myi_data.proofs.RowsLemmas.{AreAccepted, items_accepted}
-use Rattle.myi_data.proofs.SlotLaws.{drop_none}
-use Rattle.myi_data.proofs.SlotLemmas.{few_items, long_here, fewer_behind}
+use Rattle.myi_chain.specs.ScanModel.{IsSameScan, FirstItem, NoItem, FirstRow, NoRow, IsItem, IsRow, LendsBlock, LendsItem, LendsRow, HasEnded, Keeps}
+use Rattle.myi_data.specs.Readable.{packs}
+use Rattle.myi_data.specs.SlotBytes.{IsFormOf}
+use Rattle.myi_data.specs.NextSlot.{row_in_slot, items_from, IsSlotBetween}
+use Rattle.myi_data.specs.Scanning.{TableScan, left_by, items_ahead, IsAsKnown, MeetsPlainRow, IsSlotAt, AfterTableItem, AfterTableRow}
+use Rattle.myi_data.proofs.NextSlotLemmas.{front_cut, end_left}
 
--- a scan, by its fields
-abbrev pub scan_of : List ℕ → Defs → Bool → ℕ → Option (List Item) → List (ℕ × ℕ) → TableScan
-scan_of name test extend end left blocks = record { name = name; test = test; extend = extend; end = end; left = left; blocks = blocks }
+-- a scan of a static table
+abbrev pub slot_scan : List ℕ → Defs → Bool → ℕ → ℕ → List (ℕ × ℕ) → Excerpt → TableScan
+slot_scan name test extend end place blocks kept = record { name = name; test = test; extend = extend; end = end; place = place; used = []; blocks = blocks; kept = kept }
 
-one_list : (xs ys : List Item) → Some xs ≡ Some ys → xs ≡ ys
-one_list xs ys e = ap (λ o. left_or o []) e
+static_left : (f : RowFormat) (test : Defs) (extend : Bool) (place : ℕ) (x : List ℕ) → f ≡ Static → left_by f test extend place [] x ≡ items_from (packs test) test.slot_length x place
+static_left f test extend place x e = subst (λ g. left_by g test extend place [] x ≡ items_from (packs test) test.slot_length x place) (sym e) refl
 
-same_scan : (s : TableScan) → IsSameScan s s
-same_scan s = record { name = refl; test = refl; extend = refl; end = refl }
-
--- what is met in the bytes of a static table's file
-pub static_items : (d : Defs) (extend : Bool) (x : List ℕ) → d.format ≡ Static → items_in d extend x ≡ items_at (packs d) d.slot_length 0 x
-unfolding items_in
-static_items d extend x e = ap (λ (f : RowFormat). items_by f d extend x) e
-
--- fewer are left than at most were, where one was answered
-pub fewer_left : (old new : TableScan) (items rest : List Item) → new.left ≡ Some rest → ((before : List Item) → old.left ≡ Some before → before ≡ items) → length items ≤ old.end / old.test.slot_length → length rest < length items → most_left new < most_left old
-fewer_left old new items rest left known few less =
-    subst (λ (o : Option (List Item)). most_of o (new.end / new.test.slot_length) < most_left old) (sym left) (before old.left refl)
+not_dynamic : {P : Type 0} (f : RowFormat) → f ≡ Static → f ≡ Dynamic → P
+not_dynamic f static dynamic = absurd (none (sym static ∙ dynamic))
   where
-    before : (o : Option (List Item)) → old.left ≡ o → length rest < most_of old.left (old.end / old.test.slot_length)
-    before None e = subst (λ (o : Option (List Item)). length rest < most_of o (old.end / old.test.slot_length)) (sym e) (omega (arith, few, less))
-    before (Some b) e = subst (λ (o : Option (List Item)). length rest < most_of o (old.end / old.test.slot_length)) (sym e) (omega (arith, less, ap (λ (is : List Item). length is) (known b e)))
+    none : Static ≡ Dynamic → ⊥
+    none e = absurd cc
 
-module _ (h : Option Holding) where
-  -- what is left is known already
-  pub known : (s : TableScan) (name : List ℕ) (test : Defs) (extend : Bool) (end : ℕ) (is_read : Bool) (items : List Item) (blocks : List (ℕ × ℕ)) → scan_of name test extend end (if is_read then Some items else None) blocks ≡ s → is_read ≡ true → IsRead h s s
-  known s name test extend end is_read items blocks is read =
-      let left : s.left ≡ Some items = sym (ap (λ (v : TableScan). v.left) is) ∙ ap (λ (b : Bool). if b then Some items else None) read in
-      record {
-        same = same_scan s;
-        items = items;
-        left = left;
-        blocks = refl;
-        known = λ before e. one_list before items (sym e ∙ left);
-        told = λ m told. ap (λ (l : Option (List Item)). left_or l (items_in s.test s.extend (take s.end (bytes_of s.name m)))) left;
-      }
+lends_slot : (size at : ℕ) (p : Piece) → IsFormOf size p → LendsBlock p ((at, size) ∷ [])
+lends_slot size at (Lent bytes) form = le-leb _ _ (omega (arith, form))
+lends_slot size at (Joined bytes) form = lt-leb _ _ (omega (arith, form))
 
-  -- the file was read now
-  pub read_now : (s : TableScan) (name : List ℕ) (test : Defs) (extend : Bool) (end : ℕ) (is_read : Bool) (before : List Item) (blocks : List (ℕ × ℕ)) (bytes : List ℕ) → scan_of name test extend end (if is_read then Some before else None) blocks ≡ s → is_read ≡ false → test.format ≡ Static
-      → ((m : Holding) → h ≡ Some m → bytes ≡ take end (bytes_of name m)) → IsRead h s (scan_of name test extend end (Some (items_at (packs test) test.slot_length 0 (drop 0 bytes))) blocks)
-  read_now s name test extend end is_read before blocks bytes is unread static told =
-      let none : scan_of name test extend end None blocks ≡ s = ap (λ b. scan_of name test extend end (if b then Some before else None) blocks) (sym unread) ∙ is in
-      let items : List Item = items_at (packs test) test.slot_length 0 (drop 0 bytes) in
-      subst (λ (t : TableScan). IsRead h t (scan_of name test extend end (Some items) blocks)) none record {
-        same = record { name = refl; test = refl; extend = refl; end = refl };
-        items = items;
-        left = refl;
-        blocks = refl;
-        known = λ before e. absurd cc;
-        told = λ m held. static_items test extend (take end (bytes_of name m)) static ∙ ap (items_at (packs test) test.slot_length 0) (sym (told m held) ∙ sym (drop_none bytes));
-      }
+-- a scan went from one place of its file to another
+pub record Went (holds : Option Holding) (old : TableScan) (name : List ℕ) (test : Defs) (extend : Bool) (end from to : ℕ) (blocks : List (ℕ × ℕ)) (w v : Excerpt) (size : ℕ) : Type 0 where
+  pub view : slot_scan name test extend end from blocks w ≡ old
+  pub static : test.format ≡ Static
+  pub sized : size ≡ test.slot_length
+  pub some : 0 < size
+  pub later : from ≤ to
+  pub within : to ≤ end
+  pub inside : EndsBy end v
+  pub current : (m : Holding) → holds ≡ Some m → IsAsKnown old m
+  pub stands : (m : Holding) → holds ≡ Some m → StandsIn w (bytes_of name m) → StandsIn v (bytes_of name m)
 
-  -- what was read now is bytes
-  pub bytes_now : (s : TableScan) (name : List ℕ) (test : Defs) (extend : Bool) (end : ℕ) (left : Option (List Item)) (blocks : List (ℕ × ℕ)) (bytes : List ℕ) → scan_of name test extend end left blocks ≡ s
-      → ((m : Holding) → h ≡ Some m → bytes ≡ take end (bytes_of name m)) → AreBytes bytes → (m : Holding) → h ≡ Some m → s.left ≡ None → AreBytes (take s.end (bytes_of s.name m))
-  bytes_now s name test extend end left blocks bytes is told fits m held none =
-      subst (λ (t : TableScan). AreBytes (take t.end (bytes_of t.name m))) is (subst AreBytes (told m held) fits)
+-- so it did, where a call that looks for the next slot has found what it says
+pub went : (holds : Option Holding) (old : TableScan) (name told : List ℕ) (test : Defs) (extend : Bool) (end from to : ℕ) (blocks : List (ℕ × ℕ)) (w v : Excerpt) (size : ℕ) → name ≡ told → slot_scan told test extend end from blocks w ≡ old → test.format ≡ Static → 0 < test.slot_length → size ≡ test.slot_length
+    → from ≤ to → to ≤ end → EndsBy end v → ((m : Holding) → holds ≡ Some m → IsAsKnown old m) → ((m : Holding) → holds ≡ Some m → StandsIn w (bytes_of name m) → StandsIn v (bytes_of name m)) → Went holds old name test extend end from to blocks w v size
+went holds old name told test extend end from to blocks w v size same view static some sized later within inside current stands = record {
+  view = ap (λ n. slot_scan n test extend end from blocks w) same ∙ view;
+  static = static;
+  sized = sized;
+  some = omega (arith, some, sized);
+  later = later;
+  within = within;
+  inside = inside;
+  current = current;
+  stands = stands;
+}
 
-  -- the file was read before
-  pub bytes_known : (s : TableScan) (name : List ℕ) (test : Defs) (extend : Bool) (end : ℕ) (is_read : Bool) (items : List Item) (blocks : List (ℕ × ℕ)) → scan_of name test extend end (if is_read then Some items else None) blocks ≡ s → is_read ≡ true
-      → (m : Holding) → h ≡ Some m → s.left ≡ None → AreBytes (take s.end (bytes_of s.name m))
-  bytes_known s name test extend end is_read items blocks is read m held none =
-      let was = known s name test extend end is_read items blocks is read in
-      let left : Some was.items ≡ None = sym was.left ∙ none in
-      absurd cc
+module _ (holds : Option Holding) (old : TableScan) (name : List ℕ) (test : Defs) (extend : Bool) (end from to : ℕ) (blocks : List (ℕ × ℕ)) (w v : Excerpt) (size : ℕ) (k : Went holds old name test extend end from to blocks w v size) where
+  abbrev file : Holding → List ℕ
+  file m = take end (bytes_of name m)
 
-  -- the file was read, and these are the scan's fields then
-  pub record Opened (old : TableScan) (name : List ℕ) (test : Defs) (extend : Bool) (end : ℕ) (is_read : Bool) (items : List Item) (blocks : List (ℕ × ℕ)) : Type 0 where
-    pub read : is_read ≡ true
-    pub same_name : name ≡ old.name
-    pub same_test : test ≡ old.test
-    pub same_extend : extend ≡ old.extend
-    pub same_end : end ≡ old.end
-    pub same_blocks : blocks ≡ old.blocks
-    pub known : (before : List Item) → old.left ≡ Some before → before ≡ items
-    pub told : (m : Holding) → h ≡ Some m → items_left old m ≡ items
+  abbrev left : Holding → ℕ → List Item
+  left m p = items_from (packs test) size (file m) p
 
-  known_items : (b : Bool) (x items : List Item) → (if b then Some x else None) ≡ Some items → (b ≡ true) × (x ≡ items)
-  known_items true x items e = (refl, one_list x items e)
-  known_items false x items e = absurd cc
+  stood : (m : Holding) → holds ≡ Some m → StandsIn w (bytes_of name m)
+  stood m held = (subst (λ (s : TableScan). IsAsKnown s m) (sym k.view) (k.current m held)).kept
 
-  pub opened : (old mid : TableScan) (name : List ℕ) (test : Defs) (extend : Bool) (end : ℕ) (is_read : Bool) (items : List Item) (blocks : List (ℕ × ℕ)) → IsRead h old mid → scan_of name test extend end (if is_read then Some items else None) blocks ≡ mid → Opened old name test extend end is_read items blocks
-  opened old mid name test extend end is_read items blocks was is =
-      let both = known_items is_read items was.items (ap (λ (v : TableScan). v.left) is ∙ was.left) in
-      record {
-        read = both.0;
-        same_name = ap (λ (v : TableScan). v.name) is ∙ was.same.name;
-        same_test = ap (λ (v : TableScan). v.test) is ∙ was.same.test;
-        same_extend = ap (λ (v : TableScan). v.extend) is ∙ was.same.extend;
-        same_end = ap (λ (v : TableScan). v.end) is ∙ was.same.end;
-        same_blocks = ap (λ (v : TableScan). v.blocks) is ∙ was.blocks;
-        known = λ before e. was.known before e ∙ sym both.1;
-        told = λ m held. was.told m held ∙ sym both.1;
-      }
+  stands : (m : Holding) → holds ≡ Some m → StandsIn v (bytes_of name m)
+  stands m held = k.stands m held (stood m held)
 
-  module _ (old : TableScan) (name : List ℕ) (test : Defs) (extend : Bool) (end : ℕ) (is_read : Bool) (items : List Item) (blocks : List (ℕ × ℕ)) (o : Opened old name test extend end is_read items blocks) where
-    left_now : (left : List Item) → (if is_read then Some left else None) ≡ Some left
-    left_now left = ap (λ (b : Bool). if b then Some left else None) o.read
+  known_now : (blocks_now : List (ℕ × ℕ)) (m : Holding) → holds ≡ Some m → IsAsKnown (slot_scan name test extend end to blocks_now v) m
+  known_now blocks_now m held = record { kept = stands m held; long = λ e. not_dynamic test.format k.static e }
 
-    same_now : (left : Option (List Item)) (now : List (ℕ × ℕ)) → IsSameScan old (scan_of name test extend end left now)
-    same_now left now = record { name = o.same_name; test = o.same_test; extend = o.same_extend; end = o.same_end }
+  left_at : (place : ℕ) (blocks_now : List (ℕ × ℕ)) (e : Excerpt) (m : Holding) → items_ahead (slot_scan name test extend end place blocks_now e) m ≡ left m place
+  left_at place blocks_now e m = static_left test.format test extend place (file m) k.static ∙ ap (λ n. items_from (packs test) n (file m) place) (sym k.sized)
 
-    pub ended : (left : List Item) → left ≡ [] → IsEnded old (scan_of name test extend end (if is_read then Some left else None) blocks)
-    ended left e = record {
-      same = same_now (if is_read then Some left else None) blocks;
-      left = left_now left ∙ ap Some e;
-      blocks = o.same_blocks;
+  left_before : (m : Holding) → items_ahead old m ≡ left m from
+  left_before m = subst (λ (s : TableScan). items_ahead s m ≡ left m from) k.view (left_at from blocks w m)
+
+  same_scan : (place : ℕ) (blocks_now : List (ℕ × ℕ)) (e : Excerpt) → IsSameScan old (slot_scan name test extend end place blocks_now e)
+  same_scan place blocks_now e = subst (λ (o : TableScan). IsSameScan o (slot_scan name test extend end place blocks_now e)) k.view (record { name = refl; test = refl; extend = refl; end = refl })
+
+  old_place : old.place ≡ from
+  old_place = sym (ap (λ (s : TableScan). s.place) k.view)
+
+  old_end : old.end ≡ end
+  old_end = sym (ap (λ (s : TableScan). s.end) k.view)
+
+  old_static : old.test.format ≡ Static
+  old_static = sym (ap (λ (s : TableScan). s.test.format) k.view) ∙ k.static
+
+  old_blocks : old.blocks ≡ blocks
+  old_blocks = sym (ap (λ (s : TableScan). s.blocks) k.view)
+
+  -- the slot of the row at a place is answered
+  slot_here : (at : ℕ) (p : Piece) (m : Holding) → holds ≡ Some m → at ≤ end → size ≤ length (bytes_from at v) → shown p ≡ take size (bytes_from at v)
+      → (shown p ≡ (row_in_slot size (file m) at).bytes) × (ranges_at ((at, size) ∷ []) ≡ (row_in_slot size (file m) at).blocks)
+  slot_here at p m held order few is =
+      let front : AreFront (bytes_from at v) (drop at (file m)) = excerpt_here at end v (bytes_of name m) order k.inside (stands m held) in
+      let same : take size (drop at (file m)) ≡ take size (bytes_from at v) = front_cut size (bytes_from at v) (drop at (file m)) front few in
+      let long : length (take size (drop at (file m))) ≡ size = ap (λ (xs : List ℕ). length xs) same ∙ length-take-le size (bytes_from at v) few in
+      (is ∙ sym same, ap (λ n. (at, at + n) ∷ []) (sym long))
+
+  -- what comes first of the file comes first of what is ahead
+  ahead : {X : Type 0} (First : X → List Item → List Item → Type 0) (x : X) (blocks_now : List (ℕ × ℕ)) (m : Holding) → First x (left m from) (left m to) → First x (items_ahead old m) (items_ahead (slot_scan name test extend end to blocks_now v) m)
+  ahead First x blocks_now m is = subst (First x (items_ahead old m)) (sym (left_at to blocks_now v m)) (subst (λ (is : List Item). First x is (left m to)) (sym (left_before m)) is)
+
+  pub row_answered : (at : ℕ) (p : Piece) → IsSlotBetween size from to end at → size ≤ length (bytes_from at v) → shown p ≡ take size (bytes_from at v) → IsFormOf size p
+      → ((m : Holding) → holds ≡ Some m → StandsIn w (bytes_of name m) → FirstRow (row_in_slot size (file m) at) (left m from) (left m to))
+      → AfterTableRow holds old (Ok (Some (at, p))) (slot_scan name test extend end to ((at, size) ∷ []) v)
+  row_answered at p placed few is form told = (
+    record {
+      same = same_scan to ((at, size) ∷ []) v;
+      rises = omega (arith, old_place, placed.0, placed.1, k.some);
+      within = omega (arith, old_end, k.within);
+      lends = lends_slot size at p form;
+      told = λ m held.
+          let here = slot_here at p m held (omega (arith, placed.1, placed.2)) few is in
+          (row_in_slot size (file m) at, ahead FirstRow (row_in_slot size (file m) at) ((at, size) ∷ []) m (told m held (stood m held)), (refl, here.0, here.1));
+      current = known_now ((at, size) ∷ []);
+    },
+    λ e. not_dynamic old.test.format old_static e,
+  )
+
+  pub item_answered : (at : ℕ) (p : Piece) → IsSlotBetween size from to end at → size ≤ length (bytes_from at v) → shown p ≡ take size (bytes_from at v) → IsFormOf size p
+      → ((m : Holding) → holds ≡ Some m → StandsIn w (bytes_of name m) → FirstItem (row (row_in_slot size (file m) at)) (left m from) (left m to))
+      → AfterTableItem holds old (Ok (Some (item.Row at p))) (slot_scan name test extend end to ((at, size) ∷ []) v)
+  item_answered at p placed few is form told = (
+    record {
+      same = same_scan to ((at, size) ∷ []) v;
+      rises = omega (arith, old_place, placed.0, placed.1, k.some);
+      within = omega (arith, old_end, k.within);
+      lends = lends_slot size at p form;
+      told = λ m held.
+          let here = slot_here at p m held (omega (arith, placed.1, placed.2)) few is in
+          (row (row_in_slot size (file m) at), ahead FirstItem (row (row_in_slot size (file m) at)) ((at, size) ∷ []) m (told m held (stood m held)), (refl, here.0, here.1));
+      current = known_now ((at, size) ∷ []);
+    },
+    λ e. not_dynamic old.test.format old_static e,
+  )
+
+  pub free_answered : (at : ℕ) → IsSlotBetween size from to end at
+      → ((m : Holding) → holds ≡ Some m → StandsIn w (bytes_of name m) → FirstItem (free (at, at + size)) (left m from) (left m to))
+      → AfterTableItem holds old (Ok (Some (item.Free at size))) (slot_scan name test extend end to blocks v)
+  free_answered at placed told = (
+    record {
+      same = same_scan to blocks v;
+      rises = omega (arith, old_place, placed.0, placed.1, k.some);
+      within = omega (arith, old_end, k.within);
+      lends = tt;
+      told = λ m held. (free (at, at + size), ahead FirstItem (free (at, at + size)) blocks m (told m held (stood m held)), (refl, sym old_blocks));
+      current = known_now blocks;
+    },
+    λ e. not_dynamic old.test.format old_static e,
+  )
+
+  module _ {X Found : Type 0} (First : X → List Item → List Item → Type 0) (NoneLeft : List Item → Type 0) (Is : X → Found → List (ℕ × ℕ) → List (ℕ × ℕ) → Type 0) (Lends : Found → List (ℕ × ℕ) → Type 0) where
+    ended : to ≡ end → ((m : Holding) → holds ≡ Some m → StandsIn w (bytes_of name m) → NoneLeft (left m from)) → HasEnded items_ahead First NoneLeft Is Lends IsAsKnown holds old (slot_scan name test extend end to blocks v)
+    ended last told = record {
+      same = same_scan to blocks v;
+      ended = last ∙ sym old_end;
+      blocks = sym old_blocks;
+      told = λ m held. (subst NoneLeft (sym (left_before m)) (told m held (stood m held)), left_at to blocks v m ∙ end_left (packs test) size end to (bytes_of name m) k.some (omega arith));
+      current = known_now blocks;
     }
 
-    few_before : length items ≤ end / test.slot_length → length items ≤ old.end / old.test.slot_length
-    few_before few = subst (λ e. length items ≤ e / old.test.slot_length) o.same_end (subst (λ (d : Defs). length items ≤ end / d.slot_length) o.same_test few)
-
-    pub answered_free : (left : List Item) (at size : ℕ) → items ≡ free (at, at + size) ∷ left → length items ≤ end / test.slot_length → IsAnswered h old (item.Free at size) (scan_of name test extend end (if is_read then Some left else None) blocks)
-    answered_free left at size e few = record {
-      same = same_now (if is_read then Some left else None) blocks;
-      first = free (at, at + size);
-      rest = left;
-      item = refl;
-      left = left_now left;
-      blocks = o.same_blocks;
-      known = λ before k. o.known before k ∙ e;
-      told = λ m held. o.told m held ∙ e;
-      fewer = λ static. fewer_left old (scan_of name test extend end (if is_read then Some left else None) blocks) items left (left_now left) o.known (few_before few) (omega (arith, ap (λ (is : List Item). length is) e));
+    kept : ((m : Holding) → holds ≡ Some m → StandsIn w (bytes_of name m) → left m to ≡ left m from) → Keeps items_ahead First NoneLeft Is Lends IsAsKnown holds old (slot_scan name test extend end to blocks v)
+    kept told = record {
+      same = same_scan to blocks v;
+      later = omega (arith, old_place, k.later);
+      within = omega (arith, old_end, k.within);
+      blocks = sym old_blocks;
+      told = λ m held. left_at to blocks v m ∙ told m held (stood m held) ∙ sym (left_before m);
+      current = known_now blocks;
     }
 
-    pub answered_row : (left : List Item) (r : Row) (from to : ℕ) (p : Piece) → items ≡ row r ∷ left → r.blocks ≡ (r.at, from + to) ∷ [] → r.at ≡ from → IsPiece r p → length items ≤ end / test.slot_length → IsAnswered h old (item.Row from p) (scan_of name test extend end (if is_read then Some left else None) ((from, to) ∷ []))
-    answered_row left r from to p e place at piece few = record {
-      same = same_now (if is_read then Some left else None) ((from, to) ∷ []);
-      first = row r;
-      rest = left;
-      item = (at, piece);
-      left = left_now left;
-      blocks = ap (λ a. (a, from + to) ∷ []) (sym at) ∙ sym place;
-      known = λ before k. o.known before k ∙ e;
-      told = λ m held. o.told m held ∙ e;
-      fewer = λ static. fewer_left old (scan_of name test extend end (if is_read then Some left else None) ((from, to) ∷ [])) items left (left_now left) o.known (few_before few) (omega (arith, ap (λ (is : List Item). length is) e));
-    }
+  pub items_ended : to ≡ end → ((m : Holding) → holds ≡ Some m → StandsIn w (bytes_of name m) → NoItem (left m from)) → AfterTableItem holds old (Ok None) (slot_scan name test extend end to blocks v)
+  items_ended last told = (ended FirstItem NoItem IsItem LendsItem last told, λ e. tt)
 
-    pub answered_next : (left : List Item) (r : Row) (from to : ℕ) (p : Piece) → ComesFirst r left items → r.blocks ≡ (r.at, from + to) ∷ [] → r.at ≡ from → IsPiece r p → length items ≤ end / test.slot_length → IsRowAnswered h old (from, p) (scan_of name test extend end (if is_read then Some left else None) ((from, to) ∷ []))
-    answered_next left r from to p first place at piece few = record {
-      same = same_now (if is_read then Some left else None) ((from, to) ∷ []);
-      first = r;
-      rest = left;
-      at = at;
-      piece = piece;
-      left = left_now left;
-      blocks = ap (λ a. (a, from + to) ∷ []) (sym at) ∙ sym place;
-      known = λ before k. subst (ComesFirst r left) (sym (o.known before k)) first;
-      told = λ m held. subst (ComesFirst r left) (sym (o.told m held)) first;
-      fewer = λ static. fewer_left old (scan_of name test extend end (if is_read then Some left else None) ((from, to) ∷ [])) items left (left_now left) o.known (few_before few) (fewer_behind r left items first);
-    }
+  pub rows_ended : to ≡ end → ((m : Holding) → holds ≡ Some m → StandsIn w (bytes_of name m) → NoRow (left m from)) → AfterTableRow holds old (Ok None) (slot_scan name test extend end to blocks v)
+  rows_ended last told = (ended FirstRow NoRow IsRow LendsRow last told, λ e. tt)
 
-    pub slot_of : (at : ℕ) (p : Piece) → length (shown p) ≡ test.slot_length → at + test.slot_length ≤ end → IsSlotOf old (at, p)
-    slot_of at p long inside static =
-        (long ∙ ap (λ (d : Defs). d.slot_length) o.same_test, subst (λ e. at + old.test.slot_length ≤ e) o.same_end (subst (λ (d : Defs). at + d.slot_length ≤ end) o.same_test inside))
+  pub items_kept : ((m : Holding) → holds ≡ Some m → StandsIn w (bytes_of name m) → left m to ≡ left m from) → AfterTableItem holds old (Err File) (slot_scan name test extend end to blocks v)
+  items_kept told = (kept FirstItem NoItem IsItem LendsItem told, λ e. tt)
 
-    pub packs_of : (at : ℕ) (p : Piece) (r : Row) → IsPiece r p → packs test r.bytes ≡ true → PacksRow old (at, p)
-    packs_of at p r is accepted = subst (λ d. packs d (shown p) ≡ true) o.same_test (ap (packs test) (shown_bytes r p is) ∙ accepted)
+  pub rows_kept : to ≡ from → AfterTableRow holds old (Err File) (slot_scan name test extend end to blocks v)
+  rows_kept same = (kept FirstRow NoRow IsRow LendsRow (λ m held stood. ap (left m) same), λ e. tt)
 
-    pub none_first : items ≡ [] → (m : Holding) → h ≡ Some m → IsFirst (items_left old m) None
-    none_first none m held = subst (λ (is : List Item). IsFirst is None) (sym (o.told m held ∙ none)) tt
+  pub no_plain : {P : Type 0} (m : Holding) → MeetsPlainRow old m → P
+  no_plain m meets = not_dynamic old.test.format old_static meets.0
 
-    pub none_first_row : rows_of items ≡ [] → (m : Holding) → h ≡ Some m → IsFirstRow (rows_left old m) None
-    none_first_row none m held = subst (λ (rs : List Row). IsFirstRow rs None) (sym (ap rows_of (o.told m held) ∙ none)) tt
+  -- the bytes that are answered pack a row of the scan's table, and are a slot of its file
+  pub row_packs : (bytes : List ℕ) (at : ℕ) → bytes ≡ take size (bytes_from at v) → packs test (take size (bytes_from at v)) ≡ true → packs old.test bytes ≡ true
+  row_packs bytes at is accepted = subst (λ (d : Defs). packs d bytes ≡ true) (ap (λ (s : TableScan). s.test) k.view) (ap (packs test) is ∙ accepted)
 
--- no more items are in the bytes from a place on than slots are in the file
-pub few_at : (accepts : List ℕ → Bool) (size end at : ℕ) (d : List ℕ) → 0 < size → length (drop at d) ≤ end → length (items_at accepts size at (drop at d)) ≤ end / size
-few_at accepts size end at d some inside =
-    let few = few_items accepts size at (drop at d) in
-    let whole : length (drop at d) / size * size ≤ length (drop at d) = div-mul-le_self (length (drop at d)) size in
-    let more : length (drop at d) / size ≤ end / size = (le-div_iff_mul-le some).1 (omega arith) in
-    omega (arith, few, more)
+  old_size : old.test.slot_length ≡ size
+  old_size = sym (ap (λ (s : TableScan). s.test.slot_length) k.view) ∙ sym k.sized
 
--- a slot that is answered is lent exactly where it is short
-pub lent_slot : (size at : ℕ) (d bytes : List ℕ) → at + size ≤ length d → size ≤ 131072 → bytes ≡ take size (drop at d) → (bytes ≡ (row_in_slot size d at).bytes) × (nat_le (at + length (take size (drop at d)) - at) 131072 ≡ true)
-lent_slot size at d bytes inside short is = (is, le-leb _ _ (omega (arith, long_here (λ _. true) size at d inside)))
+  pub row_slot : (at : ℕ) (p : Piece) → IsSlotBetween size from to end at → size ≤ length (bytes_from at v) → shown p ≡ take size (bytes_from at v) → IsSlotAt old at (length (shown p))
+  row_slot at p placed few is static =
+      let long : length (shown p) ≡ size = ap (λ (xs : List ℕ). length xs) is ∙ length-take-le size (bytes_from at v) few in
+      (long ∙ sym old_size, omega (arith, old_size, old_end, placed.1, placed.2))
 
-pub joined_slot : (size at : ℕ) (d bytes : List ℕ) → at + size ≤ length d → 131072 < size → bytes ≡ take size (drop at d) → (bytes ≡ (row_in_slot size d at).bytes) × (nat_le (at + length (take size (drop at d)) - at) 131072 ≡ false)
-joined_slot size at d bytes inside long is = (is, lt-leb _ _ (omega (arith, long_here (λ _. true) size at d inside)))
-
--- ---- the slot that was found, in the bytes and of the length that the scan keeps
-
-module _ (accepts : List ℕ → Bool) (size long at : ℕ) (d bytes : List ℕ) (same : d ≡ bytes) (length_is : size ≡ long) where
-  pub slot_none : (o : Option NextSlot) → o ≡ None → IsNextSlot accepts size d at o → items_at accepts long at (drop at bytes) ≡ []
-  slot_none o is t =
-      let u : items_at accepts size at (drop at d) ≡ [] = subst (IsNextSlot accepts size d at) is t in
-      subst (λ s. items_at accepts s at (drop at bytes) ≡ []) length_is (subst (λ x. items_at accepts size at (drop at x) ≡ []) same u)
-
-  pub slot_free : (o : Option NextSlot) (p : ℕ) → o ≡ Some (next.Free p) → IsNextSlot accepts size d at o
-      → (p + size ≤ length bytes) × (items_at accepts long at (drop at bytes) ≡ free (p, p + size) ∷ items_at accepts long (p + size) (drop (p + size) bytes))
-  slot_free o p is t =
-      let u = subst (IsNextSlot accepts size d at) is t in
-      let v : (p + size ≤ length bytes) × (items_at accepts size at (drop at bytes) ≡ free (p, p + size) ∷ items_at accepts size (p + size) (drop (p + size) bytes)) =
-      subst (λ x. (p + size ≤ length x) × (items_at accepts size at (drop at x) ≡ free (p, p + size) ∷ items_at accepts size (p + size) (drop (p + size) x))) same (u.1, u.2) in
-      (v.0, subst (λ s. items_at accepts s at (drop at bytes) ≡ free (p, p + size) ∷ items_at accepts s (p + size) (drop (p + size) bytes)) length_is v.1)
-
-  pub slot_row_found : (o : Option NextSlot) (p : ℕ) → o ≡ Some (next.Row p) → IsNextSlot accepts size d at o
-      → (p + size ≤ length bytes) × (items_at accepts long at (drop at bytes) ≡ row (row_in_slot long bytes p) ∷ items_at accepts long (p + size) (drop (p + size) bytes))
-  slot_row_found o p is t =
-      let u = subst (IsNextSlot accepts size d at) is t in
-      let v : (p + size ≤ length bytes) × (items_at accepts size at (drop at bytes) ≡ row (row_in_slot size bytes p) ∷ items_at accepts size (p + size) (drop (p + size) bytes)) =
-      subst (λ x. (p + size ≤ length x) × (items_at accepts size at (drop at x) ≡ row (row_in_slot size x p) ∷ items_at accepts size (p + size) (drop (p + size) x))) same (u.1, u.2) in
-      (v.0, subst (λ s. items_at accepts s at (drop at bytes) ≡ row (row_in_slot s bytes p) ∷ items_at accepts s (p + size) (drop (p + size) bytes)) length_is v.1)
-
-  pub place_none : (o : Option ℕ) → o ≡ None → IsNextRow accepts size d at o → rows_of (items_at accepts long at (drop at bytes)) ≡ []
-  place_none o is t =
-      let u : rows_of (items_at accepts size at (drop at d)) ≡ [] = subst (IsNextRow accepts size d at) is t in
-      subst (λ s. rows_of (items_at accepts s at (drop at bytes)) ≡ []) length_is (subst (λ x. rows_of (items_at accepts size at (drop at x)) ≡ []) same u)
-
-  pub place_found : (o : Option ℕ) (p : ℕ) → o ≡ Some p → IsNextRow accepts size d at o
-      → (p + size ≤ length bytes) × ComesFirst (row_in_slot long bytes p) (items_at accepts long (p + size) (drop (p + size) bytes)) (items_at accepts long at (drop at bytes))
-  place_found o p is t =
-      let u = subst (IsNextRow accepts size d at) is t in
-      let v : (p + size ≤ length bytes) × ComesFirst (row_in_slot size bytes p) (items_at accepts size (p + size) (drop (p + size) bytes)) (items_at accepts size at (drop at bytes)) =
-      subst (λ x. (p + size ≤ length x) × ComesFirst (row_in_slot size x p) (items_at accepts size (p + size) (drop (p + size) x)) (items_at accepts size at (drop at x))) same u in
-      (v.0, subst (λ s. ComesFirst (row_in_slot s bytes p) (items_at accepts s (p + size) (drop (p + size) bytes)) (items_at accepts s at (drop at bytes))) length_is v.1)
-
-  pub slot_shown : (p : ℕ) (b : List ℕ) → p + size ≤ length bytes → (p + size ≤ length d → b ≡ take size (drop p d)) → b ≡ take long (drop p bytes)
-  slot_shown p b inside f =
-      f (subst (λ x. p + size ≤ length x) (sym same) inside) ∙ ap (λ s. take s (drop p d)) length_is ∙ ap (λ x. take long (drop p x)) same
-
--- the bytes of the slot that comes next pass the test, where it is a row
-pub slot_packs : (accepts : List ℕ → Bool) (size at p : ℕ) (bytes : List ℕ) (left : List Item) → items_at accepts size at (drop at bytes) ≡ row (row_in_slot size bytes p) ∷ left → accepts (row_in_slot size bytes p).bytes ≡ true
-slot_packs accepts size at p bytes left first = (subst (AreAccepted accepts) (ap rows_of first) (items_accepted accepts size at (drop at bytes))).0
-
--- the bytes of the next row pass the test
-pub place_packs : (accepts : List ℕ → Bool) (size at p : ℕ) (bytes : List ℕ) (left : List Item) → ComesFirst (row_in_slot size bytes p) left (items_at accepts size at (drop at bytes)) → accepts (row_in_slot size bytes p).bytes ≡ true
-place_packs accepts size at p bytes left first = (subst (AreAccepted accepts) first.rows (items_accepted accepts size at (drop at bytes))).0
-
--- the range of a slot
-pub slot_blocks : (long p size : ℕ) (bytes : List ℕ) → size ≡ long → p + size ≤ length bytes → (row_in_slot long bytes p).blocks ≡ (p, p + size) ∷ []
-slot_blocks long p size bytes is inside =
-    let n : length (take long (drop p bytes)) ≡ size = long_here (λ _. true) long p bytes (omega (arith, is)) ∙ sym is in
-    ap (λ k. (p, p + k) ∷ []) n
+  pub free_slot : (at : ℕ) → IsSlotBetween size from to end at → IsSlotAt old at size
+  free_slot at placed static = (sym old_size, omega (arith, old_size, old_end, placed.1, placed.2))

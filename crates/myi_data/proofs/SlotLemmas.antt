@@ -1,17 +1,14 @@
 -- What is met in the slots of a file, from a place on.
-use Rattle.std.proofs.Common.{◌≡◌, ◌≢◌, ℕ, zero, suc, ◌+◌, ◌-◌, ◌/◌, ◌<◌, ◌≤◌, Bool, true, false, eqb, List, [], ◌∷◌, ◌++◌, length, take, drop, refl, sym, ap, subst, ◌∙◌, arith}
+use Rattle.std.proofs.Common.{◌≡◌, ◌≢◌, ℕ, ◌+◌, ◌-◌, ◌<◌, ◌≤◌, Bool, true, false, eqb, List, [], ◌∷◌, ◌++◌, length, take, drop, refl, sym, ap, ◌∙◌, arith}
 use Rattle.std.specs.Prelude.{slice_index}
 use Rattle.std.specs.List.{flat_map}
 use Rattle.std.proofs.lemmas.Bool.{eq-eqb, ne_eqb}
 use Rattle.std.proofs.lemmas.List.{length-take-le, length-drop, drop-drop}
-use Rattle.myi_chain.specs.Readable.{Row, Item, row, free, rows_of}
-use Rattle.myi_chain.specs.Walk.{behind_row}
-use Rattle.myi_data.specs.Slots.{Slot, slots, slots_in}
+use Rattle.myi_chain.specs.Readable.{Item, row, free}
+use Rattle.myi_data.specs.Slots.{Slot, slots_in}
 use Rattle.myi_data.specs.Readable.{slot_items, items_at}
-use Rattle.myi_data.specs.Scanning.{ComesFirst}
 use Rattle.myi_data.specs.NextSlot.{row_in_slot}
 use Rattle.myi_data.proofs.SlotLaws.{slots_more, slots_none, at_place, first_byte}
-use Rattle.myi_data.proofs.RowsLemmas.{slot_cases}
 
 module _ (accepts : List ℕ → Bool) (size : ℕ) where
   -- the slot at a place
@@ -53,34 +50,6 @@ module _ (accepts : List ℕ → Bool) (size : ℕ) where
       let test : eqb (slice_index (take size (drop at d)) 0) 0 ≡ false = ne_eqb _ _ (λ e. used (sym (first_here at d some) ∙ e)) in
       let is : slot_items accepts (here d at) ≡ [] = rw (test, packs) refl in
       items_more at d some inside ∙ ap (λ (xs : List Item). xs ++ items_at accepts size (at + size) (drop (at + size) d)) is
-
-  few_slots : (n at : ℕ) (xs : List ℕ) → length (flat_map (slot_items accepts) (slots n at size xs)) ≤ n
-  few_slots zero at xs = omega arith
-  few_slots (suc n) at xs =
-      let more : List Item = flat_map (slot_items accepts) (slots n (at + size) size (drop size xs)) in
-      let behind : length more ≤ n = few_slots n (at + size) (drop size xs) in
-      slot_cases (λ (is : List Item). length (is ++ more) ≤ suc n) accepts (record { at = at; bytes = take size xs }) (λ _. omega (arith, behind)) (λ _. omega (arith, behind)) (omega (arith, behind))
-
-  -- there are no more items than whole slots
-  pub few_items : (at : ℕ) (xs : List ℕ) → length (items_at accepts size at xs) ≤ length xs / size
-  unfolding items_at
-  few_items at xs = few_slots (length xs / size) at xs
-
--- what comes first behind a deleted block comes first with it
-pub free_passed : (a : List Item) (r : Row) (rest b : List Item) (x : ℕ × ℕ) → a ≡ free x ∷ b → ComesFirst r rest b → ComesFirst r rest a
-free_passed a r rest b x is first = record { rows = ap rows_of is ∙ first.rows; behind = ap behind_row is ∙ first.behind }
-
-pub row_first : (a rest : List Item) (r : Row) → a ≡ row r ∷ rest → ComesFirst r rest a
-row_first a rest r is = record { rows = ap rows_of is; behind = ap behind_row is }
-
--- fewer items are behind the first row than there were
-pub fewer_behind : (r : Row) (rest items : List Item) → ComesFirst r rest items → length rest < length items
-fewer_behind r rest items first = subst (λ (is : List Item). length is < length items) first.behind (fewer items first.rows)
-  where
-    fewer : (is : List Item) → rows_of is ≡ r ∷ rows_of rest → length (behind_row is) < length is
-    fewer [] e = absurd cc
-    fewer (row s ∷ is) e = omega arith
-    fewer (free a ∷ is) e = let more = fewer is e in omega (arith, more)
 
 -- a slice of the file's bytes is the slot
 pub cut_same : (accepts : List ℕ → Bool) (at size : ℕ) (d : List ℕ) (b : Bool) → accepts (take (at + size - at) (drop at d)) ≡ b → accepts (take size (drop at d)) ≡ b

@@ -1,6 +1,6 @@
 -- The key of a row (MySQL Internals Manual, "The .MYI file", on key segments: a segment is a part of a field, and where
 -- a bit of the null bits is set in the row there is no value).
-use Rattle.std.specs.Prelude.{◌≡◌, ◌-◌, ◌==◌, ℕ, Bool, true, not, ◌&&◌, if◌then◌else◌, List, [], ◌∷◌, map, take, drop, slice_index, slice_index_or, slice_get, bit_and}
+use Rattle.std.specs.Prelude.{◌≡◌, ◌-◌, ◌==◌, ◌<◌, ◌≤◌, ℕ, zero, suc, Bool, true, not, ◌&&◌, if◌then◌else◌, List, [], ◌∷◌, length, map, take, drop, slice_index, slice_index_or, slice_get, bit_and, HoldsAt, Option, None}
 use Rattle.std.specs.Option.{option_map_or}
 use Rattle.myi_defs.specs.declared.types.RowFormat.{RowFormat}
 use Rattle.myi_defs.specs.declared.types.Field.{Field}
@@ -24,6 +24,10 @@ byte_at [] row place = 0
 byte_at (f ∷ fs) [] place = 0
 byte_at (f ∷ fs) (v ∷ row) place = if is_plain_at place f.kind f.start f.length then slice_index v (place - f.start) else byte_at fs row place
 
+-- a field that is stored as it is has the place
+abbrev pub IsPlainPlace : List Field → ℕ → Type 0
+IsPlainPlace fs place = (k : ℕ) × (k < length fs) × HoldsAt (λ f. is_plain_at place f.kind f.start f.length ≡ true) fs k
+
 -- the row has no value in the segment: the byte at null_pos has a bit of null_bit
 abbrev pub is_absent : List Field → Values → Segment → Bool
 is_absent fs row s = not (s.null_bit == 0) && not (bit_and (byte_at fs row s.null_pos) s.null_bit == 0)
@@ -44,10 +48,25 @@ content fs row s = part_of s (start_of fs s.field) (slice_index_or row s.field [
 abbrev pub seg_of : List Field → Values → Segment → KeySeg
 seg_of fs row s = if is_absent fs row s then Absent else Weights (weights s (content fs row s))
 
--- the segments of a key, by its number
+-- a key of the table has this number; keys are numbered from 1
+abbrev pub IsKeyNumber : Defs → ℕ → Type 0
+IsKeyNumber d k = (0 < k) × (k ≤ length d.keys)
+
+-- the key of a number
+abbrev pub key_at : List Key → ℕ → Option Key
+key_at keys zero = None
+key_at keys (suc i) = slice_get keys i
+
+-- the segments of the key of a number
 abbrev pub segments_of : List Key → ℕ → List Segment
-segments_of keys k = option_map_or (λ key. key.segments) (slice_get keys k) []
+segments_of keys k = option_map_or (λ key. key.segments) (key_at keys k) []
 
 -- the key of that number of a row
 unfoldable pub key_of : Defs → ℕ → Values → List KeySeg
 key_of d k row = map (seg_of d.fields row) (segments_of d.keys k)
+
+-- where field k has the byte at null_pos, the segment has no value exactly where that byte has a bit of null_bit
+abbrev pub TellsNull : Defs → Values → Segment → ℕ → Field → Type 0
+TellsNull d row s k f =
+    is_plain_at s.null_pos f.kind f.start f.length ≡ true
+    → seg_of d.fields row s ≡ (if bit_and (slice_index (slice_index_or row k []) (s.null_pos - f.start)) s.null_bit == 0 then Weights (weights s (content d.fields row s)) else Absent)

@@ -7,7 +7,7 @@ pub mod Readable
 -- static tables whose fields are all NORMAL
 pub mod Plain
 -- files that are only rows, each spelled anew
-pub mod Laid
+pub mod Stored
 -- the key of a row
 pub mod Keys
 -- what a scan is, and what its calls answer
@@ -16,6 +16,9 @@ pub mod Scanning
 pub mod DataFile
 -- what serves private contracts
 
+-- the bytes of slots
+pub mod SlotBytes
+pub mod Held
 -- the next slot from a place on
 pub mod NextSlot
 -- the parts of a scan

@@ -8,7 +8,7 @@ use Rattle.myi_base.specs.Ranges.{Range, is_apart}
 use Rattle.myi_defs.specs.declared.types.RowFormat.{RowFormat}
 use Rattle.myi_defs.specs.declared.types.RowFormat.TheVariants.{Static, Dynamic}
 use Rattle.myi_defs.specs.declared.types.Defs.{Defs}
-use Rattle.myi_pack.specs.Reading.{row_of}
+use Rattle.myi_pack.specs.Unpacking.{row_of}
 use Rattle.myi_chain.specs.Readable.{Row, Item, row, free, rows_of, frees_of}
 use Rattle.myi_chain.specs.Readable as chains
 use Rattle.myi_chain.specs.Meeting.{ranges_of}

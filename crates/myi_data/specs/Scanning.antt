@@ -1,100 +1,69 @@
--- What a scan of a table's data file has still to answer.
-use Rattle.std.specs.Prelude.{◌≡◌, ◌⊎◌, ◌≤◌, ◌<◌, ◌+◌, ◌/◌, ℕ, true, List, ◌∷◌, length, take, Option, Some, None, Result, Ok, Err}
-use Rattle.myi_base.specs.Holding.{Holding, bytes_of, IfTold}
-use Rattle.myi_defs.specs.declared.types.RowFormat.TheVariants.{Static}
+-- A scan of a table's data file: what of the file is left, in either format, and when the file is as the scan knows it.
+use Rattle.std.specs.Prelude.{◌≡◌, ◌≤◌, ◌+◌, ℕ, Bool, List, length, drop, Option, Result}
+use Rattle.myi_base.specs.Holding.{Holding, bytes_of}
+use Rattle.myi_base.specs.Ranges.{Range}
+use Rattle.myi_defs.specs.declared.types.RowFormat.{RowFormat}
+use Rattle.myi_defs.specs.declared.types.RowFormat.TheVariants.{Static, Dynamic}
 use Rattle.myi_defs.specs.declared.types.Defs.{Defs}
+use Rattle.myi_frames.specs.Block.{block_of}
 use Rattle.myi_chain.specs.declared.piece.Piece.{Piece}
 use Rattle.myi_chain.specs.declared.piece.Item.{Item}
+use Rattle.myi_chain.specs.declared.piece.Item.TheVariants as item
 use Rattle.myi_chain.specs.declared.piece.ScanFault.{ScanFault}
-use Rattle.myi_chain.specs.Readable.{Row, rows_of}
+use Rattle.myi_chain.specs.Readable.{Row, rows_of, rest}
 use Rattle.myi_chain.specs.Readable as chains
 use Rattle.myi_chain.specs.Pieces.{shown}
-use Rattle.myi_chain.specs.Walk.{ranges_at, behind_row}
-use Rattle.myi_chain.specs.Scanning.{Scanning, left_or, IsPiece, IsItem, Passes, IsSameScan, AreBlocks, IsEnded}
-use Rattle.myi_data.specs.Readable.{packs, items_in}
+use Rattle.myi_chain.specs.ScanModel.{Scanning, scanned, KeptStands, Passes, PassesRow, MeetsPlain, GoesOnPlain, LeavesItemsOf, LeavesRowsOf}
+use Rattle.myi_data.specs.Readable.{packs, items_at}
 
 -- A scan of a table's data file up to its end: its `test` is the definitions of the table.
 abbrev pub TableScan : Type 0
 TableScan = Scanning Defs
 
--- what is left, where the files hold this
-abbrev pub items_left : TableScan → Holding → List chains.Item
-items_left s m = left_or s.left (items_in s.test s.extend (take s.end (bytes_of s.name m)))
+-- what is left of a file of these bytes from a place on
+abbrev pub left_by : RowFormat → Defs → Bool → ℕ → List Range → List ℕ → List chains.Item
+left_by Static d extend place used x = items_at (packs d) d.slot_length place (drop place x)
+left_by Dynamic d extend place used x = rest extend (block_of x) (length x) (packs d) place used
 
--- the rows that are left, where the files hold this
-abbrev pub rows_left : TableScan → Holding → List Row
-rows_left s m = rows_of (items_left s m)
+-- what is ahead of the scan, where the files hold this
+abbrev pub items_ahead : TableScan → Holding → List chains.Item
+items_ahead s m = left_by s.test.format s.test s.extend s.place s.used (scanned s m)
 
-abbrev pub most_of : Option (List chains.Item) → ℕ → ℕ
-most_of None most = most
-most_of (Some left) most = length left
+-- the rows that are ahead, where the files hold this
+abbrev pub rows_ahead : TableScan → Holding → List Row
+rows_ahead s m = rows_of (items_ahead s m)
 
--- no more is left of a static table than this: what is known to be left, or the slots of the file
-abbrev pub most_left : TableScan → ℕ
-most_left s = most_of s.left (s.end / s.test.slot_length)
+-- the file is as the scan knows it: what is kept of it stands there, and that of a dynamic table is long enough
+pub record IsAsKnown (s : TableScan) (m : Holding) : Type 0 where
+  pub kept : KeptStands s m
+  pub long : s.test.format ≡ Dynamic → s.end ≤ length (bytes_of s.name m)
 
 -- the bytes of an answered row pack a row of the table
 abbrev pub PacksItem : TableScan → Item → Type 0
 PacksItem s found = Passes (packs s.test) found
 
 abbrev pub PacksRow : TableScan → ℕ × Piece → Type 0
-PacksRow s r = packs s.test (shown r.1) ≡ true
+PacksRow s found = PassesRow (packs s.test) found
 
--- an answered row of a static table is a slot of the file
-abbrev pub IsSlotOf : TableScan → ℕ × Piece → Type 0
-IsSlotOf s r = s.test.format ≡ Static → (length (shown r.1) ≡ s.test.slot_length) × (r.0 + s.test.slot_length ≤ s.end)
+-- so many bytes at a place are a slot of the file, if the table is static
+abbrev pub IsSlotAt : TableScan → ℕ → ℕ → Type 0
+IsSlotAt s at size = s.test.format ≡ Static → (size ≡ s.test.slot_length) × (at + s.test.slot_length ≤ s.end)
 
--- the file was read: what is left is known, and is that of the file
-pub record IsRead (holds : Option Holding) (old new : TableScan) : Type 0 where
-  pub same : IsSameScan old new
-  pub items : List chains.Item
-  pub left : new.left ≡ Some items
-  pub blocks : new.blocks ≡ old.blocks
-  pub known : (before : List chains.Item) → old.left ≡ Some before → before ≡ items
-  pub told : IfTold holds (λ m. items_left old m ≡ items)
+-- what is answered of a static table is a slot of the file
+abbrev pub IsSlotItem : TableScan → Item → Type 0
+IsSlotItem s (item.Row at p) = IsSlotAt s at (length (shown p))
+IsSlotItem s (item.Free at size) = IsSlotAt s at size
 
--- nothing was answered: the scan is as before, or the file was read
-abbrev pub IsKept : Option Holding → TableScan → TableScan → Type 0
-IsKept holds old new = (new ≡ old) ⊎ IsRead holds old new
+abbrev pub IsSlotRow : TableScan → ℕ × Piece → Type 0
+IsSlotRow s found = IsSlotAt s found.0 (length (shown found.1))
 
--- An item was answered: those behind it are left. In a static table there are fewer then.
-pub record IsAnswered (holds : Option Holding) (old : TableScan) (found : Item) (new : TableScan) : Type 0 where
-  pub same : IsSameScan old new
-  pub first : chains.Item
-  pub rest : List chains.Item
-  pub item : IsItem first found
-  pub left : new.left ≡ Some rest
-  pub blocks : AreBlocks first old.blocks new.blocks
-  pub known : (items : List chains.Item) → old.left ≡ Some items → items ≡ first ∷ rest
-  pub told : IfTold holds (λ m. items_left old m ≡ first ∷ rest)
-  pub fewer : old.test.format ≡ Static → most_left new < most_left old
+-- in a dynamic table a row is met, as were all before it, for which no memory is taken
+abbrev pub MeetsPlainRow : TableScan → Holding → Type 0
+MeetsPlainRow s m = (s.test.format ≡ Dynamic) × MeetsPlain packs s m
 
--- the scan after a call of next_item
-abbrev pub Leaves : Option Holding → TableScan → Result (Option Item) ScanFault → TableScan → Type 0
-Leaves holds old (Err e) new = IsKept holds old new
-Leaves holds old (Ok None) new = IsEnded old new
-Leaves holds old (Ok (Some found)) new = IsAnswered holds old found new
+-- the scan after a call of next_item, and after one of next_row
+abbrev pub AfterTableItem : Option Holding → TableScan → Result (Option Item) ScanFault → TableScan → Type 0
+AfterTableItem holds old result new = LeavesItemsOf items_ahead IsAsKnown holds old result new × (old.test.format ≡ Dynamic → GoesOnPlain packs holds old result new)
 
--- a row is the first of those that were to come, and these items come behind it
-pub record ComesFirst (r : Row) (rest items : List chains.Item) : Type 0 where
-  pub rows : rows_of items ≡ r ∷ rows_of rest
-  pub behind : behind_row items ≡ rest
-
--- A row was answered, with any deleted blocks before it passed.
-pub record IsRowAnswered (holds : Option Holding) (old : TableScan) (found : ℕ × Piece) (new : TableScan) : Type 0 where
-  pub same : IsSameScan old new
-  pub first : Row
-  pub rest : List chains.Item
-  pub at : first.at ≡ found.0
-  pub piece : IsPiece first found.1
-  pub left : new.left ≡ Some rest
-  pub blocks : ranges_at new.blocks ≡ first.blocks
-  pub known : (items : List chains.Item) → old.left ≡ Some items → ComesFirst first rest items
-  pub told : IfTold holds (λ m. ComesFirst first rest (items_left old m))
-  pub fewer : old.test.format ≡ Static → most_left new < most_left old
-
--- the scan after a call of next_row
-abbrev pub LeavesRows : Option Holding → TableScan → Result (Option (ℕ × Piece)) ScanFault → TableScan → Type 0
-LeavesRows holds old (Err e) new = IsKept holds old new
-LeavesRows holds old (Ok None) new = IsEnded old new
-LeavesRows holds old (Ok (Some found)) new = IsRowAnswered holds old found new
+abbrev pub AfterTableRow : Option Holding → TableScan → Result (Option (ℕ × Piece)) ScanFault → TableScan → Type 0
+AfterTableRow holds old result new = LeavesRowsOf items_ahead IsAsKnown holds old result new × (old.test.format ≡ Dynamic → GoesOnPlain packs holds old result new)

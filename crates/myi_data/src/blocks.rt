@@ -1,13 +1,12 @@
 //! `BlockScan`: the blocks of a dynamic table's data file, seen as a scan of a table.
-ghost use Rattle.std.specs.Prelude.{◌≡◌, [], Option, None, Some, IfOk, IfSome, OnOk};
+ghost use Rattle.std.specs.Prelude.{◌≡◌, IfOk, IfErr, IfSome};
 ghost use Rattle.std.specs.Borrow.{sem};
 ghost use Rattle.std.specs.Io.BufRead.{Rests};
 ghost use Rattle.myi_base.specs.Holding.{IfTold};
 ghost use Rattle.myi_base.specs.Causes.{HasCause};
-ghost use Rattle.myi_defs.specs.declared.types.RowFormat.TheVariants.{Dynamic};
-ghost use Rattle.myi_chain.specs.declared.piece.ScanFault.TheVariants.{File};
-ghost use Rattle.myi_chain.specs.Scanning.{ReadsBytes, IsFirst, IsFirstRow};
-ghost use Rattle.myi_data.specs.Scanning.{items_left, rows_left, PacksItem, PacksRow, IsSlotOf, Leaves, LeavesRows};
+ghost use Rattle.myi_defs.specs.declared.types.RowFormat.TheVariants.{Static, Dynamic};
+ghost use Rattle.myi_chain.specs.declared.piece.ScanFault.TheVariants.{File, Memory};
+ghost use Rattle.myi_data.specs.Scanning.{IsAsKnown, MeetsPlainRow, PacksItem, PacksRow, IsSlotItem, IsSlotRow, AfterTableItem, AfterTableRow};
 
 use crate::row_test::RowTest;
 use myi_chain::{Item, Piece, Scan, ScanFault, ScanSetup};
@@ -34,15 +33,15 @@ impl Model for BlockScan {
 }
 
 impl BlockScan {
-    ghost use Rattle.std.specs.Prelude.{◌≡◌, [], None, Option, Some, IfOk, IfSome, OnOk};
+    ghost use Rattle.std.specs.Prelude.{◌≡◌, IfOk, IfErr, IfSome};
     ghost use Rattle.std.specs.Borrow.{sem};
     ghost use Rattle.std.specs.Io.BufRead.{Rests};
     ghost use Rattle.myi_base.specs.Holding.{IfTold};
     ghost use Rattle.myi_base.specs.Causes.{HasCause};
-    ghost use Rattle.myi_defs.specs.declared.types.RowFormat.TheVariants.{Dynamic};
-    ghost use Rattle.myi_chain.specs.declared.piece.ScanFault.TheVariants.{File};
-    ghost use Rattle.myi_chain.specs.Scanning.{fresh_scan, ReadsBytes, IsFirst, IsFirstRow};
-    ghost use Rattle.myi_data.specs.Scanning.{items_left, rows_left, PacksItem, PacksRow, IsSlotOf, Leaves, LeavesRows};
+    ghost use Rattle.myi_defs.specs.declared.types.RowFormat.TheVariants.{Static, Dynamic};
+    ghost use Rattle.myi_chain.specs.declared.piece.ScanFault.TheVariants.{File, Memory};
+    ghost use Rattle.myi_chain.specs.ScanModel.{fresh_scan};
+    ghost use Rattle.myi_data.specs.Scanning.{IsAsKnown, MeetsPlainRow, PacksItem, PacksRow, IsSlotItem, IsSlotRow, AfterTableItem, AfterTableRow};
     ghost use Rattle.myi_data.specs.contracts.blocks.BlockScan.{the_row};
 
     /// A scan of the file of that name, of a dynamic table that the test is for. Nothing is read yet.
@@ -53,7 +52,8 @@ impl BlockScan {
         setup: ScanSetup,
     ) -> Result<BlockScan, AllocError>
         requires { test.format ≡ Dynamic }
-        ensures { IfOk result (λ scan. scan ≡ fresh_scan name.now test setup.extend setup.file_len) }
+        ensures { IfOk result (λ scan.
+            scan ≡ fresh_scan name.now test setup.extend setup.file_len) }
     {
         let scan = Scan::new(alloc, name, test, setup)?;
         Ok(BlockScan { scan })
@@ -64,13 +64,16 @@ impl BlockScan {
         &mut self,
         files: &mut F,
     ) -> Result<Option<Item<'_>>, ScanFault>
-        ensures item { IfOk result (λ found. IfTold (F.holds files.old) (λ m.
-            IsFirst (items_left self.old m) found)) }
+        requires { IfTold (F.holds files.old) (IsAsKnown self.old) }
         ensures packs { IfOk result (λ found. IfSome found (PacksItem self.old)) }
-        ensures bytes { OnOk result (IfTold (F.holds files.old) (ReadsBytes self.old)) }
+        ensures slot { IfOk result (λ found. IfSome found (IsSlotItem self.old)) }
+        ensures never { self.old.test.format ≡ Static → IfErr result (λ e. e ≡ File) }
+        ensures plain { IfErr result (λ e. e ≡ Memory
+            → IfTold (F.holds files.old) (λ m. MeetsPlainRow self.old m → ⊥)) }
         ensures holds { F.holds files.new ≡ F.holds files.old }
         ensures cause { HasCause File (F.faults files.old) (F.faults files.new) result }
-        ensures* after { sem 𝓛 (Rests the_row self.entry (Leaves (F.holds files.old) self.old result)) }
+        ensures* after { sem 𝓛 (Rests the_row self.entry
+            (AfterTableItem (F.holds files.old) self.old result)) }
     {
         self.scan.next_item(files)
     }
@@ -80,14 +83,16 @@ impl BlockScan {
         &mut self,
         files: &mut F,
     ) -> Result<Option<(u64, Piece<'_>)>, ScanFault>
-        ensures row { IfOk result (λ found. IfTold (F.holds files.old) (λ m.
-            IsFirstRow (rows_left self.old m) found)) }
+        requires { IfTold (F.holds files.old) (IsAsKnown self.old) }
         ensures packs { IfOk result (λ found. IfSome found (PacksRow self.old)) }
-        ensures slot { IfOk result (λ found. IfSome found (IsSlotOf self.old)) }
-        ensures bytes { OnOk result (IfTold (F.holds files.old) (ReadsBytes self.old)) }
+        ensures slot { IfOk result (λ found. IfSome found (IsSlotRow self.old)) }
+        ensures never { self.old.test.format ≡ Static → IfErr result (λ e. e ≡ File) }
+        ensures plain { IfErr result (λ e. e ≡ Memory
+            → IfTold (F.holds files.old) (λ m. MeetsPlainRow self.old m → ⊥)) }
         ensures holds { F.holds files.new ≡ F.holds files.old }
         ensures cause { HasCause File (F.faults files.old) (F.faults files.new) result }
-        ensures* after { sem 𝓛 (Rests the_row self.entry (LeavesRows (F.holds files.old) self.old result)) }
+        ensures* after { sem 𝓛 (Rests the_row self.entry
+            (AfterTableRow (F.holds files.old) self.old result)) }
     {
         self.scan.next_row(files)
     }

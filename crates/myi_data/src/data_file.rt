@@ -1,7 +1,7 @@
 //! `DataFile`: the data file of one table.
 ghost use Rattle.std.specs.Prelude.{◌≡◌, IfOk, string_bytes};
 ghost use Rattle.myi_defs.specs.Sound.{IsSound};
-ghost use Rattle.myi_chain.specs.Scanning.{fresh_scan};
+ghost use Rattle.myi_chain.specs.ScanModel.{fresh_scan};
 
 use crate::row_test::RowTest;
 use crate::scan::DataScan;
@@ -12,11 +12,20 @@ use std::alloc::{AllocError, Global};
 use std::marker::Model;
 
 /// A table's data file, by the name of the file.
-#[derive(Drop)]
 pub struct DataFile {
     name: String,
     test: RowTest,
     length: u64,
+}
+
+impl Drop for DataFile {
+    fn drop(self) {
+        let DataFile {
+            name: _,
+            test: _,
+            length: _,
+        } = self;
+    }
 }
 
 impl Model for DataFile {
@@ -29,8 +38,8 @@ impl Model for DataFile {
 }
 
 impl DataFile {
-    /// The data file of that name, with these definitions and this state of its table. Of the state the
-    /// length of the data file is used alone.
+    /// The data file of that name, with these definitions and this state of its table. Of the state
+    /// the length of the data file is used alone.
     pub fn new(
         alloc: Global,
         name: &str,
@@ -38,7 +47,11 @@ impl DataFile {
         state: &State,
     ) -> Result<DataFile, AllocError>
         requires { IsSound defs.now }
-        ensures { IfOk result (λ file. file ≡ record { name = name.now; defs = defs.now; length = state.now.data_file_length }) }
+        ensures { IfOk result (λ file. file ≡ record {
+          name = name.now;
+          defs = defs.now;
+          length = state.now.data_file_length;
+        }) }
     {
         Ok(DataFile {
             name: String::from_str(alloc, name)?,
@@ -50,7 +63,8 @@ impl DataFile {
     /// A scan of the rows and the deleted blocks, as far as the state's length of the data file.
     /// `extend` makes a scan of a dynamic table try every position; slots have theirs.
     pub fn scan(&self, extend: bool) -> Result<DataScan, AllocError>
-        ensures { IfOk result (λ scan. scan ≡ fresh_scan self.now.name self.now.defs extend self.now.length) }
+        ensures { IfOk result (λ scan.
+            scan ≡ fresh_scan self.now.name self.now.defs extend self.now.length) }
     {
         let setup = ScanSetup {
             extend,

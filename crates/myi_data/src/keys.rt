@@ -1,22 +1,22 @@
 //! The key of a row, read from the row's slices.
 //!
 //! `key_of` goes over the segments of a key: `is_absent` asks the row's null bits, and `seg_weights`
-//! weighs the segment's part of a field.
-ghost use Rattle.std.specs.Prelude.{◌≡◌, ℕ, ◌-◌, ◌<◌, ◌≤◌, true, [], length, slice_index, slice_index_or, All, Some, IfOk, IsTrue};
+//! weighs the segment's part of a field. Both find fields by their numbers, `byte_at` that of a place.
+ghost use Rattle.std.specs.Prelude.{◌≡◌, ◌≢◌, ℕ, ◌-◌, ◌<◌, ◌≤◌, true, [], length, slice_index, slice_index_or, HoldsAt, All, Some, IfOk, OnOk, IsTrue, nat_le};
 ghost use Rattle.myi_defs.specs.Kinds.{is_variable, is_plain_at};
-ghost use Rattle.myi_defs.specs.Sound.{IsSound, IsSoundSegment};
+ghost use Rattle.myi_defs.specs.Sound.{IsSound, IsSoundSegment, StartFrom};
 ghost use Rattle.myi_pack.specs.Spelling.{fits};
-ghost use Rattle.myi_pack.specs.Views.{shown};
+ghost use Rattle.myi_pack.specs.Views.{field_value};
 ghost use Rattle.myi_keys.specs.Limits.{IsKey};
 ghost use Rattle.myi_keys.specs.Weights.{weights, CanWeigh};
-ghost use Rattle.myi_data.specs.Keys.{AreValues, byte_at, is_absent, part_of, start_of, content, seg_of, key_of};
+ghost use Rattle.myi_data.specs.Keys.{AreValues, IsPlainPlace, byte_at, is_absent, part_of, start_of, content, seg_of, IsKeyNumber, key_of};
 
-use myi_defs::{Defs, Field, FieldKind, SegType, Segment};
+use myi_defs::{Defs, Field, SegType, Segment};
 use myi_keys::{KeySeg, KeyVal, WeightList, weigh};
-use myi_pack::{FieldView, RowView, value_of};
+use myi_pack::{FieldView, NumberedFields, RowView, value_of};
 use std::alloc::{AllocError, Global};
 
-/// The key of the row for the key of that number, from 0. The view was made with these definitions.
+/// The key of the row for the key of that number, from 1. The view was made with these definitions.
 #[tactic(auto, unfolding(crate::specs::Keys::key_of))]
 pub fn key_of(
     alloc: Global,
@@ -25,15 +25,16 @@ pub fn key_of(
     view: &RowView<'_>,
 ) -> Result<KeyVal, AllocError>
     requires sound { IsSound defs.now }
-    requires key { key < length defs.now.keys }
+    requires key { IsKeyNumber defs.now key }
     requires row { fits defs.now view.now ≡ true }
     ensures { IfOk result (λ k. k ≡ key_of defs.now key view.now) }
 {
     let fields = defs.fields.as_slice();
-    let segments = defs.keys.as_slice()[key].segments.as_slice();
+    let segments = defs.keys.as_slice()[key - 1].segments.as_slice();
+    let mut row = view.numbered(alloc);
     let mut parts = Vec::with_capacity(alloc, segments.len())?;
     for segment in segments {
-        parts.push(seg_of(alloc, fields, segment, view)?)?;
+        parts.push(seg_of(alloc, fields, segment, &mut row)?)?;
     }
     Ok(KeyVal::new(parts))
 }
@@ -42,59 +43,70 @@ fn seg_of(
     alloc: Global,
     fields: &[Field],
     segment: &Segment,
-    view: &RowView<'_>,
+    row: &mut NumberedFields<'_>,
 ) -> Result<KeySeg, AllocError>
     requires sound { IsSoundSegment fields.now segment.now }
-    requires row { AreValues fields.now view.now }
-    ensures { IfOk result (λ s. s ≡ seg_of fields.now view.now segment.now) }
+    requires starts { StartFrom 0 fields.now }
+    requires row { AreValues fields.now row.old }
+    ensures same { OnOk result (row.new ≡ row.old) }
+    ensures segment { IfOk result (λ s. s ≡ seg_of fields.now row.old segment.now) }
 {
-    if is_absent(fields, segment, view) {
+    if is_absent(fields, segment, row)? {
         return Ok(KeySeg::Absent);
     }
-    let weights = seg_weights(alloc, fields, segment, view)?;
+    let weights = seg_weights(alloc, fields, segment, row)?;
     Ok(KeySeg::Weights(WeightList::new(weights)))
 }
 
 // Whether the row has no value in the segment.
-fn is_absent(fields: &[Field], segment: &Segment, view: &RowView<'_>) -> bool
-    requires row { AreValues fields.now view.now }
-    ensures { result ≡ is_absent fields.now view.now segment.now }
+fn is_absent(
+    fields: &[Field],
+    segment: &Segment,
+    row: &mut NumberedFields<'_>,
+) -> Result<bool, AllocError>
+    requires sound { IsSoundSegment fields.now segment.now }
+    requires starts { StartFrom 0 fields.now }
+    requires row { AreValues fields.now row.old }
+    ensures same { OnOk result (row.new ≡ row.old) }
+    ensures absent { IfOk result (λ absent. absent ≡ is_absent fields.now row.old segment.now) }
 {
-    segment.null_bit != 0 && byte_at(fields, view, segment.null_pos) & segment.null_bit != 0
+    if segment.null_bit == 0 {
+        return Ok(false);
+    }
+    let byte = byte_at(fields, row, segment.null_pos)?;
+    Ok(byte & segment.null_bit != 0)
 }
 
 // The byte at a place of the unpacked row.
-fn byte_at(fields: &[Field], view: &RowView<'_>, place: u32) -> u8
-    requires row { AreValues fields.now view.now }
-    ensures { result ≡ byte_at fields.now view.now place }
+fn byte_at(fields: &[Field], row: &mut NumberedFields<'_>, place: u32) -> Result<u8, AllocError>
+    requires starts { StartFrom 0 fields.now }
+    requires plain { IsPlainPlace fields.now place }
+    requires row { AreValues fields.now row.old }
+    ensures same { OnOk result (row.new ≡ row.old) }
+    ensures byte { IfOk result (λ byte. byte ≡ byte_at fields.now row.old place) }
 {
-    let mut values = view.fields();
-    for field in fields {
-        let Some(shown) = values.next_field() else {
-            return 0;
-        };
-        if is_plain_at(place, field) {
-            let i = place - field.start;
-            return byte_in(field.length as usize, shown, i as usize);
-        }
-    }
-    0
+    let i = field_at(fields, place);
+    let (length, shown) = row.field(i)?;
+    let inside = place - start_of(fields, i);
+    Ok(byte_in(length as usize, shown, inside as usize))
 }
 
-fn is_plain_at(place: u32, field: &Field) -> bool
-    ensures { result ≡ is_plain_at place field.now.kind field.now.start field.now.length }
+// The number of the field that has a place of the unpacked row, from 0.
+fn field_at(fields: &[Field], place: u32) -> usize
+    requires starts { StartFrom 0 fields.now }
+    requires plain { IsPlainPlace fields.now place }
+    ensures inside { result < length fields.now }
+    ensures plain { HoldsAt (λ f. is_plain_at place f.kind f.start f.length ≡ true)
+        fields.now result }
 {
-    match field.kind {
-        FieldKind::Normal => field.start <= place && place - field.start < field.length as u32,
-        _ => false,
-    }
+    fields.partition_point(|field| field.start <= place) - 1
 }
 
 // The byte at a place of the value that a view shows of a field of so many bytes.
 fn byte_in(field: usize, view: FieldView<'_>, i: usize) -> u8
     requires field { field < 65536 }
-    requires inside { i < field }
-    ensures { result ≡ slice_index (shown field view.entry) i }
+    requires inside { i < length (field_value field view) }
+    ensures { result ≡ slice_index (field_value field view.entry) i }
 {
     match view {
         FieldView::Plain(value) => byte_or(value, i, 0),
@@ -118,14 +130,16 @@ fn seg_weights(
     alloc: Global,
     fields: &[Field],
     segment: &Segment,
-    view: &RowView<'_>,
+    row: &mut NumberedFields<'_>,
 ) -> Result<Vec<u8>, AllocError>
     requires sound { IsSoundSegment fields.now segment.now }
-    requires row { AreValues fields.now view.now }
-    ensures { IfOk result (λ w. w.items ≡ weights segment.now (content fields.now view.now segment.now)) }
+    requires row { AreValues fields.now row.old }
+    ensures same { OnOk result (row.new ≡ row.old) }
+    ensures weights { IfOk result (λ w.
+        w.items ≡ weights segment.now (content fields.now row.old segment.now)) }
 {
     let start = start_of(fields, segment.field as usize);
-    let (length, shown) = field_at(view, segment.field as usize);
+    let (length, shown) = row.field(segment.field as usize)?;
     if let FieldView::Plain(value) = shown {
         return weigh(alloc, segment, part_of(segment, start, value));
     }
@@ -140,18 +154,6 @@ fn start_of(fields: &[Field], i: usize) -> u32
         Some(field) => field.start,
         None => 0,
     }
-}
-
-// The length in bytes of field `i`, from 0, and what it shows.
-fn field_at<'a>(view: &RowView<'a>, i: usize) -> (u16, FieldView<'a>)
-    requires { i < length view.now }
-    ensures { slice_index_or view.now i [] ≡ shown result.0 result.1 }
-{
-    let mut fields = view.fields();
-    for _j in 0..i {
-        let _passed = fields.next_field();
-    }
-    fields.next_with_length().unwrap()
 }
 
 // What of a field's value is the segment's.

@@ -1,43 +1,55 @@
 //! Laws over the definitions of this crate. Each is the contract of a function that does nothing, so
 //! that it is proved with the crate and stands for the crates above.
-ghost use Rattle.std.specs.Prelude.{◌≡◌, ◌<◌, ℕ, Bool, true, false, List, [], All, length, map, get_or};
+ghost use Rattle.std.specs.Prelude.{◌≡◌, ◌≢◌, ◌-◌, ◌<◌, ◌≤◌, ℕ, Bool, true, false};
+ghost use Rattle.std.specs.Prelude.{List, [], ◌∷◌, All, HoldsAt, length, map, take, get_or, Option, Some, Result};
 ghost use Rattle.std.specs.List.{AllByRecursion};
+ghost use Rattle.myi_base.specs.Holding.{Holding, IfTold, bytes_of};
 ghost use Rattle.myi_base.specs.Numbers.{AreBytes};
 ghost use Rattle.myi_base.specs.Ranges.{is_apart};
 ghost use Rattle.myi_defs.specs.declared.types.Defs.{Defs};
 ghost use Rattle.myi_defs.specs.declared.types.RowFormat.{RowFormat};
+ghost use Rattle.myi_defs.specs.declared.types.RowFormat.TheVariants.{Dynamic};
 ghost use Rattle.myi_defs.specs.declared.types.Field.{Field};
 ghost use Rattle.myi_defs.specs.declared.types.Segment.{Segment};
 ghost use Rattle.myi_defs.specs.declared.types.Key.{Key};
 ghost use Rattle.myi_defs.specs.Sound.{IsSound, IsSoundKey, IsSoundSegment};
 ghost use Rattle.myi_pack.specs.Spelling.{fits, fits_fields, spelling};
 ghost use Rattle.myi_keys.specs.Limits.{IsKey};
-ghost use Rattle.myi_keys.specs.Weights.{CanWeigh};
-ghost use Rattle.myi_data.specs.Keys.{content, seg_of, segments_of};
+ghost use Rattle.myi_keys.specs.declared.values.KeySeg.TheVariants.{Weights};
+ghost use Rattle.myi_keys.specs.Weights.{weights, CanWeigh};
+ghost use Rattle.myi_data.specs.Keys.{content, seg_of, key_at, segments_of, TellsNull};
 ghost use Rattle.myi_pack.specs.Packed.{Values};
 ghost use Rattle.myi_chain.specs.Chain.{AreApart};
 ghost use Rattle.myi_chain.specs.Meeting.{ranges_of, AreRising};
-ghost use Rattle.myi_data.specs.Readable.{readable, deleted};
+ghost use Rattle.myi_chain.specs.declared.piece.Piece.{Piece};
+ghost use Rattle.myi_chain.specs.declared.piece.Item.{Item};
+ghost use Rattle.myi_chain.specs.declared.piece.ScanFault.{ScanFault};
+ghost use Rattle.myi_chain.specs.ScanModel.{fresh_scan, FirstRow};
+ghost use Rattle.myi_chain.specs.Readable.{Row, rows_of};
+ghost use Rattle.myi_chain.specs.Readable as chains;
+ghost use Rattle.myi_data.specs.Readable.{items_in, readable, deleted};
+ghost use Rattle.myi_data.specs.Scanning.{TableScan, items_ahead, IsAsKnown, AfterTableItem, AfterTableRow};
 ghost use Rattle.myi_data.specs.Plain.{IsPlain, plain_rows};
-ghost use Rattle.myi_data.specs.Laid.{PackARow, IsStorable, laid_file, laid_rows};
+ghost use Rattle.myi_data.specs.Stored.{PackARow, IsStorable, stored_file, stored_rows};
 
 /// The readable rows of any bytes, in both formats. Each packs a row; they come in order of their
 /// positions; no byte belongs to two of their slots or blocks, nor to one of them and to a deleted block.
 pub fn rows_are_readable()
     ensures packed { (d : Defs) (extend : Bool) (x : List ℕ) → IsSound d → AreBytes x
         → AllByRecursion (λ r. PackARow d r.bytes) (readable d extend x) }
-    ensures rising { (d : Defs) (extend : Bool) (x : List ℕ) → IsSound d → AreRising 0 (readable d extend x) }
+    ensures rising { (d : Defs) (extend : Bool) (x : List ℕ) → IsSound d
+        → AreRising 0 (readable d extend x) }
     ensures apart { (d : Defs) (extend : Bool) (x : List ℕ) → IsSound d
         → AreApart [] (ranges_of (readable d extend x)) }
     ensures deleted { (d : Defs) (x : List ℕ)
         → AllByRecursion (λ a. is_apart a (ranges_of (readable d false x)) ≡ true) (deleted d x) }
 {}
 
-/// What stands in a file that is laid is what is read: a file that is only rows, one block of the least
-/// size or one slot each, has exactly these rows, whether every place is tried or not.
-pub fn laid_files_are_read()
+/// What is stored is what is read: a file that is only rows, one after the other, in one block of the
+/// least size or one slot each, has exactly these rows, whether every place is tried or not.
+pub fn stored_files_are_read()
     ensures { (d : Defs) (extend : Bool) (vs : List Values) → IsSound d → All (IsStorable d) vs
-        → readable d extend (laid_file d vs) ≡ laid_rows d 0 vs }
+        → readable d extend (stored_file d vs) ≡ stored_rows d 0 vs }
 {}
 
 /// The readable rows of a static table whose fields are all NORMAL are its slots whose first byte is
@@ -50,12 +62,50 @@ pub fn plain_tables_are_read()
 /// What a row gives the segments of a key of its table can be weighed, and is a key. A row that fits has
 /// a spelling of some bytes.
 pub fn rows_have_keys()
-    ensures weighed { (format : RowFormat) (fs : List Field) (vs : Values) (s : Segment) → IsSoundSegment fs s
-        → fits_fields format fs vs ≡ true → CanWeigh s (content fs vs s) }
+    ensures weighed { (format : RowFormat) (fs : List Field) (vs : Values) (s : Segment)
+        → IsSoundSegment fs s → fits_fields format fs vs ≡ true → CanWeigh s (content fs vs s) }
     ensures key { (format : RowFormat) (fs : List Field) (rec_ref : ℕ) (vs : Values) (k : Key)
-        → fits_fields format fs vs ≡ true → IsSoundKey fs rec_ref k → IsKey (map (seg_of fs vs) k.segments) }
-    ensures segments { (keys : List Key) (i : ℕ) (some : Key) → i < length keys
-        → segments_of keys i ≡ (get_or keys i some).segments }
-    ensures fields { (d : Defs) (row : Values) → fits d row ≡ true → fits_fields d.format d.fields row ≡ true }
-    ensures spelled { (d : Defs) (row : Values) → IsSound d → fits d row ≡ true → 0 < length (spelling d row) }
+        → fits_fields format fs vs ≡ true → IsSoundKey fs rec_ref k
+        → IsKey (map (seg_of fs vs) k.segments) }
+    ensures numbered { (keys : List Key) (k : ℕ) (some : Key) → 0 < k → k ≤ length keys
+        → key_at keys k ≡ Some (get_or keys (k - 1) some) }
+    ensures segments { (keys : List Key) (k : ℕ) (some : Key) → 0 < k → k ≤ length keys
+        → segments_of keys k ≡ (get_or keys (k - 1) some).segments }
+    ensures fields { (d : Defs) (row : Values) → fits d row ≡ true
+        → fits_fields d.format d.fields row ≡ true }
+    ensures spelled { (d : Defs) (row : Values) → IsSound d → fits d row ≡ true
+        → 0 < length (spelling d row) }
+{}
+
+/// Where a row has no value. A segment with a null bit has none exactly where the field of the byte at its
+/// place has the bit set there; a segment without one always has a value.
+pub fn null_bits_tell()
+    ensures bit { (d : Defs) (row : Values) (s : Segment) (k : ℕ) → IsSound d → fits d row ≡ true
+        → s.null_bit ≢ 0 → k < length d.fields → HoldsAt (TellsNull d row s k) d.fields k }
+    ensures always { (fs : List Field) (row : Values) (s : Segment) → s.null_bit ≡ 0
+        → seg_of fs row s ≡ Weights (weights s (content fs row s)) }
+{}
+
+/// A scan of which nothing was read has all of its file ahead, and knows of it only how long it is at
+/// least. What is ahead, and whether the file is as the scan knows it, hangs on that file's bytes alone;
+/// after a call of the scan the file is as the scan knows it then. A row that comes first of what is ahead
+/// is the first of the rows.
+pub fn scans_begin_with_all()
+    ensures fresh { (name : List ℕ) (d : Defs) (extend : Bool) (end : ℕ) (m : Holding)
+        → items_ahead (fresh_scan name d extend end) m
+        ≡ items_in d extend (take end (bytes_of name m)) }
+    ensures known { (name : List ℕ) (d : Defs) (extend : Bool) (end : ℕ) (m : Holding)
+        → (d.format ≡ Dynamic → end ≤ length (bytes_of name m))
+        → IsAsKnown (fresh_scan name d extend end) m }
+    ensures ahead { (s : TableScan) (m n : Holding) → bytes_of s.name n ≡ bytes_of s.name m
+        → items_ahead s n ≡ items_ahead s m }
+    ensures stays { (s : TableScan) (m n : Holding) → bytes_of s.name n ≡ bytes_of s.name m
+        → IsAsKnown s m → IsAsKnown s n }
+    ensures items { (h : Option Holding) (old new : TableScan) (r : Result (Option Item) ScanFault)
+        → AfterTableItem h old r new → IfTold h (IsAsKnown new) }
+    ensures rows { (h : Option Holding) (old new : TableScan)
+        (r : Result (Option (ℕ × Piece)) ScanFault)
+        → AfterTableRow h old r new → IfTold h (IsAsKnown new) }
+    ensures first { (r : Row) (before after : List chains.Item) → FirstRow r before after
+        → rows_of before ≡ r ∷ rows_of after }
 {}

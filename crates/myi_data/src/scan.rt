@@ -1,17 +1,17 @@
 //! `DataScan`: what stands in a table's data file, one item after the other, in either format.
 //!
 //! It is a `SlotScan` of a static table or a `BlockScan` of a dynamic one, each with the table's
-//! definitions as the test of what packs a row. What a scan has still to answer is its model, a
-//! `TableScan` of `specs/Scanning`, the same for both.
-ghost use Rattle.std.specs.Prelude.{◌≡◌, [], Option, None, Some, IfOk, IfSome, OnOk};
+//! definitions as the test of what packs a row. Where it stands, and so what of the file is left, is its
+//! model, a `TableScan` of `specs/Scanning`, the same for both. Nothing is known of bytes that were not
+//! read: each call is told that the file is as the one before left it.
+ghost use Rattle.std.specs.Prelude.{◌≡◌, IfOk, IfErr, IfSome};
 ghost use Rattle.std.specs.Borrow.{sem};
 ghost use Rattle.std.specs.Io.BufRead.{Rests};
 ghost use Rattle.myi_base.specs.Holding.{IfTold};
 ghost use Rattle.myi_base.specs.Causes.{HasCause};
-ghost use Rattle.myi_chain.specs.declared.piece.ScanFault.TheVariants.{File};
-ghost use Rattle.myi_chain.specs.Readable.{rows_of};
-ghost use Rattle.myi_chain.specs.Scanning.{ReadsBytes, IsFirst, IsFirstRow};
-ghost use Rattle.myi_data.specs.Scanning.{TableScan, items_left, rows_left, PacksItem, PacksRow, IsSlotOf, Leaves, LeavesRows};
+ghost use Rattle.myi_defs.specs.declared.types.RowFormat.TheVariants.{Static};
+ghost use Rattle.myi_chain.specs.declared.piece.ScanFault.TheVariants.{File, Memory};
+ghost use Rattle.myi_data.specs.Scanning.{IsAsKnown, MeetsPlainRow, PacksItem, PacksRow, IsSlotItem, IsSlotRow, AfterTableItem, AfterTableRow};
 
 use crate::blocks::BlockScan;
 use crate::row_test::RowTest;
@@ -29,9 +29,14 @@ enum Inner {
 }
 
 /// A scan of the rows and the deleted blocks of a table's data file.
-#[derive(Drop)]
 pub struct DataScan {
     inner: Inner,
+}
+
+impl Drop for DataScan {
+    fn drop(self) {
+        let DataScan { inner: _ } = self;
+    }
 }
 
 impl Model for DataScan {
@@ -46,19 +51,21 @@ impl Model for DataScan {
 }
 
 impl DataScan {
-    ghost use Rattle.std.specs.Prelude.{◌≡◌, Option, Some, None, IfOk, IfSome, OnOk};
+    ghost use Rattle.std.specs.Prelude.{◌≡◌, IfOk, IfErr, IfSome};
     ghost use Rattle.std.specs.Borrow.{sem};
     ghost use Rattle.std.specs.Io.BufRead.{Rests};
     ghost use Rattle.myi_base.specs.Holding.{IfTold};
     ghost use Rattle.myi_base.specs.Causes.{HasCause};
-    ghost use Rattle.myi_chain.specs.declared.piece.ScanFault.TheVariants.{File};
-    ghost use Rattle.myi_chain.specs.Scanning.{fresh_scan, ReadsBytes, IsFirst, IsFirstRow};
-    ghost use Rattle.myi_data.specs.Scanning.{items_left, rows_left, PacksItem, PacksRow, IsSlotOf, Leaves, LeavesRows};
+    ghost use Rattle.myi_defs.specs.declared.types.RowFormat.TheVariants.{Static};
+    ghost use Rattle.myi_chain.specs.declared.piece.ScanFault.TheVariants.{File, Memory};
+    ghost use Rattle.myi_chain.specs.ScanModel.{fresh_scan};
+    ghost use Rattle.myi_data.specs.Scanning.{IsAsKnown, MeetsPlainRow, PacksItem, PacksRow, IsSlotItem, IsSlotRow, AfterTableItem, AfterTableRow};
     ghost use Rattle.myi_data.specs.contracts.scan.DataScan.{the_row};
 
     /// A scan of the file of that name, of a table that the test is for. Nothing is read yet.
     pub(crate) fn new(name: &str, test: RowTest, setup: ScanSetup) -> Result<DataScan, AllocError>
-        ensures { IfOk result (λ scan. scan ≡ fresh_scan name.now test setup.extend setup.file_len) }
+        ensures { IfOk result (λ scan.
+            scan ≡ fresh_scan name.now test setup.extend setup.file_len) }
     {
         let alloc = test.allocator();
         let inner = match test.format() {
@@ -72,13 +79,16 @@ impl DataScan {
     /// byte is 0 is a deleted block. Deleted blocks come as they are passed, also those that a later
     /// row's block meets. After an error the next call answers as this one would have.
     pub fn next_item<F: Files>(&mut self, files: &mut F) -> Result<Option<Item<'_>>, ScanFault>
-        ensures item { IfOk result (λ found. IfTold (F.holds files.old) (λ m.
-            IsFirst (items_left self.old m) found)) }
+        requires { IfTold (F.holds files.old) (IsAsKnown self.old) }
         ensures packs { IfOk result (λ found. IfSome found (PacksItem self.old)) }
-        ensures bytes { OnOk result (IfTold (F.holds files.old) (ReadsBytes self.old)) }
+        ensures slot { IfOk result (λ found. IfSome found (IsSlotItem self.old)) }
+        ensures never { self.old.test.format ≡ Static → IfErr result (λ e. e ≡ File) }
+        ensures plain { IfErr result (λ e. e ≡ Memory
+            → IfTold (F.holds files.old) (λ m. MeetsPlainRow self.old m → ⊥)) }
         ensures holds { F.holds files.new ≡ F.holds files.old }
         ensures cause { HasCause File (F.faults files.old) (F.faults files.new) result }
-        ensures* after { sem 𝓛 (Rests the_row self.entry (Leaves (F.holds files.old) self.old result)) }
+        ensures* after { sem 𝓛 (Rests the_row self.entry
+            (AfterTableItem (F.holds files.old) self.old result)) }
     {
         match &mut self.inner {
             Inner::Slots(scan) => scan.next_item(files),
@@ -93,14 +103,16 @@ impl DataScan {
         &mut self,
         files: &mut F,
     ) -> Result<Option<(u64, Piece<'_>)>, ScanFault>
-        ensures row { IfOk result (λ found. IfTold (F.holds files.old) (λ m.
-            IsFirstRow (rows_left self.old m) found)) }
+        requires { IfTold (F.holds files.old) (IsAsKnown self.old) }
         ensures packs { IfOk result (λ found. IfSome found (PacksRow self.old)) }
-        ensures slot { IfOk result (λ found. IfSome found (IsSlotOf self.old)) }
-        ensures bytes { OnOk result (IfTold (F.holds files.old) (ReadsBytes self.old)) }
+        ensures slot { IfOk result (λ found. IfSome found (IsSlotRow self.old)) }
+        ensures never { self.old.test.format ≡ Static → IfErr result (λ e. e ≡ File) }
+        ensures plain { IfErr result (λ e. e ≡ Memory
+            → IfTold (F.holds files.old) (λ m. MeetsPlainRow self.old m → ⊥)) }
         ensures holds { F.holds files.new ≡ F.holds files.old }
         ensures cause { HasCause File (F.faults files.old) (F.faults files.new) result }
-        ensures* after { sem 𝓛 (Rests the_row self.entry (LeavesRows (F.holds files.old) self.old result)) }
+        ensures* after { sem 𝓛 (Rests the_row self.entry
+            (AfterTableRow (F.holds files.old) self.old result)) }
     {
         match &mut self.inner {
             Inner::Slots(scan) => scan.next_row(files),

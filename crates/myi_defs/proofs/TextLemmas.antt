@@ -56,5 +56,5 @@ pub goes : (s t : Stage) (n : ℕ) (l : List ℕ) (ls : List (List ℕ)) → ste
 goes s t n l ls same = ap (λ (o : Option Stage). outside o (n + 1) ls) same
 
 -- and where no line is left the text must be able to end
-pub ends : (s : Stage) (n : ℕ) → outside (Some s) n [] ≡ (if may_end s.place then None else Some (n + 1))
+pub ends : (s : Stage) (n : ℕ) → outside (Some s) n [] ≡ (if may_end s.last then None else Some (n + 1))
 ends s n = refl

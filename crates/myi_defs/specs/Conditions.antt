@@ -15,7 +15,7 @@ use Rattle.myi_defs.specs.declared.header.FieldItem.{FieldItem}
 use Rattle.myi_defs.specs.declared.header.Outline.{Outline}
 use Rattle.myi_defs.specs.Header.{keys_place, fields_place}
 use Rattle.myi_defs.specs.Kinds.{has_flag, most_bytes, is_text, is_collation, int_size, seg_cost, lies_in, is_plain_at}
-use Rattle.myi_defs.specs.Layout.{base_place}
+use Rattle.myi_defs.specs.Layout.{most_fields, most_keys, most_segments, base_place}
 
 -- a bit of a number is set
 abbrev pub has_bit : ℕ → ℕ → Bool
@@ -42,19 +42,19 @@ abbrev pub is_empty : FieldItem → Bool
 is_empty f = f.length == 0
 
 -- 3 Lengths, of the first 24 bytes: the lengths of the sections are other than those of this format, the base
--- section is not where it must be or reaches past the header, or there are more than 64 keys
+-- section is not where it must be or reaches past the header, or there are too many keys
 unfoldable pub has_wrong_front : Front → Bool
 has_wrong_front f =
     not (f.state_info_length == 176)
     || not (f.base_info_length == 100)
     || not (f.base_pos == base_place f.keys f.page_sizes f.key_parts)
     || nat_lt f.header_length (keys_place f)
-    || nat_lt 64 f.keys
+    || nat_lt most_keys f.keys
 
--- 3 Lengths, of the keys: one has no segment or more than 16, or all have more than the header says, or they
+-- 3 Lengths, of the keys: one has no segment or too many, or all have more than the header says, or they
 -- reach past the header
 abbrev pub has_wrong_segments : KeyItem → Bool
-has_wrong_segments k = (length k.segments == 0) || nat_lt 16 (length k.segments)
+has_wrong_segments k = (length k.segments == 0) || nat_lt most_segments (length k.segments)
 
 unfoldable pub has_wrong_keys : Front → List KeyItem → Bool
 has_wrong_keys f keys =
@@ -62,13 +62,13 @@ has_wrong_keys f keys =
     || nat_lt f.key_parts (sum_by (λ k. length k.segments) keys)
     || nat_lt f.header_length (fields_place f keys)
 
--- 3 Lengths, of the fields and the row: there are no fields or more than 4096, or they reach past the header;
+-- 3 Lengths, of the fields and the row: there are no fields or too many, or they reach past the header;
 -- the row has no bytes or more than 2^20, or the slot of a static table is shorter than the row or longer
 -- than 2^20
 unfoldable pub has_wrong_fields : Front → Base → ℕ → Bool
 has_wrong_fields f b place =
     (b.fields == 0)
-    || nat_lt 4096 b.fields
+    || nat_lt most_fields b.fields
     || nat_lt f.header_length (place + 7 * b.fields)
 
 unfoldable pub has_wrong_row : Front → Base → Bool

@@ -4,6 +4,17 @@
 use Rattle.std.specs.Prelude.{ℕ, ◌+◌, ◌-◌, ◌*◌, ◌/◌, ◌^◌, min, List, [], ◌∷◌}
 use Rattle.myi_defs.specs.declared.layout.Layout.{Layout}
 
+-- how many fields and keys a table has at most, and how many segments a key (MySQL Reference Manual, "Limits on Table
+-- Column Count" and "The MyISAM Storage Engine")
+abbrev pub most_fields : ℕ
+most_fields = 4096
+
+abbrev pub most_keys : ℕ
+most_keys = 64
+
+abbrev pub most_segments : ℕ
+most_segments = 16
+
 -- the last six bytes of the base section, which are otherwise unused: "RK", and the version 2
 abbrev pub mark : List ℕ
 mark = 0x52 ∷ 0x4B ∷ 2 ∷ 0 ∷ 0 ∷ 0 ∷ []

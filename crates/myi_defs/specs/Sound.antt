@@ -11,7 +11,7 @@ use Rattle.myi_defs.specs.declared.types.Segment.{Segment}
 use Rattle.myi_defs.specs.declared.types.Key.{Key}
 use Rattle.myi_defs.specs.declared.types.Defs.{Defs}
 use Rattle.myi_defs.specs.Kinds.{has_flag, most_bytes, int_size, is_text, is_collation, seg_cost, lies_in, is_plain_at}
-use Rattle.myi_defs.specs.Layout.{base_place}
+use Rattle.myi_defs.specs.Layout.{most_fields, most_keys, most_segments, base_place}
 
 -- the lengths that a field of a kind may have
 abbrev pub IsLengthOf : RowFormat → FieldKind → ℕ → Type 0
@@ -53,7 +53,7 @@ key_most segments = sum_by (λ s. seg_cost s.length) segments
 -- a key has few segments and few bytes, and two of its entries fit into a page
 pub record IsSoundKey (fields : List Field) (rec_ref : ℕ) (k : Key) : Type 0 where
   pub some_segments : 0 < length k.segments
-  pub few_segments : length k.segments ≤ 16
+  pub few_segments : length k.segments ≤ most_segments
   pub segments : All (IsSoundSegment fields) k.segments
   pub short : sum_by (λ s. s.length) k.segments ≤ 1000
   pub whole_block : k.block_length % 1024 ≡ 0
@@ -63,7 +63,7 @@ pub record IsSoundKey (fields : List Field) (rec_ref : ℕ) (k : Key) : Type 0 w
 
 pub record IsSound (d : Defs) : Type 0 where
   pub some_fields : 0 < length d.fields
-  pub few_fields : length d.fields ≤ 4096
+  pub few_fields : length d.fields ≤ most_fields
   pub lengths : All (λ f. IsLengthOf d.format f.kind f.length) d.fields
   pub starts : StartFrom 0 d.fields
   pub total : fields_length d.fields ≤ d.row_length
@@ -77,7 +77,7 @@ pub record IsSound (d : Defs) : Type 0 where
   pub rec_ref_most : d.rec_ref ≤ 8
   pub key_ref_least : 1 ≤ d.key_ref
   pub key_ref_most : d.key_ref ≤ 8
-  pub few_keys : length d.keys ≤ 64
+  pub few_keys : length d.keys ≤ most_keys
   pub keys_sound : All (IsSoundKey d.fields d.rec_ref) d.keys
   pub key_parts : sum_by (λ k. length k.segments) d.keys ≤ num_at 14 2 d.raw
   pub header : length d.raw ≡ num_at 6 2 d.raw

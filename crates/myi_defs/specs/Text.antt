@@ -12,8 +12,9 @@ use Rattle.myi_defs.specs.declared.types.SegType.{SegType}
 use Rattle.myi_defs.specs.declared.types.SegType.TheVariants as seg
 use Rattle.myi_defs.specs.declared.text.Line.{Line}
 use Rattle.myi_defs.specs.declared.text.Line.TheVariants as line
-use Rattle.myi_defs.specs.declared.text.Place.{Place}
-use Rattle.myi_defs.specs.declared.text.Place.TheVariants as place
+use Rattle.myi_defs.specs.Layout.{most_fields, most_keys, most_segments}
+use Rattle.myi_defs.specs.declared.text.LineKind.{LineKind}
+use Rattle.myi_defs.specs.declared.text.LineKind.TheVariants as kind
 use Rattle.myi_defs.specs.declared.text.Stage.{Stage}
 
 -- a text without the line feed at its end, which may be left out
@@ -119,61 +120,61 @@ line_of (a ∷ b ∷ c ∷ []) = if bytes_eq a (codes "field") then field_line b
 line_of (a ∷ b ∷ c ∷ d ∷ e ∷ f ∷ g ∷ []) = if bytes_eq a (codes "seg") then seg_line b c d e f g else None
 line_of ws = None
 
--- which line may follow: at most 4096 fields, 64 keys and 16 segments of a key
+-- which line may follow, within the limits of fields, keys and segments of a key
 abbrev pub start : Stage
-start = record { place = place.Start; fields = 0; keys = 0; segments = 0 }
+start = record { last = kind.Start; fields = 0; keys = 0; segments = 0 }
 
-abbrev pub is_start : Place → Bool
-is_start place.Start = true
+abbrev pub is_start : LineKind → Bool
+is_start kind.Start = true
 is_start p = false
 
-abbrev pub is_rows : Place → Bool
-is_rows place.Rows = true
+abbrev pub is_rows : LineKind → Bool
+is_rows kind.Rows = true
 is_rows p = false
 
-abbrev pub is_fields : Place → Bool
-is_fields place.Fields = true
+abbrev pub is_fields : LineKind → Bool
+is_fields kind.Fields = true
 is_fields p = false
 
-abbrev pub is_pointer : Place → Bool
-is_pointer place.Pointer = true
+abbrev pub is_pointer : LineKind → Bool
+is_pointer kind.Pointer = true
 is_pointer p = false
 
-abbrev pub is_key : Place → Bool
-is_key place.Key = true
+abbrev pub is_key : LineKind → Bool
+is_key kind.Key = true
 is_key p = false
 
-abbrev pub is_segments : Place → Bool
-is_segments place.Segments = true
+abbrev pub is_segments : LineKind → Bool
+is_segments kind.Segments = true
 is_segments p = false
 
 abbrev pub next_field : Stage → Option Stage
 next_field s =
-    if (is_rows s.place || is_pointer s.place || is_fields s.place) && nat_lt s.fields 4096
-    then Some (record s { place = place.Fields; fields = s.fields + 1 })
+    if (is_rows s.last || is_pointer s.last || is_fields s.last) && nat_lt s.fields most_fields
+    then Some (record s { last = kind.Fields; fields = s.fields + 1 })
     else None
 
 abbrev pub next_key : Stage → Option Stage
 next_key s =
-    if (is_fields s.place || is_segments s.place) && nat_lt s.keys 64
-    then Some (record s { place = place.Key; keys = s.keys + 1; segments = 0 })
+    if (is_fields s.last || is_segments s.last) && nat_lt s.keys most_keys
+    then Some (record s { last = kind.Key; keys = s.keys + 1; segments = 0 })
     else None
 
 abbrev pub next_segment : Stage → Option Stage
 next_segment s =
-    if (is_key s.place || is_segments s.place) && nat_lt s.segments 16
-    then Some (record s { place = place.Segments; segments = s.segments + 1 })
+    if (is_key s.last || is_segments s.last) && nat_lt s.segments most_segments
+    then Some (record s { last = kind.Segments; segments = s.segments + 1 })
     else None
 
 abbrev pub next : Stage → Line → Option Stage
-next s (line.Rows r) = if is_start s.place then Some (record s { place = place.Rows }) else None
-next s (line.Pointer n) = if is_rows s.place then Some (record s { place = place.Pointer }) else None
+next s (line.Rows r) = if is_start s.last then Some (record s { last = kind.Rows }) else None
+next s (line.Pointer n) = if is_rows s.last then Some (record s { last = kind.Pointer }) else None
 next s (line.Field k n) = next_field s
 next s (line.Key u) = next_key s
 next s (line.Seg g) = next_segment s
 
 -- a text may end with a field or a segment
-abbrev pub may_end : Place → Bool
+abbrev pub may_end : LineKind → Bool
 may_end p = is_fields p || is_segments p
 
 unfoldable pub step : Stage → List ℕ → Option Stage
@@ -182,7 +183,7 @@ step s l = option_and_then (next s) (line_of (words l))
 -- the number of the first line that is outside, after n lines
 abbrev pub outside : Option Stage → ℕ → List (List ℕ) → Option ℕ
 outside None n ls = Some n
-outside (Some s) n [] = if may_end s.place then None else Some (n + 1)
+outside (Some s) n [] = if may_end s.last then None else Some (n + 1)
 outside (Some s) n (l ∷ ls) = outside (step s l) (n + 1) ls
 
 -- what the lines say

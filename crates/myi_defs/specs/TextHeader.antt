@@ -1,6 +1,6 @@
 -- The header that a creating text stands for (this project's own). What the text says stands at its place, all
 -- other numbers are 0, and one that does not fit its bytes is stored as the greatest that does.
-use Rattle.std.specs.Prelude.{ℕ, ◌+◌, ◌-◌, ◌*◌, ◌/◌, ◌%◌, ◌^◌, Bool, true, false, if◌then◌else◌, min, max, List, [], ◌∷◌, ◌++◌, length, sum_by, count_by, flat_map, Option, Some, None}
+use Rattle.std.specs.Prelude.{◌≡◌, ℕ, ◌+◌, ◌-◌, ◌*◌, ◌/◌, ◌%◌, ◌^◌, Bool, true, false, if◌then◌else◌, min, max, List, [], ◌∷◌, ◌++◌, length, sum_by, count_by, flat_map, Option, Some, None}
 use Rattle.myi_base.specs.Items.{spelling}
 use Rattle.myi_defs.specs.declared.types.RowFormat.{RowFormat}
 use Rattle.myi_defs.specs.declared.types.RowFormat.TheVariants.{Static, Dynamic}
@@ -20,6 +20,10 @@ use Rattle.myi_defs.specs.EmptyTable.{zeros, empty_state}
 -- a number as it is stored in so many bytes
 abbrev pub stored : ℕ → ℕ → ℕ
 stored width n = min n (256 ^ width - 1)
+
+-- the numbers, each in so many bytes, were appended
+abbrev pub AddsNumbers : List ℕ → List ℕ → List ℕ → List ℕ → Type 0
+AddsNumbers widths values new old = new ≡ old ++ spelling widths values
 
 -- what the lines say of the whole table
 abbrev pub format_said : List Line → RowFormat

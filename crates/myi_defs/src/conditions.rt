@@ -2,7 +2,8 @@
 //!
 //! Each condition is a function here and a definition of the same name in `Conditions`; `refusal` answers
 //! the first that holds.
-ghost use Rattle.std.specs.Prelude.{◌≡◌, ◌≤◌, ◌+◌, ◌-◌, ◌*◌, ◌/◌, ◌^◌, ◌&&◌, ◌||◌, not, false, nat_lt, nat_le, length, sum_by, count_by, is_none};
+ghost use Rattle.std.specs.Prelude.{◌≡◌, ◌≤◌, ◌+◌, ◌-◌, ◌*◌, ◌/◌, ◌^◌, ◌&&◌, ◌||◌};
+ghost use Rattle.std.specs.Prelude.{not, false, nat_lt, nat_le, length, sum_by, count_by, is_none};
 ghost use Rattle.std.specs.List.{list_any};
 ghost use Rattle.myi_defs.specs.Conditions as spec;
 ghost use Rattle.myi_defs.specs.Kinds as kinds;
@@ -254,7 +255,9 @@ fn has_wrong_collation(outline: &Outline) -> bool
 }
 
 fn has_other_collation(segments: &[SegItem]) -> bool
-    ensures { result ≡ list_any (λ s. spec.is_text_as s.seg && not (kinds.is_collation s.language)) segments.now }
+    ensures { result
+        ≡ list_any (λ s. spec.is_text_as s.seg && not (kinds.is_collation s.language))
+        segments.now }
 {
     segments.iter().any(|segment| is_text(segment.seg) && !is_collation(segment.language))
 }
@@ -301,7 +304,9 @@ fn has_wrong_pages(rec_ref: u8, key: &KeyItem) -> bool
 
 // Whether two entries and a page's three pointers take more than a page.
 fn lacks_room(block_length: u16, rec_ref: u8, segments: &[SegItem]) -> bool
-    ensures { result ≡ nat_lt block_length (2 * (sum_by (λ s. kinds.seg_cost s.length) segments.now + 13 + rec_ref) + 9) }
+    ensures { result
+        ≡ nat_lt block_length
+        (2 * (sum_by (λ s. kinds.seg_cost s.length) segments.now + 13 + rec_ref) + 9) }
 {
     let mut needed = 2 * (13 + rec_ref as u32) + 9;
     for segment in segments {
@@ -345,7 +350,9 @@ fn has_wide_rows(outline: &Outline) -> bool
 
 fn are_wide(pack_bits: u16, fields: &[FieldItem]) -> bool
     requires { length fields.now ≤ 4096 }
-    ensures { result ≡ (list_any (λ f. spec.is_wide f.kind f.length) fields.now || nat_le (2 ^ 24) (pack_bits + sum_by (λ f. spec.most_packed f.kind f.length) fields.now)) }
+    ensures { result ≡ (list_any (λ f. spec.is_wide f.kind f.length) fields.now
+        || nat_le (2 ^ 24)
+        (pack_bits + sum_by (λ f. spec.most_packed f.kind f.length) fields.now)) }
 {
     let mut most = pack_bits as u32;
     for field in fields {

@@ -4,7 +4,8 @@
 //! `SegItem`s is a key and a `FieldItem` a field, each as it is stored. An `Outline` is all of a header
 //! that definitions are made of. Where each item stands, and in how many bytes, is said in one
 //! place, the definition `Header`.
-ghost use Rattle.std.specs.Prelude.{◌≡◌, ◌≢◌, ◌≤◌, ◌<◌, ◌+◌, ◌*◌, true, false, length, IfOk, IfErr, IfSome, IfNone};
+ghost use Rattle.std.specs.Prelude.{◌≡◌, ◌≢◌, ◌≤◌, ◌<◌, ◌+◌, ◌*◌};
+ghost use Rattle.std.specs.Prelude.{true, false, length, IfOk, IfErr, IfSome, IfNone};
 ghost use Rattle.myi_defs.specs.declared.types.DefFault.TheVariants.{Lengths, Memory};
 ghost use Rattle.myi_defs.specs.ReadDefs.{is_short};
 ghost use Rattle.myi_defs.specs.Conditions.{ItemsStartFrom};
@@ -61,11 +62,20 @@ pub struct SegItem {
 }
 
 /// A key as it is stored.
-#[derive(Drop)]
 pub struct KeyItem {
     pub flag: u16,
     pub block_length: u16,
     pub segments: Sequence<SegItem>,
+}
+
+impl Drop for KeyItem {
+    fn drop(self) {
+        let KeyItem {
+            flag: _,
+            block_length: _,
+            segments: _,
+        } = self;
+    }
 }
 
 /// A field as it is stored, with its place in the row; it has no kind where its type is none that is
@@ -78,12 +88,22 @@ pub struct FieldItem {
 }
 
 /// What definitions are made of.
-#[derive(Drop)]
 pub struct Outline {
     pub front: Front,
     pub base: Base,
     pub keys: Sequence<KeyItem>,
     pub fields: Sequence<FieldItem>,
+}
+
+impl Drop for Outline {
+    fn drop(self) {
+        let Outline {
+            front: _,
+            base: _,
+            keys: _,
+            fields: _,
+        } = self;
+    }
 }
 
 impl Front {
@@ -208,7 +228,8 @@ impl KeyItem {
         ensures inside { IfOk result (λ k. at + spec.key_length k ≤ length header.now) }
         ensures few { IfOk result (λ k. length k.segments ≤ 255) }
         ensures fault { IfErr result (λ f. f ≢ Memory → f ≡ Lengths) }
-        ensures past { IfErr result (λ f. f ≢ Memory → length header.now < at + spec.key_length (spec.key_item at header.now)) }
+        ensures past { IfErr result (λ f. f ≢ Memory
+            → length header.now < at + spec.key_length (spec.key_item at header.now)) }
     {
         if header.len() - at < KEY_LENGTH {
             return Err(DefFault::Lengths);
@@ -248,7 +269,8 @@ pub(crate) fn key_items(
     ensures inside { IfOk result (λ r. r.1 ≤ length header.now) }
     ensures count { IfOk result (λ r. length r.0.items ≡ count) }
     ensures fault { IfErr result (λ f. f ≢ Memory → f ≡ Lengths) }
-    ensures past { IfErr result (λ f. f ≢ Memory → length header.now < at + spec.keys_length (spec.key_items count at header.now)) }
+    ensures past { IfErr result (λ f. f ≢ Memory
+        → length header.now < at + spec.keys_length (spec.key_items count at header.now)) }
 {
     let mut keys = Vec::with_capacity(alloc, count as usize)?;
     let mut place = at;

@@ -77,7 +77,7 @@ pub fn first_page_behind(header_length: usize) -> usize
 
 /// The map of so many keys that are all in use: one bit for each.
 #[tactic(auto, unfolding(crate::specs::Layout::all_keys))]
-pub fn all_keys(keys: u8) -> u64
+pub(crate) fn all_keys(keys: u8) -> u64
     ensures { result ≡ spec.all_keys keys }
 {
     match 2u64.checked_pow(keys as u32) {

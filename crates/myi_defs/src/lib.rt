@@ -9,6 +9,20 @@
 //! gives the header of an empty table with given definitions, and `parse_text` the definitions that a
 //! creating text stands for. `Defs::addressable` says which data files row pointers reach, and
 //! `definitions_are_sound` is the law on which the crates above rest.
+//!
+//! ```
+//! match read_defs(alloc, &bytes) {
+//!     Ok(defs) => {
+//!         for field in defs.fields.as_slice() {
+//!             write!(out, " {:?}:{}:{}", field.kind, field.length, field.start)?;
+//!         }
+//!     }
+//!     Err(DefFault::Memory) => return Err(Fault::Memory),
+//!     Err(fault) => write!(out, "{fault}")?,
+//! }
+//! ```
+//!
+//! The case `defs` in `crates/cases_formats/src/definitions.rt` runs it.
 #![tactic(auto)]
 
 mod conditions;
@@ -26,7 +40,7 @@ mod types;
 
 pub use laws::{definitions_are_sound, definitions_rest_on_the_header, empty_tables_print_again};
 pub use layout::{
-    BASE_LENGTH, FRONT_LENGTH, Layout, MARK, MARK_PLACE, ROOTS_PLACE, all_keys, first_page_behind,
+    BASE_LENGTH, FRONT_LENGTH, Layout, MARK, MARK_PLACE, ROOTS_PLACE, first_page_behind,
 };
 pub use parse::{TextFault, parse_text};
 pub use print::print_defs;

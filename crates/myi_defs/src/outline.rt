@@ -2,7 +2,8 @@
 //!
 //! `Outline::read` goes through the header once. What the lengths say is asked before anything that they
 //! lead to is read, so that nothing past the header is, and no list is made longer than its limit.
-ghost use Rattle.std.specs.Prelude.{◌≡◌, ◌≢◌, ◌≤◌, ◌+◌, ◌*◌, true, false, length, sum_by, IfOk, IfErr};
+ghost use Rattle.std.specs.Prelude.{◌≡◌, ◌≢◌, ◌≤◌, ◌+◌, ◌*◌};
+ghost use Rattle.std.specs.Prelude.{true, false, length, sum_by, IfOk, IfErr};
 ghost use Rattle.std.specs.List.{list_any};
 ghost use Rattle.myi_defs.specs.declared.types.DefFault.TheVariants.{Lengths, Memory};
 ghost use Rattle.myi_defs.specs.Header as layout;
@@ -28,7 +29,8 @@ impl Outline {
         ensures starts { IfOk result (λ o. spec.ItemsStartFrom 0 o.fields) }
         ensures few { IfOk result (λ o. length o.fields ≤ 4096) }
         ensures fault { IfErr result (λ f. f ≢ Memory → f ≡ Lengths) }
-        ensures wrong { IfErr result (λ f. f ≢ Memory → has_wrong_lengths (layout.outline front header.now) ≡ true) }
+        ensures wrong { IfErr result (λ f. f ≢ Memory
+            → has_wrong_lengths (layout.outline front header.now) ≡ true) }
     {
         if has_wrong_front(&front) {
             return Err(DefFault::Lengths);

@@ -54,7 +54,9 @@ pub fn parse_text(alloc: Global, text: &[u8]) -> Result<Defs, TextFault>
     ensures found { IfOk result (λ d. spec.parse_text text.now ≡ Ok d) }
     ensures refused { IfErr result (λ f. f ≢ Memory → spec.parse_text text.now ≡ Err f) }
     ensures itself { IfOk result AreDefs }
-    ensures header { IfOk result (λ d. let header = text_header (said (lines text.now)) in d.raw ≡ take (num_at 6 2 header) header) }
+    ensures header { IfOk result (λ d.
+        let header = text_header (said (lines text.now)) in
+        d.raw ≡ take (num_at 6 2 header) header) }
 {
     let lines = match read_lines(alloc, text) {
         Ok(lines) => lines,

@@ -2,7 +2,8 @@
 //!
 //! Fields stand one after the other in the row, so a search by halves finds the two at most at which a
 //! place can be.
-ghost use Rattle.std.specs.Prelude.{◌≡◌, ℕ, ◌+◌, ◌≤◌, ◌<◌, true, false, length, is_some, slice_index_or, IfSome, IfNone};
+ghost use Rattle.std.specs.Prelude.{◌≡◌, ℕ, ◌+◌, ◌≤◌, ◌<◌, true, false, length};
+ghost use Rattle.std.specs.Prelude.{is_some, slice_index_or, IfSome, IfNone};
 ghost use Rattle.std.specs.List.{list_any, position_or_len};
 ghost use Rattle.myi_defs.specs.declared.header.FieldItem.{FieldItem};
 ghost use Rattle.myi_defs.specs.Conditions as spec;
@@ -18,7 +19,8 @@ pub(crate) fn holder(fields: &[FieldItem], segment: &SegItem) -> Option<usize>
     requires some { list_any spec.is_empty fields.now ≡ false }
     ensures found { IfSome result (λ i. position_or_len (spec.is_held segment.now) fields.now ≡ i) }
     ensures inside { IfSome result (λ i. i < length fields.now) }
-    ensures none { IfNone result (position_or_len (spec.is_held segment.now) fields.now ≡ length fields.now) }
+    ensures none { IfNone result
+        (position_or_len (spec.is_held segment.now) fields.now ≡ length fields.now) }
     ensures any { is_some result ≡ list_any (spec.is_held segment.now) fields.now }
 {
     let (from, to) = near(fields, segment.start);
@@ -52,8 +54,10 @@ fn near(fields: &[FieldItem], place: u32) -> (usize, usize)
     requires some { list_any spec.is_empty fields.now ≡ false }
     ensures order { result.0 ≤ result.1 }
     ensures inside { result.1 ≤ length fields.now }
-    ensures before { (k : ℕ) (d : FieldItem) → k < result.0 → (slice_index_or fields.now k d).start + (slice_index_or fields.now k d).length < place }
-    ensures after { (k : ℕ) (d : FieldItem) → result.1 ≤ k → k < length fields.now → place < (slice_index_or fields.now k d).start }
+    ensures before { (k : ℕ) (d : FieldItem) → k < result.0
+        → (slice_index_or fields.now k d).start + (slice_index_or fields.now k d).length < place }
+    ensures after { (k : ℕ) (d : FieldItem) → result.1 ≤ k → k < length fields.now
+        → place < (slice_index_or fields.now k d).start }
 {
     let to = fields.partition_point(|field| field.start <= place);
     (to.saturating_sub(2), to)

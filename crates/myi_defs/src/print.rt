@@ -19,7 +19,9 @@ use std::alloc::{AllocError, Global};
 pub fn print_defs(alloc: Global, defs: &Defs) -> Result<Vec<u8>, AllocError>
     requires { AreDefs defs.now }
     ensures bytes { IfOk result (λ bytes. bytes.items ≡ spec.empty_header defs.now.raw) }
-    ensures read { IfOk result (λ bytes. read_defs bytes.items ≡ Ok (record defs.now { raw = take (length defs.now.raw) bytes.items })) }
+    ensures read { IfOk result (λ bytes.
+        read_defs bytes.items
+        ≡ Ok (record defs.now { raw = take (length defs.now.raw) bytes.items })) }
 {
     let raw = defs.raw.as_slice();
     let front = Front::read(raw);
@@ -70,7 +72,8 @@ pub(crate) fn append_state(
     front: &Front,
     index_length: u64,
 ) -> Result<(), AllocError>
-    ensures { OnOk result (out.new.items ≡ out.old.items ++ spec.empty_state front.now index_length) }
+    ensures { OnOk result
+        (out.new.items ≡ out.old.items ++ spec.empty_state front.now index_length) }
 {
     append_zeros(out, 28)?;
     append_nulls(out, 1)?;

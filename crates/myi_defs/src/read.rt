@@ -52,7 +52,8 @@ fn has_other_magic(front: &Front) -> bool
 fn judged(alloc: Global, front: Front, header: &[u8]) -> Result<Defs, DefFault>
     requires { length header.now ≡ front.header_length }
     ensures found { IfOk result (λ d. spec.judged (outline front header.now) header.now ≡ Ok d) }
-    ensures refused { IfErr result (λ f. f ≢ Memory → spec.judged (outline front header.now) header.now ≡ Err f) }
+    ensures refused { IfErr result (λ f. f ≢ Memory
+        → spec.judged (outline front header.now) header.now ≡ Err f) }
 {
     let outline = Outline::read(alloc, front, header)?;
     match refusal(&outline) {
@@ -135,7 +136,8 @@ fn segments_of(
     requires starts { ItemsStartFrom 0 fields.now }
     requires some { list_any is_empty fields.now ≡ false }
     requires few { length fields.now ≤ 4096 }
-    ensures { IfOk result (λ segments. segments.items ≡ map (spec.segment_of fields.now) items.now) }
+    ensures { IfOk result (λ segments.
+        segments.items ≡ map (spec.segment_of fields.now) items.now) }
 {
     let mut segments = Vec::with_capacity(alloc, items.len())?;
     for item in items {

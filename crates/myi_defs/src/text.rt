@@ -3,7 +3,8 @@
 //! A `Line` is what a line says, made from its words. A `Stage` says how far a text has come, and so which
 //! line may follow. `read_lines` answers the lines of a text that is in the grammar, or the number of
 //! the first that is not.
-ghost use Rattle.std.specs.Prelude.{◌≡◌, ◌≢◌, ◌==◌, nat_le, ◌≤◌, ◌+◌, ◌⊎◌, ℕ, if◌then◌else◌, option_and_then, IfSome, IfNone, Some, None, map, IfOk, IfErr};
+ghost use Rattle.std.specs.Prelude.{◌≡◌, ◌≢◌, ◌==◌, nat_le, ◌≤◌, ◌+◌, ◌⊎◌, ℕ, if◌then◌else◌};
+ghost use Rattle.std.specs.Prelude.{option_and_then, IfSome, IfNone, Some, None, map, IfOk, IfErr};
 ghost use Rattle.std.specs.List.{list_all, slice_split};
 ghost use Rattle.myi_defs.specs.declared.text.LineFault.TheVariants as fault;
 ghost use Rattle.myi_defs.specs.Text as spec;
@@ -25,7 +26,7 @@ pub enum Line {
 
 /// The kind of the last line.
 #[derive(Clone, Copy)]
-pub enum Place {
+pub enum LineKind {
     Start,
     Rows,
     Pointer,
@@ -37,7 +38,7 @@ pub enum Place {
 /// How far a text has come: its last line, its fields and keys, and the segments of its last key.
 #[derive(Clone, Copy)]
 pub struct Stage {
-    pub place: Place,
+    pub last: LineKind,
     pub fields: u16,
     pub keys: u8,
     pub segments: u8,
@@ -125,7 +126,8 @@ fn number(least: u32, most: u32, word: &[u8]) -> Option<u32>
 
 // None where the value is above the greatest.
 fn value(most: u32, word: &[u8]) -> Option<u32>
-    ensures value { result ≡ (if nat_le (spec.value word.now) most then Some (spec.value word.now) else None) }
+    ensures value { result
+        ≡ (if nat_le (spec.value word.now) most then Some (spec.value word.now) else None) }
     ensures few { IfSome result (λ n. n ≤ most) }
 {
     let mut value = 0u64;
@@ -197,7 +199,8 @@ fn seg_line(
     null_bit: &[u8],
     null_pos: &[u8],
 ) -> Option<Line>
-    ensures { result ≡ spec.seg_line seg.now start.now length.now collation.now null_bit.now null_pos.now }
+    ensures { result
+        ≡ spec.seg_line seg.now start.now length.now collation.now null_bit.now null_pos.now }
 {
     let seg = seg_of(seg)?;
     let start = number(0, u32::MAX, start)?;
@@ -324,16 +327,16 @@ impl Stage {
         ensures { result ≡ spec.next self line }
     {
         match line {
-            Line::Rows(_) => match self.place {
-                Place::Start => Some(Stage {
-                    place: Place::Rows,
+            Line::Rows(_) => match self.last {
+                LineKind::Start => Some(Stage {
+                    last: LineKind::Rows,
                     ..self
                 }),
                 _ => None,
             },
-            Line::Pointer(_) => match self.place {
-                Place::Rows => Some(Stage {
-                    place: Place::Pointer,
+            Line::Pointer(_) => match self.last {
+                LineKind::Rows => Some(Stage {
+                    last: LineKind::Pointer,
                     ..self
                 }),
                 _ => None,
@@ -347,15 +350,15 @@ impl Stage {
     fn field(self) -> Option<Stage>
         ensures { result ≡ spec.next_field self }
     {
-        match self.place {
-            Place::Rows | Place::Pointer | Place::Fields => {}
+        match self.last {
+            LineKind::Rows | LineKind::Pointer | LineKind::Fields => {}
             _ => return None,
         }
         if self.fields >= MOST_FIELDS {
             return None;
         }
         Some(Stage {
-            place: Place::Fields,
+            last: LineKind::Fields,
             fields: self.fields + 1,
             ..self
         })
@@ -364,15 +367,15 @@ impl Stage {
     fn key(self) -> Option<Stage>
         ensures { result ≡ spec.next_key self }
     {
-        match self.place {
-            Place::Fields | Place::Segments => {}
+        match self.last {
+            LineKind::Fields | LineKind::Segments => {}
             _ => return None,
         }
         if self.keys >= MOST_KEYS {
             return None;
         }
         Some(Stage {
-            place: Place::Key,
+            last: LineKind::Key,
             keys: self.keys + 1,
             segments: 0,
             ..self
@@ -382,25 +385,25 @@ impl Stage {
     fn segment(self) -> Option<Stage>
         ensures { result ≡ spec.next_segment self }
     {
-        match self.place {
-            Place::Key | Place::Segments => {}
+        match self.last {
+            LineKind::Key | LineKind::Segments => {}
             _ => return None,
         }
         if self.segments >= MOST_SEGMENTS {
             return None;
         }
         Some(Stage {
-            place: Place::Segments,
+            last: LineKind::Segments,
             segments: self.segments + 1,
             ..self
         })
     }
 
     fn may_end(self) -> bool
-        ensures { result ≡ spec.may_end self.place }
+        ensures { result ≡ spec.may_end self.last }
     {
-        match self.place {
-            Place::Fields | Place::Segments => true,
+        match self.last {
+            LineKind::Fields | LineKind::Segments => true,
             _ => false,
         }
     }
@@ -408,9 +411,11 @@ impl Stage {
 
 /// The lines of a text that is in the grammar, or the number of the first line that is not.
 pub(crate) fn read_lines(alloc: Global, text: &[u8]) -> Result<Vec<Line>, LineFault>
-    ensures inside { IfOk result (λ v. spec.outside (Some spec.start) 0 (spec.lines text.now) ≡ None) }
+    ensures inside { IfOk result (λ v.
+        spec.outside (Some spec.start) 0 (spec.lines text.now) ≡ None) }
     ensures said { IfOk result (λ v. v.items ≡ spec.said (spec.lines text.now)) }
-    ensures outside { (n : ℕ) → result ≡ Err (fault.Line n) → spec.outside (Some spec.start) 0 (spec.lines text.now) ≡ Some n }
+    ensures outside { (n : ℕ) → result ≡ Err (fault.Line n)
+        → spec.outside (Some spec.start) 0 (spec.lines text.now) ≡ Some n }
 {
     let lines = pieces(alloc, without_end(text), b'\n')?;
     let said = followed(alloc, &lines)?;
@@ -418,13 +423,15 @@ pub(crate) fn read_lines(alloc: Global, text: &[u8]) -> Result<Vec<Line>, LineFa
 }
 
 fn followed(alloc: Global, lines: &[&[u8]]) -> Result<Vec<Line>, LineFault>
-    ensures inside { IfOk result (λ v. spec.outside (Some spec.start) 0 (map (λ l. l.now) lines.now) ≡ None) }
+    ensures inside { IfOk result (λ v.
+        spec.outside (Some spec.start) 0 (map (λ l. l.now) lines.now) ≡ None) }
     ensures said { IfOk result (λ v. v.items ≡ spec.said (map (λ l. l.now) lines.now)) }
-    ensures outside { (n : ℕ) → result ≡ Err (fault.Line n) → spec.outside (Some spec.start) 0 (map (λ l. l.now) lines.now) ≡ Some n }
+    ensures outside { (n : ℕ) → result ≡ Err (fault.Line n)
+        → spec.outside (Some spec.start) 0 (map (λ l. l.now) lines.now) ≡ Some n }
 {
     let mut said = Vec::new(alloc);
     let mut stage = Stage {
-        place: Place::Start,
+        last: LineKind::Start,
         fields: 0,
         keys: 0,
         segments: 0,
@@ -453,7 +460,8 @@ fn followed_by(
     line: &[u8],
 ) -> Result<Option<(Line, Stage)>, AllocError>
     ensures none { IfOk result (λ o. IfNone o (spec.step stage line.now ≡ None)) }
-    ensures says { IfOk result (λ o. IfSome o (λ p. spec.line_of (spec.words line.now) ≡ Some p.0)) }
+    ensures says { IfOk result (λ o.
+        IfSome o (λ p. spec.line_of (spec.words line.now) ≡ Some p.0)) }
     ensures goes { IfOk result (λ o. IfSome o (λ p. spec.step stage line.now ≡ Some p.1)) }
 {
     let words = pieces(alloc, line, b' ')?;
@@ -461,7 +469,8 @@ fn followed_by(
 }
 
 fn next_of(stage: Stage, words: &[&[u8]]) -> Option<(Line, Stage)>
-    ensures none { IfNone result (option_and_then (spec.next stage) (spec.line_of (map (λ w. w.now) words.now)) ≡ None) }
+    ensures none { IfNone result
+        (option_and_then (spec.next stage) (spec.line_of (map (λ w. w.now) words.now)) ≡ None) }
     ensures says { IfSome result (λ p. spec.line_of (map (λ w. w.now) words.now) ≡ Some p.0) }
     ensures goes { IfSome result (λ p. spec.next stage p.0 ≡ Some p.1) }
 {

@@ -2,7 +2,8 @@
 //!
 //! `text_header` prints it from the lines, section by section: the first 24 bytes, the state of a table without
 //! rows, the base section, the mark, the keys and the fields.
-ghost use Rattle.std.specs.Prelude.{◌≡◌, ◌≤◌, ◌+◌, ◌*◌, ◌/◌, ◌%◌, ◌^◌, ◌++◌, [], ◌∷◌, length, sum_by, count_by, flat_map, OnOk, IfOk};
+ghost use Rattle.std.specs.Prelude.{◌≡◌, ◌≤◌, ◌+◌, ◌*◌, ◌/◌, ◌%◌, ◌^◌, ◌++◌, ◌∷◌};
+ghost use Rattle.std.specs.Prelude.{[], length, sum_by, count_by, flat_map, OnOk, IfOk};
 ghost use Rattle.myi_base.specs.Items.{spelling};
 ghost use Rattle.myi_defs.specs.TextHeader as spec;
 
@@ -253,7 +254,11 @@ fn append_front(out: &mut Vec<u8>, front: &Front) -> Result<(), AllocError>
 }
 
 fn append_first(out: &mut Vec<u8>, front: &Front) -> Result<(), AllocError>
-    ensures { OnOk result (out.new.items ≡ out.old.items ++ spelling (4 ∷ 2 ∷ 2 ∷ 2 ∷ 2 ∷ 2 ∷ 2 ∷ 2 ∷ []) (front.now.magic ∷ front.now.options ∷ front.now.header_length ∷ front.now.state_info_length ∷ front.now.base_info_length ∷ front.now.base_pos ∷ front.now.key_parts ∷ 0 ∷ [])) }
+    ensures { OnOk result (spec.AddsNumbers (4 ∷ 2 ∷ 2 ∷ 2 ∷ 2 ∷ 2 ∷ 2 ∷ 2 ∷ [])
+        (front.now.magic ∷ front.now.options ∷ front.now.header_length
+        ∷ front.now.state_info_length ∷ front.now.base_info_length ∷ front.now.base_pos
+        ∷ front.now.key_parts ∷ 0 ∷ [])
+        out.new.items out.old.items) }
 {
     append_u32(out, front.magic)?;
     append_u16(out, front.options)?;
@@ -267,7 +272,10 @@ fn append_first(out: &mut Vec<u8>, front: &Front) -> Result<(), AllocError>
 }
 
 fn append_counts(out: &mut Vec<u8>, front: &Front) -> Result<(), AllocError>
-    ensures { OnOk result (out.new.items ≡ out.old.items ++ spelling (1 ∷ 1 ∷ 1 ∷ 1 ∷ 1 ∷ 1 ∷ []) (front.now.keys ∷ front.now.uniques ∷ 8 ∷ front.now.page_sizes ∷ front.now.fulltext_keys ∷ 0 ∷ [])) }
+    ensures { OnOk result (spec.AddsNumbers (1 ∷ 1 ∷ 1 ∷ 1 ∷ 1 ∷ 1 ∷ [])
+        (front.now.keys ∷ front.now.uniques ∷ 8 ∷ front.now.page_sizes ∷ front.now.fulltext_keys
+        ∷ 0 ∷ [])
+        out.new.items out.old.items) }
 {
     append_u8(out, front.keys)?;
     append_u8(out, front.uniques)?;
@@ -334,7 +342,8 @@ fn append_key(
     behind: &[Line],
 ) -> Result<(), AllocError>
     requires { length behind.now ≤ 65535 }
-    ensures { OnOk result (out.new.items ≡ out.old.items ++ spec.key_bytes pointer unique (spec.leading behind.now)) }
+    ensures { OnOk result
+        (out.new.items ≡ out.old.items ++ spec.key_bytes pointer unique (spec.leading behind.now)) }
 {
     let (most, count) = key_said(behind);
     let length = stored(page_length(pointer, most));
@@ -369,7 +378,10 @@ fn append_segment(out: &mut Vec<u8>, segment: &SegItem) -> Result<(), AllocError
 }
 
 fn append_type(out: &mut Vec<u8>, seg: SegType, segment: &SegItem) -> Result<(), AllocError>
-    ensures { OnOk result (out.new.items ≡ out.old.items ++ spelling (1 ∷ 1 ∷ 1 ∷ 1 ∷ 1 ∷ 1 ∷ []) (spec.seg_number seg ∷ segment.now.language % 256 ∷ segment.now.null_bit ∷ 0 ∷ segment.now.language / 256 ∷ 0 ∷ [])) }
+    ensures { OnOk result (spec.AddsNumbers (1 ∷ 1 ∷ 1 ∷ 1 ∷ 1 ∷ 1 ∷ [])
+        (spec.seg_number seg ∷ segment.now.language % 256 ∷ segment.now.null_bit ∷ 0
+        ∷ segment.now.language / 256 ∷ 0 ∷ [])
+        out.new.items out.old.items) }
 {
     append_u8(out, seg_number(seg))?;
     append_u8(out, (segment.language % 256) as u8)?;
@@ -381,7 +393,9 @@ fn append_type(out: &mut Vec<u8>, seg: SegType, segment: &SegItem) -> Result<(),
 }
 
 fn append_place(out: &mut Vec<u8>, segment: &SegItem) -> Result<(), AllocError>
-    ensures { OnOk result (out.new.items ≡ out.old.items ++ spelling (2 ∷ 2 ∷ 4 ∷ 4 ∷ []) (0 ∷ segment.now.length ∷ segment.now.start ∷ segment.now.null_pos ∷ [])) }
+    ensures { OnOk result (spec.AddsNumbers (2 ∷ 2 ∷ 4 ∷ 4 ∷ [])
+        (0 ∷ segment.now.length ∷ segment.now.start ∷ segment.now.null_pos ∷ [])
+        out.new.items out.old.items) }
 {
     append_u16(out, 0)?;
     append_u16(out, segment.length)?;
@@ -438,7 +452,8 @@ fn slot_of(lines: &[Line], row: u32) -> u32
 }
 
 fn append_places(out: &mut Vec<u8>, end: u64) -> Result<(), AllocError>
-    ensures { OnOk result (out.new.items ≡ out.old.items ++ spelling (8 ∷ 8 ∷ 8 ∷ 8 ∷ 8 ∷ []) (end ∷ 0 ∷ 0 ∷ 0 ∷ 0 ∷ [])) }
+    ensures { OnOk result (spec.AddsNumbers (8 ∷ 8 ∷ 8 ∷ 8 ∷ 8 ∷ [])
+        (end ∷ 0 ∷ 0 ∷ 0 ∷ 0 ∷ []) out.new.items out.old.items) }
 {
     append_u64(out, end)?;
     append_u64(out, 0)?;
@@ -449,7 +464,8 @@ fn append_places(out: &mut Vec<u8>, end: u64) -> Result<(), AllocError>
 }
 
 fn append_lengths(out: &mut Vec<u8>, row: u32, slot: u32) -> Result<(), AllocError>
-    ensures { OnOk result (out.new.items ≡ out.old.items ++ spelling (4 ∷ 4 ∷ 4 ∷ 4 ∷ 4 ∷ 4 ∷ []) (0 ∷ row ∷ slot ∷ 0 ∷ 0 ∷ 0 ∷ [])) }
+    ensures { OnOk result (spec.AddsNumbers (4 ∷ 4 ∷ 4 ∷ 4 ∷ 4 ∷ 4 ∷ [])
+        (0 ∷ row ∷ slot ∷ 0 ∷ 0 ∷ 0 ∷ []) out.new.items out.old.items) }
 {
     append_u32(out, 0)?;
     append_u32(out, row)?;
@@ -461,7 +477,8 @@ fn append_lengths(out: &mut Vec<u8>, row: u32, slot: u32) -> Result<(), AllocErr
 }
 
 fn append_numbers(out: &mut Vec<u8>, fields: u32, pointer: u8, keys: u8) -> Result<(), AllocError>
-    ensures { OnOk result (out.new.items ≡ out.old.items ++ spelling (4 ∷ 4 ∷ 1 ∷ 1 ∷ 1 ∷ 1 ∷ []) (fields ∷ 0 ∷ pointer ∷ 6 ∷ keys ∷ 0 ∷ [])) }
+    ensures { OnOk result (spec.AddsNumbers (4 ∷ 4 ∷ 1 ∷ 1 ∷ 1 ∷ 1 ∷ [])
+        (fields ∷ 0 ∷ pointer ∷ 6 ∷ keys ∷ 0 ∷ []) out.new.items out.old.items) }
 {
     append_u32(out, fields)?;
     append_u32(out, 0)?;
@@ -473,7 +490,8 @@ fn append_numbers(out: &mut Vec<u8>, fields: u32, pointer: u8, keys: u8) -> Resu
 }
 
 fn append_rest(out: &mut Vec<u8>, pack_bits: u16) -> Result<(), AllocError>
-    ensures { OnOk result (out.new.items ≡ out.old.items ++ spelling (2 ∷ 2 ∷ 2 ∷ 2 ∷ 2 ∷ 1 ∷ 1 ∷ 2 ∷ 4 ∷ []) (pack_bits ∷ 0 ∷ 0 ∷ 0 ∷ 0 ∷ 0 ∷ 0 ∷ 0 ∷ 0 ∷ [])) }
+    ensures { OnOk result (spec.AddsNumbers (2 ∷ 2 ∷ 2 ∷ 2 ∷ 2 ∷ 1 ∷ 1 ∷ 2 ∷ 4 ∷ [])
+        (pack_bits ∷ 0 ∷ 0 ∷ 0 ∷ 0 ∷ 0 ∷ 0 ∷ 0 ∷ 0 ∷ []) out.new.items out.old.items) }
 {
     append_u16(out, pack_bits)?;
     append_u16(out, 0)?;

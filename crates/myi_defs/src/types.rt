@@ -93,7 +93,6 @@ pub struct Segment {
 }
 
 /// A key.
-#[derive(Drop)]
 pub struct Key {
     /// Whether no two rows may have the same complete key.
     pub unique: bool,
@@ -102,8 +101,17 @@ pub struct Key {
     pub segments: Sequence<Segment>,
 }
 
+impl Drop for Key {
+    fn drop(self) {
+        let Key {
+            unique: _,
+            block_length: _,
+            segments: _,
+        } = self;
+    }
+}
+
 /// The definitions of a table.
-#[derive(Drop)]
 pub struct Defs {
     pub format: RowFormat,
     pub fields: Sequence<Field>,
@@ -118,6 +126,21 @@ pub struct Defs {
     pub slot_length: u32,
     /// The header as it was read.
     pub raw: Sequence<u8>,
+}
+
+impl Drop for Defs {
+    fn drop(self) {
+        let Defs {
+            format: _,
+            fields: _,
+            keys: _,
+            rec_ref: _,
+            key_ref: _,
+            row_length: _,
+            slot_length: _,
+            raw: _,
+        } = self;
+    }
 }
 
 /// Why definitions are refused: the first condition that holds of a header, in the order of the

@@ -5,10 +5,10 @@
 //! without the header and the unused bytes.
 ghost use Rattle.std.specs.Prelude.{◌≡◌, ℕ, ◌+◌, ◌≤◌, ◌⊎◌, List, length};
 ghost use Rattle.myi_frames.specs.Block.{header_of, block_of};
-ghost use Rattle.myi_frames.specs.Seeing.{IsPartAt, SeesBlock, SeesPlace, Sees};
+ghost use Rattle.myi_frames.specs.Seeing.{IsPartAt, SeesBlock, SeesPlace, SeesWhole, Sees};
 
 use crate::form::FrameKind;
-use crate::head::header_at;
+use crate::head::read_header;
 
 /// A block, whose row bytes are lent.
 #[derive(Clone, Copy, Debug, PartialEq, Eq)]
@@ -43,8 +43,9 @@ fn seen_at<'a>(bytes: &'a [u8], at: u64, file_len: u64) -> Seen<'a>
     requires window { (20 ≤ length bytes.now) ⊎ (file_len ≤ at + length bytes.now) }
     ensures seen { Sees result bytes.now (header_of bytes.now at file_len) }
     ensures place { SeesPlace result at file_len }
+    ensures whole { SeesWhole result (length bytes.now) }
 {
-    let Some(header) = header_at(bytes, at, file_len) else {
+    let Some(header) = read_header(bytes, at, file_len) else {
         return Seen::Nothing;
     };
     let head = header.head;
@@ -69,6 +70,7 @@ pub fn frame_at<'a>(bytes: &'a [u8], at: u64, file_len: u64) -> Seen<'a>
     ensures block { (d : List ℕ) → length d ≡ file_len → IsPartAt at bytes.now d
         → SeesBlock result (length bytes.now) (block_of d at) }
     ensures place { SeesPlace result at file_len }
+    ensures whole { SeesWhole result (length bytes.now) }
 {
     seen_at(bytes, at, file_len)
 }

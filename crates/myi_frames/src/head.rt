@@ -6,7 +6,7 @@
 ghost use Rattle.std.specs.Prelude.{◌≡◌, ℕ, ◌+◌, ◌≤◌, ◌⊎◌, List, length, IfSome};
 ghost use Rattle.std.specs.Option.{option_map};
 ghost use Rattle.myi_frames.specs.Block.{is_place, link_of, header_of, block_of, head_of, IsPlace};
-ghost use Rattle.myi_frames.specs.Seeing.{IsPartAt};
+ghost use Rattle.myi_frames.specs.Seeing.{IsPartAt, HeadsBlock};
 ghost use Rattle.myi_frames.specs.Sizes.{IsSized};
 
 use crate::form::{FrameKind, block_size, data_len, form_of};
@@ -33,10 +33,12 @@ pub struct Head {
 }
 
 /// A head, and where the row bytes stand in the block.
-#[derive(Clone, Copy)]
+#[derive(Clone, Copy, Debug, PartialEq, Eq)]
 pub struct Header {
     pub head: Head,
+    /// Where the row bytes begin, from the block's place on; that is the header's length.
     pub start: usize,
+    /// How many row bytes the block holds. A deleted block holds none.
     pub data_len: usize,
 }
 
@@ -58,7 +60,7 @@ fn link_of(width: usize, number: u64) -> Option<u64>
 
 /// The header at a place of a file of `file_len` bytes, by the file's bytes from there on.
 #[tactic(auto, unfolding(crate::specs::Block::header_of))]
-pub fn header_at(bytes: &[u8], at: u64, file_len: u64) -> Option<Header>
+pub(crate) fn read_header(bytes: &[u8], at: u64, file_len: u64) -> Option<Header>
     requires window { (20 ≤ length bytes.now) ⊎ (file_len ≤ at + length bytes.now) }
     ensures header { result ≡ header_of bytes.now at file_len }
     ensures inside { IfSome result (λ h. h.start + h.data_len ≤ h.head.size) }
@@ -95,6 +97,21 @@ pub fn header_at(bytes: &[u8], at: u64, file_len: u64) -> Option<Header>
     })
 }
 
+/// The header of the block at a place of a data file of `file_len` bytes, by the file's bytes from there
+/// on: at least 20 of them, or all up to the file's end. None where no block starts at the place. It
+/// takes no memory.
+pub fn header_at(bytes: &[u8], at: u64, file_len: u64) -> Option<Header>
+    requires window { (20 ≤ length bytes.now) ⊎ (file_len ≤ at + length bytes.now) }
+    ensures header { result ≡ header_of bytes.now at file_len }
+    ensures block { (d : List ℕ) → length d ≡ file_len → IsPartAt at bytes.now d
+        → HeadsBlock d result (block_of d at) }
+    ensures inside { IfSome result (λ h. h.start + h.data_len ≤ h.head.size) }
+    ensures place { IfSome result (λ h. (h.head.at ≡ at) × IsPlace at h.head.size file_len) }
+{
+    let header = read_header(bytes, at, file_len);
+    header
+}
+
 /// The head of the block at a place of a data file of `file_len` bytes, by the file's bytes from there
 /// on: at least 20 of them, or all up to the file's end. None where no block starts at the place. It
 /// takes no memory.
@@ -104,7 +121,7 @@ pub fn head_at(bytes: &[u8], at: u64, file_len: u64) -> Option<Head>
         → result ≡ option_map head_of (block_of d at) }
     ensures place { IfSome result (λ head. (head.at ≡ at) × IsPlace at head.size file_len) }
 {
-    let Some(header) = header_at(bytes, at, file_len) else {
+    let Some(header) = read_header(bytes, at, file_len) else {
         return None;
     };
     Some(header.head)

@@ -25,8 +25,10 @@ pub fn blocks_stand()
     ensures unaligned { (d : List ℕ) (p : ℕ) → p % 4 ≢ 0 → block_of d p ≡ None }
     ensures unknown { (d : List ℕ) (p : ℕ) → 13 < slice_index d p → block_of d p ≡ None }
 
-    ensures bounded { (d : List ℕ) (p : ℕ) (b : Block) → AreBytes d → block_of d p ≡ Some b → IsBounded b }
-    ensures bytes { (d : List ℕ) (p : ℕ) (b : Block) → AreBytes d → block_of d p ≡ Some b → AreBytes b.bytes }
+    ensures bounded { (d : List ℕ) (p : ℕ) (b : Block) → AreBytes d → block_of d p ≡ Some b
+        → IsBounded b }
+    ensures bytes { (d : List ℕ) (p : ℕ) (b : Block) → AreBytes d → block_of d p ≡ Some b
+        → AreBytes b.bytes }
     ensures sized { (d : List ℕ) (p : ℕ) (b : Block) → AreBytes d → block_of d p ≡ Some b
         → IsSized (length b.bytes) b.size }
 {}
@@ -61,9 +63,11 @@ pub fn answers_are_decided()
 /// is written into a file; where all its bytes are at hand it is what is seen. The header of a deleted
 /// block alone makes its place a deleted block.
 pub fn written_blocks_read_back()
-    ensures length { (f : FrameSpec) (content : List ℕ) (size : ℕ) → IsWritable f (length content) size
+    ensures length { (f : FrameSpec) (content : List ℕ) (size : ℕ)
+        → IsWritable f (length content) size
         → length (block_bytes f content size) ≡ size }
-    ensures bytes { (f : FrameSpec) (content : List ℕ) (size : ℕ) → IsWritable f (length content) size
+    ensures bytes { (f : FrameSpec) (content : List ℕ) (size : ℕ)
+        → IsWritable f (length content) size
         → AreBytes content → AreBytes (block_bytes f content size) }
     ensures joined { (f : FrameSpec) (content front back : List ℕ) (size : ℕ)
         → IsWritable f (length content) size → length front % 4 ≡ 0
@@ -93,10 +97,12 @@ pub fn written_blocks_read_back()
 /// What a block says, the number of its row bytes and its size determine its form: of all types that
 /// could say it the rules choose one, and the block's header is written in it.
 pub fn forms_are_chosen_once()
-    ensures chosen { (f : FrameSpec) (n size : ℕ) → IsWritable f n size → IsChosen f n size (type_of f n size) }
+    ensures chosen { (f : FrameSpec) (n size : ℕ) → IsWritable f n size
+        → IsChosen f n size (type_of f n size) }
     ensures once { (f : FrameSpec) (n size t : ℕ) → IsWritable f n size → IsChosen f n size t
         → t ≡ type_of f n size }
-    ensures header { (f : FrameSpec) (n size t : ℕ) → IsWritable f n size → (c : IsChosen f n size t)
+    ensures header { (f : FrameSpec) (n size t : ℕ) → IsWritable f n size
+        → (c : IsChosen f n size t)
         → header_bytes f n size ≡ header_as t c.form f n size }
 {}
 
@@ -109,20 +115,23 @@ pub fn least_sizes_are_least()
     ensures written { (f : FrameSpec) (n size : ℕ) → IsWritable f n size → IsSized n size }
     ensures sized { (n : ℕ) → IsSized n (least_size n) }
     ensures least { (n m size : ℕ) → n ≤ m → IsSized m size → least_size n ≤ size }
-    ensures together { (n : ℕ) (bs : List Block) → AllByRecursion (λ b. IsSized (length b.bytes) b.size) bs
+    ensures together { (n : ℕ) (bs : List Block)
+        → AllByRecursion (λ b. IsSized (length b.bytes) b.size) bs
         → 0 < n → n ≤ held_bytes bs → least_size n ≤ total_size bs }
 {}
 
 /// A start and a middle can be written with as many row bytes as their sizes have room for, and none
 /// that is found in a file of bytes holds more; a start of a row that is no longer has no less room.
 pub fn rooms_are_greatest()
-    ensures start_writable { (rec_len size : ℕ) (next : Option ℕ) → size % 4 ≡ 0 → 20 ≤ size → rec_len < 2 ^ 32
+    ensures start_writable { (rec_len size : ℕ) (next : Option ℕ) → size % 4 ≡ 0 → 20 ≤ size
+        → rec_len < 2 ^ 32
         → start_room rec_len size ≤ rec_len → start_room rec_len size < 2 ^ 24 → IsPointer next
         → IsWritable (start_spec rec_len next) (start_room rec_len size) size }
     ensures middle_writable { (size : ℕ) (next : Option ℕ) → size % 4 ≡ 0 → 20 ≤ size
         → middle_room size < 2 ^ 24 → IsPointer next
         → IsWritable (middle_spec next) (middle_room size) size }
-    ensures start { (d : List ℕ) (p : ℕ) (b : Block) (rec_len : ℕ) → AreBytes d → block_of d p ≡ Some b
+    ensures start { (d : List ℕ) (p : ℕ) (b : Block) (rec_len : ℕ) → AreBytes d
+        → block_of d p ≡ Some b
         → b.kind ≡ Start → rec_len ≤ b.rec_len → length b.bytes ≤ start_room rec_len b.size }
     ensures middle { (d : List ℕ) (p : ℕ) (b : Block) → AreBytes d → block_of d p ≡ Some b
         → b.kind ≡ Middle → length b.bytes ≤ middle_room b.size }

@@ -6,6 +6,16 @@
 //! section; a file without it is foreign. `read_state` reads the state of a marked file, `print_state`
 //! writes the header with a state and the mark, and `first_page` is the place behind it at which the
 //! first page of a tree stands.
+//!
+//! ```
+//! match read_state(alloc, &defs, &bytes) {
+//!     Ok(state) => write!(out, "{} {}", state.records, state.data_file_length)?,
+//!     Err(StateFault::Memory) => return Err(Fault::Memory),
+//!     Err(fault) => write!(out, "{fault}")?,
+//! }
+//! ```
+//!
+//! The case `state` in `crates/cases_formats/src/states.rt` runs it.
 #![tactic(auto)]
 
 mod laws;

@@ -1,5 +1,6 @@
 //! Writing a header with a state and the mark.
-ghost use Rattle.std.specs.Prelude.{◌≡◌, ◌≤◌, ◌+◌, ◌-◌, ◌++◌, true, length, take, drop, map, replicate, vec_len, All, IfOk, OnOk};
+ghost use Rattle.std.specs.Prelude.{◌≡◌, ◌≤◌, ◌+◌, ◌-◌, ◌++◌, true, length, take};
+ghost use Rattle.std.specs.Prelude.{drop, map, replicate, vec_len, All, IfOk, OnOk};
 ghost use Rattle.myi_base.specs.Numbers.{pointer_number};
 ghost use Rattle.myi_base.specs.Items.{spelling, Fit};
 ghost use Rattle.myi_defs.specs.Sound.{IsSound};
@@ -59,7 +60,8 @@ fn append_rest(out: &mut Vec<u8>, bytes: &[u8], at: usize) -> Result<(), AllocEr
 // Adds zeros up to a length.
 fn fill(out: &mut Vec<u8>, length: usize) -> Result<(), AllocError>
     requires { vec_len out.old ≤ length }
-    ensures { OnOk result (out.new.items ≡ out.old.items ++ replicate (length - vec_len out.old) 0) }
+    ensures { OnOk result
+        (out.new.items ≡ out.old.items ++ replicate (length - vec_len out.old) 0) }
 {
     out.resize(length, 0)?;
     Ok(())
@@ -69,7 +71,8 @@ fn fill(out: &mut Vec<u8>, length: usize) -> Result<(), AllocError>
 fn append_state(out: &mut Vec<u8>, layout: Layout, state: &State) -> Result<(), AllocError>
     requires rest { 32 + spec.middle_length layout ≤ length state.now.rest }
     requires middle { layout.key_del ≤ layout.key_map }
-    ensures bytes { OnOk result (out.new.items ≡ out.old.items ++ spec.state_bytes layout state.now) }
+    ensures bytes { OnOk result
+        (out.new.items ≡ out.old.items ++ spec.state_bytes layout state.now) }
     ensures fits { OnOk result (spec.FitsWidths state.now) }
 {
     let rest = state.rest.as_slice();
@@ -86,7 +89,8 @@ fn append_state(out: &mut Vec<u8>, layout: Layout, state: &State) -> Result<(), 
 }
 
 fn append_counts(out: &mut Vec<u8>, state: &State) -> Result<(), AllocError>
-    ensures bytes { OnOk result (out.new.items ≡ out.old.items ++ spelling spec.count_widths (spec.counts state.now)) }
+    ensures bytes { OnOk result
+        (out.new.items ≡ out.old.items ++ spelling spec.count_widths (spec.counts state.now)) }
     ensures fits { OnOk result (Fit spec.count_widths (spec.counts state.now)) }
 {
     append_u16(out, state.open_count)?;
@@ -100,7 +104,10 @@ fn append_counts(out: &mut Vec<u8>, state: &State) -> Result<(), AllocError>
 }
 
 fn append_lengths(out: &mut Vec<u8>, state: &State) -> Result<(), AllocError>
-    ensures bytes { OnOk result (out.new.items ≡ out.old.items ++ spelling (drop 6 spec.count_widths) (drop 6 (spec.counts state.now))) }
+    ensures bytes { OnOk result
+        (out.new.items
+        ≡ out.old.items
+        ++ spelling (drop 6 spec.count_widths) (drop 6 (spec.counts state.now))) }
     ensures fits { OnOk result (Fit (drop 6 spec.count_widths) (drop 6 (spec.counts state.now))) }
 {
     append_u64(out, pointer_number(state.dellink))?;

@@ -63,7 +63,8 @@ fn rest(alloc: Global, layout: Layout, bytes: &[u8]) -> Result<Vec<u8>, AllocErr
     requires inside { layout.base ≤ length bytes.now }
     requires room { 124 ≤ length bytes.now }
     ensures value { IfOk result (λ rest. rest.items ≡ spec.rest_at layout bytes.now) }
-    ensures length { IfOk result (λ rest. length rest.items ≡ 32 + (layout.key_map - layout.key_del) + (layout.base - (layout.recover_time + 8))) }
+    ensures length { IfOk result (λ rest. length rest.items
+        ≡ 32 + (layout.key_map - layout.key_del) + (layout.base - (layout.recover_time + 8))) }
 {
     let mut rest = Vec::new(alloc);
     append_part(&mut rest, bytes, 100, 24)?;

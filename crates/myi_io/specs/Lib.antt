@@ -13,7 +13,7 @@ pub mod MemSink
 pub mod Pending
 pub mod Gathering
 -- what two readers tell together
-pub mod Opened
+pub mod TwoReaders
 -- how a layer above tells of faults
 pub mod Faults
 -- what serves private contracts and the laws

@@ -1,5 +1,9 @@
--- The counts of real files and of standard output.
+-- The counts of real files and of standard output, and what a failure of the system is told as.
 use Rattle.std.specs.Prelude.{ℕ, vec_len}
+use Rattle.std.specs.declared.io.ErrorKind.{ErrorKind}
+use Rattle.std.specs.declared.io.ErrorKind.TheVariants.{OutOfMemory}
+use Rattle.myi_io.specs.declared.files.FileErr.{FileErr}
+use Rattle.myi_io.specs.declared.files.FileErr.TheVariants.{Failed, Memory}
 use Rattle.myi_io.specs.declared.real.RealFiles.{RealFiles}
 use Rattle.myi_io.specs.declared.real.RealSink.{RealSink}
 use Rattle.myi_io.specs.declared.real.RealReader.{RealReader}
@@ -20,3 +24,8 @@ opened_count s = vec_len s.opened
 -- how often a read of an open file has failed
 abbrev pub real_reader_faults : RealReader → ℕ
 real_reader_faults s = s.faults
+
+-- want of memory is told as such, and any other failure as one
+abbrev pub told_as : ErrorKind → FileErr
+told_as OutOfMemory = Memory
+told_as _ = Failed

@@ -3,9 +3,12 @@
 //! A caller that knows what the files hold learns what they hold after each call, also after one that
 //! failed. A caller that does not, as over real files, learns only that no call gave more bytes than
 //! it was asked for, and why a call failed.
-ghost use Rattle.std.specs.Prelude.{◌≡◌, ◌≤◌, ◌+◌, ◌-◌, ◌^◌, ℕ, Bool, Option, length, min, OnOk, OnErr, IfOk, IfErr, IsTrue};
+ghost use Rattle.std.specs.Prelude.{◌≡◌, ◌≤◌, ◌+◌, ◌-◌, ◌^◌};
+ghost use Rattle.std.specs.Prelude.{ℕ, Bool, Option, length, min, OnOk, OnErr, IfOk, IfErr, IsTrue};
 ghost use Rattle.myi_io.specs.declared.files.FileErr.TheVariants.{Failed, Memory};
-ghost use Rattle.myi_base.specs.Holding.{Holding, HoldsBytes, IfTold, Told, Gives, Fills, Shows, Writes, WritesPart, Cuts, CutsOrKeeps, Keeps, Renames, Removes, Measures, blocks};
+ghost use Rattle.myi_base.specs.Holding.{Holding, HoldsBytes, IfTold, Told, Gives, Fills};
+ghost use Rattle.myi_base.specs.Holding.{Shows, Writes, WritesPart, Cuts, CutsOrKeeps};
+ghost use Rattle.myi_base.specs.Holding.{Keeps, Renames, Removes, Measures, blocks};
 ghost use Rattle.myi_base.specs.Causes.{HasCause};
 
 use crate::reader::FileReader;
@@ -58,7 +61,8 @@ pub trait Files {
 
     /// The length of a file, and None where no file has the name.
     fn length(&mut self, name: &str) -> Result<Option<u64>, FileErr>
-        ensures told { IfOk result (λ size. IfTold (holds self.old) (λ m. Measures (m name.now) size)) }
+        ensures told { IfOk result (λ size.
+            IfTold (holds self.old) (λ m. Measures (m name.now) size)) }
         ensures holds { holds self.new ≡ holds self.old }
         ensures reads { reads self.new ≡ reads self.old }
         ensures cause { HasCause Failed (faults self.old) (faults self.new) result };
@@ -68,8 +72,10 @@ pub trait Files {
     /// anything. A name that is not there gives no bytes. Want of memory counts as a failure here.
     fn read_at(&mut self, name: &str, at: u64, into: &mut [u8]) -> Result<usize, FileErr>
         ensures bound { IfOk result (λ count. count ≤ length into.new) }
-        ensures told { IfOk result (λ count. IfTold (holds self.old) (Gives name.now at into.old count)) }
-        ensures bytes { OnOk result (IfTold (holds self.old) (Fills name.now at into.old into.new)) }
+        ensures told { IfOk result (λ count.
+            IfTold (holds self.old) (Gives name.now at into.old count)) }
+        ensures bytes { OnOk result
+            (IfTold (holds self.old) (Fills name.now at into.old into.new)) }
         ensures failed { IfErr result (λ e. e ≡ Failed) }
         ensures holds { holds self.new ≡ holds self.old }
         ensures reads { reads self.old ≤ reads self.new }
@@ -80,8 +86,10 @@ pub trait Files {
     /// position holds zeros. After a failure a prefix of the range may be changed, and nothing else.
     fn write_at(&mut self, name: &str, at: u64, bytes: &[u8]) -> Result<(), FileErr>
         requires { IsTrue writable }
-        ensures ok { OnOk result (Told (holds self.old) (holds self.new) (Writes name.now at bytes.now)) }
-        ensures err { OnErr result (Told (holds self.old) (holds self.new) (WritesPart name.now at bytes.now)) }
+        ensures ok { OnOk result
+            (Told (holds self.old) (holds self.new) (Writes name.now at bytes.now)) }
+        ensures err { OnErr result
+            (Told (holds self.old) (holds self.new) (WritesPart name.now at bytes.now)) }
         ensures reads { reads self.new ≡ reads self.old }
         ensures cause { HasCause Failed (faults self.old) (faults self.new) result };
 
@@ -90,7 +98,8 @@ pub trait Files {
     fn cut(&mut self, name: &str, length: u64) -> Result<(), FileErr>
         requires { IsTrue writable }
         ensures ok { OnOk result (Told (holds self.old) (holds self.new) (Cuts name.now length)) }
-        ensures err { OnErr result (Told (holds self.old) (holds self.new) (CutsOrKeeps name.now length)) }
+        ensures err { OnErr result
+            (Told (holds self.old) (holds self.new) (CutsOrKeeps name.now length)) }
         ensures reads { reads self.new ≡ reads self.old }
         ensures cause { HasCause Failed (faults self.old) (faults self.new) result };
 
@@ -98,7 +107,8 @@ pub trait Files {
     /// name nothing changes. After a failure both names are as before.
     fn rename(&mut self, from: &str, to: &str) -> Result<(), FileErr>
         requires { IsTrue writable }
-        ensures ok { OnOk result (Told (holds self.old) (holds self.new) (Renames from.now to.now)) }
+        ensures ok { OnOk result
+            (Told (holds self.old) (holds self.new) (Renames from.now to.now)) }
         ensures err { OnErr result (Told (holds self.old) (holds self.new) Keeps) }
         ensures reads { reads self.new ≡ reads self.old }
         ensures cause { HasCause Failed (faults self.old) (faults self.new) result };
@@ -114,10 +124,12 @@ pub trait Files {
         ensures cause { HasCause Failed (faults self.old) (faults self.new) result };
 
     /// An object that reads the bytes that the file has now, of which there are none where no file has
-    /// the name.
+    /// the name. None of its reads has failed yet.
     fn reader(&mut self, name: &str) -> Result<Self::Reader, FileErr>
         requires { IsTrue writable }
-        ensures told { IfOk result (λ r. IfTold (holds self.old) (Shows name.now (Self.Reader.holds r))) }
+        ensures told { IfOk result (λ r.
+            IfTold (holds self.old) (Shows name.now (Self.Reader.holds r))) }
+        ensures fresh { IfOk result (λ r. Self.Reader.faults r ≡ 0) }
         ensures holds { holds self.new ≡ holds self.old }
         ensures reads { reads self.new ≡ reads self.old }
         ensures cause { HasCause Failed (faults self.old) (faults self.new) result };

@@ -15,7 +15,8 @@ pub fn read_front<F: Files>(
     name: &str,
     length: u64,
 ) -> Result<Vec<u8>, FileErr>
-    ensures told { IfOk result (λ front. IfTold (F.holds files.old) (IsFront name.now length front.items)) }
+    ensures told { IfOk result (λ front.
+        IfTold (F.holds files.old) (IsFront name.now length front.items)) }
     ensures short { IfOk result (λ bytes. vec_len bytes ≤ length) }
     ensures holds { F.holds files.new ≡ F.holds files.old }
     ensures reads { F.reads files.old ≤ F.reads files.new }
@@ -32,7 +33,8 @@ pub fn read_front<F: Files>(
 // Fills the buffer from the file's start.
 fn fill<F: Files>(files: &mut F, name: &str, into: &mut [u8]) -> Result<usize, FileErr>
     ensures bound { IfOk result (λ count. count ≤ length into.new) }
-    ensures told { IfOk result (λ n. IfTold (F.holds files.old) (IsFront name.now (length into.old) (take n into.new))) }
+    ensures told { IfOk result (λ n.
+        IfTold (F.holds files.old) (IsFront name.now (length into.old) (take n into.new))) }
     ensures holds { F.holds files.new ≡ F.holds files.old }
     ensures reads { F.reads files.old ≤ F.reads files.new }
     ensures few { F.reads files.new ≤ F.reads files.old + blocks (length into.old) }

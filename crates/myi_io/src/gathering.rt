@@ -4,7 +4,8 @@
 //! `Files` over any files that may be changed. The gathered writes are done before a write elsewhere,
 //! before their file is read, measured or handed to a reader, before any file is cut or renamed, and
 //! by `flush`. Where doing them fails they stay gathered. A file that is removed takes its own along.
-ghost use Rattle.std.specs.Prelude.{◌≡◌, ◌≢◌, ◌+◌, [], true, length, IsTrue, OnOk, OnErr, string_bytes};
+ghost use Rattle.std.specs.Prelude.{◌≡◌, ◌≢◌, ◌+◌};
+ghost use Rattle.std.specs.Prelude.{[], true, length, IsTrue, OnOk, OnErr, string_bytes};
 ghost use Rattle.myi_base.specs.Holding.{Keeps, Removes, Writes};
 ghost use Rattle.myi_base.specs.Causes.{HasCause};
 ghost use Rattle.myi_io.specs.declared.files.FileErr.TheVariants.{Failed};
@@ -24,7 +25,8 @@ pub trait Writable: Files {
     /// Does the writes. Where that fails they stay.
     fn write_out(&mut self, pending: &mut Pending) -> Result<(), FileErr>
         requires { IsTrue Self.writable }
-        ensures shows { SameShown pending.old (Self.holds self.old) pending.new (Self.holds self.new) }
+        ensures shows { SameShown pending.old (Self.holds self.old)
+            pending.new (Self.holds self.new) }
         ensures done { OnOk result (pending.new.bytes.items ≡ []) }
         ensures reads { Self.reads self.new ≡ Self.reads self.old }
         ensures cause { HasCause Failed (Self.faults self.old) (Self.faults self.new) result }
@@ -40,7 +42,8 @@ pub trait Writable: Files {
     /// Does the writes to one file.
     fn write_out_file(&mut self, pending: &mut Pending, name: &str) -> Result<(), FileErr>
         requires { IsTrue Self.writable }
-        ensures shows { SameShown pending.old (Self.holds self.old) pending.new (Self.holds self.new) }
+        ensures shows { SameShown pending.old (Self.holds self.old)
+            pending.new (Self.holds self.new) }
         ensures apart { OnOk result (HasNone pending.new name.now) }
         ensures reads { Self.reads self.new ≡ Self.reads self.old }
         ensures cause { HasCause Failed (Self.faults self.old) (Self.faults self.new) result }
@@ -59,7 +62,8 @@ pub trait Writable: Files {
         at: u64,
     ) -> Result<(), FileErr>
         requires { IsTrue Self.writable }
-        ensures shows { SameShown pending.old (Self.holds self.old) pending.new (Self.holds self.new) }
+        ensures shows { SameShown pending.old (Self.holds self.old)
+            pending.new (Self.holds self.new) }
         ensures next { OnOk result (IsNext pending.new name.now at) }
         ensures reads { Self.reads self.new ≡ Self.reads self.old }
         ensures cause { HasCause Failed (Self.faults self.old) (Self.faults self.new) result }
@@ -133,8 +137,10 @@ impl<F: Writable + Drop> Gathering<F> {
 
     /// Does the gathered writes. A program calls it before it ends. Where it fails they stay gathered.
     pub fn flush(&mut self) -> Result<(), FileErr>
-        ensures holds { ⟦<Gathering<F> as Files>⟧.holds self.new ≡ ⟦<Gathering<F> as Files>⟧.holds self.old }
-        ensures done { OnOk result (F.holds self.new.files ≡ ⟦<Gathering<F> as Files>⟧.holds self.new) }
+        ensures holds { ⟦<Gathering<F> as Files>⟧.holds self.new
+            ≡ ⟦<Gathering<F> as Files>⟧.holds self.old }
+        ensures done { OnOk result
+            (F.holds self.new.files ≡ ⟦<Gathering<F> as Files>⟧.holds self.new) }
         ensures reads { F.reads self.new.files ≡ F.reads self.old.files }
         ensures cause { HasCause Failed (⟦<Gathering<F> as Files>⟧.faults self.old)
             (⟦<Gathering<F> as Files>⟧.faults self.new) result }
@@ -219,5 +225,7 @@ impl<F: Writable + Drop> Files for Gathering<F> {
         self.files.fault_count().saturating_add(self.faults)
     }
 
-    ghost told_bytes = { λ s. shown_bytes (pending_done s.pending) (F.holds s.files) (pending_bytes s.pending) (F.told_bytes s.files) };
+    ghost told_bytes = { λ s.
+        shown_bytes (pending_done s.pending) (F.holds s.files)
+        (pending_bytes s.pending) (F.told_bytes s.files) };
 }

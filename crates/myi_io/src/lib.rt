@@ -7,6 +7,18 @@
 //! `MemSink` tell what they hold and fail at the calls that a list names; `RealFiles` and `RealSink`
 //! stand for the file system and standard output, and tell nothing. `Gathering` makes large writes of
 //! small ones over any files. `be` and `le` are the number readers of the crate below.
+//!
+//! ```
+//! let mut gathering = Gathering::new(alloc, files);
+//! let mut into = [b'-'; 4];
+//! assert_eq!(rt; gathering.write_at("a", 6, b"g"), Ok(()));
+//! assert_eq!(rt; gathering.write_at("a", 7, b"h"), Ok(()));
+//! assert_eq!(rt; gathering.length("a"), Ok(Some(8)));
+//! assert_eq!(rt; gathering.read_at("a", 4, &mut into), Ok(4));
+//! assert_eq!(rt; into, *b"efgh");
+//! ```
+//!
+//! `crates/myi_io_tests/src/memory_files.rt` runs it, over `MemFiles` in which `a` holds `abcdef`.
 #![tactic(auto)]
 
 mod failures;
@@ -15,9 +27,9 @@ mod front;
 mod gathering;
 mod memory;
 mod memory_reader;
-mod opened;
 mod pending;
 mod reader;
+mod reader_files;
 mod real;
 mod replace;
 mod sink;
@@ -28,8 +40,8 @@ pub use gathering::{Gathering, Writable};
 pub use memory::MemFiles;
 pub use memory_reader::MemReader;
 pub use myi_base::{be, le};
-pub use opened::{Opened, ReaderFiles};
 pub use pending::Pending;
 pub use reader::FileReader;
+pub use reader_files::{Opened, ReaderFiles};
 pub use real::{RealFiles, RealReader, RealSink};
 pub use sink::{MemSink, Sink, SinkErr};

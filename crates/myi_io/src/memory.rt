@@ -3,9 +3,11 @@
 //! The files are a map from names to bytes. Each call counts itself, fails where its number is in the
 //! list, and else does its work on the map; what the map holds is what the files tell. A reader has a
 //! copy of the bytes of one file.
-ghost use Rattle.std.specs.Prelude.{◌≡◌, ◌+◌, ◌-◌, ◌≤◌, ℕ, List, ◌++◌, length, take, drop, replicate, vec_len, OnOk, OnErr, IfOk, IfErr, Some};
+ghost use Rattle.std.specs.Prelude.{◌≡◌, ◌+◌, ◌-◌, ◌≤◌, ℕ, List, ◌++◌, length, take, drop};
+ghost use Rattle.std.specs.Prelude.{replicate, vec_len, OnOk, OnErr, IfOk, IfErr, Some};
 ghost use Rattle.std.specs.Option.{option_map};
-ghost use Rattle.myi_base.specs.Holding.{HoldsBytes, bytes_of, resized, overwritten, Sets, Writes, Cuts, Removes, Renames};
+ghost use Rattle.myi_base.specs.Holding.{HoldsBytes, bytes_of, resized, overwritten};
+ghost use Rattle.myi_base.specs.Holding.{Sets, Writes, Cuts, Removes, Renames};
 ghost use Rattle.myi_io.specs.Stored.{held, given};
 
 use crate::failures::Failures;
@@ -44,7 +46,8 @@ fn resize(bytes: &mut Vec<u8>, length: u64) -> Result<(), FileErr>
 
 // Makes the bytes at least that long, with zeros added.
 fn grow(bytes: &mut Vec<u8>, length: usize) -> Result<(), AllocError>
-    ensures ok { OnOk result (bytes.new.items ≡ bytes.old.items ++ replicate (length - vec_len bytes.old) 0) }
+    ensures ok { OnOk result
+        (bytes.new.items ≡ bytes.old.items ++ replicate (length - vec_len bytes.old) 0) }
     ensures err { OnErr result (bytes.new.items ≡ bytes.old.items) }
 {
     if bytes.len() < length {
@@ -149,7 +152,6 @@ fn move_to(alloc: Global, files: &mut Stored, from: &str, to: &str) -> Result<()
 
 /// Files in memory, which fail at the calls that a list names. A call on a name that is not there is
 /// no failure. A file that would end past 2^63 - 1 is want of memory.
-#[derive(Drop)]
 pub struct MemFiles {
     alloc: Global,
     files: Stored,
@@ -157,6 +159,18 @@ pub struct MemFiles {
     readers_fail: Vec<u64>,
     reads: u64,
     ghost bytes: { HoldsBytes (held files) },
+}
+
+impl Drop for MemFiles {
+    fn drop(self) {
+        let MemFiles {
+            alloc: _,
+            files: _,
+            failures: _,
+            readers_fail: _,
+            reads: _,
+        } = self;
+    }
 }
 
 impl MemFiles {
@@ -213,14 +227,18 @@ impl MemFiles {
 impl Files for MemFiles {
     type Reader = MemReader;
 
-    ghost use Rattle.std.specs.Prelude.{true, ◌≡◌, ◌≤◌, ◌+◌, ◌-◌, ◌^◌, length, min, OnOk, OnErr, IfOk, IfErr, Some};
-    ghost use Rattle.myi_base.specs.Holding.{Gives, Fills, Shows, Writes, WritesPart, Cuts, CutsOrKeeps, Renames, Removes, Keeps, Measures, blocks};
+    ghost use Rattle.std.specs.Prelude.{◌≡◌, ◌≤◌, ◌+◌, ◌-◌, ◌^◌};
+    ghost use Rattle.std.specs.Prelude.{true, length, min, OnOk, OnErr, IfOk, IfErr, Some};
+    ghost use Rattle.myi_base.specs.Holding.{Gives, Fills, Shows, Writes};
+    ghost use Rattle.myi_base.specs.Holding.{WritesPart, Cuts, CutsOrKeeps, Renames};
+    ghost use Rattle.myi_base.specs.Holding.{Removes, Keeps, Measures, blocks};
     ghost use Rattle.myi_base.specs.Causes.{HasCause};
     ghost use Rattle.myi_io.specs.declared.files.FileErr.TheVariants.{Failed};
     ghost use Rattle.myi_io.specs.Stored.{held};
     ghost use Rattle.myi_io.specs.Told.{same_told};
     ghost use Rattle.myi_io.specs.Failures.{IsCall, raised, fresh};
-    ghost use Rattle.myi_io.specs.MemFiles.{files_faults, files_reads, files_failing, readers_fail, MemTold, IfMemTold, MemSame};
+    ghost use Rattle.myi_io.specs.MemFiles.{files_faults, files_reads, files_failing};
+    ghost use Rattle.myi_io.specs.MemFiles.{readers_fail, MemTold, IfMemTold, MemSame};
     ghost use Rattle.myi_io.specs.MemReader.{reader_bytes, reader_failing, reader_reads};
 
     ghost holds = { λ s. Some (held s.files) };
@@ -247,7 +265,8 @@ impl Files for MemFiles {
 
     fn read_at(&mut self, name: &str, at: u64, into: &mut [u8]) -> Result<usize, FileErr>
         ensures bound { IfOk result (λ count. count ≤ length into.new) }
-        ensures told { IfOk result (λ count. IfMemTold self.old (Gives name.now at into.old count)) }
+        ensures told { IfOk result (λ count.
+            IfMemTold self.old (Gives name.now at into.old count)) }
         ensures bytes { OnOk result (IfMemTold self.old (Fills name.now at into.old into.new)) }
         ensures failed { IfErr result (λ e. e ≡ Failed) }
         ensures holds { MemSame self.old self.new }
@@ -328,7 +347,8 @@ impl Files for MemFiles {
     }
 
     fn reader(&mut self, name: &str) -> Result<MemReader, FileErr>
-        ensures told { IfOk result (λ r. IfMemTold self.old (Shows name.now (Some (reader_bytes r)))) }
+        ensures told { IfOk result (λ r.
+            IfMemTold self.old (Shows name.now (Some (reader_bytes r)))) }
         ensures holds { MemSame self.old self.new }
         ensures reads { files_reads self.new ≡ files_reads self.old }
         ensures cause { HasCause Failed (files_faults self.old) (files_faults self.new) result }

@@ -23,12 +23,21 @@ pub(crate) fn copy_from(bytes: &[u8], at: u64, into: &mut [u8]) -> usize
 
 /// The bytes that a file in memory had when the reader was made. It fails at the calls that
 /// `MemFiles::fail_readers` named.
-#[derive(Drop)]
 pub struct MemReader {
     bytes: Vec<u8>,
     failures: Failures,
     reads: u64,
     ghost whole: { AreBytes bytes.items },
+}
+
+impl Drop for MemReader {
+    fn drop(self) {
+        let MemReader {
+            bytes: _,
+            failures: _,
+            reads: _,
+        } = self;
+    }
 }
 
 impl MemReader {
@@ -58,7 +67,8 @@ impl FileReader for MemReader {
     ghost use Rattle.myi_io.specs.declared.files.FileErr.TheVariants.{Failed};
     ghost use Rattle.myi_io.specs.Told.{same_bytes};
     ghost use Rattle.myi_io.specs.Failures.{IsCall, raised};
-    ghost use Rattle.myi_io.specs.MemReader.{reader_bytes, reader_faults, reader_reads, reader_failing, IfReaderTold};
+    ghost use Rattle.myi_io.specs.MemReader.{reader_bytes, reader_faults, reader_reads};
+    ghost use Rattle.myi_io.specs.MemReader.{reader_failing, IfReaderTold};
 
     ghost holds = { λ s. Some s.bytes.items };
 
@@ -68,7 +78,8 @@ impl FileReader for MemReader {
 
     fn read_at(&mut self, at: u64, into: &mut [u8]) -> Result<usize, FileErr>
         ensures bound { IfOk result (λ count. count ≤ length into.new) }
-        ensures told { IfOk result (λ count. IfReaderTold self.old (λ x. count ≡ read_count at into.old x)) }
+        ensures told { IfOk result (λ count.
+            IfReaderTold self.old (λ x. count ≡ read_count at into.old x)) }
         ensures bytes { OnOk result (IfReaderTold self.old (λ x. into.new ≡ filled at into.old x)) }
         ensures failed { IfErr result (λ e. e ≡ Failed) }
         ensures holds { Some (reader_bytes self.new) ≡ Some (reader_bytes self.old) }

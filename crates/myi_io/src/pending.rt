@@ -1,5 +1,6 @@
 //! `Pending`: bytes for one file that are not written yet.
-ghost use Rattle.std.specs.Prelude.{◌≡◌, ◌+◌, ◌++◌, ◌<◌, [], length, IsTrue, OnOk, OnErr, string_bytes};
+ghost use Rattle.std.specs.Prelude.{◌≡◌, ◌+◌, ◌++◌, ◌<◌};
+ghost use Rattle.std.specs.Prelude.{[], length, IsTrue, OnOk, OnErr, string_bytes};
 ghost use Rattle.myi_base.specs.Numbers.{AreBytes};
 
 use myi_base::slices_are_bytes;
@@ -9,12 +10,21 @@ use std::alloc::{AllocError, Global};
 const GATHERED: usize = 1 << 20;
 
 /// Bytes for one file from a place on. Where there are none, nothing is to be written.
-#[derive(Drop)]
 pub struct Pending {
     pub(crate) name: String,
     pub(crate) at: u64,
     pub(crate) bytes: Vec<u8>,
     ghost are_bytes: { AreBytes bytes.items },
+}
+
+impl Drop for Pending {
+    fn drop(self) {
+        let Pending {
+            name: _,
+            at: _,
+            bytes: _,
+        } = self;
+    }
 }
 
 impl Pending {

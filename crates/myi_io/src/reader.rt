@@ -1,5 +1,6 @@
 //! `FileReader`: the bytes of one file, read by another thread.
-ghost use Rattle.std.specs.Prelude.{◌≡◌, ◌≤◌, ◌+◌, ◌-◌, ◌^◌, ℕ, List, Option, length, drop, min, OnOk, IfOk, IfErr, Some};
+ghost use Rattle.std.specs.Prelude.{◌≡◌, ◌≤◌, ◌+◌, ◌-◌, ◌^◌};
+ghost use Rattle.std.specs.Prelude.{ℕ, List, Option, length, drop, min, OnOk, IfOk, IfErr, Some};
 ghost use Rattle.myi_io.specs.declared.files.FileErr.TheVariants.{Failed};
 ghost use Rattle.myi_base.specs.Holding.{filled, read_count, blocks, IfTold};
 ghost use Rattle.myi_base.specs.Numbers.{AreBytes};
@@ -23,8 +24,10 @@ pub trait FileReader: Send + Drop {
     /// anything. Want of memory counts as a failure here.
     fn read_at(&mut self, at: u64, into: &mut [u8]) -> Result<usize, FileErr>
         ensures bound { IfOk result (λ count. count ≤ length into.new) }
-        ensures told { IfOk result (λ count. IfTold (holds self.old) (λ x. count ≡ read_count at into.old x)) }
-        ensures bytes { OnOk result (IfTold (holds self.old) (λ x. into.new ≡ filled at into.old x)) }
+        ensures told { IfOk result (λ count.
+            IfTold (holds self.old) (λ x. count ≡ read_count at into.old x)) }
+        ensures bytes { OnOk result
+            (IfTold (holds self.old) (λ x. into.new ≡ filled at into.old x)) }
         ensures failed { IfErr result (λ e. e ≡ Failed) }
         ensures holds { holds self.new ≡ holds self.old }
         ensures reads { reads self.old ≤ reads self.new }

@@ -29,16 +29,26 @@ pub trait Sink {
 
     /// Appends all bytes. After a failure a prefix of them was appended.
     fn write(&mut self, bytes: &[u8]) -> Result<(), SinkErr>
-        ensures ok { OnOk result (IfTold (written self.old) (Appends bytes.now (written self.new))) }
-        ensures err { OnErr result (IfTold (written self.old) (AppendsPart bytes.now (written self.new))) }
+        ensures ok { OnOk result
+            (IfTold (written self.old) (Appends bytes.now (written self.new))) }
+        ensures err { OnErr result
+            (IfTold (written self.old) (AppendsPart bytes.now (written self.new))) }
         ensures cause { HasCause Failed (faults self.old) (faults self.new) result };
 }
 
 /// A sink in memory, which fails at the writes that a list names.
-#[derive(Drop)]
 pub struct MemSink {
     written: Vec<u8>,
     failures: Failures,
+}
+
+impl Drop for MemSink {
+    fn drop(self) {
+        let MemSink {
+            written: _,
+            failures: _,
+        } = self;
+    }
 }
 
 impl MemSink {
@@ -77,8 +87,10 @@ impl Sink for MemSink {
     ghost faults = { λ s. s.failures.faults };
 
     fn write(&mut self, bytes: &[u8]) -> Result<(), SinkErr>
-        ensures ok { OnOk result (IfSinkTold self.old (Appends bytes.now (Some (sink_bytes self.new)))) }
-        ensures err { OnErr result (IfSinkTold self.old (AppendsPart bytes.now (Some (sink_bytes self.new)))) }
+        ensures ok { OnOk result
+            (IfSinkTold self.old (Appends bytes.now (Some (sink_bytes self.new)))) }
+        ensures err { OnErr result
+            (IfSinkTold self.old (AppendsPart bytes.now (Some (sink_bytes self.new)))) }
         ensures cause { HasCause Failed (sink_faults self.old) (sink_faults self.new) result }
         ensures exact { IsCall Failed (sink_failing self.old) result (sink_failing self.new) }
     {

@@ -10,30 +10,26 @@ use Rattle.myi_base.specs.Ranges.{Range, are_apart}
 use Rattle.myi_base.specs.Holding.{Holding, bytes_of, overwritten}
 use Rattle.myi_keycache.specs.Kept.{Page, range_of, is_page, kept, is_unwritten, AllWritten}
 use Rattle.myi_keycache.specs.Lent.{bytes_at, meets_unwritten, lent, flushed}
-use Rattle.myi_keycache.specs.Caching.{Caching, lends, contents, IsClean, ArePlaced, IsCurrent, Stays, Puts}
+use Rattle.myi_keycache.specs.Order.{Pairs}
+use Rattle.myi_keycache.specs.Caching.{Caching, pages_of, lends, contents, IsClean, ArePlaced, IsCurrent, Stays, Puts}
 use Rattle.myi_keycache.proofs.RangeLemmas.{bytes_long, written_read, apart_read, apart_flip, end_written}
 use Rattle.myi_keycache.proofs.KeptLemmas.{kept_page, kept_long, kept_first, kept_later, kept_none, first_written, others_written}
 
--- R holds of the first and each later one, and of each of these and each later one
-Pairs : (Page → Page → Type 0) → List Page → Type 0
-Pairs R [] = Unit {0}
-Pairs R (p ∷ ps) = AllByRecursion (R p) ps × Pairs R ps
-
-pairs_from : (R : Page → Page → Type 0) (ps : List Page) → AllPairs R ps → Pairs R ps
+pub pairs_from : (R : Page → Page → Type 0) (ps : List Page) → AllPairs R ps → Pairs R ps
 unfolding Pairs
 pairs_from R [] all = tt
 pairs_from R (p ∷ ps) all = (recursion_from_All (R p) ps (λ k d lt. all 0 (suc k) d (omega arith) (omega arith)), pairs_from R ps (λ i j d lt below. all (suc i) (suc j) d (omega arith) (omega arith)))
 
-flushed_unwritten : (page : Page) (pages : List Page) (file : List ℕ) → page.unwritten ≡ true → flushed (page ∷ pages) file ≡ overwritten page.at page.bytes (flushed pages file)
+pub flushed_unwritten : (page : Page) (pages : List Page) (file : List ℕ) → page.unwritten ≡ true → flushed (page ∷ pages) file ≡ overwritten page.at page.bytes (flushed pages file)
 unfolding flushed
 flushed_unwritten page pages file u = rw u refl
 
-flushed_written : (page : Page) (pages : List Page) (file : List ℕ) → page.unwritten ≡ false → flushed (page ∷ pages) file ≡ flushed pages file
+pub flushed_written : (page : Page) (pages : List Page) (file : List ℕ) → page.unwritten ≡ false → flushed (page ∷ pages) file ≡ flushed pages file
 unfolding flushed
 flushed_written page pages file w = rw w refl
 
 -- the range of a page whose bytes nothing unwritten meets has the file's bytes
-off_pages : (pages : List Page) (file : List ℕ) (at len : ℕ) (x : List ℕ) → meets_unwritten pages at len ≡ false → bytes_at file at len ≡ Some x → bytes_at (flushed pages file) at len ≡ Some x
+pub off_pages : (pages : List Page) (file : List ℕ) (at len : ℕ) (x : List ℕ) → meets_unwritten pages at len ≡ false → bytes_at file at len ≡ Some x → bytes_at (flushed pages file) at len ≡ Some x
 unfolding flushed
 off_pages [] file at len x off e = e
 off_pages (page ∷ pages) file at len x off e =
@@ -51,7 +47,7 @@ off_pages (page ∷ pages) file at len x off e =
     not_false false e = absurd cc
 
 -- a page of which none meets an unwritten one
-off_placed : (p : Page) (pages : List Page) → AllByRecursion (ArePlaced p) pages → meets_unwritten pages p.at (length p.bytes) ≡ false
+pub off_placed : (p : Page) (pages : List Page) → AllByRecursion (ArePlaced p) pages → meets_unwritten pages p.at (length p.bytes) ≡ false
 off_placed p [] all = refl
 off_placed p (q ∷ pages) all =
     let rest = off_placed p pages all.1 in
@@ -103,7 +99,7 @@ none_met [] at len all = refl
 none_met (page ∷ pages) at len all = rw (first_written page pages all) (none_met pages at len (others_written page pages all))
 
 -- what is lent is a page that is kept, or else the file's bytes, which no unwritten page meets
-lent_cases : (k : Option (List ℕ)) (met : Bool) (b : Option (List ℕ)) (x : List ℕ) → option_or k (cond met None b) ≡ Some x → (k ≡ Some x) ⊎ ((met ≡ false) × (b ≡ Some x))
+pub lent_cases : (k : Option (List ℕ)) (met : Bool) (b : Option (List ℕ)) (x : List ℕ) → option_or k (cond met None b) ≡ Some x → (k ≡ Some x) ⊎ ((met ≡ false) × (b ≡ Some x))
 lent_cases (Some y) met b x e = inl e
 lent_cases None true b x e = absurd cc
 lent_cases None false b x e = inr (refl, e)
@@ -116,23 +112,23 @@ lent_found pages file at len x clean placed e = elim (lent_cases (kept pages at 
 ]
 
 pub lends_found : (cache : Caching) (m : Holding) (at len : ℕ) (x : List ℕ) → IsCurrent cache m → lends cache m at len ≡ Some x → bytes_at (contents cache m) at len ≡ Some x
-lends_found cache m at len x current e = lent_found cache.pages (bytes_of cache.name m) at len x (recursion_from_All _ _ current.clean) (pairs_from ArePlaced _ current.placed) e
+lends_found cache m at len x current e = lent_found (pages_of cache) (bytes_of cache.name m) at len x (recursion_from_All _ _ current.clean) (pairs_from ArePlaced _ current.placed) e
 
 pub lends_long : (cache : Caching) (m : Holding) (at len : ℕ) (x : List ℕ) → lends cache m at len ≡ Some x → length x ≡ len
 unfolding lent
-lends_long cache m at len x e = elim (lent_cases (kept cache.pages at len) (meets_unwritten cache.pages at len) (bytes_at (bytes_of cache.name m) at len) x e) [
-  | inl found ↦ kept_long cache.pages at len x found
+lends_long cache m at len x e = elim (lent_cases (kept (pages_of cache) at len) (meets_unwritten (pages_of cache) at len) (bytes_at (bytes_of cache.name m) at len) x e) [
+  | inl found ↦ kept_long (pages_of cache) at len x found
   | inr off ↦ bytes_long (bytes_of cache.name m) at len x off.1
 ]
 
 -- without unwritten pages the file is what is lent
-pub lends_file : (cache : Caching) (m : Holding) (at len : ℕ) → AllWritten cache.pages → IsCurrent cache m → lends cache m at len ≡ bytes_at (bytes_of cache.name m) at len
+pub lends_file : (cache : Caching) (m : Holding) (at len : ℕ) → AllWritten (pages_of cache) → IsCurrent cache m → lends cache m at len ≡ bytes_at (bytes_of cache.name m) at len
 unfolding lent
 lends_file cache m at len all current =
     let file = bytes_of cache.name m in
-    rw (none_met cache.pages at len all) (joined (kept cache.pages at len) (bytes_at file at len) (λ x e.
-    let found = kept_found cache.pages file at len x (recursion_from_All _ _ current.clean) (pairs_from ArePlaced _ current.placed) e in
-    rw (all_written cache.pages file all) at found))
+    rw (none_met (pages_of cache) at len all) (joined (kept (pages_of cache) at len) (bytes_at file at len) (λ x e.
+    let found = kept_found (pages_of cache) file at len x (recursion_from_All _ _ current.clean) (pairs_from ArePlaced _ current.placed) e in
+    rw (all_written (pages_of cache) file all) at found))
   where
     joined : (k b : Option (List ℕ)) → ((x : List ℕ) → k ≡ Some x → b ≡ Some x) → option_or k b ≡ b
     joined None b same = refl

@@ -1,5 +1,5 @@
 -- The bytes of a range of a file, and writes over other ranges.
-use Rattle.std.proofs.Common.{◌≡◌, ℕ, ◌+◌, ◌-◌, ◌≤◌, true, List, [], ◌++◌, length, take, drop, replicate, leb, Some, refl, sym, ap, ◌∙◌, arith, inl, inr, append_assoc}
+use Rattle.std.proofs.Common.{◌≡◌, ℕ, zero, suc, ◌+◌, ◌-◌, ◌≤◌, true, List, [], ◌∷◌, ◌++◌, length, get_or, take, drop, replicate, leb, Some, refl, sym, ap, ◌∙◌, arith, inl, inr, append_assoc}
 use Rattle.std.proofs.lemmas.Bool.{cases_lt, leb-true, le-leb, or_cases, or_left, or_right}
 use Rattle.std.proofs.lemmas.Option.{cond_some}
 use Rattle.std.proofs.lemmas.List.{length-append, length-take, length-drop, length-replicate, take-append-le, drop-take, take-append-drop, take_all, drop_all, append-nil}
@@ -82,3 +82,81 @@ end_written file x =
     let front : resized (length file) file ≡ file = ap (λ (n : ℕ). take (length file) file ++ replicate n 0) none ∙ append-nil (take (length file) file) ∙ take_all (length file) file (omega arith) in
     let back : drop (length file + length x) file ≡ [] = drop_all (length file + length x) file (omega arith) in
     rw (front, back) (append-nil (file ++ x))
+
+-- ---- a write byte by byte
+
+drop_none : (n : ℕ) → drop {A = ℕ} n [] ≡ []
+drop_none zero = refl
+drop_none (suc n) = refl
+
+take_none : (n : ℕ) → take {A = ℕ} n [] ≡ []
+take_none zero = refl
+take_none (suc n) = refl
+
+-- the first byte stays, or is a zero of the gap
+write_later : (at : ℕ) (x file : List ℕ) → overwritten (suc at) x file ≡ get_or file 0 0 ∷ overwritten at x (drop 1 file)
+write_later at x [] =
+    let n : suc at - 0 ≡ suc (at - 0) = omega arith in
+    let gap : resized (suc at) [] ≡ 0 ∷ resized at [] = ap (λ (k : ℕ). replicate k 0) n ∙ ap (λ (xs : List ℕ). 0 ∷ xs ++ replicate (at - 0) 0) (sym (take_none at)) in
+    let back : drop {A = ℕ} (suc at + length x) [] ≡ drop (at + length x) [] = drop_none (suc at + length x) ∙ sym (drop_none (at + length x)) in
+    ap (λ (xs : List ℕ). xs ++ x ++ drop {A = ℕ} (suc at + length x) []) gap ∙ ap (λ (xs : List ℕ). 0 ∷ (resized at [] ++ x ++ xs)) back
+write_later at x (b ∷ file) =
+    let more : suc at + length x ≡ suc (at + length x) = omega arith in
+    let gap : suc at - length (b ∷ file) ≡ at - length file = omega arith in
+    ap (λ (k : ℕ). ((b ∷ take at file) ++ replicate k 0) ++ x ++ drop (suc at + length x) (b ∷ file)) gap
+    ∙ ap (λ (k : ℕ). ((b ∷ take at file) ++ replicate (at - length file) 0) ++ x ++ drop k (b ∷ file)) more
+
+no_gap : (file : List ℕ) → resized 0 file ≡ []
+no_gap file = let n : 0 - length file ≡ 0 = omega arith in ap (λ (k : ℕ). replicate k 0) n
+
+write_here : (b : ℕ) (x file : List ℕ) → overwritten 0 (b ∷ x) file ≡ b ∷ overwritten 0 x (drop 1 file)
+write_here b x file =
+    ap (λ (g : List ℕ). g ++ (b ∷ x) ++ drop (0 + length (b ∷ x)) file) (no_gap file)
+    ∙ ap (λ (g : List ℕ). b ∷ (x ++ g)) (shorter file)
+    ∙ ap (λ (g : List ℕ). b ∷ (g ++ x ++ drop (0 + length x) (drop 1 file))) (sym (no_gap (drop 1 file)))
+  where
+    shorter : (file : List ℕ) → drop (0 + length (b ∷ x)) file ≡ drop (0 + length x) (drop 1 file)
+    shorter [] = drop_none (0 + length (b ∷ x)) ∙ sym (drop_none (0 + length x))
+    shorter (c ∷ file) = let n : 0 + length (b ∷ x) ≡ suc (0 + length x) = omega arith in ap (λ (k : ℕ). drop k (c ∷ file)) n
+
+write_none : (file : List ℕ) → overwritten 0 [] file ≡ file
+write_none file = ap (λ (g : List ℕ). g ++ [] ++ drop 0 file) (no_gap file)
+
+-- of two writes at one place the longer one stands
+pub write_twice : (at : ℕ) (x y file : List ℕ) → length y ≤ length x → overwritten at x (overwritten at y file) ≡ overwritten at x file
+write_twice (suc at) x y file le =
+    write_later at x (overwritten (suc at) y file)
+    ∙ ap (λ (g : List ℕ). get_or g 0 0 ∷ overwritten at x (drop 1 g)) (write_later at y file)
+    ∙ ap (λ (g : List ℕ). get_or file 0 0 ∷ g) (write_twice at x y (drop 1 file) le)
+    ∙ sym (write_later at x file)
+write_twice zero x [] file le = ap (overwritten 0 x) (write_none file)
+write_twice zero [] (c ∷ y) file le = absurd (omega arith)
+write_twice zero (b ∷ x) (c ∷ y) file le =
+    write_here b x (overwritten 0 (c ∷ y) file)
+    ∙ ap (λ (g : List ℕ). b ∷ overwritten 0 x (drop 1 g)) (write_here c y file)
+    ∙ ap (λ (g : List ℕ). b ∷ g) (write_twice zero x y (drop 1 file) (omega arith))
+    ∙ sym (write_here b x file)
+
+-- writes of ranges that are apart may come in either order
+write_before : (p : ℕ) (x : List ℕ) (q : ℕ) (y file : List ℕ) → p + length x ≤ q → overwritten p x (overwritten q y file) ≡ overwritten q y (overwritten p x file)
+write_before (suc p) x zero y file le = absurd (omega arith)
+write_before (suc p) x (suc q) y file le =
+    write_later p x (overwritten (suc q) y file)
+    ∙ ap (λ (g : List ℕ). get_or g 0 0 ∷ overwritten p x (drop 1 g)) (write_later q y file)
+    ∙ ap (λ (g : List ℕ). get_or file 0 0 ∷ g) (write_before p x q y (drop 1 file) (omega arith))
+    ∙ ap (λ (g : List ℕ). get_or g 0 0 ∷ overwritten q y (drop 1 g)) (sym (write_later p x file))
+    ∙ sym (write_later q y (overwritten (suc p) x file))
+write_before zero [] q y file le = write_none (overwritten q y file) ∙ ap (overwritten q y) (sym (write_none file))
+write_before zero (b ∷ x) zero y file le = absurd (omega arith)
+write_before zero (b ∷ x) (suc q) y file le =
+    write_here b x (overwritten (suc q) y file)
+    ∙ ap (λ (g : List ℕ). b ∷ overwritten 0 x (drop 1 g)) (write_later q y file)
+    ∙ ap (λ (g : List ℕ). b ∷ g) (write_before zero x q y (drop 1 file) (omega arith))
+    ∙ ap (λ (g : List ℕ). get_or g 0 0 ∷ overwritten q y (drop 1 g)) (sym (write_here b x file))
+    ∙ sym (write_later q y (overwritten 0 (b ∷ x) file))
+
+pub write_apart : (p : ℕ) (x : List ℕ) (q : ℕ) (y file : List ℕ) → are_apart (p, p + length x) (q, q + length y) ≡ true → overwritten p x (overwritten q y file) ≡ overwritten q y (overwritten p x file)
+write_apart p x q y file apart = elim (or_cases _ _ apart) [
+  | inl front ↦ write_before p x q y file (leb-true _ _ front)
+  | inr back ↦ sym (write_before q y p x file (leb-true _ _ back))
+]

@@ -1,25 +1,71 @@
 -- A key cache over one file, what the files hold beside it, and how a call changes both.
-use Rattle.std.specs.Prelude.{◌≡◌, ◌≢◌, ◌⊎◌, ◌≤◌, ◌+◌, ℕ, true, false, List, length, take, All, AllPairs, Option, Some, Result, OnErr}
+use Rattle.std.specs.Prelude.{◌≡◌, ◌⊎◌, ◌||◌, ◌+◌, ℕ, true, false, nat_lt, List, ◌++◌, length, map, slice_get, All, AllPairs, Option, Some, None, IfSome, Result, Ok, Err, OnOk, OnErr, if◌then◌else◌}
+use Rattle.std.specs.Option.{option_len}
 use Rattle.myi_base.specs.Ranges.{are_apart}
-use Rattle.myi_base.specs.Holding.{Holding, bytes_of, overwritten, Told, OthersStay}
+use Rattle.myi_base.specs.Holding.{Holding, bytes_of, overwritten, Told, Writes, WritesPart, OthersStay}
+use Rattle.myi_keycache.specs.declared.setup.CacheSetup.{CacheSetup}
 use Rattle.myi_keycache.specs.declared.setup.Counters.{Counters}
-use Rattle.myi_keycache.specs.Kept.{Page, range_of, is_kept, is_unwritten, NoOtherMeets, AddsOnly, SameKept, ChangesNone}
+use Rattle.myi_keycache.specs.Midpoint.{Listed, Lists, midpoint}
+use Rattle.myi_keycache.specs.Kept.{Page, KeptPage, range_of, is_kept, is_unwritten, NoOtherMeets, AddsOnly, SameKept, ChangesNone}
 use Rattle.myi_keycache.specs.Lent.{bytes_at, lent, flushed}
-use Rattle.myi_keycache.specs.Counts.{gets_counted}
+use Rattle.myi_keycache.specs.Counts.{raised, gets_counted}
 
--- a key cache: the name of its file, the pages that it keeps, and its counters
+-- a key cache: the name of its file, its setup, the pages that it keeps on two lists, the number of accesses, and its counters
 pub record Caching : Type 0 where
   pub name : List ℕ
-  pub pages : List Page
+  pub setup : CacheSetup
+  pub warm : List KeptPage
+  pub hot : List KeptPage
+  pub accesses : ℕ
   pub counters : Counters
+
+-- the pages that the cache keeps
+abbrev pub pages_of : Caching → List Page
+pages_of cache = map (λ (b : KeptPage). b.page) (cache.warm ++ cache.hot)
+
+-- a page that is kept, without its bytes
+abbrev pub listed_as : KeptPage → Listed
+listed_as b = record { at = b.page.at; len = length b.page.bytes; hits = b.hits; last = b.last }
+
+-- the lists of the cache's pages
+abbrev pub lists_of : Caching → Lists
+lists_of cache = record { warm = map listed_as cache.warm; hot = map listed_as cache.hot; accesses = cache.accesses }
+
+-- The call was an access to a page, and the lists are as after it. A call that is refused is none.
+abbrev pub IsAccess : {T E : Type 0} → Result T E → ℕ → ℕ → Caching → Caching → Type 0
+IsAccess (Ok answer) at len old new = lists_of new ≡ midpoint old.setup (lists_of old) at len
+IsAccess (Err e) at len old new = lists_of new ≡ lists_of old
+
+-- a page, where the file has yet to get it
+abbrev pub if_unwritten : Option Page → Option Page
+if_unwritten None = None
+if_unwritten (Some page) = if page.unwritten then Some page else None
+
+-- The page that leaves in an access to the page of this place and length: none where that one is kept or a block is free, else the
+-- first warm one, or the first hot one where none is warm.
+abbrev pub leaving : Caching → ℕ → ℕ → Option Page
+leaving cache at len =
+    if is_kept (pages_of cache) at len || nat_lt (length (pages_of cache)) cache.setup.blocks then None
+    else slice_get (pages_of cache) 0
+
+-- the page that is to be written in this access: the one that leaves, where the file has yet to get it
+unfoldable pub due : Caching → ℕ → ℕ → Option Page
+due cache at len = if_unwritten (leaving cache at len)
+
+-- All that a call writes is this page, at its place, and where it is refused no more than a part of it. Where there is none, the
+-- files hold what they held.
+pub record WritesOne {T E : Type 0} (before after : Option Holding) (name : List ℕ) (page : Option Page) (result : Result T E) : Type 0 where
+  pub none : page ≡ None → after ≡ before
+  pub ok : OnOk result (IfSome page (λ p. Told before after (Writes name p.at p.bytes)))
+  pub err : OnErr result (IfSome page (λ p. Told before after (WritesPart name p.at p.bytes)))
 
 -- what the cache lends of a range, where the files hold this
 abbrev pub lends : Caching → Holding → ℕ → ℕ → Option (List ℕ)
-lends cache m at len = lent cache.pages (bytes_of cache.name m) at len
+lends cache m at len = lent (pages_of cache) (bytes_of cache.name m) at len
 
 -- the cache's file with all puts, where the files hold this
 abbrev pub contents : Caching → Holding → List ℕ
-contents cache m = flushed cache.pages (bytes_of cache.name m)
+contents cache m = flushed (pages_of cache) (bytes_of cache.name m)
 
 abbrev pub IsClean : List ℕ → Page → Type 0
 IsClean file page = page.unwritten ≡ false → bytes_at file page.at (length page.bytes) ≡ Some page.bytes
@@ -31,13 +77,13 @@ ArePlaced p q = (p.unwritten ≡ true) ⊎ (q.unwritten ≡ true) → are_apart 
 -- the cache's file is as the last call of the cache left it: it has the bytes of each page but the unwritten
 -- ones, which meet no other page that is kept
 pub record IsCurrent (cache : Caching) (m : Holding) : Type 0 where
-  pub clean : All (IsClean (bytes_of cache.name m)) cache.pages
-  pub placed : AllPairs ArePlaced cache.pages
+  pub clean : All (IsClean (bytes_of cache.name m)) (pages_of cache)
+  pub placed : AllPairs ArePlaced (pages_of cache)
 
 -- where the files hold this, a page of this range may be asked for: no other unwritten page has a part of it
 pub record CanGet (cache : Caching) (m : Holding) (at len : ℕ) : Type 0 where
   pub current : IsCurrent cache m
-  pub apart : NoOtherMeets (is_unwritten cache.pages) at len
+  pub apart : NoOtherMeets (is_unwritten (pages_of cache)) at len
 
 -- what the cache lends of a range that may be asked for
 abbrev pub IsLent : Caching → ℕ → ℕ → Option (List ℕ) → Holding → Type 0
@@ -46,7 +92,7 @@ IsLent cache at len page m = CanGet cache m at len → lends cache m at len ≡ 
 -- where the files hold this, a page may be put there: no other page that is kept has a part of the range
 pub record CanPut (cache : Caching) (m : Holding) (at len : ℕ) : Type 0 where
   pub current : IsCurrent cache m
-  pub apart : NoOtherMeets (is_kept cache.pages) at len
+  pub apart : NoOtherMeets (is_kept (pages_of cache)) at len
 
 -- what was lent of a range is lent of it afterwards
 abbrev pub SameLent : Caching → Holding → Caching → Holding → Type 0
@@ -70,13 +116,6 @@ pub record Puts (at : ℕ) (bytes : List ℕ) (old new : Caching) (m n : Holding
   pub lent : SameApart at (length bytes) old m new n
   pub contents : contents new n ≡ overwritten at bytes (contents old m)
 
--- a put was refused: of other ranges the same is lent, and the file with all puts has none of the bytes, or
--- so many of them
-pub record PutsPart (at : ℕ) (bytes : List ℕ) (old new : Caching) (m n : Holding) : Type 0 where
-  pub current : IsCurrent new n
-  pub lent : SameApart at (length bytes) old m new n
-  pub contents : (contents new n ≡ contents old m) ⊎ ((k : ℕ) × (k ≤ length bytes) × (contents new n ≡ overwritten at (take k bytes) (contents old m)))
-
 -- all unwritten pages were written: the file is the one with all puts
 pub record Flushes (old new : Caching) (m n : Holding) : Type 0 where
   pub current : IsCurrent new n
@@ -86,9 +125,12 @@ pub record Flushes (old new : Caching) (m n : Holding) : Type 0 where
 -- The cache after a call of get. No page became unwritten, and after a refusal the same pages are kept.
 pub record Gets {T E : Type 0} (before after : Option Holding) (at len : ℕ) (result : Result T E) (old new : Caching) : Type 0 where
   pub name : new.name ≡ old.name
-  pub added : AddsOnly at len old.pages new.pages
-  pub unwritten : ChangesNone old.pages new.pages
-  pub refused : OnErr result (SameKept old.pages new.pages)
-  pub counters : new.counters ≡ gets_counted result at len old.pages new.pages old.counters
+  pub setup : new.setup ≡ old.setup
+  pub access : IsAccess result at len old new
+  pub added : AddsOnly at len (pages_of old) (pages_of new)
+  pub unwritten : ChangesNone (pages_of old) (pages_of new)
+  pub refused : OnErr result (SameKept (pages_of old) (pages_of new))
+  pub counters : new.counters ≡ gets_counted result at len (pages_of old) (pages_of new) old.counters
+  pub written : OnOk result (new.counters.writes ≡ raised (option_len (due old at len)) old.counters.writes)
   pub others : Told before after (OthersStay old.name)
   pub told : Told before after (λ m n. CanGet old m at len → Stays old new m n)

@@ -1,6 +1,6 @@
 -- The pages that a key cache keeps (MySQL Reference Manual, "The MyISAM Key Cache": blocks that were read,
 -- and blocks that were changed and that the index file has yet to get).
-use Rattle.std.specs.Prelude.{◌≡◌, ◌==◌, ◌&&◌, ◌⊎◌, ◌+◌, ℕ, Bool, true, List, length, find, count_by, Option, option_map, is_some}
+use Rattle.std.specs.Prelude.{◌≡◌, ◌==◌, ◌&&◌, ◌⊎◌, ◌+◌, ◌<◌, ℕ, Bool, true, false, List, length, find, count_by, Option, option_map, is_some}
 use Rattle.std.specs.List.{list_any}
 use Rattle.myi_base.specs.Ranges.{Range, are_apart}
 
@@ -9,6 +9,12 @@ pub record Page : Type 0 where
   pub at : ℕ
   pub bytes : List ℕ
   pub unwritten : Bool
+
+-- a page that is kept, with its hits and the number of the last access to it
+pub record KeptPage : Type 0 where
+  pub page : Page
+  pub hits : ℕ
+  pub last : ℕ
 
 abbrev pub range_of : Page → Range
 range_of page = (page.at, page.at + length page.bytes)
@@ -42,6 +48,16 @@ AddsOnly at len old new = (p n : ℕ) → is_kept new p n ≡ true → (is_kept 
 -- the same pages are kept, with the same bytes
 abbrev pub SameKept : List Page → List Page → Type 0
 SameKept old new = (p n : ℕ) → kept new p n ≡ kept old p n
+
+-- the same pages are unwritten
+abbrev pub SameUnwritten : List Page → List Page → Type 0
+SameUnwritten old new = (p n : ℕ) → is_unwritten new p n ≡ is_unwritten old p n
+
+-- of the unwritten pages, those before some place were written, and those behind it were not
+abbrev pub WrittenUpTo : List Page → List Page → Type 0
+WrittenUpTo old new = (stop : ℕ)
+    × ((p n : ℕ) → p < stop → is_unwritten new p n ≡ false)
+    × ((p n : ℕ) → stop < p → is_unwritten new p n ≡ is_unwritten old p n)
 
 -- each unwritten page was unwritten before
 abbrev pub ChangesNone : List Page → List Page → Type 0

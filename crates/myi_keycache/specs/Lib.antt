@@ -2,6 +2,10 @@
 
 -- the conditions on a cache's setup
 pub mod Setup
+-- the two lists of a cache, and what an access does to them
+pub mod Midpoint
+-- a worked run of accesses
+pub mod WorkedRun
 -- the pages that a cache keeps
 pub mod Kept
 -- what is lent of a range, and the file with all puts
@@ -10,3 +14,7 @@ pub mod Lent
 pub mod Counts
 -- what each call does to a cache and its file
 pub mod Caching
+-- what serves private contracts
+
+-- the pages in one order, and other orders of the same pages
+pub mod Order

@@ -1,10 +1,21 @@
 //! `KeyCache`: the pages of one file.
-ghost use Rattle.std.specs.Prelude.{◌≡◌, ◌≤◌, ◌+◌, ℕ, Some, None, length, vec_len, IfErr, OnOk};
+//!
+//! The pages stand in `Blocks`, which keeps the lists. Here they are read, put and written: a page that is not
+//! there is read into a buffer, then the page that is to leave is written, and only then is the new one taken in,
+//! so that a refusal leaves the lists.
+ghost use Rattle.std.specs.Prelude.{◌≡◌, ◌≤◌, ◌<◌, ◌⊎◌, ◌+◌, ◌^◌, ℕ, true, Some, None, length, position};
+ghost use Rattle.std.specs.Prelude.{slice_get, nat_le, vec_len, IfOk, IfErr, OnOk, OnErr, IsOk, IsTrue};
 ghost use Rattle.myi_base.specs.Holding.{IfTold};
 ghost use Rattle.myi_base.specs.Causes.{HasCause};
-ghost use Rattle.myi_keycache.specs.declared.setup.CacheFault.TheVariants.{Short, File};
+ghost use Rattle.myi_keycache.specs.declared.setup.CacheFault.TheVariants.{Short, File, Memory};
+ghost use Rattle.myi_keycache.specs.Kept.{is_kept, AllWritten, WrittenUpTo};
 ghost use Rattle.myi_keycache.specs.Lent.{Has};
+ghost use Rattle.myi_keycache.specs.Caching.{Gets, due, WritesOne};
+ghost use Rattle.myi_keycache.specs.Order.{contents_of, unwritten_at, due_in, counts_one, has_name, cache_of};
+ghost use Rattle.myi_keycache.specs.Order.{Pairs, Differ, Split, with_page, as_written, IsFirstWritten};
+ghost use Rattle.myi_keycache.specs.Order.{IsAnswer, IsShort, IsReadFirst, PagesStay, WritesOnly, Stores};
 
+use crate::blocks::{Blocks, PageName};
 use crate::setup::{CacheFault, CacheSetup, Counters};
 use myi_io::Files;
 use std::alloc::{AllocError, Global};
@@ -39,7 +50,8 @@ fn read_page<F: Files>(
     into: &mut Vec<u8>,
 ) -> Result<(), CacheFault>
     requires { size ≤ 16384 }
-    ensures page { OnOk result (IfTold (F.holds files.old) (Has name.now at size (Some into.new.items))) }
+    ensures page { OnOk result (IfTold (F.holds files.old)
+        (Has name.now at size (Some into.new.items))) }
     ensures long { OnOk result (vec_len into.new ≡ size) }
     ensures short { IfErr result (λ e. (p : ℕ) → e ≡ Short p
         → (p ≡ at) × IfTold (F.holds files.old) (Has name.now at size None)) }
@@ -53,44 +65,264 @@ fn read_page<F: Files>(
     Ok(())
 }
 
+// Writes a page of a cache, where it is unwritten.
+fn write_page<F: Files>(
+    files: &mut F,
+    name: &str,
+    blocks: &mut Blocks,
+    counters: &mut Counters,
+    index: usize,
+) -> Result<(), CacheFault>
+    requires index { index < length blocks.old.pages }
+    requires writable { IsTrue F.writable ⊎ AllWritten (contents_of blocks.old.pages) }
+    requires writes { counters.old.writes < 2 ^ 64 }
+    ensures ok { OnOk result ((s : Split blocks.old.pages index)
+        → blocks.new ≡ record blocks.old { pages = with_page s (as_written s.page) }) }
+    ensures err { OnErr result (blocks.new ≡ blocks.old) }
+    ensures stay { PagesStay blocks.old blocks.new }
+    ensures writes { WritesOnly (F.holds files.old) (F.holds files.new)
+        (cache_of name.now blocks.old counters.old) (cache_of name.now blocks.new counters.new) }
+    ensures one { WritesOne (F.holds files.old) (F.holds files.new) name.now
+        (unwritten_at blocks.old index) result }
+    ensures quiet { unwritten_at blocks.old index ≡ None → files.new ≡ files.old }
+    ensures counted { OnOk result
+        (counters.new ≡ counts_one (unwritten_at blocks.old index) counters.old) }
+    ensures faults { IfErr result (λ e. (e ≡ File) ⊎ (e ≡ Memory)) }
+    ensures cause { HasCause File (F.faults files.old) (F.faults files.new) result }
+    ensures reads { F.reads files.new ≡ F.reads files.old }
+{
+    if !blocks.is_unwritten(index) {
+        return Ok(());
+    }
+    let (at, bytes) = blocks.page(index);
+    files.write_at(name, at, bytes)?;
+    blocks.set_written(index);
+    counters.count_write();
+    Ok(())
+}
+
+// Writes the page of a cache that leaves next, where all blocks are used.
+fn make_room<F: Files>(
+    files: &mut F,
+    name: &str,
+    blocks: &mut Blocks,
+    counters: &mut Counters,
+) -> Result<(), CacheFault>
+    requires writable { IsTrue F.writable ⊎ AllWritten (contents_of blocks.old.pages) }
+    requires writes { counters.old.writes < 2 ^ 64 }
+    ensures ok { OnOk result (nat_le blocks.new.setup.blocks (length blocks.new.pages) ≡ true
+        → IsFirstWritten (contents_of blocks.new.pages)) }
+    ensures stay { PagesStay blocks.old blocks.new }
+    ensures writes { WritesOnly (F.holds files.old) (F.holds files.new)
+        (cache_of name.now blocks.old counters.old) (cache_of name.now blocks.new counters.new) }
+    ensures one { WritesOne (F.holds files.old) (F.holds files.new) name.now
+        (due_in blocks.old) result }
+    ensures quiet { due_in blocks.old ≡ None → files.new ≡ files.old }
+    ensures counted { OnOk result (counters.new ≡ counts_one (due_in blocks.old) counters.old) }
+    ensures faults { IfErr result (λ e. (e ≡ File) ⊎ (e ≡ Memory)) }
+    ensures cause { HasCause File (F.faults files.old) (F.faults files.new) result }
+    ensures reads { F.reads files.new ≡ F.reads files.old }
+{
+    if blocks.is_full() {
+        write_page(files, name, blocks, counters, 0)?;
+    }
+    Ok(())
+}
+
+// A get of a page that is not kept: reads it, and takes it in. Answers its index.
+fn load<F: Files>(
+    files: &mut F,
+    name: &str,
+    blocks: &mut Blocks,
+    buffer: &mut Vec<u8>,
+    counters: &mut Counters,
+    page: PageName,
+) -> Result<usize, CacheFault>
+    requires limit { page.size ≤ 16384 }
+    requires none { position (has_name page.at page.size) blocks.old.pages ≡ None }
+    requires differ { Pairs Differ (contents_of blocks.old.pages) }
+    requires writable { IsTrue F.writable ⊎ AllWritten (contents_of blocks.old.pages) }
+    requires writes { counters.old.writes < 2 ^ 64 }
+    ensures there { IfOk result (λ index. IsAnswer (F.holds files.old) page.at page.size
+        (cache_of name.now blocks.old counters.old)
+        (slice_get (contents_of blocks.new.pages) index)) }
+    ensures short { IfErr result (IsShort (F.holds files.old) page.at page.size
+        (cache_of name.now blocks.old counters.old)) }
+    ensures clean { AllWritten (contents_of blocks.old.pages)
+        → F.holds files.new ≡ F.holds files.old }
+    ensures one { WritesOne (F.holds files.old) (F.holds files.new) name.now
+        (due (cache_of name.now blocks.old counters.old) page.at page.size) result }
+    ensures read_first { IfErr result (IsReadFirst (F.holds files.old) (F.holds files.new)) }
+    ensures gets { Gets (F.holds files.old) (F.holds files.new) page.at page.size result
+        (cache_of name.now blocks.old counters.old) (cache_of name.now blocks.new counters.new) }
+    ensures cause { HasCause File (F.faults files.old) (F.faults files.new) result }
+    ensures reads { F.reads files.old ≤ F.reads files.new }
+    ensures once { F.reads files.new ≤ F.reads files.old + 1 }
+{
+    read_page(files, name, page.at, page.size, buffer)?;
+    make_room(files, name, blocks, counters)?;
+    let index = blocks.take_in(page.at, buffer, false)?;
+    counters.count_get(true);
+    Ok(index)
+}
+
+// A get of a page. Answers its index.
+fn find<F: Files>(
+    files: &mut F,
+    name: &str,
+    blocks: &mut Blocks,
+    buffer: &mut Vec<u8>,
+    counters: &mut Counters,
+    page: PageName,
+) -> Result<usize, CacheFault>
+    requires limit { page.size ≤ 16384 }
+    requires writable { IsTrue F.writable ⊎ AllWritten (contents_of blocks.old.pages) }
+    requires writes { counters.old.writes < 2 ^ 64 }
+    ensures there { IfOk result (λ index. IsAnswer (F.holds files.old) page.at page.size
+        (cache_of name.now blocks.old counters.old)
+        (slice_get (contents_of blocks.new.pages) index)) }
+    ensures short { IfErr result (IsShort (F.holds files.old) page.at page.size
+        (cache_of name.now blocks.old counters.old)) }
+    ensures clean { AllWritten (contents_of blocks.old.pages)
+        → F.holds files.new ≡ F.holds files.old }
+    ensures one { WritesOne (F.holds files.old) (F.holds files.new) name.now
+        (due (cache_of name.now blocks.old counters.old) page.at page.size) result }
+    ensures read_first { IfErr result (IsReadFirst (F.holds files.old) (F.holds files.new)) }
+    ensures hit { is_kept (contents_of blocks.old.pages) page.at page.size ≡ true
+        → IsOk result × (files.new ≡ files.old) }
+    ensures gets { Gets (F.holds files.old) (F.holds files.new) page.at page.size result
+        (cache_of name.now blocks.old counters.old) (cache_of name.now blocks.new counters.new) }
+    ensures cause { HasCause File (F.faults files.old) (F.faults files.new) result }
+    ensures reads { F.reads files.old ≤ F.reads files.new }
+    ensures once { F.reads files.new ≤ F.reads files.old + 1 }
+{
+    let Some(index) = blocks.index_of(page) else {
+        let index = load(files, name, blocks, buffer, counters, page)?;
+        return Ok(index);
+    };
+    let now = blocks.hit(index);
+    counters.count_get(false);
+    Ok(now)
+}
+
+// A put of the page in the buffer, which is not kept: takes it in.
+fn store<F: Files>(
+    files: &mut F,
+    name: &str,
+    blocks: &mut Blocks,
+    buffer: &mut Vec<u8>,
+    counters: &mut Counters,
+    at: u64,
+) -> Result<(), CacheFault>
+    requires none { position (has_name at (length buffer.old.items)) blocks.old.pages ≡ None }
+    requires differ { Pairs Differ (contents_of blocks.old.pages) }
+    requires writable { IsTrue F.writable }
+    requires writes { counters.old.writes < 2 ^ 64 }
+    ensures one { WritesOne (F.holds files.old) (F.holds files.new) name.now
+        (due (cache_of name.now blocks.old counters.old) at (length buffer.old.items)) result }
+    ensures quiet { due (cache_of name.now blocks.old counters.old) at
+        (length buffer.old.items) ≡ None → files.new ≡ files.old }
+    ensures stores { Stores (F.holds files.old) (F.holds files.new) at buffer.old.items result
+        (cache_of name.now blocks.old counters.old) (cache_of name.now blocks.new counters.new) }
+    ensures faults { IfErr result (λ e. (e ≡ File) ⊎ (e ≡ Memory)) }
+    ensures cause { HasCause File (F.faults files.old) (F.faults files.new) result }
+    ensures reads { F.reads files.new ≡ F.reads files.old }
+{
+    make_room(files, name, blocks, counters)?;
+    blocks.take_in(at, buffer, true)?;
+    counters.count_put();
+    Ok(())
+}
+
+// Writes all unwritten pages of a cache, in order of place.
+fn write_all<F: Files>(
+    files: &mut F,
+    name: &str,
+    blocks: &mut Blocks,
+    counters: &mut Counters,
+) -> Result<(), CacheFault>
+    requires writable { IsTrue F.writable }
+    requires writes { counters.old.writes < 2 ^ 64 }
+    ensures written { OnOk result (AllWritten (contents_of blocks.new.pages)) }
+    ensures in_order { OnErr result
+        (WrittenUpTo (contents_of blocks.old.pages) (contents_of blocks.new.pages)) }
+    ensures stay { PagesStay blocks.old blocks.new }
+    ensures writes { WritesOnly (F.holds files.old) (F.holds files.new)
+        (cache_of name.now blocks.old counters.old) (cache_of name.now blocks.new counters.new) }
+    ensures faults { IfErr result (λ e. (e ≡ File) ⊎ (e ≡ Memory)) }
+    ensures cause { HasCause File (F.faults files.old) (F.faults files.new) result }
+    ensures reads { F.reads files.new ≡ F.reads files.old }
+{
+    let found = blocks.unwritten()?;
+    for i in 0..found.len() {
+        let (_, index) = found[i];
+        write_page(files, name, blocks, counters, index)?;
+    }
+    Ok(())
+}
+
 /// A cache of pages of one file.
-#[derive(Drop)]
 pub struct KeyCache {
     name: String,
-    /// The page that was asked for last.
-    page: Vec<u8>,
+    blocks: Blocks,
+    /// A buffer for the next page.
+    buffer: Vec<u8>,
     counters: Counters,
 }
 
+impl Drop for KeyCache {
+    fn drop(self) {
+        let KeyCache {
+            name: _,
+            blocks: _,
+            buffer: _,
+            counters: _,
+        } = self;
+    }
+}
+
 impl Model for KeyCache {
-    ghost use Rattle.std.specs.Prelude.{◌≤◌, ◌<◌, ◌^◌, [], string_bytes};
+    ghost use Rattle.std.specs.Prelude.{◌≤◌, ◌<◌, ◌^◌, take, drop, string_bytes};
     ghost use Rattle.myi_keycache.specs.Caching.{Caching};
 
     ghost Value = { Caching };
 
-    ghost view = { λ c. record { name = string_bytes c.name; pages = []; counters = c.counters } };
+    ghost view = { λ c. record {
+      name = string_bytes c.name;
+      setup = c.blocks.setup;
+      warm = take c.blocks.warm c.blocks.pages;
+      hot = drop c.blocks.warm c.blocks.pages;
+      accesses = c.blocks.accesses;
+      counters = c.counters;
+    } };
 
-    ghost invariant = { λ c. (c.counters.reads ≤ c.counters.read_requests) × (c.counters.writes < 2 ^ 64) };
+    ghost invariant = { λ c.
+        (c.counters.reads ≤ c.counters.read_requests) × (c.counters.writes < 2 ^ 64) };
 }
 
 impl KeyCache {
-    ghost use Rattle.std.specs.Prelude.{◌≡◌, ◌≤◌, ◌⊎◌, ◌+◌, ℕ, [], Some, None, true, length, IfOk, IfErr, IsOk, IsTrue, OnOk, OnErr};
+    ghost use Rattle.std.specs.Prelude.{◌≡◌, ◌≤◌, ◌⊎◌, ◌+◌, ◌++◌, ℕ, [], Some, None, true, length};
+    ghost use Rattle.std.specs.Prelude.{IfOk, IfErr, IsOk, IsTrue, OnOk, OnErr};
+    ghost use Rattle.std.specs.Option.{option_len};
     ghost use Rattle.std.specs.Borrow.{sem};
     ghost use Rattle.std.specs.Io.BufRead.{Rests};
     ghost use Rattle.myi_base.specs.Holding.{Holding, IfTold, Told, OthersStay};
     ghost use Rattle.myi_base.specs.Causes.{HasCause};
     ghost use Rattle.myi_keycache.specs.declared.setup.CacheFault.TheVariants.{Short, File, Memory};
     ghost use Rattle.myi_keycache.specs.Setup.{IsSetup};
-    ghost use Rattle.myi_keycache.specs.Kept.{is_kept, AddsOnly, SameKept, AllWritten};
-    ghost use Rattle.myi_keycache.specs.Counts.{puts_counted, flushes_counted};
-    ghost use Rattle.myi_keycache.specs.Caching.{Caching, IsLent, IsCurrent, CanPut, Puts, PutsPart, Stays, Flushes, Gets};
+    ghost use Rattle.myi_keycache.specs.Kept.{is_kept, AddsOnly, SameKept, AllWritten, WrittenUpTo};
+    ghost use Rattle.myi_keycache.specs.Counts.{raised, puts_counted, flushes_counted};
+    ghost use Rattle.myi_keycache.specs.Caching.{Caching, pages_of, lists_of, IsAccess, IsLent, IsCurrent};
+    ghost use Rattle.myi_keycache.specs.Caching.{CanPut, Puts, Stays, Flushes, Gets, due, WritesOne};
     ghost use Rattle.myi_keycache.specs.contracts.cache.KeyCache.{the_row};
 
     /// A cache of the file of that name, which keeps no page yet. Any file is current for it.
-    pub fn new(alloc: Global, name: &str, _setup: CacheSetup) -> Result<KeyCache, AllocError>
-        requires { IsSetup _setup }
+    pub fn new(alloc: Global, name: &str, setup: CacheSetup) -> Result<KeyCache, AllocError>
+        requires { IsSetup setup }
         ensures name { IfOk result (λ cache. cache.name ≡ name.now) }
-        ensures pages { IfOk result (λ cache. cache.pages ≡ []) }
+        ensures setup { IfOk result (λ cache. cache.setup ≡ setup) }
+        ensures pages { IfOk result (λ cache. pages_of cache ≡ []) }
+        ensures accesses { IfOk result (λ cache. cache.accesses ≡ 0) }
         ensures counters { IfOk result (λ cache. cache.counters ≡ record {
           read_requests = 0;
           reads = 0;
@@ -101,7 +333,8 @@ impl KeyCache {
     {
         Ok(KeyCache {
             name: String::from_str(alloc, name)?,
-            page: Vec::new(alloc),
+            blocks: Blocks::new(alloc, setup),
+            buffer: Vec::new(alloc),
             counters: Counters::none(),
         })
     }
@@ -117,53 +350,89 @@ impl KeyCache {
         size: usize,
     ) -> Result<&[u8], CacheFault>
         requires limit { size ≤ 16384 }
-        requires writable { IsTrue F.writable ⊎ AllWritten self.old.pages }
-        ensures page { IfOk result (λ page. IfTold (F.holds files.old) (IsLent self.old at size (Some page.now))) }
+        requires writable { IsTrue F.writable ⊎ AllWritten (pages_of self.old) }
+        ensures page { IfOk result (λ page. IfTold (F.holds files.old)
+            (IsLent self.old at size (Some page.now))) }
         ensures long { IfOk result (λ page. length page.now ≡ size) }
         ensures short { IfErr result (λ e. (p : ℕ) → e ≡ Short p
             → (p ≡ at) × IfTold (F.holds files.old) (IsLent self.old at size None)) }
-        ensures clean { AllWritten self.old.pages → F.holds files.new ≡ F.holds files.old }
-        ensures hit { is_kept self.old.pages at size ≡ true → IsOk result × (files.new ≡ files.old) }
+        ensures clean { AllWritten (pages_of self.old) → F.holds files.new ≡ F.holds files.old }
+        ensures hit { is_kept (pages_of self.old) at size ≡ true
+            → IsOk result × (files.new ≡ files.old) }
+        ensures one { WritesOne (F.holds files.old) (F.holds files.new) self.old.name
+            (due self.old at size) result }
+        ensures read_first { IfErr result (λ e. (p : ℕ) → e ≡ Short p
+            → F.holds files.new ≡ F.holds files.old) }
         ensures cause { HasCause File (F.faults files.old) (F.faults files.new) result }
         ensures reads { F.reads files.old ≤ F.reads files.new }
         ensures once { F.reads files.new ≤ F.reads files.old + 1 }
         ensures* after { sem 𝓛 (Rests the_row self.entry
             (Gets (F.holds files.old) (F.holds files.new) at size result self.old)) }
     {
-        read_page(files, self.name.as_str(), at, size, &mut self.page)?;
-        self.counters.count_read();
-        Ok(&self.page)
+        let index = find(
+            files,
+            self.name.as_str(),
+            &mut self.blocks,
+            &mut self.buffer,
+            &mut self.counters,
+            PageName { at, size },
+        )?;
+        Ok(self.blocks.page(index).1)
     }
 
-    /// Puts these bytes as the page of a place, whose length is theirs. After a refusal what is lent of
-    /// ranges apart from this one is as before, and the same pages are kept. What is said of bytes holds
-    /// where the file is as the last call of this cache left it and no other page that is kept meets the
-    /// range.
+    /// Puts these bytes as the page of a place, whose length is theirs. After a refusal the same is lent as
+    /// before, and the same pages are kept. What is said of bytes holds where the file is as the last call of
+    /// this cache left it and no other page that is kept meets the range.
     pub fn put<F: Files>(&mut self, files: &mut F, at: u64, bytes: &[u8]) -> Result<(), CacheFault>
         requires limit { length bytes.now ≤ 16384 }
         requires writable { IsTrue F.writable }
         ensures ok { OnOk result (Told (F.holds files.old) (F.holds files.new)
-            (λ m n. CanPut self.old m at (length bytes.now) → Puts at bytes.now self.old self.new m n)) }
+            (λ m n. CanPut self.old m at (length bytes.now)
+            → Puts at bytes.now self.old self.new m n)) }
         ensures err { OnErr result (Told (F.holds files.old) (F.holds files.new)
-            (λ m n. CanPut self.old m at (length bytes.now) → PutsPart at bytes.now self.old self.new m n)) }
+            (λ m n. IsCurrent self.old m → Stays self.old self.new m n)) }
         ensures others { Told (F.holds files.old) (F.holds files.new) (OthersStay self.old.name) }
-        ensures kept { OnErr result (SameKept self.old.pages self.new.pages) }
-        ensures added { AddsOnly at (length bytes.now) self.old.pages self.new.pages }
+        ensures kept { OnErr result (SameKept (pages_of self.old) (pages_of self.new)) }
+        ensures added { AddsOnly at (length bytes.now) (pages_of self.old) (pages_of self.new) }
         ensures name { self.new.name ≡ self.old.name }
-        ensures counters { self.new.counters
-            ≡ puts_counted result at (length bytes.now) self.old.pages self.new.pages self.old.counters }
+        ensures setup { self.new.setup ≡ self.old.setup }
+        ensures access { IsAccess result at (length bytes.now) self.old self.new }
+        ensures counters { self.new.counters ≡ puts_counted result at (length bytes.now)
+            (pages_of self.old) (pages_of self.new) self.old.counters }
+        ensures written { OnOk result (self.new.counters.writes
+            ≡ raised (option_len (due self.old at (length bytes.now))) self.old.counters.writes) }
+        ensures one { WritesOne (F.holds files.old) (F.holds files.new) self.old.name
+            (due self.old at (length bytes.now)) result }
+        ensures quiet { due self.old at (length bytes.now) ≡ None → files.new ≡ files.old }
+        ensures hit { is_kept (pages_of self.old) at (length bytes.now) ≡ true
+            → IsOk result × (files.new ≡ files.old) }
         ensures faults { IfErr result (λ e. (e ≡ File) ⊎ (e ≡ Memory)) }
         ensures cause { HasCause File (F.faults files.old) (F.faults files.new) result }
         ensures reads { F.reads files.new ≡ F.reads files.old }
     {
-        files.write_at(self.name.as_str(), at, bytes)?;
-        self.counters.count_write();
+        let size = bytes.len();
+        let Some(index) = self.blocks.index_of(PageName { at, size }) else {
+            self.buffer.clear();
+            self.buffer.extend_from_slice(bytes)?;
+            store(
+                files,
+                self.name.as_str(),
+                &mut self.blocks,
+                &mut self.buffer,
+                &mut self.counters,
+                at,
+            )?;
+            return Ok(());
+        };
+        self.blocks.overwrite(index, bytes);
+        self.blocks.hit(index);
+        self.counters.count_put();
         Ok(())
     }
 
-    /// Writes all unwritten pages, so that the file has what was put. After a refusal the same is lent as
-    /// before, and the pages are still kept. What is said of bytes holds where the file is as the last
-    /// call of this cache left it.
+    /// Writes all unwritten pages in order of place, so that the file has what was put. After a refusal the
+    /// same is lent as before, the pages are still kept, and those behind some place are still unwritten. What
+    /// is said of bytes holds where the file is as the last call of this cache left it.
     pub fn flush<F: Files>(&mut self, files: &mut F) -> Result<(), CacheFault>
         requires writable { IsTrue F.writable }
         ensures ok { OnOk result (Told (F.holds files.old) (F.holds files.new)
@@ -171,17 +440,25 @@ impl KeyCache {
         ensures err { OnErr result (Told (F.holds files.old) (F.holds files.new)
             (λ m n. IsCurrent self.old m → Stays self.old self.new m n)) }
         ensures others { Told (F.holds files.old) (F.holds files.new) (OthersStay self.old.name) }
-        ensures written { OnOk result (AllWritten self.new.pages) }
-        ensures kept { SameKept self.old.pages self.new.pages }
-        ensures clean { AllWritten self.old.pages → F.holds files.new ≡ F.holds files.old }
+        ensures written { OnOk result (AllWritten (pages_of self.new)) }
+        ensures in_order { OnErr result (WrittenUpTo (pages_of self.old) (pages_of self.new)) }
+        ensures kept { SameKept (pages_of self.old) (pages_of self.new) }
+        ensures lists { lists_of self.new ≡ lists_of self.old }
+        ensures clean { AllWritten (pages_of self.old) → F.holds files.new ≡ F.holds files.old }
         ensures name { self.new.name ≡ self.old.name }
-        ensures counters { self.new.counters ≡ flushes_counted self.old.pages self.new.pages self.old.counters }
+        ensures setup { self.new.setup ≡ self.old.setup }
+        ensures counters { self.new.counters
+            ≡ flushes_counted (pages_of self.old) (pages_of self.new) self.old.counters }
         ensures faults { IfErr result (λ e. (e ≡ File) ⊎ (e ≡ Memory)) }
         ensures cause { HasCause File (F.faults files.old) (F.faults files.new) result }
         ensures reads { F.reads files.new ≡ F.reads files.old }
     {
-        // Each page was written when it was put.
-        let _ = &self.page;
+        write_all(
+            files,
+            self.name.as_str(),
+            &mut self.blocks,
+            &mut self.counters,
+        )?;
         Ok(())
     }
 

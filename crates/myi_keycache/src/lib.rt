@@ -6,14 +6,29 @@
 //! cache is to a contract is `Caching` in `specs/`; the `CacheSetup` says how many pages it may keep, and
 //! its `Counters` how often it was asked and how often it went to the file.
 //!
-//! The cache that is built is the plainest: it keeps no page but the one that it lends, which it reads at
-//! each `get`, and it writes each page at once.
+//! Its pages stand on two lists, from which they leave as `specs/Midpoint` says.
+//!
+//! ```
+//! let mut cache = KeyCache::new(alloc, name, setup)?;
+//! push_done(&mut out, cache.put(&mut files, at, &page))?;
+//! match cache.get(&mut files, at, page.len()) {
+//!     Ok(page) => push_word(&mut out, page)?,
+//!     Err(fault) => push_fault(&mut out, fault)?,
+//! }
+//! push_done(&mut out, cache.flush(&mut files))?;
+//! ```
+//!
+//! The case `cache` in `crates/cases_indexes/src/caches.rt` runs it, call by call.
 #![tactic(auto)]
 
+mod blocks;
 mod cache;
 mod laws;
 mod setup;
 
 pub use cache::KeyCache;
-pub use laws::{calls_follow, files_show_what_is_lent, pages_stay_apart, ranges_are_read};
+pub use laws::{
+    calls_follow, files_show_what_is_lent, lists_hold_each_page_once, lists_of_four_blocks,
+    pages_stay_apart, ranges_are_read,
+};
 pub use setup::{CacheFault, CacheSetup, Counters};

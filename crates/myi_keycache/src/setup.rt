@@ -1,7 +1,7 @@
 //! What a key cache is given, what it counts, and why it did not answer.
 
 use myi_io::FileErr;
-use std::alloc::AllocError;
+use std::alloc::{AllocError, AllocFailed};
 use thiserror::Error;
 
 /// How a key cache keeps its pages.
@@ -58,6 +58,17 @@ impl From<FileErr> for CacheFault {
     }
 }
 
+impl<T: Drop> From<AllocFailed<T>> for CacheFault {
+    ghost use Rattle.std.specs.Prelude.{◌≡◌};
+    ghost use Rattle.myi_keycache.specs.declared.setup.CacheFault.TheVariants.{Memory};
+
+    ghost from_gives = { λ _ f. f ≡ Memory };
+
+    fn from(_: AllocFailed<T>) -> Self {
+        CacheFault::Memory
+    }
+}
+
 impl From<AllocError> for CacheFault {
     ghost use Rattle.std.specs.Prelude.{◌≡◌};
     ghost use Rattle.myi_keycache.specs.declared.setup.CacheFault.TheVariants.{Memory};
@@ -70,7 +81,7 @@ impl From<AllocError> for CacheFault {
 }
 
 impl Counters {
-    ghost use Rattle.std.specs.Prelude.{◌≡◌};
+    ghost use Rattle.std.specs.Prelude.{◌≡◌, if◌then◌else◌};
     ghost use Rattle.myi_keycache.specs.Counts.{raised};
 
     /// No request yet.
@@ -85,19 +96,28 @@ impl Counters {
         }
     }
 
-    /// Counts a get that read the file.
-    pub(crate) fn count_read(&mut self)
-        ensures { self.new ≡ record self.old { read_requests = raised 1 self.old.read_requests; reads = raised 1 self.old.reads } }
+    /// Counts a get, and whether it read the file.
+    pub(crate) fn count_get(&mut self, read: bool)
+        ensures { self.new ≡ record self.old {
+          read_requests = raised 1 self.old.read_requests;
+          reads = raised (if read then 1 else 0) self.old.reads;
+        } }
     {
         self.read_requests = self.read_requests.saturating_add(1);
-        self.reads = self.reads.saturating_add(1);
+        self.reads = self.reads.saturating_add(read as u64);
     }
 
-    /// Counts a put that wrote the file.
-    pub(crate) fn count_write(&mut self)
-        ensures { self.new ≡ record self.old { write_requests = raised 1 self.old.write_requests; writes = raised 1 self.old.writes } }
+    /// Counts a put.
+    pub(crate) fn count_put(&mut self)
+        ensures { self.new ≡ record self.old { write_requests = raised 1 self.old.write_requests } }
     {
         self.write_requests = self.write_requests.saturating_add(1);
+    }
+
+    /// Counts a page that was written.
+    pub(crate) fn count_write(&mut self)
+        ensures { self.new ≡ record self.old { writes = raised 1 self.old.writes } }
+    {
         self.writes = self.writes.saturating_add(1);
     }
 }

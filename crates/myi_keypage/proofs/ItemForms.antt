@@ -1,7 +1,7 @@
 -- The spelling of items, and which items have one.
 use Rattle.std.specs.Prelude.{ℕ, ◌^◌, ◌<◌, Bool, true, false, List, [], ◌∷◌, ◌++◌, length, Option, Some, None}
 use Rattle.myi_keypage.specs.Page.{child_bytes, packed_bytes, IsPlace}
-use Rattle.myi_keypage.specs.Reading.{Item}
+use Rattle.myi_keypage.specs.PageItems.{Item}
 
 abbrev pub IsChild : Bool → Option ℕ → Type 0
 IsChild false None = Unit {0}

@@ -6,7 +6,7 @@ use Rattle.std.proofs.lemmas.List.{length-append}
 use Rattle.std.proofs.lemmas.Option.{same_Some, cond_some}
 use Rattle.myi_keypage.specs.Page.{number_bytes, child_bytes, IsPlace}
 use Rattle.myi_base.specs.Numbers.{num_bytes, AreBytes}
-use Rattle.myi_keypage.specs.Reading.{◌>>=◌, Item, place_at, child_at, item_at, items_up_to, items_of, passes, is_longest, key_after}
+use Rattle.myi_keypage.specs.PageItems.{◌>>=◌, Item, place_at, child_at, item_at, items_up_to, items_of, passes, is_longest, key_after}
 use Rattle.myi_keypage.proofs.ItemForms.{IsChild, child_part, item_bytes, IsItem}
 use Rattle.myi_keypage.proofs.Numbers.{bind_some, Takes, Takes-then, number_takes, number_again, piece_takes, piece_again, pointer_takes, pointer_again}
 

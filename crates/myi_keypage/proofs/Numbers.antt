@@ -6,7 +6,7 @@ use Rattle.std.proofs.lemmas.Option.{some_pair_parts}
 use Rattle.myi_keypage.specs.Page.{number_bytes}
 use Rattle.myi_base.specs.Numbers.{num_bytes, num, AreBytes}
 use Rattle.myi_base.proofs.CallerLemmas.{length-num_bytes, num-num_bytes, num-below, num_bytes-num, bytes-take, bytes-drop}
-use Rattle.myi_keypage.specs.Reading.{◌>>=◌, number_at, wide_at, piece_at, pointer_at}
+use Rattle.myi_keypage.specs.PageItems.{◌>>=◌, number_at, wide_at, piece_at, pointer_at}
 
 pub AreBytes-rest : (b : ℕ) (bytes : List ℕ) → AreBytes (b ∷ bytes) → AreBytes bytes
 AreBytes-rest b bytes h i = h (suc i)

@@ -8,9 +8,9 @@ use Rattle.std.proofs.lemmas.Option.{same_Some}
 use Rattle.myi_keypage.specs.declared.entry.Entry.{Entry}
 use Rattle.myi_keypage.specs.Page.{Page, entries_bytes, entry_bytes, body_bytes, child_bytes, IsPlace, head_bytes, page_bytes, IsWritable, IsBranching, is_node, IsPage}
 use Rattle.myi_base.specs.Numbers.{AreBytes}
-use Rattle.myi_keypage.specs.Reading.{◌>>=◌, items_up_to, items_of, item_at, child_at, Item, key_after, are_longest, passes}
+use Rattle.myi_keypage.specs.PageItems.{◌>>=◌, items_up_to, items_of, item_at, child_at, Item, key_after, are_longest, passes}
 use Rattle.myi_keypage.proofs.ItemForms.{IsChild, AreItems}
-use Rattle.myi_keypage.specs.Showing.{entries_after, with_child, children_of, Shown, shown, page_of, body_shown, items_in, items_or_none}
+use Rattle.myi_keypage.specs.Views.{entries_after, with_child, children_of, ViewedPage, viewed_page, page_of, viewed_body, items_in, items_or_none}
 use Rattle.myi_base.proofs.CallerLemmas.{bytes-take, bytes-drop}
 use Rattle.myi_keypage.proofs.Numbers.{bind_some}
 use Rattle.myi_keypage.proofs.WriteLaws.{entry_len}
@@ -59,26 +59,26 @@ is_child_node false (Some c) h = absurd h
 is_child_node true None h = absurd h
 is_child_node true (Some c) h = refl
 
-pub shown_none : (node : Bool) (rec_ref : ℕ) (body : List ℕ) → child_at node body ≡ None → body_shown node rec_ref body ≡ None
-unfolding body_shown
+pub shown_none : (node : Bool) (rec_ref : ℕ) (body : List ℕ) → child_at node body ≡ None → viewed_body node rec_ref body ≡ None
+unfolding viewed_body
 shown_none node rec_ref body e = rw e refl
 
-pub shown_empty : (node : Bool) (rec_ref : ℕ) (body : List ℕ) (x : Option ℕ × List ℕ) → child_at node body ≡ Some x → length x.1 ≡ 0 → body_shown node rec_ref body ≡ None
-unfolding body_shown
+pub shown_empty : (node : Bool) (rec_ref : ℕ) (body : List ℕ) (x : Option ℕ × List ℕ) → child_at node body ≡ Some x → length x.1 ≡ 0 → viewed_body node rec_ref body ≡ None
+unfolding viewed_body
 shown_empty node rec_ref body x e h = rw (e, items_of_nil node rec_ref x.1 h) refl
 
 by_passing : (first : Option ℕ) (o : Option (List Item)) → passes [] o ≡ false
-    → (o >>= λ items. cond (ltb 0 (length items) && are_longest [] items) (Some (shown first items)) None) ≡ None
+    → (o >>= λ items. cond (ltb 0 (length items) && are_longest [] items) (Some (viewed_page first items)) None) ≡ None
 unfolding passes
 by_passing first None h = refl
 by_passing first (Some items) h = let all : (ltb 0 (length items) && are_longest [] items) ≡ false = and_right _ _ h in rw all refl
 
-pub shown_failed : (node : Bool) (rec_ref : ℕ) (body : List ℕ) (x : Option ℕ × List ℕ) → child_at node body ≡ Some x → passes [] (items_of node rec_ref x.1) ≡ false → body_shown node rec_ref body ≡ None
-unfolding body_shown
+pub shown_failed : (node : Bool) (rec_ref : ℕ) (body : List ℕ) (x : Option ℕ × List ℕ) → child_at node body ≡ Some x → passes [] (items_of node rec_ref x.1) ≡ false → viewed_body node rec_ref body ≡ None
+unfolding viewed_body
 shown_failed node rec_ref body x e h = rw e (by_passing x.0 (items_of node rec_ref x.1) h)
 
 by_passed : (first : Option ℕ) (o : Option (List Item)) → passes [] o ≡ true → ((items : List Item) → o ≡ Some items → 0 < length items)
-    → ((o >>= λ items. cond (ltb 0 (length items) && are_longest [] items) (Some (shown first items)) None) ≡ Some (shown first (items_or_none o))) × (is_some o ≡ true)
+    → ((o >>= λ items. cond (ltb 0 (length items) && are_longest [] items) (Some (viewed_page first items)) None) ≡ Some (viewed_page first (items_or_none o))) × (is_some o ≡ true)
 unfolding passes
 by_passed first None h lt = absurd cc
 by_passed first (Some items) h lt =
@@ -86,8 +86,8 @@ by_passed first (Some items) h lt =
     (rw (some, h) refl, refl)
 
 pub shown_passed : (node : Bool) (rec_ref : ℕ) (body : List ℕ) (x : Option ℕ × List ℕ) → AreBytes body → child_at node body ≡ Some x → 0 < length x.1 → passes [] (items_of node rec_ref x.1) ≡ true
-    → (body_shown node rec_ref body ≡ Some (shown x.0 (items_in (is_some x.0) rec_ref x.1))) × (is_some (items_of (is_some x.0) rec_ref x.1) ≡ true) × AreBytes x.1
-unfolding body_shown
+    → (viewed_body node rec_ref body ≡ Some (viewed_page x.0 (items_in (is_some x.0) rec_ref x.1))) × (is_some (items_of (is_some x.0) rec_ref x.1) ≡ true) × AreBytes x.1
+unfolding viewed_body
 shown_passed node rec_ref body x fits e lt h =
     let t = child_takes node body x.0 x.1 fits e in
     let n : is_some x.0 ≡ node = is_child_node node x.0 t.1 in
@@ -114,12 +114,12 @@ length-entries_after before [] = refl
 length-entries_after before (item ∷ items) = ap suc (length-entries_after (key_after before item) items)
 
 -- the parts that go by whether it is a node
-pub by_node : (node : Bool) (rec_ref : ℕ) (s : Shown) → IsChild node s.first → AreItems node rec_ref s.items → are_longest [] s.items ≡ true
+pub by_node : (node : Bool) (rec_ref : ℕ) (s : ViewedPage) → IsChild node s.first → AreItems node rec_ref s.items → are_longest [] s.items ≡ true
     → AllByRecursion IsPlace (page_of s).children × IsBranching (page_of s) × (is_node (page_of s) ≡ node)
 by_node node rec_ref s f h l = cases node s.first s.items f h l
   where
     cases : (node : Bool) (first : Option ℕ) (items : List Item) → IsChild node first → AreItems node rec_ref items → are_longest [] items ≡ true
-        → AllByRecursion IsPlace (with_child first (children_of items)) × IsBranching (page_of (shown first items)) × (is_node (page_of (shown first items)) ≡ node)
+        → AllByRecursion IsPlace (with_child first (children_of items)) × IsBranching (page_of (viewed_page first items)) × (is_node (page_of (viewed_page first items)) ≡ node)
     cases false None items f h l =
         let none = (leaf_text rec_ref [] items h l).1 in (places_in rec_ref false items h, rw none tt, rw none refl)
     cases false (Some c) items f h l = absurd f
@@ -136,8 +136,8 @@ head_is : (node : Bool) (a b : ℕ) → a < 256 → b < 256 → leb 128 a ≡ no
 head_is true a b ha hb e = let le : 128 ≤ a = leb-true _ _ e in let x : 128 + (a % 128 * 256 + b) / 256 ≡ a = omega arith in let y : (a % 128 * 256 + b) % 256 ≡ b = omega arith in rw (x, y) refl
 head_is false a b ha hb e = let lt : a < 128 = leb-false _ _ e in let x : 0 + (a % 128 * 256 + b) / 256 ≡ a = omega arith in let y : (a % 128 * 256 + b) % 256 ≡ b = omega arith in rw (x, y) refl
 
-pub page_found : (rec_ref : ℕ) (bytes : List ℕ) (s : Shown) (node : Bool) (used : ℕ) → AreBytes bytes → 2 ≤ length bytes → leb 128 (get_or bytes 0 0) ≡ node → used ≡ get_or bytes 0 0 % 128 * 256 + get_or bytes 1 0
-    → 2 ≤ used → used ≤ length bytes → body_shown node rec_ref (take (used - 2) (drop 2 bytes)) ≡ Some s → IsPage rec_ref bytes (page_of s)
+pub page_found : (rec_ref : ℕ) (bytes : List ℕ) (s : ViewedPage) (node : Bool) (used : ℕ) → AreBytes bytes → 2 ≤ length bytes → leb 128 (get_or bytes 0 0) ≡ node → used ≡ get_or bytes 0 0 % 128 * 256 + get_or bytes 1 0
+    → 2 ≤ used → used ≤ length bytes → viewed_body node rec_ref (take (used - 2) (drop 2 bytes)) ≡ Some s → IsPage rec_ref bytes (page_of s)
 unfolding page_bytes
 page_found rec_ref bytes s node used fits two is_node_byte used_is least most e =
     let body : List ℕ = take (used - 2) (drop 2 bytes) in
@@ -218,46 +218,46 @@ length-items_for before (e ∷ es) (c ∷ cs) = ap suc (length-items_for e.key e
 
 -- what shows a page
 pub shown_page : (rec_ref : ℕ) (es : List Entry) (cs : List ℕ) → let page : Page = record { entries = es; children = cs } in IsWritable rec_ref page → IsBranching page
-    → (s : Shown) × (body_shown (is_node page) rec_ref (body_bytes rec_ref page) ≡ Some s) × (page_of s ≡ page)
+    → (s : ViewedPage) × (viewed_body (is_node page) rec_ref (body_bytes rec_ref page) ≡ Some s) × (page_of s ≡ page)
 shown_page rec_ref es [] has branching =
     let items : List Item = items_for [] es [] in
-    let s : Shown = shown None items in
+    let s : ViewedPage = viewed_page None items in
     let none : children_of items ≡ [] = no_children_for [] es in
     let same : page_of s ≡ record { entries = es; children = [] } = ap (λ (t : List Entry). page_with t (children_of items)) (entries_for [] es []) ∙ ap (page_with es) none in
     let k = body_again false rec_ref s (omega (arith, has.some, length-items_for [] es [])) tt (leaf_fits rec_ref [] es has.rows (omega (arith, has.used))) (longest_for [] es []) in
-    (s, ap (λ (p : Page). body_shown false rec_ref (body_bytes rec_ref p)) (sym same) ∙ k, same)
+    (s, ap (λ (p : Page). viewed_body false rec_ref (body_bytes rec_ref p)) (sym same) ∙ k, same)
   where
     page_with : List Entry → List ℕ → Page
     page_with es cs = record { entries = es; children = cs }
 shown_page rec_ref es (c ∷ cs) has branching =
     let items : List Item = items_for [] es cs in
-    let s : Shown = shown (Some c) items in
+    let s : ViewedPage = viewed_page (Some c) items in
     let some : children_of items ≡ cs = children_for [] es cs branching in
     let same : page_of s ≡ record { entries = es; children = c ∷ cs } = ap (λ (t : List Entry). page_with t (c ∷ children_of items)) (entries_for [] es cs) ∙ ap (λ (t : List ℕ). page_with es (c ∷ t)) some in
     let len : length (body_bytes rec_ref (page_with es (c ∷ cs))) ≡ length (child_bytes c) + length (entries_bytes rec_ref [] es cs) = length-append (child_bytes c) (entries_bytes rec_ref [] es cs) in
     let k = body_again true rec_ref s (omega (arith, has.some, length-items_for [] es cs)) has.places.0 (node_fits rec_ref [] es cs has.rows has.places.1 branching (omega (arith, has.used))) (longest_for [] es cs) in
-    (s, ap (λ (b : Bool). body_shown b rec_ref (body_bytes rec_ref (page_with es (c ∷ cs)))) (lt-ltb 0 (length (c ∷ cs)) (omega arith)) ∙ ap (λ (p : Page). body_shown true rec_ref (body_bytes rec_ref p)) (sym same) ∙ k, same)
+    (s, ap (λ (b : Bool). viewed_body b rec_ref (body_bytes rec_ref (page_with es (c ∷ cs)))) (lt-ltb 0 (length (c ∷ cs)) (omega arith)) ∙ ap (λ (p : Page). viewed_body true rec_ref (body_bytes rec_ref p)) (sym same) ∙ k, same)
   where
     page_with : List Entry → List ℕ → Page
     page_with es cs = record { entries = es; children = cs }
 
-none_some : (o : Option Shown) (s : Shown) → o ≡ None → o ≡ Some s → ⊥
+none_some : (o : Option ViewedPage) (s : ViewedPage) → o ≡ None → o ≡ Some s → ⊥
 none_some None s e f = cc
 none_some (Some t) s e f = cc
 
-pub page_none : (rec_ref : ℕ) (bytes : List ℕ) (page : Page) → IsPage rec_ref bytes page → body_shown (leb 128 (get_or bytes 0 0)) rec_ref (take (get_or bytes 0 0 % 128 * 256 + get_or bytes 1 0 - 2) (drop 2 bytes)) ≡ None → ⊥
+pub page_none : (rec_ref : ℕ) (bytes : List ℕ) (page : Page) → IsPage rec_ref bytes page → viewed_body (leb 128 (get_or bytes 0 0)) rec_ref (take (get_or bytes 0 0 % 128 * 256 + get_or bytes 1 0 - 2) (drop 2 bytes)) ≡ None → ⊥
 page_none rec_ref bytes page h e =
     let x = expected rec_ref bytes page h in
     let s = shown_page rec_ref page.entries page.children h.has h.branching in
     let used : get_or bytes 0 0 % 128 * 256 + get_or bytes 1 0 - 2 ≡ length (body_bytes rec_ref page) = omega (arith, x.used) in
     none_some _ s.0 (rw (x.node, used, x.body) at e) s.1
 
-pub if_found : (rec_ref : ℕ) (bytes : List ℕ) (o : Option Shown) → AreBytes bytes → 2 ≤ length bytes → let used : ℕ = get_or bytes 0 0 % 128 * 256 + get_or bytes 1 0 in
-    2 ≤ used → used ≤ length bytes → o ≡ body_shown (leb 128 (get_or bytes 0 0)) rec_ref (take (used - 2) (drop 2 bytes)) → IfSome o (λ v. IsPage rec_ref bytes (page_of v))
+pub if_found : (rec_ref : ℕ) (bytes : List ℕ) (o : Option ViewedPage) → AreBytes bytes → 2 ≤ length bytes → let used : ℕ = get_or bytes 0 0 % 128 * 256 + get_or bytes 1 0 in
+    2 ≤ used → used ≤ length bytes → o ≡ viewed_body (leb 128 (get_or bytes 0 0)) rec_ref (take (used - 2) (drop 2 bytes)) → IfSome o (λ v. IsPage rec_ref bytes (page_of v))
 if_found rec_ref bytes None fits two least most e = tt
 if_found rec_ref bytes (Some s) fits two least most e = page_found rec_ref bytes s _ _ fits two refl refl least most (sym e)
 
-pub if_none : (rec_ref : ℕ) (bytes : List ℕ) (o : Option Shown) → o ≡ body_shown (leb 128 (get_or bytes 0 0)) rec_ref (take (get_or bytes 0 0 % 128 * 256 + get_or bytes 1 0 - 2) (drop 2 bytes)) → IfNone o ((page : Page) → IsPage rec_ref bytes page → ⊥)
+pub if_none : (rec_ref : ℕ) (bytes : List ℕ) (o : Option ViewedPage) → o ≡ viewed_body (leb 128 (get_or bytes 0 0)) rec_ref (take (get_or bytes 0 0 % 128 * 256 + get_or bytes 1 0 - 2) (drop 2 bytes)) → IfNone o ((page : Page) → IsPage rec_ref bytes page → ⊥)
 if_none rec_ref bytes None e = λ page h. page_none rec_ref bytes page h (sym e)
 if_none rec_ref bytes (Some s) e = tt
 
@@ -271,5 +271,5 @@ one_page rec_ref bytes p q h k =
     let node : is_node p ≡ is_node q = sym x.node ∙ y.node in
     let len : length (body_bytes rec_ref p) ≡ length (body_bytes rec_ref q) = omega (arith, x.used, y.used) in
     let body : body_bytes rec_ref p ≡ body_bytes rec_ref q = sym x.body ∙ ap (λ (n : ℕ). take n (drop 2 bytes)) len ∙ y.body in
-    let same : s.0 ≡ t.0 = same_Some _ _ (sym s.1 ∙ ap (λ (b : Bool). body_shown b rec_ref (body_bytes rec_ref p)) node ∙ ap (body_shown (is_node q) rec_ref) body ∙ t.1) in
+    let same : s.0 ≡ t.0 = same_Some _ _ (sym s.1 ∙ ap (λ (b : Bool). viewed_body b rec_ref (body_bytes rec_ref p)) node ∙ ap (viewed_body (is_node q) rec_ref) body ∙ t.1) in
     sym s.2 ∙ ap page_of same ∙ t.2

@@ -9,9 +9,9 @@ use Rattle.myi_keypage.specs.Page.{shared, entries_bytes, entry_bytes, body_byte
 use Rattle.myi_base.specs.Numbers.{AreBytes}
 use Rattle.myi_keypage.proofs.Numbers.{bind_some, Takes}
 use Rattle.myi_keypage.proofs.ItemLaws.{child_takes, child_again, item_takes, item_again, length-number_bytes}
-use Rattle.myi_keypage.specs.Reading.{items_up_to, items_of, item_at, Item, key_after, is_longest, are_longest}
+use Rattle.myi_keypage.specs.PageItems.{items_up_to, items_of, item_at, Item, key_after, is_longest, are_longest}
 use Rattle.myi_keypage.proofs.ItemForms.{IsChild, child_part, item_bytes, IsItem, items_bytes, AreItems}
-use Rattle.myi_keypage.specs.Showing.{entries_after, with_child, children_of, Shown, page_of, body_shown}
+use Rattle.myi_keypage.specs.Views.{entries_after, with_child, children_of, ViewedPage, page_of, viewed_body}
 use Rattle.myi_keypage.proofs.Shared.{shared_le, shared_rest, shared_made, rejoined}
 
 -- the prefix of an item is what its key shares with the one before it
@@ -134,7 +134,7 @@ node_body : (rec_ref : ℕ) (place : ℕ) (items : List Item) → AreItems true 
 node_body rec_ref place items h l = ap (λ (t : List ℕ). child_bytes place ++ t) (sym (node_text rec_ref [] items h l).0)
 
 -- what a body that shows something is
-pub record BodyIs (node : Bool) (rec_ref : ℕ) (body : List ℕ) (s : Shown) : Type 0 where
+pub record BodyIs (node : Bool) (rec_ref : ℕ) (body : List ℕ) (s : ViewedPage) : Type 0 where
   pub text : body ≡ body_bytes rec_ref (page_of s)
   pub some : 0 < length s.items
   pub first : IsChild node s.first
@@ -147,8 +147,8 @@ by_first false rec_ref (Some place) items f h l = absurd f
 by_first true rec_ref None items f h l = absurd f
 by_first true rec_ref (Some place) items f h l = sym (node_body rec_ref place items h l)
 
-pub body_found : (node : Bool) (rec_ref : ℕ) (body : List ℕ) (s : Shown) → AreBytes body → body_shown node rec_ref body ≡ Some s → BodyIs node rec_ref body s
-unfolding body_shown items_of
+pub body_found : (node : Bool) (rec_ref : ℕ) (body : List ℕ) (s : ViewedPage) → AreBytes body → viewed_body node rec_ref body ≡ Some s → BodyIs node rec_ref body s
+unfolding viewed_body items_of
 body_found node rec_ref body s fits e =
     let a = bind_some _ _ _ e in
     let b = bind_some _ _ _ a.2 in
@@ -156,7 +156,7 @@ body_found node rec_ref body s fits e =
     let t = child_takes node body a.0.0 a.0.1 fits a.1 in
     let k = items_taken _ node rec_ref a.0.1 b.0 t.0.fits b.1 in
     let p = and_parts (ltb 0 (length b.0)) _ g.0 in
-    subst (λ (x : Shown). BodyIs node rec_ref body x) g.1 (record {
+    subst (λ (x : ViewedPage). BodyIs node rec_ref body x) g.1 (record {
       text = t.0.parts ∙ ap (λ (r : List ℕ). child_part a.0.0 ++ r) k.0 ∙ by_first node rec_ref a.0.0 b.0 t.1 k.1 p.1;
       some = ltb-true _ _ p.0;
       first = t.1;
@@ -164,10 +164,10 @@ body_found node rec_ref body s fits e =
       longest = p.1;
     })
 
-pub body_again : (node : Bool) (rec_ref : ℕ) (s : Shown) → 0 < length s.items → IsChild node s.first → AreItems node rec_ref s.items → are_longest [] s.items ≡ true → body_shown node rec_ref (body_bytes rec_ref (page_of s)) ≡ Some s
-unfolding body_shown items_of
+pub body_again : (node : Bool) (rec_ref : ℕ) (s : ViewedPage) → 0 < length s.items → IsChild node s.first → AreItems node rec_ref s.items → are_longest [] s.items ≡ true → viewed_body node rec_ref (body_bytes rec_ref (page_of s)) ≡ Some s
+unfolding viewed_body items_of
 body_again node rec_ref s some first items longest =
-    ap (body_shown node rec_ref) (sym (by_first node rec_ref s.first s.items first items longest)) ∙
+    ap (viewed_body node rec_ref) (sym (by_first node rec_ref s.first s.items first items longest)) ∙
     rw (child_again node s.first (items_bytes rec_ref s.items) first, items_again (length (items_bytes rec_ref s.items)) node rec_ref s.items (omega arith) items, lt-ltb 0 (length s.items) some, longest) refl
 
 -- ---- every page with a spelling is shown by some items

@@ -7,36 +7,36 @@ use Rattle.std.specs.Prelude.{option_map, is_some}
 use Rattle.myi_base.specs.Numbers.{AreBytes}
 use Rattle.myi_base.proofs.CallerLemmas.{bytes-take, bytes-drop}
 use Rattle.myi_keypage.specs.Page.{Page, body_bytes, page_bytes, is_node, IsWritable, IsBranching, IsPage}
-use Rattle.myi_keypage.specs.Showing.{Shown, page_of, shown_in, used_in, body_shown, page_in}
+use Rattle.myi_keypage.specs.Views.{ViewedPage, page_of, viewed_in, used_in, viewed_body, page_in}
 use Rattle.myi_keypage.proofs.PageLaws.{BodyIs, body_found}
 use Rattle.myi_keypage.proofs.ItemForms.{AreItems}
-use Rattle.myi_keypage.specs.Reading.{Item, are_longest}
+use Rattle.myi_keypage.specs.PageItems.{Item, are_longest}
 use Rattle.std.specs.List.{AllByRecursion}
 use Rattle.myi_keypage.proofs.PageIs.{shown_page, expected, page_found, one_page, by_node, is_child_node}
 
-pub shown_short : (rec_ref : ℕ) (bytes : List ℕ) → length bytes < 2 → None ≡ shown_in rec_ref bytes
-unfolding shown_in
+pub shown_short : (rec_ref : ℕ) (bytes : List ℕ) → length bytes < 2 → None ≡ viewed_in rec_ref bytes
+unfolding viewed_in
 shown_short rec_ref bytes h = rw (lt-ltb (length bytes) 2 h) refl
 
-pub shown_odd : (rec_ref : ℕ) (bytes : List ℕ) → 2 ≤ length bytes → (used_in bytes < 2) ⊎ (length bytes < used_in bytes) → None ≡ shown_in rec_ref bytes
-unfolding shown_in
+pub shown_odd : (rec_ref : ℕ) (bytes : List ℕ) → 2 ≤ length bytes → (used_in bytes < 2) ⊎ (length bytes < used_in bytes) → None ≡ viewed_in rec_ref bytes
+unfolding viewed_in
 shown_odd rec_ref bytes h (inl k) = rw (le-ltb (length bytes) 2 h, lt-ltb (used_in bytes) 2 k) refl
 shown_odd rec_ref bytes h (inr k) = elim (cases_lt (used_in bytes) 2) [
   | inl less ↦ rw (le-ltb (length bytes) 2 h, lt-ltb (used_in bytes) 2 less) refl
   | inr more ↦ rw (le-ltb (length bytes) 2 h, le-ltb (used_in bytes) 2 more, lt-ltb (length bytes) (used_in bytes) k) refl
 ]
 
-pub shown_even : (rec_ref : ℕ) (bytes : List ℕ) → 2 ≤ length bytes → 2 ≤ used_in bytes → used_in bytes ≤ length bytes → shown_in rec_ref bytes ≡ body_shown (leb 128 (get_or bytes 0 0)) rec_ref (take (used_in bytes - 2) (drop 2 bytes))
-unfolding shown_in
+pub shown_even : (rec_ref : ℕ) (bytes : List ℕ) → 2 ≤ length bytes → 2 ≤ used_in bytes → used_in bytes ≤ length bytes → viewed_in rec_ref bytes ≡ viewed_body (leb 128 (get_or bytes 0 0)) rec_ref (take (used_in bytes - 2) (drop 2 bytes))
+unfolding viewed_in
 shown_even rec_ref bytes h k m = rw (le-ltb (length bytes) 2 h, le-ltb (used_in bytes) 2 k, le-ltb (length bytes) (used_in bytes) m) refl
 
-nothing : (o : Option Shown) (s : Shown) → None ≡ o → o ≡ Some s → ⊥
+nothing : (o : Option ViewedPage) (s : ViewedPage) → None ≡ o → o ≡ Some s → ⊥
 nothing None s e f = cc
 nothing (Some t) s e f = cc
 
 -- what bytes that show something are
-pub shown_holds : (rec_ref : ℕ) (bytes : List ℕ) (s : Shown) → shown_in rec_ref bytes ≡ Some s
-    → (2 ≤ length bytes) × (2 ≤ used_in bytes) × (used_in bytes ≤ length bytes) × (body_shown (leb 128 (get_or bytes 0 0)) rec_ref (take (used_in bytes - 2) (drop 2 bytes)) ≡ Some s)
+pub shown_holds : (rec_ref : ℕ) (bytes : List ℕ) (s : ViewedPage) → viewed_in rec_ref bytes ≡ Some s
+    → (2 ≤ length bytes) × (2 ≤ used_in bytes) × (used_in bytes ≤ length bytes) × (viewed_body (leb 128 (get_or bytes 0 0)) rec_ref (take (used_in bytes - 2) (drop 2 bytes)) ≡ Some s)
 shown_holds rec_ref bytes s e =
     elim (cases_lt (length bytes) 2) [
       | inl short ↦ absurd (nothing _ s (shown_short rec_ref bytes short) e)
@@ -50,7 +50,7 @@ shown_holds rec_ref bytes s e =
     ]
 
 -- bytes that are a page show it
-pub page_shown : (rec_ref : ℕ) (bytes : List ℕ) (page : Page) → IsPage rec_ref bytes page → (s : Shown) × (shown_in rec_ref bytes ≡ Some s) × (page_of s ≡ page)
+pub page_shown : (rec_ref : ℕ) (bytes : List ℕ) (page : Page) → IsPage rec_ref bytes page → (s : ViewedPage) × (viewed_in rec_ref bytes ≡ Some s) × (page_of s ≡ page)
 page_shown rec_ref bytes page h =
     let x = expected rec_ref bytes page h in
     let s = shown_page rec_ref page.entries page.children h.has h.branching in
@@ -62,14 +62,14 @@ page_is rec_ref bytes page h =
     let s = page_shown rec_ref bytes page h in
     rw s.1 (ap Some s.2)
 
-mapped : (o : Option Shown) (page : Page) → option_map page_of o ≡ Some page → (s : Shown) × (o ≡ Some s) × (page_of s ≡ page)
+mapped : (o : Option ViewedPage) (page : Page) → option_map page_of o ≡ Some page → (s : ViewedPage) × (o ≡ Some s) × (page_of s ≡ page)
 mapped None page e = absurd cc
 mapped (Some s) page e = (s, refl, same_Some _ _ e)
 
 -- and bytes that show a page are it
 pub page_from : (rec_ref : ℕ) (bytes : List ℕ) (page : Page) → AreBytes bytes → page_in rec_ref bytes ≡ Some page → IsPage rec_ref bytes page
 page_from rec_ref bytes page fits e =
-    let m = mapped (shown_in rec_ref bytes) page e in
+    let m = mapped (viewed_in rec_ref bytes) page e in
     let k = shown_holds rec_ref bytes m.0 m.1 in
     subst (λ (p : Page). IsPage rec_ref bytes p) m.2 (page_found rec_ref bytes m.0 _ _ fits k.0 refl refl k.1 k.2 k.3)
 
@@ -90,28 +90,28 @@ page_used rec_ref x y page h same =
     record { has = h.has; branching = h.branching; text = (drop n y, sym (take-append-drop n y) ∙ ap (λ (t : List ℕ). t ++ drop n y) front) }
 
 -- what is shown is a body
-shown_body : (rec_ref : ℕ) (bytes : List ℕ) (s : Shown) → AreBytes bytes → shown_in rec_ref bytes ≡ Some s → BodyIs (leb 128 (get_or bytes 0 0)) rec_ref (take (used_in bytes - 2) (drop 2 bytes)) s
+shown_body : (rec_ref : ℕ) (bytes : List ℕ) (s : ViewedPage) → AreBytes bytes → viewed_in rec_ref bytes ≡ Some s → BodyIs (leb 128 (get_or bytes 0 0)) rec_ref (take (used_in bytes - 2) (drop 2 bytes)) s
 shown_body rec_ref bytes s fits e =
     let k = shown_holds rec_ref bytes s e in
     body_found _ rec_ref _ s (bytes-take (used_in bytes - 2) (drop 2 bytes) (bytes-drop 2 bytes fits)) k.3
 
 -- a view has a first child in a node alone
-pub shown_node : (rec_ref : ℕ) (bytes : List ℕ) (s : Shown) → AreBytes bytes → shown_in rec_ref bytes ≡ Some s → is_node (page_of s) ≡ is_some s.first
+pub shown_node : (rec_ref : ℕ) (bytes : List ℕ) (s : ViewedPage) → AreBytes bytes → viewed_in rec_ref bytes ≡ Some s → is_node (page_of s) ≡ is_some s.first
 shown_node rec_ref bytes s fits e =
     let b = shown_body rec_ref bytes s fits e in
     (by_node _ rec_ref s b.first b.items b.longest).2 ∙ sym (is_child_node _ s.first b.first)
 
-pub shown_some : (rec_ref : ℕ) (bytes : List ℕ) (s : Shown) → AreBytes bytes → shown_in rec_ref bytes ≡ Some s → 0 < length s.items
+pub shown_some : (rec_ref : ℕ) (bytes : List ℕ) (s : ViewedPage) → AreBytes bytes → viewed_in rec_ref bytes ≡ Some s → 0 < length s.items
 shown_some rec_ref bytes s fits e = (shown_body rec_ref bytes s fits e).some
 
 children_are : (node : Bool) (rec_ref : ℕ) (items : List Item) (b : Bool) → node ≡ b → AreItems node rec_ref items → AllByRecursion (λ item. is_some item.child ≡ b) items
 children_are node rec_ref [] b same h = tt
 children_are node rec_ref (item ∷ items) b same h = (is_child_node node item.child h.0.child ∙ same, children_are node rec_ref items b same h.1)
 
-pub shown_children : (rec_ref : ℕ) (bytes : List ℕ) (s : Shown) → AreBytes bytes → shown_in rec_ref bytes ≡ Some s → AllByRecursion (λ item. is_some item.child ≡ is_some s.first) s.items
+pub shown_children : (rec_ref : ℕ) (bytes : List ℕ) (s : ViewedPage) → AreBytes bytes → viewed_in rec_ref bytes ≡ Some s → AllByRecursion (λ item. is_some item.child ≡ is_some s.first) s.items
 shown_children rec_ref bytes s fits e =
     let b = shown_body rec_ref bytes s fits e in
     children_are _ rec_ref s.items (is_some s.first) (sym (is_child_node _ s.first b.first)) b.items
 
-pub shown_longest : (rec_ref : ℕ) (bytes : List ℕ) (s : Shown) → AreBytes bytes → shown_in rec_ref bytes ≡ Some s → are_longest [] s.items ≡ true
+pub shown_longest : (rec_ref : ℕ) (bytes : List ℕ) (s : ViewedPage) → AreBytes bytes → viewed_in rec_ref bytes ≡ Some s → are_longest [] s.items ≡ true
 shown_longest rec_ref bytes s fits e = (shown_body rec_ref bytes s fits e).longest

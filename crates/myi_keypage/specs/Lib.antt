@@ -1,7 +1,7 @@
 -- What a reader of the contracts has to believe: pages, how long they are, what a view shows, what is written.
 pub mod Page
 pub mod Fitting
-pub mod Showing
+pub mod Views
 pub mod Writing
 -- What serves private contracts: reading from left to right.
-pub mod Reading
+pub mod PageItems

@@ -5,10 +5,15 @@ ghost use Rattle.myi_keypage.specs.Page.{shared};
 use myi_base::Sequence;
 
 /// A key in its code, and the row pointer that goes with it.
-#[derive(Drop)]
 pub struct Entry {
     pub key: Sequence<u8>,
     pub row: u64,
+}
+
+impl Drop for Entry {
+    fn drop(self) {
+        let Entry { key: _, row: _ } = self;
+    }
 }
 
 /// How many bytes two keys share at their front.

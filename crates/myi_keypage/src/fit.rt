@@ -1,5 +1,6 @@
 //! Whether entries fit into a page.
-ghost use Rattle.std.specs.Prelude.{◌≡◌, ◌+◌, ◌^◌, ◌<◌, ◌≤◌, ℕ, length, take, IsTrue, ◌↔◌, if◌then◌else◌};
+ghost use Rattle.std.specs.Prelude.{◌≡◌, ◌+◌, ◌^◌, ◌<◌, ◌≤◌, ◌↔◌, if◌then◌else◌};
+ghost use Rattle.std.specs.Prelude.{ℕ, length, take, IsTrue};
 ghost use Rattle.myi_keypage.specs.Page.{number_bytes, entry_bytes};
 ghost use Rattle.myi_keypage.specs.Fitting.{used_length};
 

@@ -4,7 +4,8 @@
 //! its key, its row pointer, and in a node the child after it. Each reader here takes one thing from
 //! the front of the bytes and answers it with what is left, and None where it does not stand there.
 ghost use Rattle.std.specs.Prelude.{◌≡◌, ◌≤◌, length, option_map};
-ghost use Rattle.myi_keypage.specs.Reading.{number_at, pointer_at, place_at, child_at, item_at, piece_at, item_view};
+ghost use Rattle.myi_keypage.specs.PageItems.{number_at, pointer_at, place_at};
+ghost use Rattle.myi_keypage.specs.PageItems.{child_at, item_at, piece_at, item_view};
 
 use myi_base::number_at;
 
@@ -39,7 +40,7 @@ pub struct PageItem<'a> {
     pub child: Option<u64>,
 }
 
-#[tactic(auto, unfolding(crate::specs::Reading::number_at))]
+#[tactic(auto, unfolding(crate::specs::PageItems::number_at))]
 fn read_number(bytes: &[u8]) -> Option<(usize, &[u8])>
     ensures { option_map (λ x. (x.0, x.1.now)) result ≡ number_at bytes.now }
 {
@@ -66,7 +67,7 @@ fn read_piece(count: usize, bytes: &[u8]) -> Option<(&[u8], &[u8])>
     Some(bytes.split_at(count))
 }
 
-#[tactic(auto, unfolding(crate::specs::Reading::pointer_at))]
+#[tactic(auto, unfolding(crate::specs::PageItems::pointer_at))]
 fn read_pointer(count: usize, bytes: &[u8]) -> Option<(u64, &[u8])>
     requires { count ≤ 8 }
     ensures { option_map (λ x. (x.0, x.1.now)) result ≡ pointer_at count bytes.now }
@@ -77,7 +78,7 @@ fn read_pointer(count: usize, bytes: &[u8]) -> Option<(u64, &[u8])>
     Some((number_at(bytes, 0, count), &bytes[count..]))
 }
 
-#[tactic(auto, unfolding(crate::specs::Reading::place_at))]
+#[tactic(auto, unfolding(crate::specs::PageItems::place_at))]
 fn read_place(bytes: &[u8]) -> Option<(u64, &[u8])>
     ensures { option_map (λ x. (x.0, x.1.now)) result ≡ place_at bytes.now }
 {
@@ -90,7 +91,7 @@ fn read_place(bytes: &[u8]) -> Option<(u64, &[u8])>
 }
 
 /// The place of a child in a node, and nothing in a leaf.
-#[tactic(auto, unfolding(crate::specs::Reading::child_at))]
+#[tactic(auto, unfolding(crate::specs::PageItems::child_at))]
 pub(crate) fn read_child(node: bool, bytes: &[u8]) -> Option<(Option<u64>, &[u8])>
     ensures { option_map (λ x. (x.0, x.1.now)) result ≡ child_at node bytes.now }
 {
@@ -102,7 +103,7 @@ pub(crate) fn read_child(node: bool, bytes: &[u8]) -> Option<(Option<u64>, &[u8]
 }
 
 /// The item at the front of the bytes, and what is left.
-#[tactic(auto, unfolding(crate::specs::Reading::item_at))]
+#[tactic(auto, unfolding(crate::specs::PageItems::item_at))]
 pub(crate) fn read_item<'a>(
     node: bool,
     rec_ref: usize,

@@ -9,6 +9,20 @@
 //! over its items, each a `PageItem` that lends the rest of its key. `fits` and `fitting` answer whether
 //! entries fit into a page, and how many from the front do. `write_page` writes a page. Nothing here
 //! takes memory. The laws that the crates above build on are the contracts of the functions in `laws`.
+//!
+//! ```
+//! match read_page(&bytes, rec_ref) {
+//!     None => out.push_str("none")?,
+//!     Some(page) => {
+//!         let mut walk = page.walk();
+//!         while let Some(item) = walk.next_item() {
+//!             push_item(&mut out, &item)?;
+//!         }
+//!     }
+//! }
+//! ```
+//!
+//! The case `page` in `crates/cases_formats/src/pages.rt` runs it.
 #![tactic(auto)]
 
 mod entry;

@@ -4,7 +4,7 @@
 //! writes over what is behind its prefix, so that one pass over the page serves.
 ghost use Rattle.std.specs.Prelude.{◌≡◌, ◌+◌, ◌≤◌, ◌==◌, [], length, take};
 ghost use Rattle.myi_keypage.specs.Page.{shared};
-ghost use Rattle.myi_keypage.specs.Reading.{items_of, passes, is_longest, key_after, item_view};
+ghost use Rattle.myi_keypage.specs.PageItems.{items_of, passes, is_longest, key_after, item_view};
 
 use crate::item::{PageItem, read_item};
 

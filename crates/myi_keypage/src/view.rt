@@ -1,12 +1,13 @@
 //! A page that is read.
 //!
 //! `read_page` looks at all bytes of a page once and answers a `PageView`, which lends them. A contract
-//! sees a view as `Shown`: the first child and the items. `PageView::walk` answers a `PageWalk`, which
+//! sees a view as `ViewedPage`: the first child and the items. `PageView::walk` answers a `PageWalk`, which
 //! a contract sees as the list of the items that are left.
-ghost use Rattle.std.specs.Prelude.{◌≡◌, ◌≤◌, length, drop, IfSome, IfNone, option_map, slice_get, is_some};
+ghost use Rattle.std.specs.Prelude.{◌≡◌, ◌≤◌};
+ghost use Rattle.std.specs.Prelude.{length, drop, IfSome, IfNone, option_map, slice_get, is_some};
 ghost use Rattle.myi_keypage.specs.Page.{Page, IsPage};
-ghost use Rattle.myi_keypage.specs.Reading.{item_view};
-ghost use Rattle.myi_keypage.specs.Showing.{page_of, body_shown, shown_in};
+ghost use Rattle.myi_keypage.specs.PageItems.{item_view};
+ghost use Rattle.myi_keypage.specs.Views.{page_of, viewed_body, viewed_in};
 
 use crate::item::{HEAD_LENGTH, NODE_BIT, PageItem, read_child, read_item};
 use crate::prefix::all_pass;
@@ -23,14 +24,17 @@ pub struct PageView<'a> {
 impl<'a> Model for PageView<'a> {
     ghost use Rattle.std.specs.Prelude.{◌≡◌, ◌≤◌, is_some, true};
     ghost use Rattle.myi_base.specs.Numbers.{AreBytes};
-    ghost use Rattle.myi_keypage.specs.Reading.{items_of};
-    ghost use Rattle.myi_keypage.specs.Showing.{Shown, items_in};
+    ghost use Rattle.myi_keypage.specs.PageItems.{items_of};
+    ghost use Rattle.myi_keypage.specs.Views.{ViewedPage, items_in};
 
-    ghost Value = { Shown };
+    ghost Value = { ViewedPage };
 
-    ghost view = { λ v. record { first = v.first; items = items_in (is_some v.first) v.rec_ref v.items.now } };
+    ghost view = { λ v.
+        record { first = v.first; items = items_in (is_some v.first) v.rec_ref v.items.now } };
 
-    ghost invariant = { λ v. (v.rec_ref ≤ 8) × (is_some (items_of (is_some v.first) v.rec_ref v.items.now) ≡ true) × AreBytes v.items.now };
+    ghost invariant = { λ v.
+        (v.rec_ref ≤ 8) × (is_some (items_of (is_some v.first) v.rec_ref v.items.now) ≡ true)
+        × AreBytes v.items.now };
 }
 
 /// The items of a page from some item on.
@@ -44,20 +48,22 @@ pub struct PageWalk<'a> {
 impl<'a> Model for PageWalk<'a> {
     ghost use Rattle.std.specs.Prelude.{◌≡◌, ◌≤◌, is_some, true, List};
     ghost use Rattle.myi_base.specs.Numbers.{AreBytes};
-    ghost use Rattle.myi_keypage.specs.Reading.{Item, items_of};
-    ghost use Rattle.myi_keypage.specs.Showing.{items_in};
+    ghost use Rattle.myi_keypage.specs.PageItems.{Item, items_of};
+    ghost use Rattle.myi_keypage.specs.Views.{items_in};
 
     ghost Value = { List Item };
 
     ghost view = { λ w. items_in w.node w.rec_ref w.rest.now };
 
-    ghost invariant = { λ w. (w.rec_ref ≤ 8) × (is_some (items_of w.node w.rec_ref w.rest.now) ≡ true) × AreBytes w.rest.now };
+    ghost invariant = { λ w.
+        (w.rec_ref ≤ 8) × (is_some (items_of w.node w.rec_ref w.rest.now) ≡ true)
+        × AreBytes w.rest.now };
 }
 
 fn view_of<'a>(node: bool, rec_ref: u8, body: &'a [u8]) -> Option<PageView<'a>>
     requires narrow { rec_ref ≤ 8 }
     requires len { length body.now ≤ 32768 }
-    ensures { result ≡ body_shown node rec_ref body.now }
+    ensures { result ≡ viewed_body node rec_ref body.now }
 {
     let Some((first, items)) = read_child(node, body) else {
         return None;
@@ -83,7 +89,7 @@ pub fn read_page<'a>(bytes: &'a [u8], rec_ref: u8) -> Option<PageView<'a>>
     requires narrow { rec_ref ≤ 8 }
     ensures found { IfSome result (λ v. IsPage rec_ref bytes.now (page_of v)) }
     ensures none { IfNone result ((page : Page) → IsPage rec_ref bytes.now page → ⊥) }
-    ensures shown { result ≡ shown_in rec_ref bytes.now }
+    ensures shown { result ≡ viewed_in rec_ref bytes.now }
 {
     if bytes.len() < HEAD_LENGTH {
         return None;

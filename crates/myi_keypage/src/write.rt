@@ -2,11 +2,14 @@
 //!
 //! Each writer here puts one thing at a place of a slice and answers the place behind it. `write_page`
 //! puts the first two bytes, the body, and zeros behind it.
-ghost use Rattle.std.specs.Prelude.{◌≡◌, ◌+◌, ◌-◌, ◌^◌, ◌<◌, ◌≤◌, [], ◌++◌, length, take, drop, replicate, Some};
+ghost use Rattle.std.specs.Prelude.{◌≡◌, ◌+◌, ◌-◌, ◌^◌, ◌<◌, ◌≤◌, ◌++◌};
+ghost use Rattle.std.specs.Prelude.{[], length, take, drop, replicate, Some};
 ghost use Rattle.std.specs.List.{AllByRecursion};
 ghost use Rattle.myi_base.specs.Numbers.{num_bytes};
-ghost use Rattle.myi_keypage.specs.Page.{page_with, number_bytes, child_bytes, entry_bytes, entries_bytes, body_bytes, head_bytes, page_bytes, is_node, IsPlace, IsBranching, IsPage};
-ghost use Rattle.myi_keypage.specs.Showing.{page_in};
+ghost use Rattle.myi_keypage.specs.Page.{page_with, number_bytes, child_bytes, entry_bytes};
+ghost use Rattle.myi_keypage.specs.Page.{entries_bytes, body_bytes, head_bytes, page_bytes};
+ghost use Rattle.myi_keypage.specs.Page.{is_node, IsPlace, IsBranching, IsPage};
+ghost use Rattle.myi_keypage.specs.Views.{page_in};
 ghost use Rattle.myi_keypage.specs.Fitting.{used_length};
 ghost use Rattle.myi_keypage.specs.Writing.{Puts, IsMatching, filled_up};
 
@@ -86,7 +89,8 @@ fn put_entries(
     requires rows { AllByRecursion (λ e. e.row < 256 ^ rec_ref) entries.now }
     requires matching { IsMatching entries.now children.now }
     requires few { length into.old ≤ 16384 }
-    requires room { at + length (entries_bytes rec_ref [] entries.now children.now) ≤ length into.old }
+    requires room { at + length (entries_bytes rec_ref [] entries.now children.now)
+        ≤ length into.old }
     ensures { Puts into.old at into.new result (entries_bytes rec_ref [] entries.now children.now) }
 {
     let mut at = at;
@@ -123,8 +127,10 @@ fn put_body(
     requires rows { AllByRecursion (λ e. e.row < 256 ^ rec_ref) entries.now }
     requires branching { IsBranching (page_with entries.now children.now) }
     requires few { length into.old ≤ 16384 }
-    requires room { at + length (body_bytes rec_ref (page_with entries.now children.now)) ≤ length into.old }
-    ensures { Puts into.old at into.new result (body_bytes rec_ref (page_with entries.now children.now)) }
+    requires room { at + length (body_bytes rec_ref (page_with entries.now children.now))
+        ≤ length into.old }
+    ensures { Puts into.old at into.new result
+        (body_bytes rec_ref (page_with entries.now children.now)) }
 {
     match children {
         [] => put_entries(into, at, rec_ref, entries, children),
@@ -153,10 +159,12 @@ pub fn write_page(entries: &[Entry], children: &[u64], rec_ref: u8, into: &mut [
     requires rows { AllByRecursion (λ e. e.row < 256 ^ rec_ref) entries.now }
     requires places { AllByRecursion IsPlace children.now }
     requires branching { IsBranching (page_with entries.now children.now) }
-    requires fits { used_length rec_ref (is_node (page_with entries.now children.now)) entries.now ≤ length into.old }
+    requires fits { used_length rec_ref (is_node (page_with entries.now children.now)) entries.now
+        ≤ length into.old }
     ensures read { page_in rec_ref into.new ≡ Some (page_with entries.now children.now) }
     ensures page { IsPage rec_ref into.new (page_with entries.now children.now) }
-    ensures written { into.new ≡ filled_up (page_bytes rec_ref (page_with entries.now children.now)) (length into.old) }
+    ensures written { into.new
+        ≡ filled_up (page_bytes rec_ref (page_with entries.now children.now)) (length into.old) }
 {
     let used = put_body(into, HEAD_LENGTH, rec_ref as usize, entries, children);
     put_head(into, !children.is_empty(), used);

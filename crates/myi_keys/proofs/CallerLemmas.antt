@@ -6,7 +6,7 @@ use Rattle.myi_defs.specs.Kinds.{int_size}
 use Rattle.myi_keys.specs.declared.values.KeySeg.{KeySeg}
 use Rattle.myi_keys.specs.Limits.{IsKey}
 use Rattle.myi_keys.specs.Codes.{key_code}
-use Rattle.myi_keys.specs.Reading.{key_at}
+use Rattle.myi_keys.specs.Decoding.{key_at}
 use Rattle.myi_keys.specs.Weights.{weights, CanWeigh}
 use Rattle.myi_keys.proofs.Decoded.{key_again}
 use Rattle.myi_keys.proofs.WeightSizes.{fits_by, few_by}

@@ -7,7 +7,7 @@ use Rattle.myi_keys.specs.declared.codes.KeyFault.{KeyFault}
 use Rattle.myi_keys.specs.declared.codes.KeyFault.TheVariants.{Short, Spelling, TooLong, Memory}
 use Rattle.myi_keys.specs.Codes.{key_code}
 use Rattle.myi_keys.specs.Limits.{IsSeg, IsKey}
-use Rattle.myi_keys.specs.Reading.{key_at, Fails}
+use Rattle.myi_keys.specs.Decoding.{key_at, Fails}
 use Rattle.myi_keys.specs.Faults.{BreaksOff}
 use Rattle.myi_keys.proofs.Readings.{segs_take, segs_again}
 use Rattle.myi_keys.proofs.Breaks.{breaks_off, breaks_read}

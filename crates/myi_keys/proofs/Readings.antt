@@ -11,7 +11,7 @@ use Rattle.myi_keys.specs.declared.codes.KeyFault.{KeyFault}
 use Rattle.myi_keys.specs.declared.codes.KeyFault.TheVariants.{Short, Spelling, TooLong, Memory}
 use Rattle.myi_keys.specs.Codes.{number_code, seg_code, key_code}
 use Rattle.myi_keys.specs.Limits.{IsSeg}
-use Rattle.myi_keys.specs.Reading.{◌>>=◌, number_at, wide_number_at, weights_at, seg_by, seg_at, segs_at, Fails}
+use Rattle.myi_keys.specs.Decoding.{◌>>=◌, number_at, wide_number_at, weights_at, seg_by, seg_at, segs_at, Fails}
 
 -- segments before those that are read
 abbrev pub with_front : List KeySeg → Result (List KeySeg) KeyFault → Result (List KeySeg) KeyFault

@@ -7,5 +7,5 @@ pub mod Collations
 pub mod Weights
 pub mod Integers
 -- What serves private contracts: codes read from left to right; the order's laws, for the impls of `Ord`.
-pub mod Reading
+pub mod Decoding
 pub mod OrderLaws

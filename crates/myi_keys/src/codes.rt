@@ -7,7 +7,7 @@
 ghost use Rattle.std.specs.Prelude.{◌≡◌, ◌≢◌, ◌<◌, ◌≤◌, ◌++◌, List, length, IfOk, OnOk, IfErr};
 ghost use Rattle.myi_keys.specs.Limits.{IsSeg, IsKey};
 ghost use Rattle.myi_keys.specs.Codes.{number_code, seg_code, key_code};
-ghost use Rattle.myi_keys.specs.Reading.{Gives, number_at, weights_at, seg_at, key_at};
+ghost use Rattle.myi_keys.specs.Decoding.{Gives, number_at, weights_at, seg_at, key_at};
 ghost use Rattle.myi_keys.specs.Faults.{BreaksOff};
 ghost use Rattle.myi_keys.specs.declared.values.KeySeg.{KeySeg};
 
@@ -170,7 +170,7 @@ fn segments_of(alloc: Global, bytes: &[u8]) -> Result<Vec<KeySeg>, KeyFault>
     Ok(segs)
 }
 
-#[tactic(auto, unfolding(crate::specs::Reading::seg_at))]
+#[tactic(auto, unfolding(crate::specs::Decoding::seg_at))]
 fn segment_of(alloc: Global, bytes: &[u8]) -> Result<(KeySeg, &[u8]), KeyFault>
     ensures { Gives (λ x. (x.0, x.1.now)) result (seg_at bytes.now) }
 {
@@ -195,7 +195,7 @@ fn weights_of(alloc: Global, count: usize, bytes: &[u8]) -> Result<(KeySeg, &[u8
     Ok((KeySeg::Weights(weights), rest))
 }
 
-#[tactic(auto, unfolding(crate::specs::Reading::number_at))]
+#[tactic(auto, unfolding(crate::specs::Decoding::number_at))]
 fn number_of(bytes: &[u8]) -> Result<(usize, &[u8]), KeyFault>
     ensures { Gives (λ x. (x.0, x.1.now)) result (number_at bytes.now) }
 {

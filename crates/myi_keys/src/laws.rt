@@ -1,6 +1,8 @@
 //! Laws over the definitions of this crate. Each is the contract of a function that does nothing, so
 //! that it is proved with the crate and stands for the crates above.
-ghost use Rattle.std.specs.Prelude.{All, nat_lt, if◌then◌else◌, ◌≡◌, ◌≢◌, ◌≤◌, ◌<◌, ◌+◌, ◌-◌, ◌↔◌, ◌++◌, ℕ, List, length, take, drop, map, max, replicate, slice_index, count_by, Some, Ok, Err};
+ghost use Rattle.std.specs.Prelude.{if◌then◌else◌, ◌≡◌, ◌≢◌, ◌≤◌, ◌<◌, ◌+◌, ◌-◌, ◌↔◌, ◌++◌};
+ghost use Rattle.std.specs.Prelude.{All, nat_lt, ℕ, List, length, take, drop, map, max};
+ghost use Rattle.std.specs.Prelude.{replicate, slice_index, count_by, Some, Ok, Err};
 ghost use Rattle.std.specs.List.{range_with_len};
 ghost use Rattle.std.specs.Char.{to_ascii_uppercase};
 ghost use Rattle.std.specs.Ordering.{nat_cmp, int_cmp};
@@ -17,10 +19,11 @@ ghost use Rattle.myi_keys.specs.declared.collations.Collation.TheVariants.{Latin
 ghost use Rattle.myi_keys.specs.Limits.{IsKey};
 ghost use Rattle.myi_keys.specs.Order.{key_cmp};
 ghost use Rattle.myi_keys.specs.Codes.{seg_code, key_code, HasBytes};
-ghost use Rattle.myi_keys.specs.Reading.{key_at};
+ghost use Rattle.myi_keys.specs.Decoding.{key_at};
 ghost use Rattle.myi_keys.specs.Faults.{BreaksOff};
 ghost use Rattle.myi_keys.specs.Collations.{weight, letters_with_accents};
-ghost use Rattle.myi_keys.specs.Weights.{weights, CanWeigh, begins_character, first_characters, without_blanks};
+ghost use Rattle.myi_keys.specs.Weights.{weights, CanWeigh, begins_character};
+ghost use Rattle.myi_keys.specs.Weights.{first_characters, without_blanks};
 ghost use Rattle.myi_keys.specs.Integers.{IsSigned, IsUnsigned, signed_number, unsigned_number};
 
 use crate::collations::LATIN1_SWEDISH_CI;
@@ -28,7 +31,8 @@ use crate::collations::LATIN1_SWEDISH_CI;
 /// The order of keys is a total order, and two keys stand equal in it exactly where they are equal.
 pub fn keys_totally_ordered()
     ensures total { IsTotalOrder key_cmp }
-    ensures equal { (one other : List KeySeg) → (key_cmp one other ≡ Ordering.Equal) ↔ (one ≡ other) }
+    ensures equal { (one other : List KeySeg)
+        → (key_cmp one other ≡ Ordering.Equal) ↔ (one ≡ other) }
 {}
 
 /// The weights of integers stand in the order of the numbers that their contents are.
@@ -49,7 +53,8 @@ pub fn codes_read_back()
     ensures read { (key : List KeySeg) → IsKey key → key_at (key_code key) ≡ Ok key }
     ensures written { (bytes : List ℕ) (key : List KeySeg)
         → AreBytes bytes → key_at bytes ≡ Ok key → bytes ≡ key_code key }
-    ensures limits { (bytes : List ℕ) (key : List KeySeg) → AreBytes bytes → key_at bytes ≡ Ok key → IsKey key }
+    ensures limits { (bytes : List ℕ) (key : List KeySeg) → AreBytes bytes → key_at bytes ≡ Ok key
+        → IsKey key }
 {}
 
 /// The code of a key whose weights are bytes is bytes, and a segment's code is longer than its weights
@@ -57,7 +62,8 @@ pub fn codes_read_back()
 pub fn codes_fit()
     ensures bytes { (key : List KeySeg) → IsKey key → All HasBytes key → AreBytes (key_code key) }
     ensures length { (most : ℕ) (weights : List ℕ) → length weights ≤ most
-        → length (seg_code (KeySeg.Weights weights)) ≤ (if nat_lt most 254 then most + 1 else most + 3) }
+        → length (seg_code (KeySeg.Weights weights))
+        ≤ (if nat_lt most 254 then most + 1 else most + 3) }
 {}
 
 /// Bytes are read with a fault exactly where their first bad place is bad in this way.
@@ -82,7 +88,8 @@ pub fn swedish_table()
 pub fn characters_cut()
     ensures prefix { (n : ℕ) (bytes : List ℕ)
         → first_characters n bytes ≡ take (length (first_characters n bytes)) bytes }
-    ensures few { (n : ℕ) (bytes : List ℕ) → count_by begins_character (first_characters n bytes) ≤ n }
+    ensures few { (n : ℕ) (bytes : List ℕ)
+        → count_by begins_character (first_characters n bytes) ≤ n }
     ensures longest { (n k : ℕ) (bytes : List ℕ) → k ≤ length bytes
         → count_by begins_character (take k bytes) ≤ n → k ≤ length (first_characters n bytes) }
 {}
@@ -90,7 +97,9 @@ pub fn characters_cut()
 /// What is taken off the end of a text is blanks, and no blank is left there.
 pub fn blanks_taken_off()
     ensures blanks { (bytes : List ℕ)
-        → bytes ≡ without_blanks bytes ++ replicate (length bytes - length (without_blanks bytes)) 0x20 }
+        → bytes
+        ≡ without_blanks bytes
+        ++ replicate (length bytes - length (without_blanks bytes)) 0x20 }
     ensures last { (bytes : List ℕ) → 0 < length (without_blanks bytes)
         → slice_index (without_blanks bytes) (length (without_blanks bytes) - 1) ≢ 0x20 }
 {}
@@ -99,8 +108,10 @@ pub fn blanks_taken_off()
 /// length or the eight bytes of the widest integer; where an integer's segment has its type's size, no more
 /// than the segment's length.
 pub fn weights_fit()
-    ensures bytes { (seg : Segment) (content : List ℕ) → AreBytes content → AreBytes (weights seg content) }
-    ensures content { (seg : Segment) (content : List ℕ) → length (weights seg content) ≤ length content }
+    ensures bytes { (seg : Segment) (content : List ℕ) → AreBytes content
+        → AreBytes (weights seg content) }
+    ensures content { (seg : Segment) (content : List ℕ)
+        → length (weights seg content) ≤ length content }
     ensures segment { (seg : Segment) (content : List ℕ)
         → CanWeigh seg content → length (weights seg content) ≤ max seg.length 8 }
     ensures sized { (seg : Segment) (content : List ℕ)

@@ -10,6 +10,16 @@
 //! - `KeyVal` is a key value; `KeyVal::compare` is the order.
 //! - `encode` gives a key's code, and `decode` the key of a code.
 //! - The rest are laws over the definitions.
+//!
+//! ```
+//! let mut segments = Vec::new(alloc);
+//! segments.push(KeySeg::Weights(WeightList::new(weights)))?;
+//! segments.push(KeySeg::Absent)?;
+//! let key = KeyVal::new(segments);
+//! let code = encode(alloc, &key)?;
+//! ```
+//!
+//! The case `encode` in `crates/cases_formats/src/keys.rt` runs it, for any segments.
 #![tactic(auto)]
 
 mod codes;

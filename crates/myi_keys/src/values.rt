@@ -63,7 +63,7 @@ pub enum KeySeg {
 
 impl KeySeg {
     /// Whether the row has a value here.
-    pub fn is_present(&self) -> bool
+    fn is_present(&self) -> bool
         ensures { result ≡ is_present self.now }
     {
         matches!(self, KeySeg::Weights(_))
@@ -135,9 +135,15 @@ impl Ord for KeySeg {
 }
 
 /// A key value: at most 16 segments, each of at most 1000 weights.
-#[derive(Debug, Drop)]
+#[derive(Debug)]
 pub struct KeyVal {
     segs: Vec<KeySeg>,
+}
+
+impl Drop for KeyVal {
+    fn drop(self) {
+        let KeyVal { segs: _ } = self;
+    }
 }
 
 impl Model for KeyVal {
@@ -175,7 +181,8 @@ impl KeyVal {
         ensures value { result.items ≡ self }
         ensures key { IsKey self }
     {
-        self.segs
+        let KeyVal { segs } = self;
+        segs
     }
 
     /// Whether each segment is there. Only complete keys can repeat in a unique key.

@@ -4,7 +4,9 @@
 //! Keys are sorted by weights, byte by byte, so each type's weights put its values in their order.
 ghost use Rattle.std.specs.Prelude.{◌≡◌, take, map, reverse, IfOk};
 ghost use Rattle.myi_keys.specs.Collations.{weight};
-ghost use Rattle.myi_keys.specs.Weights.{weights, CanWeigh, sign_inverted, begins_character, first_characters, without_blanks, blanks_stripped, weights_in};
+ghost use Rattle.myi_keys.specs.Weights.{weights, CanWeigh, sign_inverted};
+ghost use Rattle.myi_keys.specs.Weights.{begins_character, first_characters};
+ghost use Rattle.myi_keys.specs.Weights.{without_blanks, blanks_stripped, weights_in};
 
 use crate::collations::Collation;
 use myi_defs::{SegType, Segment};

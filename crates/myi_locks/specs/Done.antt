@@ -22,6 +22,7 @@ after_any x s = if s.number == x.session then after x s else s
 abbrev pub stepped : List Session → Step → List Session
 stepped ss x = map (after_any x) ss
 
+-- the steps of a run, if there is one
 abbrev pub run_steps : Option Run → List Step
 run_steps None = []
 run_steps (Some run) = run.steps
@@ -37,14 +38,16 @@ steps_of (Together inserter readers) =
 abbrev pub advanced : LockState → Round → LockState
 advanced r round = lock_state r.setting (fold stepped r.sessions (steps_of round))
 
--- the lock that the session of that number holds, and none where no session has it
+-- the lock that a session holds, if there is the session
 abbrev pub lock_in : Option Session → Option LockKind
 lock_in None = None
 lock_in (Some s) = s.held
 
+-- the lock that the session of that number holds, and none where no session has it
 abbrev pub held : LockState → ℕ → Option LockKind
 held r n = lock_in (session_of n r.sessions)
 
+-- the round is one of reads together
 abbrev pub is_together : Round → Bool
 is_together Finished = false
 is_together (Alone x) = false

@@ -40,6 +40,7 @@ abbrev pub steps_left : List Session → ℕ
 steps_left [] = 0
 steps_left (s ∷ ss) = length s.left + steps_left ss
 
+-- a round does a step
 abbrev pub HoldsStep : Round → Type 0
 HoldsStep round = 0 < length (steps_of round)
 
@@ -110,7 +111,7 @@ abbrev pub is_reader : Session → Bool
 is_reader s = holds_read s.held || holds_local s.held
 
 -- Where a session holds READ or READ LOCAL, a step that goes alone and writes rows is one of a
--- session that holds such a lock itself, so it is refused.
+-- session that holds such a lock itself.
 abbrev pub IsRefused : LockState → Round → Type 0
 IsRefused r round =
     (x : Step) → round ≡ Alone x → writes_rows x.kind ≡ true → list_any is_reader r.sessions ≡ true

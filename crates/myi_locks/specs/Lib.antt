@@ -1,4 +1,4 @@
--- What a reader of the contracts has to believe.
+-- what a reader of the contracts must believe
 
 -- the kinds of steps, and which of two steps is the first
 pub mod Steps
@@ -12,5 +12,7 @@ pub mod Done
 pub mod Script
 -- what the laws say
 pub mod Laws
--- steps put one after the other into the sessions; no public contract speaks of it
+-- what serves private contracts
+
+-- steps put one after the other into the sessions
 pub mod Placing

@@ -19,6 +19,7 @@ pub record LockState : Type 0 where
   pub setting : ℕ
   pub sessions : List Session
 
+-- a setting and sessions
 abbrev pub lock_state : ℕ → List Session → LockState
 lock_state setting ss = record { setting = setting; sessions = ss }
 
@@ -48,6 +49,7 @@ run_of test s = record { session = s.number; steps = take_while (λ x. test x.ki
 abbrev pub reads : (Session → Bool) → List Session → List Run
 reads test ss = map (run_of is_read) (filter (λ s. test s && is_next is_read s) ss)
 
+-- a round of this run of inserts, if there is one, beside these runs of reads
 abbrev pub together : Option Run → List Run → Round
 together inserter readers = Together inserter (record { runs = readers })
 
@@ -93,6 +95,7 @@ abbrev pub session_at : Option Step → List Session → Option Session
 session_at None ss = None
 session_at (Some x) ss = session_of x.session ss
 
+-- the run of the session that inserts beside the reads
 abbrev pub inserter : List Session → Option Run
 inserter ss = option_map (run_of is_insert) (session_at (first (is_next is_insert) ss) ss)
 
@@ -106,6 +109,7 @@ abbrev pub alone : Option Step → Round → Round
 alone None more = more
 alone (Some x) more = Alone x
 
+-- the first of two rounds that there is
 abbrev pub or_else : Option Round → Round → Round
 or_else None more = more
 or_else (Some round) more = round

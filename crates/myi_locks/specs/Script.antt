@@ -10,6 +10,7 @@ use Rattle.myi_locks.specs.Rounds.{LockState, lock_state}
 
 -- ---- the steps of a script
 
+-- the kinds that take a lock, give all up before, and end a session
 abbrev pub is_take : StepKind → Bool
 is_take (Take kind) = true
 is_take kind = false
@@ -69,6 +70,7 @@ with_number n (m ∷ ms) =
 abbrev pub numbers : List Step → List ℕ
 numbers xs = fold (λ ns x. with_number x.session ns) [] xs
 
+-- the End that a session gets whose steps have none
 abbrev pub added_end : ℕ → Step
 added_end n = record { session = n; line = 0; kind = End }
 

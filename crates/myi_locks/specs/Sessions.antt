@@ -13,18 +13,22 @@ pub record Session : Type 0 where
   pub left : List Step
   pub held : Option LockKind
 
+-- the lock that is held is READ
 abbrev pub holds_read : Option LockKind → Bool
 holds_read (Some Read) = true
 holds_read held = false
 
+-- it is READ LOCAL
 abbrev pub holds_local : Option LockKind → Bool
 holds_local (Some ReadLocal) = true
 holds_local held = false
 
+-- it is WRITE
 abbrev pub holds_write : Option LockKind → Bool
 holds_write (Some Write) = true
 holds_write held = false
 
+-- a lock is held
 abbrev pub holds_any : Option LockKind → Bool
 holds_any None = false
 holds_any (Some kind) = true
@@ -34,6 +38,7 @@ abbrev pub head : List Step → Option Step
 head [] = None
 head (s ∷ ss) = Some s
 
+-- there is a step, and its kind passes the test
 abbrev pub passes : (StepKind → Bool) → Option Step → Bool
 passes test None = false
 passes test (Some s) = test s.kind

@@ -65,8 +65,8 @@ pub fn locks_follow_steps()
         → held (advanced r round) n ≡ lock_left (held r n) (own n (steps_of round))) }
 {}
 
-/// A WRITE lock excludes all others. And where a session holds a read lock, nothing but inserts
-/// that go together with reads changes the table: what would write alone is refused.
+/// A WRITE lock excludes all others. And where a session holds a read lock, a step that writes alone
+/// is one of a session that holds such a lock itself.
 pub fn locks_exclude()
     ensures opening { (setting : ℕ) (xs : List Step) → IsExclusive (opening setting xs).sessions }
     ensures kept { EachRound (λ r holes round. IsExclusive r.sessions

@@ -31,8 +31,9 @@ impl Model for Locks {
 }
 
 impl Locks {
-    /// The sessions of a script with these steps, before the first round. `setting` is that of
-    /// concurrent inserts: 0 never, 1 at the end of a table without holes, 2 also at the end of a
+    /// The sessions of a script with these steps, before the first round. Lines count from 1 and do
+    /// not fall; no line has steps of two sessions; a `Take` comes right behind a `Release` of its
+    /// session, and nothing of a session behind its `End`. `setting` is that of concurrent inserts: 0 never, 1 at the end of a table without holes, 2 also at the end of a
     /// table with holes that other sessions use. A session whose steps have no `End` gets one, of
     /// line 0.
     pub fn new(alloc: Global, steps: Vec<Step>, setting: u8) -> Result<Locks, AllocError>
@@ -46,8 +47,8 @@ impl Locks {
     }
 
     /// The next round, where `holes` says whether the table has a hole. It is `Finished` exactly
-    /// where no step is left. Its cost goes by the number of sessions and the steps that it
-    /// answers.
+    /// where no step is left. Its cost goes by the square of the number of sessions, and the
+    /// steps that it answers.
     pub fn round(&self, holes: bool) -> Result<Round, AllocError>
         ensures rule { IfOk result (λ round. round ≡ spec.next_round self.now holes) }
         ensures some { IfOk result (λ round. has_steps self.now ≡ true → HoldsStep round) }

@@ -18,11 +18,20 @@ use std::collections::VecDeque;
 use std::marker::Model;
 
 /// A session of a script.
-#[derive(Drop)]
 pub(crate) struct Session {
     number: u32,
     left: VecDeque<Step>,
     held: Option<LockKind>,
+}
+
+impl Drop for Session {
+    fn drop(self) {
+        let Session {
+            number: _,
+            left: _,
+            held: _,
+        } = self;
+    }
 }
 
 impl Model for Session {
@@ -196,7 +205,7 @@ impl Session {
         })
     }
 
-    /// A step is done: it is the session's next one, where it is a step of this session.
+    /// A step of a round is done.
     pub(crate) fn step(&mut self, step: &Step)
         ensures { self.new ≡ after_any step.now self.old }
     {

@@ -13,7 +13,7 @@ use Rattle.myi_defs.specs.declared.types.FieldKind.TheVariants.{Normal, SkipEnds
 use Rattle.myi_defs.specs.Sound.{IsLengthOf}
 use Rattle.myi_pack.specs.Lengths.{IsSkipLength, IsVarcharLength, IsLowLength, length_bytes}
 use Rattle.myi_pack.specs.Packed.{IsPlain, PacksField, FillsField, HoldsField}
-use Rattle.myi_pack.specs.Reading.{Cut, Prefix, cut, cut_few, skip_prefix, varchar_prefix, low_prefix, padded, led, with_value, packed_field, filled_varchar, value_before, filled_field, held_field}
+use Rattle.myi_pack.specs.Unpacking.{Cut, Prefix, cut, cut_few, skip_prefix, varchar_prefix, low_prefix, padded, led, with_value, packed_field, filled_varchar, value_before, filled_field, held_field}
 
 -- ---- options and tests
 

@@ -132,7 +132,7 @@ step m k k' bit f gs fs v us vs out out1 new g u inside room o b n next =
     let s : (drop m out ++ x) ++ spelled_fields Dynamic fs vs ≡ drop m out ++ (x ++ spelled_fields Dynamic fs vs) = append_assoc (drop m out) x (spelled_fields Dynamic fs vs) in
     rw (t, d, s, next, b, g, u) (ap (λ (y : List ℕ). y ++ (drop m out ++ (x ++ spelled_fields Dynamic fs vs))) (flags-step (take m out) k f fs v vs))
 
-counted : (f : Field) (fs : List Field) (b : Bool) → has_flag f.kind ≡ b → flag_count (f ∷ fs) ≡ cond b 1 0 + flag_count fs
+pub counted : (f : Field) (fs : List Field) (b : Bool) → has_flag f.kind ≡ b → flag_count (f ∷ fs) ≡ cond b 1 0 + flag_count fs
 counted f fs b h = sum_by-cons (λ (g : Field). cond (has_flag g.kind) 1 0) f fs ∙ ap (λ (t : Bool). cond t 1 0 + flag_count fs) h
 
 pub room : (f : Field) (fs gs : List Field) (v : List ℕ) (k n m : ℕ) (bit : Bool) → gs ≡ f ∷ fs → k + flag_count gs ≡ n → n ≤ 8 * m → bit ≡ field_flag f.kind f.length v → bit ≡ true → k / 8 < m

@@ -1,5 +1,6 @@
 pub mod CallerLemmas
 pub mod ViewLemmas
+pub mod NumberedLemmas
 pub mod SpellingLemmas
 pub mod FlagLemmas
 pub mod FieldLaws
@@ -7,3 +8,5 @@ pub mod RowLaws
 pub mod SpellingLaws
 pub mod RowSpelling
 pub mod WidthLaws
+pub mod WinningLaws
+pub mod PackedLemmas

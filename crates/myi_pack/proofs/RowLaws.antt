@@ -12,7 +12,7 @@ use Rattle.myi_defs.specs.declared.types.Defs.{Defs}
 use Rattle.myi_defs.specs.Sound.{IsLengthOf}
 use Rattle.myi_pack.specs.Flags.{flag_at, flag_count, flag_bytes, next_flag}
 use Rattle.myi_pack.specs.Packed.{Values, HoldsFields, IsDynamicRow, IsStaticRow, IsRow, Packs}
-use Rattle.myi_pack.specs.Reading.{Cut, cut, field_of, put_front, then_fields, fields_of, is_spare_clear, parts_of, ended, row_of}
+use Rattle.myi_pack.specs.Unpacking.{Cut, cut, field_of, put_front, then_fields, fields_of, is_spare_clear, parts_of, ended, row_of}
 use Rattle.myi_pack.proofs.FieldLaws.{chosen, pair, chained, cut-takes, cut-again, bytes-behind, bytes-front, held-takes, held-again}
 
 -- ---- the fields

@@ -1,6 +1,6 @@
 -- The spelling of a whole row packs it, no packing is shorter, and what is packed fits.
 use Rattle.std.proofs.Common.{◌≡◌, ◌≢◌, ℕ, zero, suc, ◌+◌, ◌-◌, ◌<◌, ◌≤◌, Bool, true, false, not, cond, List, [], ◌∷◌, ◌++◌, length, get_or, replicate, Some, refl, sym, ap, subst, ◌∙◌, arith, length-append, append_assoc}
-use Rattle.std.specs.Prelude.{◌&&◌, ◌==◌, nat_le, slice_index, All, option_and_then}
+use Rattle.std.specs.Prelude.{◌&&◌, ◌==◌, ◌^◌, nat_le, nat_lt, slice_index, All, option_and_then}
 use Rattle.std.proofs.lemmas.Bool.{ne_eqb}
 use Rattle.std.proofs.lemmas.List.{length-replicate}
 use Rattle.std.proofs.lemmas.List.Elements.{All-head}
@@ -16,12 +16,13 @@ use Rattle.myi_pack.specs.Lengths.{length_bytes}
 use Rattle.myi_defs.specs.Kinds.{has_flag}
 use Rattle.myi_pack.specs.Flags.{flag_at, next_flag, flag_count, flag_bytes, packed_bits}
 use Rattle.myi_pack.specs.Packed.{Values, PacksField, FillsField, HoldsField, HoldsFields, IsDynamicRow, IsStaticRow, IsRow, Packs}
-use Rattle.myi_pack.specs.Reading.{row_of, ended, fields_of, parts_of}
-use Rattle.myi_pack.specs.Spelling.{field_flag, field_bytes, slot_bytes, spelled_fields, flags_of, filled, spelled_row, spelling, fits_field, fits_fields, is_live, fits}
+use Rattle.myi_pack.specs.Unpacking.{row_of, ended, fields_of, parts_of}
+use Rattle.myi_pack.specs.Spelling.{field_flag, field_bytes, slot_bytes, spelled_fields, flags_of, filled, spelled_row, spelling, fits_field, fits_fields, can_stand, fits}
 use Rattle.myi_pack.proofs.FlagLemmas.{few-flags, flag-packed, length-packed, bytes-packed, spare-packed}
 use Rattle.myi_pack.proofs.SpellingLemmas.{both, length-slot_bytes, length-slots, first-low, first-varchar, first-append, first-slots}
 use Rattle.myi_pack.proofs.SpellingLaws.{field-spelled, field-least, field-fits, slot-spelled, slot-fits, and}
 use Rattle.myi_pack.proofs.RowLaws.{dynamic-again, static-again}
+use Rattle.myi_pack.proofs.WidthLaws.{row-counted}
 
 -- ---- the fields
 
@@ -171,24 +172,24 @@ pub row-spelled : (d : Defs) (row : Values) → IsSound d → fits d row ≡ tru
 unfolding fits spelling
 row-spelled d row sound h = by d.format refl h
   where
-    by : (format : RowFormat) → d.format ≡ format → (fits_fields format d.fields row && is_live format d row) ≡ true → IsRow format d row (spelled_row format d row)
+    by : (format : RowFormat) → d.format ≡ format → (fits_fields format d.fields row && can_stand format d row) ≡ true → IsRow format d row (spelled_row format d row)
     by Static e t =
         let b = both (fits_fields Static d.fields row) (not (slice_index (spelled_row d.format d row) 0 == 0)) t in
         let P : RowFormat → Type 0 = λ format. slice_index (spelled_row format d row) 0 ≢ 0 in
         spelled-static d row e sound b.0 (subst P e (not-zero _ b.1))
-    by Dynamic e t = spelled-dynamic d.fields row (both (fits_fields Dynamic d.fields row) true t).0
+    by Dynamic e t = spelled-dynamic d.fields row (both (fits_fields Dynamic d.fields row) (nat_lt (length (spelled_row d.format d row)) (2 ^ 32)) t).0
 
 pub row-reads : (d : Defs) (row : Values) → IsSound d → fits d row ≡ true → row_of d (spelling d row) ≡ Some row
 unfolding fits spelling row_of spelled-dynamic
 row-reads d row sound h = by d.format refl h
   where
-    by : (format : RowFormat) → d.format ≡ format → (fits_fields format d.fields row && is_live format d row) ≡ true → option_and_then (λ p. ended format (fields_of format d.fields 0 p.0 p.1)) (parts_of format d (spelled_row format d row)) ≡ Some row
+    by : (format : RowFormat) → d.format ≡ format → (fits_fields format d.fields row && can_stand format d row) ≡ true → option_and_then (λ p. ended format (fields_of format d.fields 0 p.0 p.1)) (parts_of format d (spelled_row format d row)) ≡ Some row
     by Static e t =
         let b = both (fits_fields Static d.fields row) (not (slice_index (spelled_row d.format d row) 0 == 0)) t in
         let P : RowFormat → Type 0 = λ format. slice_index (spelled_row format d row) 0 ≢ 0 in
         static-again d row (spelled_row Static d row) (spelled-static d row e sound b.0 (subst P e (not-zero _ b.1)))
     by Dynamic e t =
-        dynamic-again d row (spelled_row Dynamic d row) (spelled-dynamic d.fields row (both (fits_fields Dynamic d.fields row) true t).0) (bytes-packed (flag_bytes (flag_count d.fields)) (flags_of d.fields row))
+        dynamic-again d row (spelled_row Dynamic d row) (spelled-dynamic d.fields row (both (fits_fields Dynamic d.fields row) (nat_lt (length (spelled_row d.format d row)) (2 ^ 32)) t).0) (bytes-packed (flag_bytes (flag_count d.fields)) (flags_of d.fields row))
 
 pub row-least : (d : Defs) (row : Values) (b : List ℕ) → IsSound d → Packs d row b → length (spelling d row) ≤ length b
 unfolding spelling
@@ -205,7 +206,7 @@ pub row-fits : (d : Defs) (row : Values) (b : List ℕ) → IsSound d → Packs 
 unfolding fits spelling
 row-fits d row b sound h = by d.format refl h
   where
-    by : (format : RowFormat) → d.format ≡ format → IsRow format d row b → (fits_fields format d.fields row && is_live format d row) ≡ true
+    by : (format : RowFormat) → d.format ≡ format → IsRow format d row b → (fits_fields format d.fields row && can_stand format d row) ≡ true
     by Static e t =
         let fit = fields-fit Static d.fields 0 [] row t.content t.fields in
         let L : RowFormat → Type 0 = λ format. All (λ (f : Field). IsLengthOf format f.kind f.length) d.fields in
@@ -217,4 +218,4 @@ row-fits d row b sound h = by d.format refl h
         let told : slice_index (spelled_row Static d row) 0 ≢ 0 = λ z. t.read (sym spelled ∙ z) in
         let P : RowFormat → Type 0 = λ format. slice_index (spelled_row format d row) 0 ≢ 0 in
         and _ _ fit (told-zero _ (subst P (sym e) told))
-    by Dynamic e t = and _ _ (fields-fit Dynamic d.fields 0 t.flags row t.content t.fields) refl
+    by Dynamic e t = let fit = fields-fit Dynamic d.fields 0 t.flags row t.content t.fields in and _ _ fit (row-counted d row sound e fit)

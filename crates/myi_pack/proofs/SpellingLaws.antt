@@ -123,7 +123,7 @@ skip-least : (n k : ℕ) (p : List ℕ) → IsSkipLength n k p → length (skip_
 skip-least n k p (inl h) = omega (arith, ap length h.1, ap length (skip-one n k h.0))
 skip-least n k p (inr h) = omega (arith, ap length h.2, skip-most n k)
 
-shorter-has : (n k : ℕ) → is_shorter n k ≡ true → (n ≤ 255 ⊎ (k < 32768)) × (length (skip_length n k) + k < n)
+pub shorter-has : (n k : ℕ) → is_shorter n k ≡ true → (n ≤ 255 ⊎ (k < 32768)) × (length (skip_length n k) + k < n)
 shorter-has n k e =
     let b = both (nat_le n 255 || nat_lt k 32768) (nat_lt (length (skip_length n k) + k) n) e in
     (by (nat_le n 255) refl b.0, ltb-true _ _ b.1)

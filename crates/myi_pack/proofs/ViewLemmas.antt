@@ -8,9 +8,9 @@ use Rattle.myi_pack.specs.Packed.{Values, spaces}
 use Rattle.myi_defs.specs.declared.types.RowFormat.{RowFormat}
 use Rattle.myi_defs.specs.declared.types.Field.{Field}
 use Rattle.myi_pack.specs.Flags.{flag_at, next_flag}
-use Rattle.myi_pack.specs.Reading.{Cut, put_front, then_fields, field_of, fields_of}
+use Rattle.myi_pack.specs.Unpacking.{Cut, put_front, then_fields, field_of, fields_of}
 use Rattle.myi_pack.specs.Left.{values_of, values_left}
-use Rattle.myi_pack.specs.Views.{shown, Shows, IsNext}
+use Rattle.myi_pack.specs.Views.{field_value, Shows, IsNext}
 
 pub next_some : (old : Values) (r : Option FieldView) (new : Values) → IsNext old r new → 0 < length old → IsSome r
 next_some [] r new h lt = absurd (omega arith)
@@ -27,14 +27,14 @@ pub next_shown : (old : Values) (view : FieldView) (new : Values) → IsNext old
 next_shown [] view new h = absurd h
 next_shown (v ∷ vs) view new h = h.0
 
-shown_again : (n : ℕ) (view : FieldView) → shown n view ≡ shown (length (shown n view)) view
+shown_again : (n : ℕ) (view : FieldView) → field_value n view ≡ field_value (length (field_value n view)) view
 shown_again n (views.Plain b) = refl
 shown_again n (views.Padded b) = ap (λ k. b.now ++ replicate k 32) (omega (arith, length-append b.now (spaces (n - length b.now)), length-replicate {A = ℕ}))
 shown_again n (views.Led b) = ap (λ k. replicate k 32 ++ b.now) (omega (arith, length-append (spaces (n - length b.now)) b.now, length-replicate {A = ℕ}))
 shown_again n views.Zeros = ap (λ k. replicate k 0) (sym (length-replicate n 0))
 
-pub shows : (n : ℕ) (view : FieldView) (v : List ℕ) → v ≡ shown n view → Shows view v
-shows n view v e = e ∙ shown_again n view ∙ ap (λ (x : List ℕ). shown (length x) view) (sym e)
+pub shows : (n : ℕ) (view : FieldView) (v : List ℕ) → v ≡ field_value n view → Shows view v
+shows n view v e = e ∙ shown_again n view ∙ ap (λ (x : List ℕ). field_value (length x) view) (sym e)
 
 pub goes_on : (row old : Values) (r : Option FieldView) (new : Values) (j : ℕ) → IsNext old r new → old ≡ drop j row → new ≡ drop (j + 1) row
 goes_on row old r new j h e = next_rest old r new h ∙ ap (drop 1) e ∙ drop-drop 1 j row

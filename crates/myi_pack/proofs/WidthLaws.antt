@@ -1,9 +1,10 @@
--- A row of a dynamic table is spelled in less than 2^24 bytes.
-use Rattle.std.proofs.Common.{◌≡◌, ℕ, ◌+◌, ◌-◌, ◌^◌, ◌<◌, ◌≤◌, ◌==◌, Bool, true, false, ◌||◌, if◌then◌else◌, List, [], ◌∷◌, ◌++◌, length, nat_lt, nat_le, sum_by, refl, sym, subst, arith, length-append}
-use Rattle.std.proofs.lemmas.Bool.{and_parts, leb-true, ltb-true, eqb-true}
+-- A row of a dynamic table is spelled in less than 2^24 bytes, so that four bytes count them.
+use Rattle.std.proofs.Common.{◌≡◌, ℕ, ◌+◌, ◌-◌, ◌^◌, ◌<◌, ◌≤◌, ◌==◌, Bool, true, false, ◌||◌, if◌then◌else◌, List, [], ◌∷◌, ◌++◌, length, nat_lt, nat_le, sum_by, refl, sym, ap, subst, ◌∙◌, arith, length-append}
+use Rattle.std.proofs.lemmas.Bool.{and_parts, leb-true, ltb-true, lt-ltb, eqb-true}
 use Rattle.std.proofs.lemmas.List.Sums.{sum_by-cons}
 use Rattle.myi_base.specs.Numbers.{num_bytes, low_num_bytes}
 use Rattle.myi_base.proofs.CallerLemmas.{length-num_bytes, length-low_num_bytes}
+use Rattle.myi_defs.specs.declared.types.RowFormat.{RowFormat}
 use Rattle.myi_defs.specs.declared.types.RowFormat.TheVariants.{Dynamic}
 use Rattle.myi_defs.specs.declared.types.FieldKind.{FieldKind}
 use Rattle.myi_defs.specs.declared.types.FieldKind.TheVariants.{Normal, SkipEndspace, SkipPrespace, SkipZero, Blob, Varchar}
@@ -14,7 +15,7 @@ use Rattle.myi_defs.specs.Sound.{IsSound}
 use Rattle.myi_pack.specs.Lengths.{length_bytes}
 use Rattle.myi_pack.specs.Flags.{flag_count, flag_bytes, packed_bits}
 use Rattle.myi_pack.specs.Packed.{Values}
-use Rattle.myi_pack.specs.Spelling.{is_all, trimmed_end, trimmed_start, skip_length, is_shorter, skipped_bytes, varchar_length, field_bytes, spelled_fields, flags_of, spelled_row, spelling, fits_field, fits_fields, fits}
+use Rattle.myi_pack.specs.Spelling.{is_all, trimmed_end, trimmed_start, skip_length, is_shorter, skipped_bytes, varchar_length, field_bytes, spelled_fields, flags_of, spelled_row, spelling, fits_field, fits_fields, can_stand, fits}
 use Rattle.myi_pack.proofs.FlagLemmas.{length-packed}
 use Rattle.myi_pack.proofs.SpellingLemmas.{fits-each}
 
@@ -78,6 +79,27 @@ row_short d row sound dynamic fit =
     let flags = packed_bits (flag_bytes (flag_count d.fields)) (flags_of d.fields row) in
     let count = length-packed (flag_bytes (flag_count d.fields)) (flags_of d.fields row) in
     omega (arith, sound.short_packed dynamic, fields_most d.fields row fit, count, length-append flags (spelled_fields Dynamic d.fields row))
+
+-- so a file can hold it
+pub row-counted : (d : Defs) (row : Values) → IsSound d → d.format ≡ Dynamic → fits_fields Dynamic d.fields row ≡ true → nat_lt (length (spelled_row d.format d row)) (2 ^ 32) ≡ true
+row-counted d row sound dynamic fit = lt-ltb _ _ (omega (arith, row_short d row sound dynamic fit, ap (λ (f : RowFormat). length (spelled_row f d row)) dynamic))
+
+stands : (d : Defs) (row : Values) → IsSound d → d.format ≡ Dynamic → fits_fields Dynamic d.fields row ≡ true → can_stand d.format d row ≡ true
+unfolding spelling
+stands d row sound dynamic fit = subst (λ (x : RowFormat). can_stand x d row ≡ true) (sym dynamic) (row-counted d row sound dynamic fit)
+
+pub decides-dynamic : (d : Defs) (row : Values) (fs : List Field) (vs : Values) → IsSound d → fs ≡ d.fields → vs ≡ row → d.format ≡ Dynamic → fits_fields d.format fs vs ≡ true → fits d row ≡ true
+unfolding fits
+decides-dynamic d row fs vs sound f v dynamic fit =
+    let here : fits_fields d.format d.fields row ≡ true = sym (ap (λ (gs : List Field). fits_fields d.format gs vs) f ∙ ap (fits_fields d.format d.fields) v) ∙ fit in
+    let all : fits_fields Dynamic d.fields row ≡ true = sym (ap (λ (x : RowFormat). fits_fields x d.fields row) dynamic) ∙ here in
+    rw here (stands d row sound dynamic all)
+
+-- of a row that fits this is a part of what it says
+pub row-told : (d : Defs) (row : Values) → d.format ≡ Dynamic → fits d row ≡ true → length (spelling d row) < 2 ^ 32
+unfolding fits
+row-told d row dynamic fit =
+    ltb-true _ _ (subst (λ (x : RowFormat). can_stand x d row ≡ true) dynamic (and_parts (fits_fields d.format d.fields row) (can_stand d.format d row) fit).1)
 
 pub row-short : (d : Defs) (row : Values) → IsSound d → d.format ≡ Dynamic → fits d row ≡ true → length (spelling d row) < 2 ^ 24
 unfolding spelling

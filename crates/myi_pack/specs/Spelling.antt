@@ -114,10 +114,11 @@ fits_fields format [] (v ∷ vs) = false
 fits_fields format (f ∷ fs) [] = false
 fits_fields format (f ∷ fs) (v ∷ vs) = fits_field format f.kind f.length v && fits_fields format fs vs
 
--- a slot whose first byte is 0 is a deleted one
-abbrev pub is_live : RowFormat → Defs → Values → Bool
-is_live Static d row = not (slice_index (spelling d row) 0 == 0)
-is_live Dynamic d row = true
+-- a file can hold the spelling: a slot whose first byte is 0 is a deleted one, and the length of a packed row has at
+-- most four bytes
+abbrev pub can_stand : RowFormat → Defs → Values → Bool
+can_stand Static d row = not (slice_index (spelling d row) 0 == 0)
+can_stand Dynamic d row = nat_lt (length (spelling d row)) (2 ^ 32)
 
 unfoldable pub fits : Defs → Values → Bool
-fits d row = fits_fields d.format d.fields row && is_live d.format d row
+fits d row = fits_fields d.format d.fields row && can_stand d.format d row

@@ -5,15 +5,19 @@ use Rattle.myi_pack.specs.declared.fields.FieldView.TheVariants as views
 use Rattle.myi_pack.specs.Packed.{Values, spaces}
 
 -- the value of a field of n bytes that a view shows
-abbrev pub shown : ℕ → FieldView → List ℕ
-shown n (views.Plain b) = b.now
-shown n (views.Padded b) = b.now ++ spaces (n - length b.now)
-shown n (views.Led b) = spaces (n - length b.now) ++ b.now
-shown n views.Zeros = replicate n 0
+abbrev pub field_value : ℕ → FieldView → List ℕ
+field_value n (views.Plain b) = b.now
+field_value n (views.Padded b) = b.now ++ spaces (n - length b.now)
+field_value n (views.Led b) = spaces (n - length b.now) ++ b.now
+field_value n views.Zeros = replicate n 0
+
+-- the value that a view shows of a field whose length is told
+abbrev pub shown_value : ℕ × FieldView → List ℕ
+shown_value r = field_value r.0 r.1
 
 -- the view shows the value
 abbrev pub Shows : FieldView → List ℕ → Type 0
-Shows view v = v ≡ shown (length v) view
+Shows view v = v ≡ field_value (length v) view
 
 -- the view of the first value that was left, if there was one; the others are left
 abbrev pub IsNext : Values → Option FieldView → Values → Type 0
@@ -27,4 +31,4 @@ abbrev pub IsNextShown : Values → Option (ℕ × FieldView) → Values → Typ
 IsNextShown [] None left = left ≡ []
 IsNextShown [] (Some r) left = ⊥
 IsNextShown (v ∷ vs) None left = ⊥
-IsNextShown (v ∷ vs) (Some r) left = (v ≡ shown r.0 r.1) × (left ≡ vs)
+IsNextShown (v ∷ vs) (Some r) left = (v ≡ field_value r.0 r.1) × (left ≡ vs)

@@ -8,8 +8,10 @@ ghost use Rattle.std.specs.Option.{option_map};
 ghost use Rattle.myi_defs.specs.Sound.{IsLengthOf};
 ghost use Rattle.myi_pack.specs.Lengths.{length_bytes};
 ghost use Rattle.myi_pack.specs.Flags.{flag_at, next_flag, flag_count};
-ghost use Rattle.myi_pack.specs.Reading.{cut, cut_prefixed, cut_few, skip_prefix, varchar_prefix, low_prefix, filled_varchar, value_before, packed_field, filled_field, field_of};
-ghost use Rattle.myi_pack.specs.Views.{shown};
+ghost use Rattle.myi_pack.specs.Unpacking.{as_cut, as_prefix, cut, cut_prefixed, cut_few};
+ghost use Rattle.myi_pack.specs.Unpacking.{skip_prefix, varchar_prefix, low_prefix, filled_varchar};
+ghost use Rattle.myi_pack.specs.Unpacking.{value_before, packed_field, filled_field, field_of};
+ghost use Rattle.myi_pack.specs.Views.{field_value};
 
 use myi_base::{be, le};
 use myi_defs::{Field, FieldKind, RowFormat};
@@ -28,7 +30,7 @@ pub enum FieldView<'a> {
 }
 
 pub(crate) fn cut(bytes: &[u8], len: usize) -> Option<(&[u8], &[u8])>
-    ensures { option_map (λ r. (r.0.now, r.1.now)) result ≡ cut len bytes.now }
+    ensures { as_cut result ≡ cut len bytes.now }
 {
     if len <= bytes.len() {
         Some(bytes.split_at(len))
@@ -38,14 +40,14 @@ pub(crate) fn cut(bytes: &[u8], len: usize) -> Option<(&[u8], &[u8])>
 }
 
 fn cut_few(bytes: &[u8], len: usize, most: usize) -> Option<(&[u8], &[u8])>
-    ensures { option_map (λ r. (r.0.now, r.1.now)) result ≡ cut_few most (Some (len, bytes.now)) }
+    ensures { as_cut result ≡ cut_few most (Some (len, bytes.now)) }
 {
     if len <= most { cut(bytes, len) } else { None }
 }
 
 // The length in front of the content of a SKIP_ENDSPACE or SKIP_PRESPACE field of `field` bytes.
 fn skip_prefix(field: usize, bytes: &[u8]) -> Option<(usize, &[u8])>
-    ensures { option_map (λ r. (r.0, r.1.now)) result ≡ skip_prefix field bytes.now }
+    ensures { as_prefix result ≡ skip_prefix field bytes.now }
 {
     match bytes {
         [] => None,
@@ -62,7 +64,7 @@ fn skip_prefix(field: usize, bytes: &[u8]) -> Option<(usize, &[u8])>
 
 // The length in front of the content of a VARCHAR field of `field` bytes in a dynamic row.
 fn varchar_prefix(field: usize, bytes: &[u8]) -> Option<(usize, &[u8])>
-    ensures { option_map (λ r. (r.0, r.1.now)) result ≡ varchar_prefix field bytes.now }
+    ensures { as_prefix result ≡ varchar_prefix field bytes.now }
 {
     match bytes {
         [] => None,
@@ -80,7 +82,7 @@ fn varchar_prefix(field: usize, bytes: &[u8]) -> Option<(usize, &[u8])>
 fn low_prefix(width: usize, bytes: &[u8]) -> Option<(usize, &[u8])>
     requires some { 0 < width }
     requires few { width ≤ 4 }
-    ensures { option_map (λ r. (r.0, r.1.now)) result ≡ low_prefix width bytes.now }
+    ensures { as_prefix result ≡ low_prefix width bytes.now }
 {
     let (number, rest) = cut(bytes, width)?;
     Some((le(number) as usize, rest))
@@ -96,7 +98,7 @@ pub(crate) fn length_bytes(field: usize) -> usize
 // The value of a SKIP_ENDSPACE or SKIP_PRESPACE field whose flag is set, without its spaces.
 fn cut_skipped(field: usize, bytes: &[u8]) -> Option<(&[u8], &[u8])>
     requires { 0 < field }
-    ensures { option_map (λ r. (r.0.now, r.1.now)) result ≡ cut_few (field - 1) (skip_prefix field bytes.now) }
+    ensures { as_cut result ≡ cut_few (field - 1) (skip_prefix field bytes.now) }
 {
     let (len, rest) = skip_prefix(field, bytes)?;
     cut_few(rest, len, field - 1)
@@ -104,7 +106,8 @@ fn cut_skipped(field: usize, bytes: &[u8]) -> Option<(&[u8], &[u8])>
 
 fn cut_varchar(field: usize, bytes: &[u8]) -> Option<(&[u8], &[u8])>
     requires { 2 ≤ field }
-    ensures { option_map (λ r. (r.0.now, r.1.now)) result ≡ cut_few (field - length_bytes field) (varchar_prefix field bytes.now) }
+    ensures { as_cut result
+        ≡ cut_few (field - length_bytes field) (varchar_prefix field bytes.now) }
 {
     let (len, rest) = varchar_prefix(field, bytes)?;
     cut_few(rest, len, field - length_bytes(field))
@@ -113,7 +116,7 @@ fn cut_varchar(field: usize, bytes: &[u8]) -> Option<(&[u8], &[u8])>
 fn cut_blob(width: usize, bytes: &[u8]) -> Option<(&[u8], &[u8])>
     requires some { 0 < width }
     requires few { width ≤ 4 }
-    ensures { option_map (λ r. (r.0.now, r.1.now)) result ≡ cut_prefixed (low_prefix width bytes.now) }
+    ensures { as_cut result ≡ cut_prefixed (low_prefix width bytes.now) }
 {
     let (len, rest) = low_prefix(width, bytes)?;
     cut(rest, len)
@@ -122,7 +125,7 @@ fn cut_blob(width: usize, bytes: &[u8]) -> Option<(&[u8], &[u8])>
 // The content of a VARCHAR field of a static row, from the field's bytes.
 fn filled_varchar(field: usize, bytes: &[u8]) -> Option<(&[u8], &[u8])>
     requires { 2 ≤ field }
-    ensures { option_map (λ r. (r.0.now, r.1.now)) result ≡ filled_varchar field bytes.now }
+    ensures { as_cut result ≡ filled_varchar field bytes.now }
 {
     let width = length_bytes(field);
     let (len, rest) = low_prefix(width, bytes)?;
@@ -132,7 +135,8 @@ fn filled_varchar(field: usize, bytes: &[u8]) -> Option<(&[u8], &[u8])>
 // A field of a dynamic row.
 fn packed_field<'a>(field: &Field, bit: bool, bytes: &'a [u8]) -> Option<(FieldView<'a>, &'a [u8])>
     requires { IsLengthOf RowFormat.Dynamic field.now.kind field.now.length }
-    ensures { option_map (λ r. (shown field.now.length r.0, r.1.now)) result ≡ packed_field field.now.kind field.now.length bit bytes.now }
+    ensures { option_map (λ r. (field_value field.now.length r.0, r.1.now)) result
+        ≡ packed_field field.now.kind field.now.length bit bytes.now }
 {
     let length = field.length as usize;
     let (value, rest) = match field.kind {
@@ -154,9 +158,9 @@ fn packed_field<'a>(field: &Field, bit: bool, bytes: &'a [u8]) -> Option<(FieldV
 }
 
 // A field of a static row.
-fn filled_field<'a>(field: &Field, bytes: &'a [u8]) -> Option<(&'a [u8], &'a [u8])>
+pub(crate) fn filled_field<'a>(field: &Field, bytes: &'a [u8]) -> Option<(&'a [u8], &'a [u8])>
     requires { IsLengthOf RowFormat.Static field.now.kind field.now.length }
-    ensures { option_map (λ r. (r.0.now, r.1.now)) result ≡ filled_field field.now.kind field.now.length bytes.now }
+    ensures { as_cut result ≡ filled_field field.now.kind field.now.length bytes.now }
 {
     let length = field.length as usize;
     match field.kind {
@@ -171,7 +175,7 @@ fn filled_field<'a>(field: &Field, bytes: &'a [u8]) -> Option<(&'a [u8], &'a [u8
 }
 
 /// The field in front: what it shows, and the bytes behind it. The flag counts where the field has one.
-#[tactic(auto, unfolding(crate::specs::Reading::field_of))]
+#[tactic(auto, unfolding(crate::specs::Unpacking::field_of))]
 pub(crate) fn cut_field<'a>(
     format: RowFormat,
     field: &Field,
@@ -179,7 +183,8 @@ pub(crate) fn cut_field<'a>(
     bytes: &'a [u8],
 ) -> Option<(FieldView<'a>, &'a [u8])>
     requires { IsLengthOf format field.now.kind field.now.length }
-    ensures { option_map (λ r. (shown field.now.length r.0, r.1.now)) result ≡ field_of format field.now bit bytes.now }
+    ensures { option_map (λ r. (field_value field.now.length r.0, r.1.now)) result
+        ≡ field_of format field.now bit bytes.now }
 {
     match format {
         RowFormat::Static => {

@@ -4,11 +4,25 @@
 //! `specs/Packed`: field by field, which bytes stand for which value. No bytes pack two rows, but a row
 //! may have several packings; the one that is written is its `spelling`, and none is shorter.
 //!
-//! `view` finds the row in its bytes and takes no memory: a `RowView` lends each field as a slice of
+//! `view` finds the row in its bytes and takes no memory (`view_packed` where they are known to pack one):
+//! a `RowView` lends each field as a slice of
 //! the bytes, one by one (`fields`) or by its number (`field`). `unpack` copies the row that is viewed,
 //! and `value_of` one field of it.
 //! `fits` decides whether a row has the form that the definitions of the table ask for, and `pack`
 //! writes the spelling of such a row. The laws over the definitions are in `laws`.
+//!
+//! ```
+//! match view(&defs, &bytes) {
+//!     None => out.push_str("none")?,
+//!     Some(row) => {
+//!         for value in unpack(alloc, &row)?.as_slice() {
+//!             push_word(&mut out, value.as_slice())?;
+//!         }
+//!     }
+//! }
+//! ```
+//!
+//! The case `view` in `crates/cases_tables/src/rows.rt` runs it.
 #![tactic(auto)]
 
 mod fields;
@@ -18,7 +32,7 @@ mod row;
 mod values;
 
 pub use fields::FieldView;
-pub use laws::{packings_are_read, spellings_are_shortest, views_go_on};
+pub use laws::{packings_are_read, shorter_forms_win, spellings_are_shortest, views_go_on};
 pub use packing::{fits, pack};
-pub use row::{RowFields, RowView, view};
+pub use row::{NumberedFields, RowFields, RowView, view, view_packed};
 pub use values::{Row, Value, unpack, value_of};

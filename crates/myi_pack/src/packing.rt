@@ -3,12 +3,16 @@
 //! `fits` decides whether a row has the form that the definitions ask for, and `pack` writes the
 //! spelling of such a row. A field is written by `push_field`, which tells whether the field's flag is
 //! to be set; the flags stand in front and are set as the fields come.
-ghost use Rattle.std.specs.Prelude.{◌≡◌, ◌≤◌, ◌<◌, ◌+◌, ◌*◌, ◌/◌, ◌^◌, ◌++◌, ◌==◌, true, not, length, slice_index, All, IsTrue, IfOk, OnOk};
+ghost use Rattle.std.specs.Prelude.{◌≡◌, ◌≤◌, ◌<◌, ◌+◌, ◌*◌, ◌/◌, ◌^◌, ◌++◌, ◌==◌};
+ghost use Rattle.std.specs.Prelude.{true, not, length, slice_index, All, IsTrue, IfOk, OnOk};
 ghost use Rattle.myi_base.specs.Numbers.{low_num_bytes};
 ghost use Rattle.myi_defs.specs.Sound.{IsSound, IsLengthOf};
 ghost use Rattle.myi_pack.specs.Lengths.{length_bytes};
 ghost use Rattle.myi_pack.specs.Flags.{flag_bytes, flag_count, packed_bits, with_flag, with_flags};
-ghost use Rattle.myi_pack.specs.Spelling.{trimmed_end, trimmed_start, is_all, skip_length, is_shorter, skipped_bytes, varchar_length, field_flag, field_bytes, slot_bytes, spelled_fields, flags_of, filled, spelling, fits_field, fits_fields, fits};
+ghost use Rattle.myi_pack.specs.Spelling.{trimmed_end, trimmed_start, is_all, skip_length};
+ghost use Rattle.myi_pack.specs.Spelling.{is_shorter, skipped_bytes, varchar_length, field_flag};
+ghost use Rattle.myi_pack.specs.Spelling.{field_bytes, slot_bytes, spelled_fields, flags_of};
+ghost use Rattle.myi_pack.specs.Spelling.{filled, spelling, fits_field, fits_fields, fits};
 
 use crate::fields::{flag_count, length_bytes, next_flag};
 use crate::values::{Row, Value, push_repeated};
@@ -18,8 +22,8 @@ use myi_defs::{Defs, Field, FieldKind, RowFormat};
 use std::alloc::{AllocError, Global};
 
 /// Whether the row has one value for each field, of the field's length or, for a VARCHAR or BLOB, not
-/// longer than the field can hold; and, in a static table, begins with a byte that is not 0. It takes
-/// no memory.
+/// longer than the field can hold; and, in a static table, begins with a byte that is not 0. In a dynamic
+/// one its spelling has less than 2^32 bytes: sound definitions bound it lower still. It takes no memory.
 #[tactic(auto, unfolding(crate::specs::Spelling::fits))]
 pub fn fits(defs: &Defs, row: &Row) -> bool
     requires { IsSound defs.now }
@@ -79,7 +83,8 @@ fn is_live(fields: &[Field], values: &[Value]) -> bool
     requires some { 0 < length fields.now }
     requires lengths { All (λ f. IsLengthOf RowFormat.Static f.kind f.length) fields.now }
     requires fits { fits_fields RowFormat.Static fields.now values.now ≡ true }
-    ensures { result ≡ not (slice_index (spelled_fields RowFormat.Static fields.now values.now) 0 == 0) }
+    ensures { result
+        ≡ not (slice_index (spelled_fields RowFormat.Static fields.now values.now) 0 == 0) }
 {
     let [value, ..] = values else {
         return false;
@@ -91,7 +96,8 @@ fn is_live(fields: &[Field], values: &[Value]) -> bool
 fn is_field_live(field: &Field, value: &[u8]) -> bool
     requires length { IsLengthOf RowFormat.Static field.now.kind field.now.length }
     requires fits { fits_field RowFormat.Static field.now.kind field.now.length value.now ≡ true }
-    ensures { result ≡ not (slice_index (slot_bytes field.now.kind field.now.length value.now) 0 == 0) }
+    ensures { result
+        ≡ not (slice_index (slot_bytes field.now.kind field.now.length value.now) 0 == 0) }
 {
     match field.kind {
         FieldKind::Varchar => value.len() % 256 != 0,
@@ -117,7 +123,9 @@ fn pack_slot(alloc: Global, defs: &Defs, row: &Row) -> Result<Vec<u8>, AllocErro
     requires sound { IsSound defs.now }
     requires slot { defs.now.format ≡ RowFormat.Static }
     requires fits { fits_fields RowFormat.Static defs.now.fields row.now ≡ true }
-    ensures { IfOk result (λ bytes. bytes.items ≡ filled defs.now.slot_length (spelled_fields RowFormat.Static defs.now.fields row.now)) }
+    ensures { IfOk result (λ bytes. bytes.items
+        ≡ filled defs.now.slot_length
+        (spelled_fields RowFormat.Static defs.now.fields row.now)) }
 {
     let slot = defs.slot_length as usize;
     let mut out = Vec::with_capacity(alloc, slot)?;
@@ -131,7 +139,8 @@ fn pack_slot(alloc: Global, defs: &Defs, row: &Row) -> Result<Vec<u8>, AllocErro
 fn push_slots(out: &mut Vec<u8>, fields: &[Field], values: &[Value]) -> Result<(), AllocError>
     requires lengths { All (λ f. IsLengthOf RowFormat.Static f.kind f.length) fields.now }
     requires fits { fits_fields RowFormat.Static fields.now values.now ≡ true }
-    ensures { OnOk result (out.new.items ≡ out.old.items ++ spelled_fields RowFormat.Static fields.now values.now) }
+    ensures { OnOk result
+        (out.new.items ≡ out.old.items ++ spelled_fields RowFormat.Static fields.now values.now) }
 {
     let mut rest = values;
     for field in fields {
@@ -149,7 +158,9 @@ fn pack_fields(alloc: Global, fields: &[Field], values: &[Value]) -> Result<Vec<
     requires few { length fields.now ≤ 4096 }
     requires lengths { All (λ f. IsLengthOf RowFormat.Dynamic f.kind f.length) fields.now }
     requires fits { fits_fields RowFormat.Dynamic fields.now values.now ≡ true }
-    ensures { IfOk result (λ bytes. bytes.items ≡ packed_bits (flag_bytes (flag_count fields.now)) (flags_of fields.now values.now) ++ spelled_fields RowFormat.Dynamic fields.now values.now) }
+    ensures { IfOk result (λ bytes. bytes.items
+        ≡ packed_bits (flag_bytes (flag_count fields.now)) (flags_of fields.now values.now)
+        ++ spelled_fields RowFormat.Dynamic fields.now values.now) }
 {
     let mut out = Vec::with_capacity(alloc, most_bytes(values))?;
     push_repeated(&mut out, 0, flag_count(fields).div_ceil(8))?;
@@ -173,7 +184,10 @@ fn push_fields(out: &mut Vec<u8>, fields: &[Field], values: &[Value]) -> Result<
     requires room { flag_count fields.now ≤ 8 * length out.old.items }
     requires lengths { All (λ f. IsLengthOf RowFormat.Dynamic f.kind f.length) fields.now }
     requires fits { fits_fields RowFormat.Dynamic fields.now values.now ≡ true }
-    ensures { OnOk result (out.new.items ≡ with_flags out.old.items 0 (flags_of fields.now values.now) ++ spelled_fields RowFormat.Dynamic fields.now values.now) }
+    ensures { OnOk result
+        (out.new.items
+        ≡ with_flags out.old.items 0 (flags_of fields.now values.now)
+        ++ spelled_fields RowFormat.Dynamic fields.now values.now) }
 {
     let mut rest = values;
     let mut k = 0;
@@ -202,7 +216,8 @@ fn set_flag(out: &mut Vec<u8>, k: usize, bit: bool)
 fn push_slot(out: &mut Vec<u8>, field: &Field, value: &[u8]) -> Result<(), AllocError>
     requires length { IsLengthOf RowFormat.Static field.now.kind field.now.length }
     requires fits { fits_field RowFormat.Static field.now.kind field.now.length value.now ≡ true }
-    ensures { OnOk result (out.new.items ≡ out.old.items ++ slot_bytes field.now.kind field.now.length value.now) }
+    ensures { OnOk result
+        (out.new.items ≡ out.old.items ++ slot_bytes field.now.kind field.now.length value.now) }
 {
     if field.kind != FieldKind::Varchar {
         out.extend_from_slice(value)?;
@@ -219,8 +234,10 @@ fn push_slot(out: &mut Vec<u8>, field: &Field, value: &[u8]) -> Result<(), Alloc
 fn push_field(out: &mut Vec<u8>, field: &Field, value: &[u8]) -> Result<bool, AllocError>
     requires length { IsLengthOf RowFormat.Dynamic field.now.kind field.now.length }
     requires fits { fits_field RowFormat.Dynamic field.now.kind field.now.length value.now ≡ true }
-    ensures flag { IfOk result (λ flag. flag ≡ field_flag field.now.kind field.now.length value.now) }
-    ensures bytes { OnOk result (out.new.items ≡ out.old.items ++ field_bytes field.now.kind field.now.length value.now) }
+    ensures flag { IfOk result (λ flag.
+        flag ≡ field_flag field.now.kind field.now.length value.now) }
+    ensures bytes { OnOk result
+        (out.new.items ≡ out.old.items ++ field_bytes field.now.kind field.now.length value.now) }
 {
     let length = field.length as usize;
     match field.kind {
@@ -253,7 +270,8 @@ fn push_skipped(
     content: &[u8],
 ) -> Result<bool, AllocError>
     ensures flag { IfOk result (λ flag. flag ≡ is_shorter field (length content.now)) }
-    ensures bytes { OnOk result (out.new.items ≡ out.old.items ++ skipped_bytes field content.now value.now) }
+    ensures bytes { OnOk result
+        (out.new.items ≡ out.old.items ++ skipped_bytes field content.now value.now) }
 {
     if !is_shorter(field, content.len()) {
         out.extend_from_slice(value)?;

@@ -1,18 +1,23 @@
 //! A row behind its bytes.
 //!
-//! `view` looks whether bytes pack a row, and a `RowView` is such a row, still in its bytes. `RowFields`
+//! `view` looks whether bytes pack a row, and a `RowView` is such a row, still in its bytes; `view_packed`
+//! makes one of bytes that were looked at before. `RowFields`
 //! goes over its fields from the first on; a contract sees a `RowView` as the row, and a `RowFields` as
 //! the values that are left.
-ghost use Rattle.std.specs.Prelude.{◌≡◌, ℕ, List, ◌+◌, ◌<◌, ◌≤◌, ◌^◌, [], length, All, Option, Some, None, IsSome, MatchOption, is_some, slice_index_or};
+ghost use Rattle.std.specs.Prelude.{◌≡◌, true, ℕ, List, ◌+◌, ◌<◌, ◌≤◌, ◌^◌, [], length, All, Option};
+ghost use Rattle.std.specs.Prelude.{Some, None, IsSome, MatchOption, is_some, slice_index_or};
+ghost use Rattle.std.specs.Prelude.{◌++◌, drop, map, IfOk, OnOk};
 ghost use Rattle.std.specs.Option.{option_map};
 ghost use Rattle.myi_defs.specs.Sound.{IsSound, IsLengthOf};
 ghost use Rattle.myi_pack.specs.Flags.{flag_at, flag_count, flag_bytes};
 ghost use Rattle.myi_pack.specs.Packed.{Values, Packs};
-ghost use Rattle.myi_pack.specs.Reading.{parts_of, is_spare_clear, fields_of, field_of, ended, row_of};
-ghost use Rattle.myi_pack.specs.Views.{Shows, IsNext, IsNextShown};
+ghost use Rattle.myi_pack.specs.Unpacking.{as_cut, parts_of, is_spare_clear};
+ghost use Rattle.myi_pack.specs.Unpacking.{fields_of, field_of, ended, row_of, as_value, filled_field};
+ghost use Rattle.myi_pack.specs.Views.{Shows, IsNext, IsNextShown, field_value, shown_value};
 
-use crate::fields::{FieldView, cut, cut_field, flag_at, flag_count, next_flag};
+use crate::fields::{FieldView, cut, cut_field, filled_field, flag_at, flag_count, next_flag};
 use myi_defs::{Defs, Field, RowFormat};
+use std::alloc::{AllocError, Global};
 use std::marker::Model;
 
 /// A row, lent from its bytes.
@@ -26,13 +31,13 @@ pub struct RowView<'a> {
 
 impl<'a> Model for RowView<'a> {
     ghost use Rattle.myi_pack.specs.Packed.{Values};
-    ghost use Rattle.myi_pack.specs.Left.{values_left, IsLeft};
+    ghost use Rattle.myi_pack.specs.Left.{values_left, IsPlaced};
 
     ghost Value = { Values };
 
     ghost view = { λ s. values_left s.format s.fields.now 0 s.flags.now s.bytes.now };
 
-    ghost invariant = { λ s. IsLeft s.format s.fields.now 0 s.flags.now s.bytes.now };
+    ghost invariant = { λ s. IsPlaced s.format s.fields.now s.flags.now s.bytes.now };
 }
 
 /// The fields of a row that are left, from the first to the last.
@@ -57,20 +62,68 @@ impl<'a> Model for RowFields<'a> {
     ghost invariant = { λ s. IsLeft s.format s.fields.now s.flag s.flags.now s.bytes.now };
 }
 
+/// The fields of a row by their numbers. Those of a static row stand at their places; those of a dynamic row
+/// are met in one pass, as far as they are asked for.
+#[derive(Drop)]
+pub struct NumberedFields<'a> {
+    format: RowFormat,
+    fields: &'a [Field],
+    flags: &'a [u8],
+    bytes: &'a [u8],
+    /// What the fields of a dynamic row that were met show, each with its length.
+    met: Vec<(u16, FieldView<'a>)>,
+    left: RowFields<'a>,
+}
+
+impl<'a> Model for NumberedFields<'a> {
+    ghost use Rattle.std.specs.Prelude.{◌≡◌};
+    ghost use Rattle.myi_defs.specs.declared.types.RowFormat.TheVariants.{Static};
+    ghost use Rattle.myi_pack.specs.Packed.{Values};
+    ghost use Rattle.myi_pack.specs.Left.{numbered_values, IsPlaced};
+
+    ghost Value = { Values };
+
+    ghost view = { λ s.
+        numbered_values s.format s.fields.now s.flags.now s.bytes.now s.met.items s.left };
+
+    ghost invariant = { λ s. s.format ≡ Static
+        → IsPlaced Static s.fields.now s.flags.now s.bytes.now };
+}
+
 /// The row that the bytes pack, or None where they pack none. It takes no memory. In a dynamic table the
 /// bytes are those of a row's blocks, one after the other; in a static table they are a slot.
 pub fn view<'a>(defs: &'a Defs, bytes: &'a [u8]) -> Option<RowView<'a>>
     requires { IsSound defs.now }
-    ensures packs { MatchOption result ((row : Values) → Packs defs.now row bytes.now → ⊥) (λ row. Packs defs.now row bytes.now) }
-    ensures found { MatchOption result (row_of defs.now bytes.now ≡ None) (λ row. row_of defs.now bytes.now ≡ Some row) }
+    ensures packs { MatchOption result ((row : Values) → Packs defs.now row bytes.now → ⊥)
+        (λ row. Packs defs.now row bytes.now) }
+    ensures found { MatchOption result (row_of defs.now bytes.now ≡ None)
+        (λ row. row_of defs.now bytes.now ≡ Some row) }
 {
     find_row(defs, bytes)
 }
 
-#[tactic(auto, unfolding(crate::specs::Reading::row_of))]
+/// The row that the bytes pack, where they are known to pack one, as those of a row that a scan answered
+/// are. The fields are not looked at.
+pub fn view_packed<'a>(defs: &'a Defs, bytes: &'a [u8]) -> RowView<'a>
+    requires sound { IsSound defs.now }
+    requires packed { is_some (row_of defs.now bytes.now) ≡ true }
+    ensures packs { Packs defs.now result bytes.now }
+    ensures found { row_of defs.now bytes.now ≡ Some result }
+{
+    let (flags, content) = split(defs, bytes).unwrap();
+    RowView {
+        format: defs.format,
+        fields: defs.fields.as_slice(),
+        flags,
+        bytes: content,
+    }
+}
+
+#[tactic(auto, unfolding(crate::specs::Unpacking::row_of))]
 fn find_row<'a>(defs: &'a Defs, bytes: &'a [u8]) -> Option<RowView<'a>>
     requires { IsSound defs.now }
-    ensures { MatchOption result (row_of defs.now bytes.now ≡ None) (λ row. row_of defs.now bytes.now ≡ Some row) }
+    ensures { MatchOption result (row_of defs.now bytes.now ≡ None)
+        (λ row. row_of defs.now bytes.now ≡ Some row) }
 {
     let fields = defs.fields.as_slice();
     let format = defs.format;
@@ -88,7 +141,7 @@ fn find_row<'a>(defs: &'a Defs, bytes: &'a [u8]) -> Option<RowView<'a>>
 
 // The flags, and the bytes of the fields behind them.
 fn split<'a>(defs: &Defs, bytes: &'a [u8]) -> Option<(&'a [u8], &'a [u8])>
-    ensures { option_map (λ r. (r.0.now, r.1.now)) result ≡ parts_of defs.now.format defs.now bytes.now }
+    ensures { as_cut result ≡ parts_of defs.now.format defs.now bytes.now }
 {
     match defs.format {
         RowFormat::Static => {
@@ -159,6 +212,20 @@ impl<'a> RowView<'a> {
         self.fields.len()
     }
 
+    /// The fields by their numbers. It takes no memory itself.
+    pub fn numbered(&self, alloc: Global) -> NumberedFields<'a>
+        ensures { result ≡ self.now }
+    {
+        NumberedFields {
+            format: self.format,
+            fields: self.fields,
+            flags: self.flags,
+            bytes: self.bytes,
+            met: Vec::new(alloc),
+            left: self.fields(),
+        }
+    }
+
     /// What field `i`, from 0, shows. It goes over the fields before it; `fields` goes over all in one
     /// pass.
     pub fn field(&self, i: usize) -> FieldView<'a>
@@ -197,4 +264,53 @@ impl<'a> RowFields<'a> {
         self.bytes = bytes;
         Some((field.length, shown))
     }
+}
+
+impl<'a> NumberedFields<'a> {
+    /// The length of field `i`, from 0, in bytes, and what the field shows.
+    pub fn field(&mut self, i: usize) -> Result<(u16, FieldView<'a>), AllocError>
+        requires { i < length self.old }
+        ensures same { OnOk result (self.new ≡ self.old) }
+        ensures shown { IfOk result (λ shown.
+            slice_index_or self.old i [] ≡ field_value shown.0 shown.1) }
+    {
+        match self.format {
+            RowFormat::Static => Ok(slot_field(&self.fields[i], self.bytes)),
+            RowFormat::Dynamic => {
+                meet(&mut self.met, &mut self.left, i)?;
+                Ok(self.met[i])
+            }
+        }
+    }
+}
+
+// The field of a static row: its length, and what it shows.
+fn slot_field<'a>(field: &Field, slot: &'a [u8]) -> (u16, FieldView<'a>)
+    requires length { IsLengthOf RowFormat.Static field.now.kind field.now.length }
+    requires inside { field.now.start ≤ length slot.now }
+    requires found { IsSome
+        (filled_field field.now.kind field.now.length (drop field.now.start slot.now)) }
+    ensures { as_value
+        (filled_field field.now.kind field.now.length (drop field.now.start slot.now))
+        ≡ Some (field_value result.0 result.1) }
+{
+    let (value, _) = filled_field(field, &slot[field.start as usize..]).unwrap();
+    (field.length, FieldView::Plain(value))
+}
+
+// Goes over the fields that are left until field `i` is met.
+fn meet<'a>(
+    met: &mut Vec<(u16, FieldView<'a>)>,
+    left: &mut RowFields<'a>,
+    i: usize,
+) -> Result<(), AllocError>
+    requires { i < length met.old.items + length left.old }
+    ensures same { OnOk result
+        (map shown_value met.new.items ++ left.new ≡ map shown_value met.old.items ++ left.old) }
+    ensures met { OnOk result (i < length met.new.items) }
+{
+    while met.len() <= i {
+        met.push(left.next_with_length().unwrap())?;
+    }
+    Ok(())
 }

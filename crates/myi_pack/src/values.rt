@@ -2,9 +2,10 @@
 //!
 //! A `Row` is a list of values, one for each field, and a `Value` a list of bytes. `unpack` copies the
 //! row that a view shows.
-ghost use Rattle.std.specs.Prelude.{◌≡◌, ◌++◌, ◌≤◌, ◌-◌, ◌+◌, ◌^◌, ◌<◌, ℕ, length, replicate, IfOk, OnOk};
+ghost use Rattle.std.specs.Prelude.{◌≡◌, ◌++◌, ◌≤◌, ◌-◌, ◌+◌, ◌^◌, ◌<◌};
+ghost use Rattle.std.specs.Prelude.{ℕ, length, replicate, IfOk, OnOk};
 ghost use Rattle.myi_pack.specs.Packed.{spaces};
-ghost use Rattle.myi_pack.specs.Views.{shown};
+ghost use Rattle.myi_pack.specs.Views.{field_value};
 
 use crate::{FieldView, RowView};
 use myi_base::Sequence;
@@ -31,7 +32,7 @@ pub fn unpack(alloc: Global, view: &RowView<'_>) -> Result<Row, AllocError>
 /// The value that a view shows of a field of so many bytes.
 pub fn value_of(alloc: Global, field: usize, view: FieldView<'_>) -> Result<Value, AllocError>
     requires { field < 65536 }
-    ensures { IfOk result (λ value. value ≡ shown field view.entry) }
+    ensures { IfOk result (λ value. value ≡ field_value field view.entry) }
 {
     let mut bytes = Vec::new(alloc);
     match view {

@@ -15,10 +15,11 @@ use Rattle.myi_btree.specs.declared.place.Place.{Place}
 use Rattle.myi_btree.specs.Walk.{Node}
 use Rattle.myi_btree.specs.Sizes.{IsPlaced, AreSized, IsSized, IsCount, fits_in}
 use Rattle.myi_btree.specs.Nodes.{entry_of}
-use Rattle.myi_btree.specs.Laid.{count_of, Level, after_page, level_of, places_from, above, levels_from, laid}
+use Rattle.myi_btree.specs.LaidPages.{count_of, Level, after_page, level_of, places_from, above, levels_from, laid}
 use Rattle.myi_btree.proofs.CallerLemmas.{good_count}
 use Rattle.myi_btree.proofs.CallerLemmas.{level_count, level_all}
 use Rattle.myi_btree.proofs.CallerLemmas.{all_drop}
+use Rattle.myi_data.specs.Keys.{IsKeyNumber}
 use Rattle.myi_pair.specs.KeyList.{PlacedRow, pairs_of, pair_of, sorted, key_list}
 use Rattle.myi_pair.specs.Trees.{block_of_key, place_of}
 use Rattle.myi_pair.proofs.KeyListLaws.{sorted_permutes}
@@ -82,7 +83,7 @@ list_count d k rows =
     let pairs : List Pair = pairs_of d k rows in
     length_permutation pairs (sorted pairs) (sorted_permutes pairs) ∙ length-map rows (pair_of d k)
 
-trees_few : (d : Defs) (len first : ℕ) (ks : List ℕ) (rows : List PlacedRow) → IsSound d → is_addressable d len ≡ true → AllByRecursion (IsNear d len) rows → AllByRecursion (λ k. k < length d.keys) ks
+trees_few : (d : Defs) (len first : ℕ) (ks : List ℕ) (rows : List PlacedRow) → IsSound d → is_addressable d len ≡ true → AllByRecursion (IsNear d len) rows → AllByRecursion (IsKeyNumber d) ks
     → (trees_of d first ks rows).end ≤ first + length ks * (16384 * length rows)
 trees_few d len first [] rows s reached near inside = omega arith
 trees_few d len first (k ∷ ks) rows s reached near inside =
@@ -96,7 +97,7 @@ trees_few d len first (k ∷ ks) rows s reached near inside =
     let others = trees_few d len (first + block * length nodes) ks rows s reached near inside.1 in
     omega (arith, short, others, suc-mul (length ks) (16384 * length rows))
 
-pub trees_short : (d : Defs) (len first : ℕ) (ks : List ℕ) (rows : List PlacedRow) → IsSound d → is_addressable d len ≡ true → AllByRecursion (IsNear d len) rows → AllByRecursion (λ k. k < length d.keys) ks
+pub trees_short : (d : Defs) (len first : ℕ) (ks : List ℕ) (rows : List PlacedRow) → IsSound d → is_addressable d len ≡ true → AllByRecursion (IsNear d len) rows → AllByRecursion (IsKeyNumber d) ks
     → length ks ≤ 64 → length rows ≤ 2 ^ 40 → first ≤ 2 ^ 20 → (trees_of d first ks rows).end < 2 ^ 64
 trees_short d len first ks rows s reached near inside few_keys few_rows front =
     let most : length ks * (16384 * length rows) ≤ 64 * (16384 * 2 ^ 40) = mul-le-mul few_keys (let all : 16384 * length rows ≤ 16384 * 2 ^ 40 = omega (arith, few_rows) in all) in

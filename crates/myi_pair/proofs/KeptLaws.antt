@@ -8,13 +8,13 @@ use Rattle.myi_defs.specs.Sound.{IsSound}
 use Rattle.myi_defs.specs.ReadDefs.{AreDefs}
 use Rattle.myi_defs.proofs.CallerLemmas.{sound}
 use Rattle.myi_pack.specs.Packed.{Values, Packs}
-use Rattle.myi_pack.specs.Reading.{row_of}
+use Rattle.myi_pack.specs.Unpacking.{row_of}
 use Rattle.myi_pack.specs.Spelling.{spelling, fits}
 use Rattle.myi_pack.proofs.CallerLemmas.{row-takes, row-fits, row-reads, row-short}
 use Rattle.myi_chain.specs.Readable.{Row}
 use Rattle.myi_data.specs.Readable.{readable}
-use Rattle.myi_data.specs.Laid.{stored, laid_file, laid_rows, IsStorable}
-use Rattle.myi_data.proofs.CallerLemmas.{laid_read}
+use Rattle.myi_data.specs.Stored.{stored, stored_file, stored_rows, IsStorable}
+use Rattle.myi_data.proofs.CallerLemmas.{stored_read}
 use Rattle.myi_pair.specs.FirstRows.{repeats, first_after, first_rows}
 use Rattle.myi_pair.specs.Clean.{values_of}
 use Rattle.myi_pair.specs.RecoveredBytes.{kept, new_data}
@@ -67,16 +67,16 @@ kept_storable d extend x are bytes = All-from_recursion (IsStorable d) (kept d e
 
 -- what is stored is read
 
-pub laid_values : (d : Defs) (at : ℕ) (vs : List Values) → IsSound d → AllByRecursion (IsStorable d) vs → map (values_of d) (laid_rows d at vs) ≡ vs
-unfolding laid_rows
+pub laid_values : (d : Defs) (at : ℕ) (vs : List Values) → IsSound d → AllByRecursion (IsStorable d) vs → map (values_of d) (stored_rows d at vs) ≡ vs
+unfolding stored_rows
 laid_values d at [] s all = refl
 laid_values d at (v ∷ vs) s all =
     let first : unwrap_or (row_of d (spelling d v)) [] ≡ v = ap (λ (o : Option Values). unwrap_or o []) (row-reads d v s all.0.fits) in
-    ap (λ w. w ∷ map (values_of d) (laid_rows d (at + length (stored d v)) vs)) first ∙ ap (λ ws. v ∷ ws) (laid_values d (at + length (stored d v)) vs s all.1)
+    ap (λ w. w ∷ map (values_of d) (stored_rows d (at + length (stored d v)) vs)) first ∙ ap (λ ws. v ∷ ws) (laid_values d (at + length (stored d v)) vs s all.1)
 
-pub new_rows : (d : Defs) (any extend : Bool) (x : List ℕ) → AreDefs d → AreBytes x → readable d any (new_data d extend x) ≡ laid_rows d 0 (kept d extend x)
+pub new_rows : (d : Defs) (any extend : Bool) (x : List ℕ) → AreDefs d → AreBytes x → readable d any (new_data d extend x) ≡ stored_rows d 0 (kept d extend x)
 unfolding new_data
-new_rows d any extend x are bytes = laid_read d any (kept d extend x) (sound d are) (kept_storable d extend x are bytes)
+new_rows d any extend x are bytes = stored_read d any (kept d extend x) (sound d are) (kept_storable d extend x are bytes)
 
 pub new_values : (d : Defs) (any extend : Bool) (x : List ℕ) → AreDefs d → AreBytes x → map (values_of d) (readable d any (new_data d extend x)) ≡ kept d extend x
 new_values d any extend x are bytes =
@@ -95,9 +95,9 @@ kept_of d extend x = refl
 pub settled : (d : Defs) (any extend : Bool) (x : List ℕ) → AreDefs d → AreBytes x → kept d any (new_data d extend x) ≡ kept d extend x
 settled d any extend x are bytes = kept_of d any (new_data d extend x) ∙ ap (first_rows d) (new_values d any extend x are bytes) ∙ kept_distinct d extend x
 
-data_of : (d : Defs) (extend : Bool) (x : List ℕ) → new_data d extend x ≡ laid_file d (kept d extend x)
+data_of : (d : Defs) (extend : Bool) (x : List ℕ) → new_data d extend x ≡ stored_file d (kept d extend x)
 unfolding new_data
 data_of d extend x = refl
 
 pub settled_data : (d : Defs) (any extend : Bool) (x : List ℕ) → AreDefs d → AreBytes x → new_data d any (new_data d extend x) ≡ new_data d extend x
-settled_data d any extend x are bytes = data_of d any (new_data d extend x) ∙ ap (laid_file d) (settled d any extend x are bytes) ∙ sym (data_of d extend x)
+settled_data d any extend x are bytes = data_of d any (new_data d extend x) ∙ ap (stored_file d) (settled d any extend x are bytes) ∙ sym (data_of d extend x)

@@ -10,13 +10,13 @@ use Rattle.myi_defs.specs.declared.types.Defs.{Defs}
 use Rattle.myi_defs.specs.Sound.{IsSound}
 use Rattle.myi_frames.proofs.CallerLemmas.{least-sized}
 use Rattle.myi_pack.specs.Packed.{Values}
-use Rattle.myi_pack.specs.Reading.{row_of}
+use Rattle.myi_pack.specs.Unpacking.{row_of}
 use Rattle.myi_pack.specs.Spelling.{spelling}
 use Rattle.myi_pack.proofs.CallerLemmas.{row-reads}
 use Rattle.myi_chain.specs.Readable.{frees_of}
 use Rattle.myi_chain.specs.Meeting.{ranges_of}
 use Rattle.myi_data.specs.Readable.{items_in, readable, deleted}
-use Rattle.myi_data.specs.Laid.{stored, laid_rows, IsStorable}
+use Rattle.myi_data.specs.Stored.{stored, stored_rows, IsStorable}
 use Rattle.std.proofs.lemmas.List.Sums.{sum_by-cons}
 use Rattle.myi_pair.specs.KeyList.{PlacedRow}
 use Rattle.myi_pair.specs.Clean.{placed_row, covers}
@@ -30,14 +30,14 @@ step_length d v vs = sum_by-cons (λ w. length (stored d w)) v vs
 
 -- every byte belongs to a row
 
-pub laid_covered : (d : Defs) (at p : ℕ) (vs : List Values) → at ≤ p → p < at + stored_length d vs → list_any (covers p) (ranges_of (laid_rows d at vs)) ≡ true
-unfolding laid_rows
+pub laid_covered : (d : Defs) (at p : ℕ) (vs : List Values) → at ≤ p → p < at + stored_length d vs → list_any (covers p) (ranges_of (stored_rows d at vs)) ≡ true
+unfolding stored_rows
 laid_covered d at p [] low high = absurd (omega arith)
 laid_covered d at p (v ∷ vs) low high =
     by (nat_lt p (at + length (stored d v))) refl (λ past. laid_covered d (at + length (stored d v)) p vs past (omega (arith, step_length d v vs)))
   where
     others : List Range
-    others = ranges_of (laid_rows d (at + length (stored d v)) vs)
+    others = ranges_of (stored_rows d (at + length (stored d v)) vs)
 
     by : (b : Bool) → nat_lt p (at + length (stored d v)) ≡ b → (at + length (stored d v) ≤ p → list_any (covers p) others ≡ true) → (covers p (at, at + length (stored d v)) || list_any (covers p) others) ≡ true
     by true is again = or_left (covers p (at, at + length (stored d v))) (list_any (covers p) others) (and_from (nat_le at p) (nat_lt p (at + length (stored d v))) (le-leb at p low) is)
@@ -69,25 +69,25 @@ none_deleted d x s covered = none_left (length x) (ranges_of (readable d false x
 
 -- one range a row
 
-pub laid_count : (d : Defs) (at : ℕ) (vs : List Values) → length (laid_rows d at vs) ≡ length vs
-unfolding laid_rows
+pub laid_count : (d : Defs) (at : ℕ) (vs : List Values) → length (stored_rows d at vs) ≡ length vs
+unfolding stored_rows
 laid_count d at [] = refl
 laid_count d at (v ∷ vs) = ap suc (laid_count d (at + length (stored d v)) vs)
 
-pub laid_split : (d : Defs) (at : ℕ) (vs : List Values) → length (ranges_of (laid_rows d at vs)) ≡ length vs
-unfolding laid_rows
+pub laid_split : (d : Defs) (at : ℕ) (vs : List Values) → length (ranges_of (stored_rows d at vs)) ≡ length vs
+unfolding stored_rows
 laid_split d at [] = refl
 laid_split d at (v ∷ vs) = ap suc (laid_split d (at + length (stored d v)) vs)
 
 -- the rows with their places
 
-pub laid_placed : (d : Defs) (at : ℕ) (vs : List Values) → IsSound d → AllByRecursion (IsStorable d) vs → map (placed_row d) (laid_rows d at vs) ≡ placed_from d at vs
-unfolding laid_rows
+pub laid_placed : (d : Defs) (at : ℕ) (vs : List Values) → IsSound d → AllByRecursion (IsStorable d) vs → map (placed_row d) (stored_rows d at vs) ≡ placed_from d at vs
+unfolding stored_rows
 laid_placed d at [] s all = refl
 laid_placed d at (v ∷ vs) s all =
     let first : unwrap_or (row_of d (spelling d v)) [] ≡ v = ap (λ (o : Option Values). unwrap_or o []) (row-reads d v s all.0.fits) in
     let next : ℕ = at + length (stored d v) in
-    ap (λ w. (at, w) ∷ map (placed_row d) (laid_rows d next vs)) first ∙ ap (λ (rs : List PlacedRow). (at, v) ∷ rs) (laid_placed d next vs s all.1)
+    ap (λ w. (at, w) ∷ map (placed_row d) (stored_rows d next vs)) first ∙ ap (λ (rs : List PlacedRow). (at, v) ∷ rs) (laid_placed d next vs s all.1)
 
 pub near_from : (d : Defs) (at len : ℕ) (vs : List Values) → AllByRecursion (IsStorable d) vs → at + stored_length d vs ≤ len → AllByRecursion (IsNear d len) (placed_from d at vs)
 near_from d at len [] all inside = tt

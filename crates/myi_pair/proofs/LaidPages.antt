@@ -7,7 +7,7 @@ use Rattle.std.proofs.lemmas.List.{append-nil, length-append, length-take, lengt
 use Rattle.std.proofs.lemmas.List.Sums.{sum_by-cons, sum_by-append}
 use Rattle.myi_btree.specs.declared.pair.Pair.{Pair}
 use Rattle.myi_btree.specs.Walk.{◌>>=◌, Node, node_with, Walked, each, at_node, walk_of, content}
-use Rattle.myi_btree.specs.Laid.{count_of, Level, after_page, level_of, places_from, above, levels_from, laid, Stands, IsRooted}
+use Rattle.myi_btree.specs.LaidPages.{count_of, Level, after_page, level_of, places_from, above, levels_from, laid, Stands, IsRooted}
 use Rattle.myi_btree.proofs.CallerLemmas.{bind_some}
 use Rattle.myi_btree.proofs.CallerLemmas.{one_walk}
 use Rattle.myi_btree.proofs.CallerLemmas.{cons_each, level_lt, count_pos, length-places_from, laid_walks}

@@ -12,11 +12,12 @@ use Rattle.myi_header.specs.declared.state.State.{State}
 use Rattle.myi_header.specs.Layout.{first_page_of}
 use Rattle.myi_header.specs.HeaderOf.{header_of}
 use Rattle.myi_pack.specs.Packed.{Values}
-use Rattle.myi_data.specs.Laid.{stored, laid_file, IsStorable}
+use Rattle.myi_data.specs.Stored.{stored, stored_file, IsStorable}
 use Rattle.myi_btree.specs.declared.pair.Pair.{Pair}
 use Rattle.myi_btree.specs.Walk.{Node}
 use Rattle.myi_btree.specs.Sizes.{IsPlaced, fits_in}
-use Rattle.myi_btree.specs.Laid.{laid, root_of}
+use Rattle.myi_btree.specs.LaidPages.{laid, root_of}
+use Rattle.myi_data.specs.Keys.{IsKeyNumber}
 use Rattle.myi_pair.specs.FirstRows.{numbers_from, key_numbers}
 use Rattle.myi_pair.specs.KeyList.{PlacedRow, key_list}
 use Rattle.myi_pair.specs.Trees.{block_of_key, place_of}
@@ -37,9 +38,13 @@ numbers_count : (k n : ℕ) → length (numbers_from k n) ≡ n
 numbers_count k zero = refl
 numbers_count k (suc n) = ap suc (numbers_count (suc k) n)
 
-numbers_below : (k n m : ℕ) → k + n ≤ m → AllByRecursion (λ i. i < m) (numbers_from k n)
-numbers_below k zero m le = tt
-numbers_below k (suc n) m le = (omega arith, numbers_below (suc k) n m (omega arith))
+numbers_within : (d : Defs) (k n : ℕ) → 0 < k → k + n ≤ length d.keys + 1 → AllByRecursion (IsKeyNumber d) (numbers_from k n)
+numbers_within d k zero some le = tt
+numbers_within d k (suc n) some le = ((some, omega arith), numbers_within d (suc k) n (omega arith) (omega arith))
+
+-- these are numbers of keys
+numbers_of_keys : (d : Defs) → AllByRecursion (IsKeyNumber d) (key_numbers d)
+numbers_of_keys d = numbers_within d 1 (length d.keys) (omega arith) (omega arith)
 
 -- the roots: one for each key, and each a place that eight bytes can have
 
@@ -55,7 +60,7 @@ root_fits block first end (node ∷ nodes) some small inside =
     let less : at + block ≤ end = omega arith in
     ((λ e. let same : at ≡ 2 ^ 64 - 1 = same_Some at (2 ^ 64 - 1) e in omega arith), omega arith)
 
-roots_fit : (d : Defs) (first : ℕ) (ks : List ℕ) (lists : List (List Pair)) → IsSound d → AllByRecursion (λ k. k < length d.keys) ks → (laid_trees d first ks lists).end < 2 ^ 64 → AllByRecursion RootFits (laid_trees d first ks lists).roots
+roots_fit : (d : Defs) (first : ℕ) (ks : List ℕ) (lists : List (List Pair)) → IsSound d → AllByRecursion (IsKeyNumber d) ks → (laid_trees d first ks lists).end < 2 ^ 64 → AllByRecursion RootFits (laid_trees d first ks lists).roots
 roots_fit d first [] lists s inside small = tt
 roots_fit d first (k ∷ ks) [] s inside small = tt
 roots_fit d first (k ∷ ks) (pairs ∷ lists) s inside small =
@@ -78,27 +83,27 @@ new_roots_count : (d : Defs) (rows : List Values) → length (new_trees d rows).
 new_roots_count d rows =
     ap (λ (t : LaidTrees). length t.roots) (trees_are d rows)
     ∙ roots_count d (first_page_of d) (key_numbers d) (map (λ k. key_list d k (rows_placed d rows)) (key_numbers d)) (length-map (key_numbers d) (λ k. key_list d k (rows_placed d rows)))
-    ∙ numbers_count 0 (length d.keys)
+    ∙ numbers_count 1 (length d.keys)
 
 new_roots_fit : (d : Defs) (rows : List Values) → IsSound d → (new_trees d rows).end < 2 ^ 64 → AllByRecursion RootFits (new_trees d rows).roots
 new_roots_fit d rows s small =
     let is = trees_are d rows in
     subst (λ (t : LaidTrees). AllByRecursion RootFits t.roots) (sym is)
-    (roots_fit d (first_page_of d) (key_numbers d) (map (λ k. key_list d k (rows_placed d rows)) (key_numbers d)) s (numbers_below 0 (length d.keys) (length d.keys) (omega arith)) (subst (λ (t : LaidTrees). t.end < 2 ^ 64) is small))
+    (roots_fit d (first_page_of d) (key_numbers d) (map (λ k. key_list d k (rows_placed d rows)) (key_numbers d)) s (numbers_of_keys d) (subst (λ (t : LaidTrees). t.end < 2 ^ 64) is small))
 
 whole_first : (d : Defs) → first_page_of d % 1024 ≡ 0
 whole_first d = omega arith
 
 -- the trees stand in each file whose bytes from the first page place on are theirs
-new_there : (d : Defs) (x : List ℕ) (rows : List Values) → IsSound d → AllByRecursion (IsStorable d) rows → is_addressable d (length (laid_file d rows)) ≡ true → (new_trees d rows).end < 2 ^ 64 → drop (first_page_of d) x ≡ (new_trees d rows).bytes
+new_there : (d : Defs) (x : List ℕ) (rows : List Values) → IsSound d → AllByRecursion (IsStorable d) rows → is_addressable d (length (stored_file d rows)) ≡ true → (new_trees d rows).end < 2 ^ 64 → drop (first_page_of d) x ≡ (new_trees d rows).bytes
     → AreThere d x (rows_placed d rows) ((0, first_page_of d) ∷ []) (first_page_of d) (key_numbers d)
 new_there d x rows s all reached small is =
     let same = trees_are d rows in
     let first : ℕ = first_page_of d in
     let there : drop first x ≡ (trees_of d first (key_numbers d) (rows_placed d rows)).bytes ++ [] = is ∙ ap (λ (t : LaidTrees). t.bytes) same ∙ sym (append-nil _) in
-    trees_there d (length (laid_file d rows)) x (rows_placed d rows) ((0, first) ∷ []) first (key_numbers d) [] s reached
-    (near_from d 0 (length (laid_file d rows)) rows all (omega (arith, length-laid d rows)))
-    (numbers_below 0 (length d.keys) (length d.keys) (omega arith)) (whole_first d) (omega arith, tt)
+    trees_there d (length (stored_file d rows)) x (rows_placed d rows) ((0, first) ∷ []) first (key_numbers d) [] s reached
+    (near_from d 0 (length (stored_file d rows)) rows all (omega (arith, length-laid d rows)))
+    (numbers_of_keys d) (whole_first d) (omega arith, tt)
     (subst (λ (t : LaidTrees). t.end < 2 ^ 64) same small) there
 
 placed_count : (d : Defs) (at : ℕ) (vs : List Values) → length (placed_from d at vs) ≡ length vs
@@ -121,14 +126,14 @@ module _ (d : Defs) (extend : Bool) (x : List ℕ) (now : ℕ) (can : IsRepairab
   pub all_stored : AllByRecursion (IsStorable d) (kept d extend x)
   all_stored = kept_each d extend x can.defined can.bytes
 
-  data_is : new_data d extend x ≡ laid_file d (kept d extend x)
+  data_is : new_data d extend x ≡ stored_file d (kept d extend x)
   unfolding new_data
   data_is = refl
 
   pub data_long : length (new_data d extend x) ≡ stored_length d (kept d extend x)
   data_long = ap (λ (b : List ℕ). length b) data_is ∙ length-laid d (kept d extend x)
 
-  new_near : is_addressable d (length (laid_file d (kept d extend x))) ≡ true
+  new_near : is_addressable d (length (stored_file d (kept d extend x))) ≡ true
   new_near = ap (λ (b : List ℕ). is_addressable d (length b)) (sym data_is) ∙ new_reached d extend x can.defined can.bytes can.reached
 
   pub room : (new_trees d (kept d extend x)).end < 2 ^ 64
@@ -136,10 +141,10 @@ module _ (d : Defs) (extend : Bool) (x : List ℕ) (now : ℕ) (can : IsRepairab
       let rows : List Values = kept d extend x in
       let less = shorter d extend x can.defined can.bytes in
       let most = short_file d (length x) can.reached in
-      let len : ℕ = length (laid_file d rows) in
+      let len : ℕ = length (stored_file d rows) in
       let few : length (rows_placed d rows) ≤ 2 ^ 40 = omega (arith, placed_count d 0 rows, less, most, data_long, few_rows d rows is_sound all_stored) in
       let short = trees_short d len (first_page_of d) (key_numbers d) (rows_placed d rows) is_sound new_near (near_from d 0 len rows all_stored (omega (arith, length-laid d rows)))
-      (numbers_below 0 (length d.keys) (length d.keys) (omega arith)) (omega (arith, numbers_count 0 (length d.keys), is_sound.few_keys)) few (first_short d is_sound can.header) in
+      (numbers_of_keys d) (omega (arith, numbers_count 1 (length d.keys), is_sound.few_keys)) few (first_short d is_sound can.header) in
       subst (λ (t : LaidTrees). t.end < 2 ^ 64) (sym (trees_are d rows)) short
 
   pub are_few : AreFew d (length (kept d extend x)) (length (new_data d extend x)) (new_trees d (kept d extend x)).end now (new_trees d (kept d extend x)).roots

@@ -7,7 +7,7 @@ use Rattle.std.proofs.lemmas.List.Sums.{sum_by-cons}
 use Rattle.myi_base.specs.Ranges.{Range, are_apart, is_apart, AreDisjoint}
 use Rattle.myi_btree.specs.declared.pair.Pair.{Pair}
 use Rattle.myi_btree.specs.Walk.{Places}
-use Rattle.myi_btree.specs.Laid.{Fits, places_from, laid, Stands}
+use Rattle.myi_btree.specs.LaidPages.{Fits, places_from, laid, Stands}
 use Rattle.myi_btree.specs.Visit.{page_range}
 use Rattle.myi_btree.proofs.CallerLemmas.{length-places_from}
 use Rattle.myi_pair.specs.TreePages.{WalksOnce}

@@ -23,7 +23,7 @@ use Rattle.myi_pack.specs.Packed.{Values}
 use Rattle.myi_chain.specs.Readable.{Row}
 use Rattle.myi_chain.specs.Meeting.{ranges_of}
 use Rattle.myi_data.specs.Readable.{readable, deleted}
-use Rattle.myi_data.specs.Laid.{stored, laid_file, laid_rows}
+use Rattle.myi_data.specs.Stored.{stored, stored_file, stored_rows}
 use Rattle.myi_pair.specs.FirstRows.{key_numbers, first_rows, AreDistinct}
 use Rattle.myi_pair.specs.KeyList.{PlacedRow}
 use Rattle.myi_pair.specs.Trees.{HaveTrees, total}
@@ -101,7 +101,7 @@ header_like d y s same = record {
 
 -- what is to hold of the two files under the definitions that were asked for
 record AreClean (d : Defs) (vs : List Values) (e y : List ℕ) (roots : List (Option ℕ)) : Type 0 where
-  pub rows : readable d false e ≡ laid_rows d 0 vs
+  pub rows : readable d false e ≡ stored_rows d 0 vs
   pub values : map (values_of d) (readable d false e) ≡ vs
   pub placed : map (placed_row d) (readable d false e) ≡ placed_from d 0 vs
   pub long : length e ≡ stored_length d vs
@@ -228,7 +228,7 @@ module _ (d : Defs) (extend : Bool) (x : List ℕ) (now : ℕ) (can : IsRepairab
       }
 
   data_is : new_data d extend x ≡ flat_map (stored d) (kept d extend x)
-  unfolding new_data laid_file
+  unfolding new_data stored_file
   data_is = refl
 
   pub recovered : Recovered d extend x now (new_data d extend x) (new_index d extend x now)

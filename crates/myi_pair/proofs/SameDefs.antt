@@ -7,7 +7,7 @@ use Rattle.myi_defs.specs.declared.types.RowFormat.TheVariants.{Static, Dynamic}
 use Rattle.myi_defs.specs.declared.types.Defs.{Defs}
 use Rattle.myi_defs.specs.Addressable.{is_addressable}
 use Rattle.myi_pack.specs.Packed.{Values}
-use Rattle.myi_pack.specs.Reading.{fields_of, parts_of, ended, row_of}
+use Rattle.myi_pack.specs.Unpacking.{fields_of, parts_of, ended, row_of}
 use Rattle.myi_chain.specs.Readable.{Row, Item, rows_of, frees_of}
 use Rattle.myi_chain.specs.Readable as chains
 use Rattle.myi_chain.specs.Meeting.{ranges_of}

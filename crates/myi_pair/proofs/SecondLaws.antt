@@ -20,11 +20,11 @@ use Rattle.myi_header.proofs.CallerLemmas.{state-take, state-rest}
 use Rattle.myi_pack.specs.Packed.{Values}
 use Rattle.myi_pack.specs.Spelling.{spelled_row, spelling}
 use Rattle.myi_data.specs.Readable.{readable}
-use Rattle.myi_data.specs.Laid.{stored_by, stored, laid_file}
+use Rattle.myi_data.specs.Stored.{stored_by, stored, stored_file}
 use Rattle.myi_btree.specs.declared.pair.Pair.{Pair}
 use Rattle.myi_btree.specs.Walk.{Node}
 use Rattle.myi_btree.specs.Sizes.{fits_in}
-use Rattle.myi_btree.specs.Laid.{laid}
+use Rattle.myi_btree.specs.LaidPages.{laid}
 use Rattle.myi_pair.specs.FirstRows.{key_numbers, repeats, first_after, first_rows}
 use Rattle.myi_pair.specs.KeyList.{PlacedRow, key_list}
 use Rattle.myi_pair.specs.Trees.{block_of_key, place_of}
@@ -62,8 +62,8 @@ module _ (d : Defs) (r : List ℕ) where
   unfolding spelling
   stored_same v = ap (stored_by d.format) (spelled_same d.format v)
 
-  laid_same : (vs : List Values) → laid_file (with_raw d r) vs ≡ laid_file d vs
-  unfolding laid_file
+  laid_same : (vs : List Values) → stored_file (with_raw d r) vs ≡ stored_file d vs
+  unfolding stored_file
   laid_same [] = refl
   laid_same (v ∷ vs) = ap (λ b. b ++ flat_map (stored (with_raw d r)) vs) (stored_same v) ∙ ap (λ bs. stored d v ++ bs) (laid_same vs)
 
@@ -179,7 +179,7 @@ module _ (d : Defs) (extend : Bool) (x : List ℕ) (now : ℕ) (can : IsRepairab
 
   data_again : (any : Bool) → new_data (with_raw d header_read) any (new_data d extend x) ≡ new_data d extend x
   unfolding new_data
-  data_again any = ap (laid_file (with_raw d header_read)) (kept_again any) ∙ laid_same d header_read (kept d extend x)
+  data_again any = ap (stored_file (with_raw d header_read)) (kept_again any) ∙ laid_same d header_read (kept d extend x)
 
   trees_again : (any : Bool) → new_trees (with_raw d header_read) (kept (with_raw d header_read) any (new_data d extend x)) ≡ new_trees d (kept d extend x)
   trees_again any = ap (new_trees (with_raw d header_read)) (kept_again any) ∙ trees_with d header_read (kept d extend x) (first_same d header_read is_like)

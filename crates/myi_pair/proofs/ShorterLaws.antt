@@ -23,7 +23,7 @@ use Rattle.myi_chain.specs.Chain.{AreApart}
 use Rattle.myi_chain.specs.Readable.{Row}
 use Rattle.myi_chain.specs.Meeting.{ranges_of}
 use Rattle.myi_data.specs.Readable.{readable}
-use Rattle.myi_data.specs.Laid.{stored_by, stored, laid_file, IsStorable}
+use Rattle.myi_data.specs.Stored.{stored_by, stored, stored_file, IsStorable}
 use Rattle.myi_data.proofs.CallerLemmas.{spelling_some}
 use Rattle.myi_data.proofs.CallerLemmas.{rows_apart}
 use Rattle.myi_pair.specs.FirstRows.{repeats, first_after, first_rows}
@@ -149,8 +149,8 @@ stored_room d len r are fine = of_format d.format refl
 abbrev pub stored_length : Defs → List Values → ℕ
 stored_length d vs = sum_by (λ v. length (stored d v)) vs
 
-pub length-laid : (d : Defs) (vs : List Values) → length (laid_file d vs) ≡ stored_length d vs
-unfolding laid_file
+pub length-laid : (d : Defs) (vs : List Values) → length (stored_file d vs) ≡ stored_length d vs
+unfolding stored_file
 length-laid d [] = refl
 length-laid d (v ∷ vs) = length-append (stored d v) (flat_map (stored d) vs) ∙ omega (arith, length-laid d vs, sum_by-cons (λ v. length (stored d v)) v vs)
 

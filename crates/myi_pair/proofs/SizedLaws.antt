@@ -2,7 +2,6 @@
 use Rattle.std.proofs.Common.{◌≡◌, ℕ, ◌-◌, ◌*◌, ◌/◌, ◌%◌, ◌^◌, ◌<◌, ◌≤◌, Bool, true, false, List, [], ◌∷◌, length, map, get_or, Option, if◌then◌else◌, nat_lt, nat_le, IsPermutation, refl, sym, ap, subst, ◌∙◌, arith, length-append, div-mul-le_self, le-div_iff_mul-le}
 use Rattle.std.specs.List.{AllByRecursion}
 use Rattle.std.specs.Option.{option_map_or}
-use Rattle.std.proofs.lemmas.Option.{slice_get-get_or}
 use Rattle.std.proofs.lemmas.Bool.{and_parts, ltb-true}
 use Rattle.std.proofs.lemmas.Bool.Decides.{nat_tests}
 use Rattle.std.proofs.lemmas.List.Elements.{All-get_or, All-from_recursion, recursion_from_All}
@@ -25,8 +24,8 @@ use Rattle.myi_keys.specs.Codes.{seg_code, key_code}
 use Rattle.myi_keys.specs.Limits.{IsKey}
 use Rattle.myi_keys.specs.Weights.{weights, CanWeigh}
 use Rattle.myi_keys.proofs.CallerLemmas.{seg_size, weights_few}
-use Rattle.myi_data.specs.Keys.{content, is_absent, seg_of, key_of}
-use Rattle.myi_data.proofs.CallerLemmas.{can_weigh, key_is, segments_at, values_fit}
+use Rattle.myi_data.specs.Keys.{content, is_absent, seg_of, IsKeyNumber, key_of}
+use Rattle.myi_data.proofs.CallerLemmas.{can_weigh, key_is, key_is_at, segments_at, values_fit}
 use Rattle.myi_btree.specs.declared.pair.Pair.{Pair}
 use Rattle.myi_btree.specs.Nodes.{entry_of}
 use Rattle.myi_btree.specs.Sizes.{IsPlaced, IsSized, AreSized}
@@ -54,21 +53,21 @@ segs_short format fs row (s ∷ ss) fit sound =
 some_key : Key
 some_key = record { unique = false; block_length = 0; segments = [] }
 
-module _ (d : Defs) (s : IsSound d) (k : ℕ) (inside : k < length d.keys) where
+module _ (d : Defs) (s : IsSound d) (k : ℕ) (inside : IsKeyNumber d k) where
   the_key : Key
-  the_key = get_or d.keys k some_key
+  the_key = get_or d.keys (k - 1) some_key
 
   sound_key : IsSoundKey d.fields d.rec_ref the_key
   unfolding the_key
-  sound_key = All-get_or (IsSoundKey d.fields d.rec_ref) d.keys k some_key inside s.keys_sound
+  sound_key = All-get_or (IsSoundKey d.fields d.rec_ref) d.keys (k - 1) some_key (omega (arith, inside.0, inside.1)) s.keys_sound
 
   block_is : block_of_key d k ≡ the_key.block_length
   unfolding the_key
-  block_is = ap (λ (o : Option Key). option_map_or (λ (key : Key). key.block_length) o 0) (slice_get-get_or d.keys k some_key inside)
+  block_is = ap (λ (o : Option Key). option_map_or (λ (key : Key). key.block_length) o 0) (key_is_at d.keys k some_key inside.0 inside.1)
 
   key_is_of : (row : Values) → key_of d k row ≡ map (seg_of d.fields row) the_key.segments
   unfolding the_key key_of
-  key_is_of row = ap (map (seg_of d.fields row)) (segments_at d.keys k some_key inside)
+  key_is_of row = ap (map (seg_of d.fields row)) (segments_at d.keys k some_key inside.0 inside.1)
 
   pub placed : IsPlaced (place_of d k)
   placed = record {
@@ -120,7 +119,7 @@ IsNear d len r = (r.0 ≤ len) × (fits d r.1 ≡ true)
 abbrev pub CanBeLaid : Defs → ℕ → Pair → Type 0
 CanBeLaid d k p = IsSized (place_of d k) (entry_of p) × IsKey p.key
 
-pairs_laid : (d : Defs) (k len : ℕ) (rows : List PlacedRow) → IsSound d → k < length d.keys → is_addressable d len ≡ true → AllByRecursion (IsNear d len) rows → AllByRecursion (CanBeLaid d k) (pairs_of d k rows)
+pairs_laid : (d : Defs) (k len : ℕ) (rows : List PlacedRow) → IsSound d → IsKeyNumber d k → is_addressable d len ≡ true → AllByRecursion (IsNear d len) rows → AllByRecursion (CanBeLaid d k) (pairs_of d k rows)
 pairs_laid d k len [] s inside reached near = tt
 pairs_laid d k len (r ∷ rows) s inside reached near =
     ((sized d s k inside r.0 r.1 near.0.1 (pointer_near d r.0 len s reached near.0.0), is_key d s k inside r.1 near.0.1), pairs_laid d k len rows s inside reached near.1)
@@ -132,10 +131,10 @@ all_sized d k (p ∷ ps) all = let more = all_sized d k ps all.1 in ((all.0.0, m
 permuted : {X : Type 0} (P : X → Type 0) (xs ys : List X) → IsPermutation xs ys → AllByRecursion P xs → AllByRecursion P ys
 permuted P xs ys same all = recursion_from_All P ys (All-permutation P xs ys same (All-from_recursion P xs all))
 
-pub pairs_sized : (d : Defs) (k len : ℕ) (rows : List PlacedRow) → IsSound d → k < length d.keys → is_addressable d len ≡ true → AllByRecursion (IsNear d len) rows → AreSized (place_of d k) (pairs_of d k rows) × AllByRecursion (λ (p : Pair). IsKey p.key) (pairs_of d k rows)
+pub pairs_sized : (d : Defs) (k len : ℕ) (rows : List PlacedRow) → IsSound d → IsKeyNumber d k → is_addressable d len ≡ true → AllByRecursion (IsNear d len) rows → AreSized (place_of d k) (pairs_of d k rows) × AllByRecursion (λ (p : Pair). IsKey p.key) (pairs_of d k rows)
 pairs_sized d k len rows s inside reached near = all_sized d k (pairs_of d k rows) (pairs_laid d k len rows s inside reached near)
 
-pub list_sized : (d : Defs) (k len : ℕ) (rows : List PlacedRow) → IsSound d → k < length d.keys → is_addressable d len ≡ true → AllByRecursion (IsNear d len) rows → AreSized (place_of d k) (key_list d k rows) × AllByRecursion (λ (p : Pair). IsKey p.key) (key_list d k rows)
+pub list_sized : (d : Defs) (k len : ℕ) (rows : List PlacedRow) → IsSound d → IsKeyNumber d k → is_addressable d len ≡ true → AllByRecursion (IsNear d len) rows → AreSized (place_of d k) (key_list d k rows) × AllByRecursion (λ (p : Pair). IsKey p.key) (key_list d k rows)
 unfolding key_list
 list_sized d k len rows s inside reached near =
     let pairs : List Pair = pairs_of d k rows in

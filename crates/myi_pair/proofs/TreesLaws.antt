@@ -16,11 +16,12 @@ use Rattle.myi_btree.specs.declared.place.Place.{Place}
 use Rattle.myi_btree.specs.Walk.{Node}
 use Rattle.myi_btree.specs.Nodes.{page_of_node}
 use Rattle.myi_btree.specs.Sizes.{IsPlaced, AreSized, fits_in}
-use Rattle.myi_btree.specs.Laid.{laid, Stands, root_of}
+use Rattle.myi_btree.specs.LaidPages.{laid, Stands, root_of}
 use Rattle.myi_btree.specs.Building.{page_for}
 use Rattle.myi_btree.specs.Visit.{HasWalk}
 use Rattle.myi_btree.specs.Building.{AreKeys, IsWritten}
 use Rattle.myi_btree.proofs.CallerLemmas.{laid_written, written_read}
+use Rattle.myi_data.specs.Keys.{IsKeyNumber}
 use Rattle.myi_pair.specs.KeyList.{PlacedRow, key_list}
 use Rattle.myi_pair.specs.Trees.{block_of_key, place_of, node_at, HasTree, HaveTrees, total}
 use Rattle.myi_pair.specs.RecoveredBytes.{LaidTrees, laid_trees}
@@ -120,7 +121,7 @@ pub record AreThere (d : Defs) (x : List ℕ) (rows : List PlacedRow) (busy : Li
   pub size : first + total pages ≡ (trees_of d first ks rows).end
   pub long : first + length (trees_of d first ks rows).bytes ≡ (trees_of d first ks rows).end
 
-pub trees_there : (d : Defs) (len : ℕ) (x : List ℕ) (rows : List PlacedRow) (busy : List Range) (first : ℕ) (ks : List ℕ) (rest : List ℕ) → IsSound d → is_addressable d len ≡ true → AllByRecursion (IsNear d len) rows → AllByRecursion (λ k. k < length d.keys) ks
+pub trees_there : (d : Defs) (len : ℕ) (x : List ℕ) (rows : List PlacedRow) (busy : List Range) (first : ℕ) (ks : List ℕ) (rest : List ℕ) → IsSound d → is_addressable d len ≡ true → AllByRecursion (IsNear d len) rows → AllByRecursion (IsKeyNumber d) ks
     → first % 1024 ≡ 0 → EndBy first busy → (trees_of d first ks rows).end < 2 ^ 64 → drop first x ≡ (trees_of d first ks rows).bytes ++ rest → AreThere d x rows busy first ks
 trees_there d len x rows busy first [] rest s reached near inside whole ends small is = record { pages = []; trees = refl; size = omega arith; long = omega arith }
 trees_there d len x rows busy first (k ∷ ks) rest s reached near inside whole ends small is =

@@ -14,7 +14,7 @@ use Rattle.myi_header.specs.Layout.{first_page_of}
 use Rattle.myi_header.specs.StateOf.{state_of, has_mark}
 use Rattle.myi_frames.specs.Block.{Block, block_of}
 use Rattle.myi_pack.specs.Packed.{Values}
-use Rattle.myi_pack.specs.Reading.{row_of}
+use Rattle.myi_pack.specs.Unpacking.{row_of}
 use Rattle.myi_chain.specs.Readable.{Row}
 use Rattle.myi_chain.specs.Meeting.{ranges_of}
 use Rattle.myi_data.specs.Readable.{readable, deleted}

@@ -1,7 +1,7 @@
 -- The first rows of unique keys (MySQL Reference Manual, "CREATE TABLE": the values of a UNIQUE index are distinct, but
 -- NULL may stand several times). A row is kept unless it has, in a unique key, the complete key of a row that is kept
 -- before it. A row that is not kept takes none away.
-use Rattle.std.specs.Prelude.{◌≡◌, ◌&&◌, ℕ, zero, suc, Bool, false, if◌then◌else◌, List, [], ◌∷◌, ◌++◌, length, slice_get}
+use Rattle.std.specs.Prelude.{◌≡◌, ◌&&◌, ℕ, zero, suc, Bool, false, if◌then◌else◌, List, [], ◌∷◌, ◌++◌, length}
 use Rattle.std.specs.List.{list_any}
 use Rattle.std.specs.Option.{option_map_or}
 use Rattle.std.specs.Ordering.{is_eq}
@@ -12,19 +12,19 @@ use Rattle.myi_keys.specs.declared.values.KeySeg.{KeySeg}
 use Rattle.myi_keys.specs.Codes.{key_code}
 use Rattle.myi_keys.specs.Limits.{is_complete}
 use Rattle.myi_keys.specs.Order.{key_cmp}
-use Rattle.myi_data.specs.Keys.{key_of}
+use Rattle.myi_data.specs.Keys.{key_at, key_of}
 
 -- so many numbers from one on
 abbrev pub numbers_from : ℕ → ℕ → List ℕ
 numbers_from k zero = []
 numbers_from k (suc n) = k ∷ numbers_from (suc k) n
 
--- the numbers of the keys, from 0
+-- the numbers of the keys
 abbrev pub key_numbers : Defs → List ℕ
-key_numbers d = numbers_from 0 (length d.keys)
+key_numbers d = numbers_from 1 (length d.keys)
 
 abbrev pub is_unique : Defs → ℕ → Bool
-is_unique d k = option_map_or (λ key. key.unique) (slice_get d.keys k) false
+is_unique d k = option_map_or (λ key. key.unique) (key_at d.keys k) false
 
 -- both keys are complete and equal
 abbrev pub is_same_key : List KeySeg → List KeySeg → Bool

@@ -9,7 +9,7 @@ use Rattle.myi_defs.specs.ReadDefs.{read_defs, AreDefs}
 use Rattle.myi_defs.specs.Elsewhere.{AgreeOutsideState}
 use Rattle.myi_header.specs.StateOf.{state_of}
 use Rattle.myi_data.specs.Readable.{readable}
-use Rattle.myi_data.specs.Laid.{stored}
+use Rattle.myi_data.specs.Stored.{stored}
 use Rattle.myi_pair.specs.Clean.{values_of, IsClean}
 use Rattle.myi_pair.specs.RecoveredBytes.{kept, recovered_state}
 

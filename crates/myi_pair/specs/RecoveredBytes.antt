@@ -10,11 +10,11 @@ use Rattle.myi_header.specs.StateOf.{state_of}
 use Rattle.myi_header.specs.HeaderOf.{header_of}
 use Rattle.myi_pack.specs.Packed.{Values}
 use Rattle.myi_data.specs.Readable.{readable}
-use Rattle.myi_data.specs.Laid.{stored, laid_file}
+use Rattle.myi_data.specs.Stored.{stored, stored_file}
 use Rattle.myi_btree.specs.declared.pair.Pair.{Pair}
 use Rattle.myi_btree.specs.Walk.{Node}
 use Rattle.myi_btree.specs.Sizes.{fits_in}
-use Rattle.myi_btree.specs.Laid.{laid, root_of}
+use Rattle.myi_btree.specs.LaidPages.{laid, root_of}
 use Rattle.myi_btree.specs.Building.{page_for}
 use Rattle.myi_pair.specs.FirstRows.{key_numbers, first_rows}
 use Rattle.myi_pair.specs.KeyList.{PlacedRow, pairs_of, key_list}
@@ -31,7 +31,7 @@ repeat_count defs extend d = length (readable defs extend d) - length (kept defs
 
 -- the new data file
 unfoldable pub new_data : Defs → Bool → List ℕ → List ℕ
-new_data defs extend d = laid_file defs (kept defs extend d)
+new_data defs extend d = stored_file defs (kept defs extend d)
 
 -- rows one after the other, with their places, the first at a place
 abbrev pub placed_from : Defs → ℕ → List Values → List PlacedRow

@@ -7,7 +7,7 @@ use Rattle.myi_btree.specs.declared.place.Place.{Place}
 use Rattle.myi_btree.specs.Walk.{Node, Places, Walked, content}
 use Rattle.myi_btree.specs.Visit.{HasWalk}
 use Rattle.myi_btree.specs.Sizes.{IsPlaced, AreSized, fits_in}
-use Rattle.myi_btree.specs.Laid.{laid}
+use Rattle.myi_btree.specs.LaidPages.{laid}
 use Rattle.myi_btree.specs.Building.{page_for, laid_over}
 
 -- the nodes of the tree of these pairs, from a place on

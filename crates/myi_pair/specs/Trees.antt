@@ -1,9 +1,10 @@
 -- The trees of an index file: the tree of each key, from its root, with what its pages may not meet.
-use Rattle.std.specs.Prelude.{◌≡◌, ◌-◌, ◌%◌, ◌==◌, ℕ, true, List, [], ◌∷◌, ◌++◌, map, sum_by, Option, Some, None, if◌then◌else◌, slice_get}
+use Rattle.std.specs.Prelude.{◌≡◌, ◌-◌, ◌%◌, ◌==◌, ℕ, true, List, [], ◌∷◌, ◌++◌, map, sum_by, Option, Some, None, if◌then◌else◌}
 use Rattle.std.specs.List.{AllByRecursion}
 use Rattle.std.specs.Option.{option_map_or}
 use Rattle.myi_base.specs.Ranges.{Range, is_apart}
 use Rattle.myi_defs.specs.declared.types.Defs.{Defs}
+use Rattle.myi_data.specs.Keys.{key_at}
 use Rattle.myi_keycache.specs.Lent.{bytes_at}
 use Rattle.myi_btree.specs.declared.pair.Pair.{Pair}
 use Rattle.myi_btree.specs.declared.place.Place.{Place}
@@ -14,7 +15,7 @@ use Rattle.myi_pair.specs.KeyList.{PlacedRow, key_list}
 
 -- the length of the pages of a key, by its number
 abbrev pub block_of_key : Defs → ℕ → ℕ
-block_of_key d k = option_map_or (λ key. key.block_length) (slice_get d.keys k) 0
+block_of_key d k = option_map_or (λ key. key.block_length) (key_at d.keys k) 0
 
 -- how the pages of a key are made, with no root yet
 abbrev pub place_of : Defs → ℕ → Place

@@ -15,11 +15,11 @@ ghost use Rattle.myi_pack.specs.Packed.{Values};
 ghost use Rattle.myi_pack.specs.Spelling.{fits};
 ghost use Rattle.myi_keys.specs.Limits.{IsKey};
 ghost use Rattle.myi_data.specs.Readable.{readable};
-ghost use Rattle.myi_data.specs.Keys.{key_of};
-ghost use Rattle.myi_data.specs.Laid.{IsStorable, laid_rows, stored};
+ghost use Rattle.myi_data.specs.Keys.{IsKeyNumber, key_of};
+ghost use Rattle.myi_data.specs.Stored.{IsStorable, stored_rows, stored};
 ghost use Rattle.myi_btree.specs.declared.place.Place.{Place};
 ghost use Rattle.myi_btree.specs.Walk.{Places};
-ghost use Rattle.myi_btree.specs.Laid.{Fits, laid, Stands};
+ghost use Rattle.myi_btree.specs.LaidPages.{Fits, laid, Stands};
 ghost use Rattle.myi_btree.specs.Nodes.{entry_of};
 ghost use Rattle.myi_btree.specs.Sizes.{IsPlaced, IsSized, AreSized};
 ghost use Rattle.myi_pair.specs.FirstRows.{key_numbers, repeats, repeats_code, first_rows, AreDistinct};
@@ -37,7 +37,8 @@ use myi_btree::Pair;
 /// complete and has the code of a complete key of theirs.
 pub fn first_rows_are_distinct()
     ensures distinct { (d : Defs) (rows : List Values) → AreDistinct d [] (first_rows d rows) }
-    ensures all { (d : Defs) (rows : List Values) → AreDistinct d [] rows → first_rows d rows ≡ rows }
+    ensures all { (d : Defs) (rows : List Values) → AreDistinct d [] rows
+        → first_rows d rows ≡ rows }
     ensures noted { (d : Defs) (rows : List Values) (row : Values)
         → list_any (repeats d row) rows ≡ list_any (repeats_code d rows row) (key_numbers d) }
 {}
@@ -49,7 +50,8 @@ pub fn key_lists_are_sorted()
     ensures ascending { (pairs : List Pair) → IsSorted pair_cmp (sorted pairs) }
     ensures once { (pairs list : List Pair) → IsPermutation pairs list → IsSorted pair_cmp list
         → list ≡ sorted pairs }
-    ensures own { (pairs list : List Pair) → IsPermutation pairs list → IsSorted ⟦<Pair as Ord>⟧.cmp list
+    ensures own { (pairs list : List Pair) → IsPermutation pairs list
+        → IsSorted ⟦<Pair as Ord>⟧.cmp list
         → list ≡ sorted pairs }
 {}
 
@@ -61,7 +63,7 @@ pub fn kept_rows_are_stored()
     ensures storable { (d : Defs) (extend : Bool) (x : List ℕ) → AreDefs d → AreBytes x
         → All (IsStorable d) (kept d extend x) }
     ensures laid { (d : Defs) (any extend : Bool) (x : List ℕ) → AreDefs d → AreBytes x
-        → readable d any (new_data d extend x) ≡ laid_rows d 0 (kept d extend x) }
+        → readable d any (new_data d extend x) ≡ stored_rows d 0 (kept d extend x) }
     ensures values { (d : Defs) (any extend : Bool) (x : List ℕ) → AreDefs d → AreBytes x
         → map (values_of d) (readable d any (new_data d extend x)) ≡ kept d extend x }
 {}
@@ -77,18 +79,21 @@ pub fn repairs_settle()
 /// The pairs of rows that fit, at places of a data file within reach, can be laid on the pages of their
 /// key: the key is one, two entries fit into each page, and a row pointer has its bytes.
 pub fn pairs_are_sized()
-    ensures placed { (d : Defs) → IsSound d → (k : ℕ) → k < length d.keys → IsPlaced (place_of d k) }
-    ensures keys { (d : Defs) → IsSound d → (k : ℕ) → k < length d.keys → (row : Values) → fits d row ≡ true
+    ensures placed { (d : Defs) → IsSound d → (k : ℕ) → IsKeyNumber d k → IsPlaced (place_of d k) }
+    ensures keys { (d : Defs) → IsSound d → (k : ℕ) → IsKeyNumber d k → (row : Values)
+        → fits d row ≡ true
         → IsKey (key_of d k row) }
-    ensures pair { (d : Defs) (k at len : ℕ) (row : Values) → IsSound d → k < length d.keys
+    ensures pair { (d : Defs) (k at len : ℕ) (row : Values) → IsSound d → IsKeyNumber d k
         → fits d row ≡ true → is_addressable d len ≡ true → at ≤ len
         → IsSized (place_of d k) (entry_of (pair_of d k (at, row))) }
-    ensures pairs { (d : Defs) (k len : ℕ) (rows : List PlacedRow) → IsSound d → k < length d.keys
+    ensures pairs { (d : Defs) (k len : ℕ) (rows : List PlacedRow) → IsSound d → IsKeyNumber d k
         → is_addressable d len ≡ true → AllByRecursion (λ r. (r.0 ≤ len) × (fits d r.1 ≡ true)) rows
-        → AreSized (place_of d k) (pairs_of d k rows) × AllByRecursion (λ p. IsKey p.key) (pairs_of d k rows) }
-    ensures list { (d : Defs) (k len : ℕ) (rows : List PlacedRow) → IsSound d → k < length d.keys
+        → AreSized (place_of d k) (pairs_of d k rows)
+        × AllByRecursion (λ p. IsKey p.key) (pairs_of d k rows) }
+    ensures list { (d : Defs) (k len : ℕ) (rows : List PlacedRow) → IsSound d → IsKeyNumber d k
         → is_addressable d len ≡ true → AllByRecursion (λ r. (r.0 ≤ len) × (fits d r.1 ≡ true)) rows
-        → AreSized (place_of d k) (key_list d k rows) × AllByRecursion (λ p. IsKey p.key) (key_list d k rows) }
+        → AreSized (place_of d k) (key_list d k rows)
+        × AllByRecursion (λ p. IsKey p.key) (key_list d k rows) }
 {}
 
 /// A repaired data file is no longer than the one before, and within reach where that was: one block of
@@ -98,7 +103,8 @@ pub fn repaired_files_are_shorter()
     ensures shorter { (d : Defs) (extend : Bool) (x : List ℕ) → AreDefs d → AreBytes x
         → length (new_data d extend x) ≤ length x }
     ensures addressable { (d : Defs) (extend : Bool) (x : List ℕ) → AreDefs d → AreBytes x
-        → is_addressable d (length x) ≡ true → is_addressable d (length (new_data d extend x)) ≡ true }
+        → is_addressable d (length x) ≡ true
+        → is_addressable d (length (new_data d extend x)) ≡ true }
     ensures less { (d : Defs) (longer shorter : ℕ) → IsSound d → shorter ≤ longer
         → is_addressable d longer ≡ true → is_addressable d shorter ≡ true }
 {}
@@ -106,9 +112,11 @@ pub fn repaired_files_are_shorter()
 /// The walk of laid pages goes over each of them once: no byte belongs to two of its pages, which are as
 /// many as were laid and lie where they were laid.
 pub fn laid_pages_are_met_once()
-    ensures { (read : Places) (fits : Fits) (block first : ℕ) (pair : Pair) (pairs : List Pair) → 0 < block
+    ensures { (read : Places) (fits : Fits) (block first : ℕ) (pair : Pair) (pairs : List Pair)
+        → 0 < block
         → Stands read block first (laid fits block first (pair ∷ pairs))
-        → WalksOnce read block first (length (laid fits block first (pair ∷ pairs))) (pair ∷ pairs) }
+        → WalksOnce read block first (length (laid fits block first (pair ∷ pairs)))
+        (pair ∷ pairs) }
 {}
 
 /// The pages of a tree that are written from the end of a file on stand behind what the file has from a
@@ -118,7 +126,8 @@ pub fn laid_pages_stand_behind()
         → first + length (tree_pages place first pairs) ≡ tree_end place first pairs }
     ensures behind { (place : Place) (first : ℕ) (pairs : List Pair) → CanBeLaid place first pairs
         → (base : ℕ) (bytes file : List ℕ) → HasBehind base first bytes file
-        → HasBehind base (tree_end place first pairs) (bytes ++ tree_pages place first pairs) (with_tree place first pairs file) }
+        → HasBehind base (tree_end place first pairs) (bytes
+        ++ tree_pages place first pairs) (with_tree place first pairs file) }
 {}
 
 /// In the new index file each key has the tree of its key list, and the pages of all trees, which have no
@@ -130,7 +139,8 @@ pub fn new_trees_stand()
         → length (new_index d extend x now) ≡ (new_trees d (kept d extend x)).end }
     ensures trees { (d : Defs) (extend : Bool) (x : List ℕ) (now : ℕ) → IsRepairable d x now
         → (pages : List Range)
-        × HaveTrees d (new_index d extend x now) (placed_from d 0 (kept d extend x)) ((0, first_page_of d) ∷ [])
+        × HaveTrees d (new_index d extend x now) (placed_from d 0 (kept d extend x))
+        ((0, first_page_of d) ∷ [])
         (key_numbers d) (new_trees d (kept d extend x)).roots pages
         × (first_page_of d + total pages ≡ length (new_index d extend x now)) }
 {}
@@ -155,7 +165,8 @@ pub fn second_repairs_change_nothing()
         → (any : Bool) → new_data again any (new_data d extend x) ≡ new_data d extend x }
     ensures index_file { (d : Defs) (extend : Bool) (x : List ℕ) (now : ℕ) → IsRepairable d x now
         → (again : Defs) → read_defs (new_index d extend x now) ≡ Ok again
-        → (any : Bool) (later : ℕ) → new_index again any (new_data d extend x) later ≡ new_index d extend x later }
+        → (any : Bool) (later : ℕ)
+        → new_index again any (new_data d extend x) later ≡ new_index d extend x later }
 {}
 
 /// The measures of what a repair writes: a static row takes its slot, a place in a file within reach fits

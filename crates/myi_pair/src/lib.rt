@@ -4,6 +4,20 @@
 //! (`KeyList`), the trees of an index file (`Trees`) and the pages of one (`TreePages`), a clean pair
 //! (`Clean`), and the files that a repair leaves, as bytes (`RecoveredBytes`) and in what holds of them
 //! (`Recovered`). The laws over them are the contracts of the functions in `laws`.
+//!
+//! It has definitions and laws and no code that runs, so its use is a contract that cites it:
+//!
+//! ```
+//! ghost use Rattle.myi_data.specs.Keys.{IsKeyNumber};
+//! ghost use Rattle.myi_pair.specs.Trees.{place_of};
+//!
+//! fn place_of(defs: &Defs, key: usize) -> Place
+//!     requires { IsKeyNumber defs.now key }
+//!     ensures { result ≡ place_of defs.now key }
+//! ```
+//!
+//! The crates above cite these definitions in their contracts; `crates/myi_repair/src/trees.rt` has
+//! this one.
 #![tactic(auto)]
 
 mod laws;

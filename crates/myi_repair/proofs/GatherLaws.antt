@@ -1,50 +1,49 @@
 -- What the loop that gathers rows keeps.
-use Rattle.std.proofs.Common.{◌≡◌, ◌⊎◌, ℕ, ◌+◌, Bool, true, false, List, [], ◌∷◌, ◌++◌, length, take, Option, Some, None, Result, Ok, unwrap_or, refl, sym, ap, subst, ◌∙◌, arith, inl, inr, append_assoc}
-use Rattle.std.specs.Prelude.{map, is_some, MatchOption, if◌then◌else◌}
+use Rattle.std.proofs.Common.{◌≡◌, ℕ, ◌+◌, Bool, true, false, List, [], ◌∷◌, ◌++◌, length, take, Option, Some, None, Result, Ok, unwrap_or, refl, sym, ap, subst, ◌∙◌, arith, append_assoc}
+use Rattle.std.specs.Prelude.{map, if◌then◌else◌}
 use Rattle.std.specs.List.{list_any}
 use Rattle.std.proofs.lemmas.List.{append-nil, take_all}
-use Rattle.myi_base.specs.Holding.{Holding, bytes_of, OthersStay}
+use Rattle.myi_base.specs.Holding.{Holding, HoldsBytes, Told, bytes_of, OthersStay}
+use Rattle.myi_base.proofs.CallerLemmas.{told_back}
 use Rattle.myi_base.specs.Numbers.{AreBytes}
 use Rattle.myi_defs.specs.declared.types.Defs.{Defs}
 use Rattle.myi_pack.specs.Packed.{Values}
-use Rattle.myi_pack.specs.Reading.{row_of}
+use Rattle.myi_pack.specs.Unpacking.{row_of}
 use Rattle.myi_chain.specs.declared.piece.Piece.{Piece}
 use Rattle.myi_chain.specs.declared.piece.ScanFault.{ScanFault}
-use Rattle.myi_chain.specs.Readable.{Row, Item, rows_of}
+use Rattle.myi_chain.specs.Readable.{Row, rows_of}
 use Rattle.myi_chain.specs.Pieces.{shown}
-use Rattle.myi_chain.specs.Scanning.{fresh_scan, IsSameScan, ReadsBytes, left_or}
-use Rattle.myi_data.specs.Laid.{laid_file}
-use Rattle.myi_data.specs.Readable.{packs, items_in, readable}
-use Rattle.myi_data.specs.Scanning.{TableScan, rows_left, IsRowAnswered, LeavesRows}
+use Rattle.myi_chain.specs.ScanModel.{fresh_scan, IsSameScan}
+use Rattle.myi_data.specs.Stored.{stored_file}
+use Rattle.myi_data.specs.Readable.{items_in, readable}
+use Rattle.myi_data.specs.Scanning.{TableScan, items_ahead, rows_ahead, IsAsKnown, AfterTableRow}
+use Rattle.myi_data.proofs.CallerLemmas.{fresh_ahead, fresh_known, ahead_same, known_same, rows_first}
 use Rattle.myi_pair.specs.Clean.{values_of}
 use Rattle.myi_pair.specs.FirstRows.{repeats, first_after, first_rows}
 use Rattle.myi_repair.specs.declared.kept.KeptRows.{KeptRows}
 use Rattle.myi_pair.specs.RecoveredBytes.{kept, repeat_count, new_data}
 use Rattle.myi_repair.specs.declared.gathering.Gathered.{Gathered}
 use Rattle.myi_repair.specs.Names.{FourNames}
-use Rattle.myi_repair.specs.Opening.{IsTable}
+use Rattle.myi_repair.specs.Opening.{IsTable, HasTable}
 use Rattle.myi_repair.specs.Keeping.{lists_in, AreCounted, HasKept, kept_with}
-use Rattle.myi_repair.specs.Gathering.{Gathers, values_left, TakesRow, GathersRows}
-use Rattle.myi_chain.proofs.CallerLemmas.{shown_bytes}
+use Rattle.myi_repair.specs.Gathering.{Gathers, values_ahead, TakesRow, GathersRows}
 use Rattle.myi_repair.proofs.OpenLaws.{is_opened}
 
 -- ---- one row
 
-pub match_some : {A : Type 0} (o : Option A) (x : A) (N : Type 0) (P : A → Type 0) → o ≡ Some x → MatchOption o N P → P x
-match_some o x N P is m = subst (λ q. MatchOption q N P) is m
+-- what a call answered, and what it leaves
+pub answered_of : (h : Option Holding) (old new : TableScan) (r : Result (Option (ℕ × Piece)) ScanFault) (o : Option (ℕ × Piece)) (x : ℕ × Piece) → r ≡ Ok o → o ≡ Some x → AfterTableRow h old r new → AfterTableRow h old (Ok (Some x)) new
+answered_of h old new r o x ok some leaves = subst (λ o. AfterTableRow h old (Ok o) new) some (subst (λ r. AfterTableRow h old r new) ok leaves)
 
--- bytes that pack a row are seen as one
-pub viewed : (r o : Option Values) → MatchOption r (o ≡ None) (λ row. o ≡ Some row) → is_some o ≡ true → is_some r ≡ true
-viewed (Some row) o found packs = refl
-viewed None o found packs = ap is_some (sym found) ∙ packs
+pub ended_of : (h : Option Holding) (old new : TableScan) (r : Result (Option (ℕ × Piece)) ScanFault) (o : Option (ℕ × Piece)) → r ≡ Ok o → o ≡ None → AfterTableRow h old r new → AfterTableRow h old (Ok None) new
+ended_of h old new r o ok none leaves = subst (λ o. AfterTableRow h old (Ok o) new) none (subst (λ r. AfterTableRow h old r new) ok leaves)
 
--- an answer with a row leaves the rows behind it
-pub answered_of : (h : Option Holding) (old new : TableScan) (r : Result (Option (ℕ × Piece)) ScanFault) (o : Option (ℕ × Piece)) (x : ℕ × Piece) → r ≡ Ok o → o ≡ Some x → LeavesRows h old r new → IsRowAnswered h old x new
-answered_of h old new r o x ok some leaves = subst (λ o. LeavesRows h old (Ok o) new) some (subst (λ r. LeavesRows h old r new) ok leaves)
+-- a file of another name keeps its bytes
+pub same_name : (file name : List ℕ) (m n : Holding) → (name ≡ file → ⊥) → OthersStay file m n → bytes_of name n ≡ bytes_of name m
+same_name file name m n apart keeps = ap (λ o. unwrap_or o []) (keeps name apart)
 
--- once what is left is known, it does not depend on the files
-pub left_known : (new : TableScan) (n : Holding) (items : List Item) → new.left ≡ Some items → rows_left new n ≡ rows_of items
-left_known new n items left = ap (λ l. rows_of (left_or l (items_in new.test new.extend (take new.end (bytes_of new.name n))))) left
+rows_same : (s : TableScan) (m n : Holding) → bytes_of s.name n ≡ bytes_of s.name m → rows_ahead s n ≡ rows_ahead s m
+rows_same s m n same = ap rows_of (ahead_same s m n same)
 
 -- ---- the loop
 
@@ -52,42 +51,36 @@ left_known new n items left = ap (λ l. rows_of (left_or l (items_in new.test ne
 pub record Gathering (start now : TableScan) (file : List ℕ) (k : KeptRows) (m n : Holding) : Type 0 where
   pub rows : List Values
   pub kept : HasKept start.test rows k
-  pub here : n file ≡ Some (laid_file start.test rows)
-  pub all : rows ++ first_after start.test rows (values_left now n) ≡ first_rows start.test (values_left start m)
-  pub counted : k.kept + k.repeats + length (rows_left now n) ≡ length (rows_left start m)
-  pub read : (now ≡ start) ⊎ AreBytes (take start.end (bytes_of start.name m))
-  pub others : OthersStay file m n
+  pub here : n file ≡ Some (stored_file start.test rows)
+  pub all : rows ++ first_after start.test rows (values_ahead now n) ≡ first_rows start.test (values_ahead start m)
+  pub counted : k.kept + k.repeats + length (rows_ahead now n) ≡ length (rows_ahead start m)
 
-pub gathering_none : (start : TableScan) (file : List ℕ) (k : KeptRows) (m n : Holding) → start.left ≡ None → bytes_of start.name n ≡ bytes_of start.name m → HasKept start.test [] k → k.kept + k.repeats ≡ 0 → n file ≡ Some [] → OthersStay file m n → Gathering start start file k m n
-unfolding laid_file first_rows readable
-gathering_none start file k m n fresh same kept none here others =
-    let rows : rows_left start n ≡ rows_left start m = ap (λ b. rows_of (left_or start.left (items_in start.test start.extend (take start.end b)))) same in
+pub gathering_none : (start : TableScan) (file : List ℕ) (k : KeptRows) (m n : Holding) → bytes_of start.name n ≡ bytes_of start.name m → HasKept start.test [] k → k.kept + k.repeats ≡ 0 → n file ≡ Some [] → Gathering start start file k m n
+unfolding stored_file first_rows
+gathering_none start file k m n same kept none here =
+    let rows : rows_ahead start n ≡ rows_ahead start m = rows_same start m n same in
     record {
       rows = [];
       kept = kept;
       here = here;
       all = ap (λ (rs : List Row). first_after start.test [] (map (values_of start.test) rs)) rows;
       counted = omega (arith, none, ap (λ (rs : List Row). length rs) rows);
-      read = inl refl;
-      others = others;
     }
 
 -- a row that was taken is kept or repeats one
-pub gathering_more : (start old new : TableScan) (file : List ℕ) (k l : KeptRows) (m n o : Holding) → IsSameScan start old → bytes_of start.name n ≡ bytes_of start.name m → Gathering start old file k m n → ReadsBytes old n → (start.left ≡ None) → TakesRow start.test file old new k l n o → OthersStay file n o
-    → old.test ≡ start.test → new.test ≡ start.test → Gathering start new file l m o
-gathering_more start old new file k l m n o same bytes so_far reads fresh takes others tested next_tested =
+pub gathering_more : (start old new : TableScan) (file : List ℕ) (k l : KeptRows) (m n o : Holding) → old.test ≡ start.test → new.test ≡ start.test → Gathering start old file k m n → TakesRow start.test file old new k l n o → Gathering start new file l m o
+gathering_more start old new file k l m n o tested next_tested so_far takes =
     let d = start.test in
     let row : Values = values_of d takes.row in
-    let values : values_left old n ≡ row ∷ map (values_of d) takes.rest = ap (λ (rs : List Row). map (values_of old.test) rs) takes.left ∙ ap (λ t. map (values_of t) (takes.row ∷ takes.rest)) tested in
-    let left : values_left new o ≡ map (values_of d) takes.rest = ap (λ (rs : List Row). map (values_of new.test) rs) takes.behind ∙ ap (λ t. map (values_of t) takes.rest) next_tested in
+    let rest : List Row = rows_ahead new o in
+    let values : values_ahead old n ≡ row ∷ map (values_of d) rest = ap (λ (rs : List Row). map (values_of old.test) rs) takes.first ∙ ap (λ t. map (values_of t) (takes.row ∷ rest)) tested in
+    let left : values_ahead new o ≡ map (values_of d) rest = ap (λ t. map (values_of t) rest) next_tested in
     record {
       rows = kept_with d so_far.rows row;
       kept = takes.kept so_far.rows so_far.kept;
       here = takes.written so_far.rows so_far.kept so_far.here;
-      all = ap (λ vs. kept_with d so_far.rows row ++ first_after d (kept_with d so_far.rows row) vs) left ∙ step d so_far.rows row (map (values_of d) takes.rest) ∙ ap (λ vs. so_far.rows ++ first_after d so_far.rows vs) (sym values) ∙ so_far.all;
-      counted = omega (arith, takes.counted, so_far.counted, ap (λ (rs : List Row). length rs) takes.left, ap (λ (rs : List Row). length rs) takes.behind);
-      read = inr (read_now so_far.read);
-      others = λ q differs. others q differs ∙ so_far.others q differs;
+      all = ap (λ vs. kept_with d so_far.rows row ++ first_after d (kept_with d so_far.rows row) vs) left ∙ step d so_far.rows row (map (values_of d) rest) ∙ ap (λ vs. so_far.rows ++ first_after d so_far.rows vs) (sym values) ∙ so_far.all;
+      counted = omega (arith, takes.counted, so_far.counted, ap (λ (rs : List Row). length rs) takes.first);
     }
   where
     step : (d : Defs) (rows : List Values) (row : Values) (more : List Values) → kept_with d rows row ++ first_after d (kept_with d rows row) more ≡ rows ++ first_after d rows (row ∷ more)
@@ -97,66 +90,68 @@ gathering_more start old new file k l m n o same bytes so_far reads fresh takes 
         by true = refl
         by false = append_assoc rows (row ∷ []) (first_after d (rows ++ row ∷ []) more)
 
-    read_now : (old ≡ start) ⊎ AreBytes (take start.end (bytes_of start.name m)) → AreBytes (take start.end (bytes_of start.name m))
-    read_now (inr are) = are
-    read_now (inl is) = subst (λ b. AreBytes (take start.end b)) bytes (subst (λ (s : TableScan). s.left ≡ None → AreBytes (take s.end (bytes_of s.name n))) is reads fresh)
-
 -- no row was left
-pub gathered_all : (start old : TableScan) (file : List ℕ) (k : KeptRows) (m n : Holding) → IsSameScan start old → bytes_of start.name n ≡ bytes_of start.name m → Gathering start old file k m n → ReadsBytes old n → start.left ≡ None → rows_left old n ≡ [] → GathersRows start file k m n
-gathered_all start old file k m n same bytes so_far reads fresh none =
+pub gathered_all : (start old : TableScan) (file : List ℕ) (k : KeptRows) (m n : Holding) → Gathering start old file k m n → rows_ahead old n ≡ [] → GathersRows start file k m n
+gathered_all start old file k m n so_far none =
     let d = start.test in
-    let all : so_far.rows ≡ first_rows d (values_left start m) = sym (append-nil so_far.rows) ∙ ap (λ (rs : List Row). so_far.rows ++ first_after d so_far.rows (map (values_of old.test) rs)) (sym none) ∙ so_far.all in
+    let all : so_far.rows ≡ first_rows d (values_ahead start m) = sym (append-nil so_far.rows) ∙ ap (λ (rs : List Row). so_far.rows ++ first_after d so_far.rows (map (values_of old.test) rs)) (sym none) ∙ so_far.all in
     record {
-      bytes = read_now so_far.read;
       kept = subst (λ vs. HasKept d vs k) all so_far.kept;
       counted = omega (arith, so_far.counted, ap (λ (rs : List Row). length rs) none);
-      written = so_far.here ∙ ap (λ vs. Some (laid_file d vs)) all;
+      written = so_far.here ∙ ap (λ vs. Some (stored_file d vs)) all;
     }
-  where
-    read_now : (old ≡ start) ⊎ AreBytes (take start.end (bytes_of start.name m)) → AreBytes (take start.end (bytes_of start.name m))
-    read_now (inr are) = are
-    read_now (inl is) = subst (λ b. AreBytes (take start.end b)) bytes (subst (λ (s : TableScan). s.left ≡ None → AreBytes (take s.end (bytes_of s.name n))) is reads fresh)
+
+pub same_then : (a b c : TableScan) → IsSameScan a b → IsSameScan b c → IsSameScan a c
+same_then a b c p q = record { name = q.name ∙ p.name; test = q.test ∙ p.test; extend = q.extend ∙ p.extend; end = q.end ∙ p.end }
 
 -- ---- the first row that is left was taken
 
-pub took_row : (d : Defs) (file : List ℕ) (h : Option Holding) (old new : TableScan) (k l : KeptRows) (m n : Holding) (found : ℕ × Piece) (view : Values) (bytes : List ℕ) → h ≡ Some m → IsRowAnswered h old found new → bytes ≡ shown found.1 → row_of d bytes ≡ Some view
+pub took_row : (d : Defs) (file : List ℕ) (h : Option Holding) (old new : TableScan) (k l : KeptRows) (m n : Holding) (found : ℕ × Piece) (view : Values) (bytes : List ℕ) → h ≡ Some m → (old.name ≡ file → ⊥) → OthersStay file m n → AfterTableRow h old (Ok (Some found)) new → bytes ≡ shown found.1 → row_of d bytes ≡ Some view
     → l.kept + l.repeats ≡ k.kept + k.repeats + 1 → ((rows : List Values) → HasKept d rows k → HasKept d (kept_with d rows view) l)
-    → ((rows : List Values) → HasKept d rows k → m file ≡ Some (laid_file d rows) → n file ≡ Some (laid_file d (kept_with d rows view))) → TakesRow d file old new k l m n
-took_row d file h old new k l m n found view bytes told answered shows read one kept written =
-    let row = answered.first in
-    let values : values_of d row ≡ view = ap (λ b. unwrap_or (row_of d b) []) (sym (shown_bytes row found.1 answered.piece) ∙ sym shows) ∙ ap (λ o. unwrap_or o []) read in
+    → ((rows : List Values) → HasKept d rows k → m file ≡ Some (stored_file d rows) → n file ≡ Some (stored_file d (kept_with d rows view))) → TakesRow d file old new k l m n
+took_row d file h old new k l m n found view bytes told apart others answered shows read one kept written =
+    let answer = answered.0.told m told in
+    let row = answer.0 in
+    let values : values_of d row ≡ view = ap (λ b. unwrap_or (row_of d b) []) (sym (shows ∙ answer.2.1)) ∙ ap (λ o. unwrap_or o []) read in
     record {
       row = row;
-      rest = rows_of answered.rest;
-      left = (answered.told m told).rows;
-      behind = left_known new n answered.rest answered.left;
+      first = rows_first row (items_ahead old m) (items_ahead new m) answer.1 ∙ ap (λ (rs : List Row). row ∷ rs) (sym (rows_same new m n (same_name file new.name m n (λ e. apart (sym answered.0.same.name ∙ e)) others)));
       counted = one;
       kept = λ rows has. subst (λ v. HasKept d (kept_with d rows v) l) (sym values) (kept rows has);
-      written = λ rows has here. subst (λ v. n file ≡ Some (laid_file d (kept_with d rows v))) (sym values) (written rows has here);
+      written = λ rows has here. subst (λ v. n file ≡ Some (stored_file d (kept_with d rows v))) (sym values) (written rows has here);
     }
 
--- a file of another name keeps its bytes
-pub same_name : (file name : List ℕ) (m n : Holding) → (name ≡ file → ⊥) → OthersStay file m n → bytes_of name n ≡ bytes_of name m
-same_name file name m n apart keeps = ap (λ o. unwrap_or o []) (keeps name apart)
+-- the file that is scanned is as the scan knows it, also once the other was written
+pub stays_known : (file : List ℕ) (h mid after : Option Holding) (old new : TableScan) → mid ≡ h → (old.name ≡ file → ⊥) → IsSameScan old new → ((m : Holding) → h ≡ Some m → IsAsKnown new m) → Told mid after (OthersStay file) → (n : Holding) → after ≡ Some n → IsAsKnown new n
+stays_known file h mid after old new same apart is current others n now =
+    let t = told_back mid after (OthersStay file) n others now in
+    known_same new t.0 n (same_name file new.name t.0 n (λ e. apart (sym is.name ∙ e)) t.2) (current t.0 (sym same ∙ t.1))
 
 -- ---- what was gathered of a table
 
-pub fresh_rows : (name d : List ℕ) (defs : Defs) (extend : Bool) (m : Holding) → m name ≡ Some d → rows_left (fresh_scan name defs extend (length d)) m ≡ readable defs extend d
+pub fresh_rows : (name d : List ℕ) (defs : Defs) (extend : Bool) (m : Holding) → m name ≡ Some d → rows_ahead (fresh_scan name defs extend (length d)) m ≡ readable defs extend d
 unfolding readable
 fresh_rows name d defs extend m is =
     let file : bytes_of name m ≡ d = ap (λ o. unwrap_or o []) is in
-    ap (λ b. rows_of (items_in defs extend (take (length d) b))) file ∙ ap (λ b. rows_of (items_in defs extend b)) (take_all (length d) d (omega arith))
+    ap rows_of (fresh_ahead name defs extend (length d) m) ∙ ap (λ b. rows_of (items_in defs extend (take (length d) b))) file ∙ ap (λ b. rows_of (items_in defs extend b)) (take_all (length d) d (omega arith))
+
+-- a scan of the whole data file that has read nothing goes by any file of that length
+pub begins_known : (t : FourNames) (defs : Defs) (extend : Bool) (end : ℕ) (scan : TableScan) (m : Holding) → scan ≡ fresh_scan t.rows defs extend end → HasTable t defs end m → IsAsKnown scan m
+begins_known t defs extend end scan m is table =
+    let o = is_opened t defs table.0 m table.1 in
+    let long : end ≡ length (bytes_of t.rows m) = table.2 ∙ ap (λ (b : Option (List ℕ)). length (unwrap_or b [])) (sym o.rows) in
+    subst (λ (s : TableScan). IsAsKnown s m) (sym is) (fresh_known t.rows defs extend end m (λ _. omega (arith, long)))
 
 pub gathers : (t : FourNames) (defs : Defs) (extend : Bool) (d file : List ℕ) (end : ℕ) (scan : TableScan) (k : KeptRows) (g : Gathered) (m n : Holding) → scan ≡ fresh_scan t.rows defs extend end → file ≡ t.new_rows → end ≡ length d → IsTable t defs d m → AreCounted defs k
-    → g ≡ record { defs = defs; report = record { kept = k.kept; repeats = k.repeats; old_length = end; new_length = k.end }; split = k.split; pairs = lists_in k } → GathersRows scan file k m n → Gathers t extend g m n
+    → g ≡ record { defs = defs; report = record { kept = k.kept; repeats = k.repeats; old_length = end; new_length = k.end }; split = k.split; pairs = lists_in k } → HoldsBytes m → GathersRows scan file k m n → Gathers t extend g m n
 unfolding kept new_data
-gathers t defs extend d file end scan k g m n is named long table counted made gathered =
+gathers t defs extend d file end scan k g m n is named long table counted made are gathered =
     let o = is_opened t defs d m table in
     let fresh : GathersRows (fresh_scan t.rows defs extend (length d)) t.new_rows k m n =
     subst (λ e. GathersRows (fresh_scan t.rows defs extend e) t.new_rows k m n) long (subst (λ f. GathersRows (fresh_scan t.rows defs extend end) f k m n) named (subst (λ s. GathersRows s file k m n) is gathered)) in
-    let rows : rows_left (fresh_scan t.rows defs extend (length d)) m ≡ readable defs extend d = fresh_rows t.rows d defs extend m o.rows in
+    let rows : rows_ahead (fresh_scan t.rows defs extend (length d)) m ≡ readable defs extend d = fresh_rows t.rows d defs extend m o.rows in
     let file_is : bytes_of t.rows m ≡ d = ap (λ b. unwrap_or b []) o.rows in
-    let keep : first_rows defs (values_left (fresh_scan t.rows defs extend (length d)) m) ≡ kept defs extend d = ap (λ (rs : List Row). first_rows defs (map (values_of defs) rs)) rows in
+    let keep : first_rows defs (values_ahead (fresh_scan t.rows defs extend (length d)) m) ≡ kept defs extend d = ap (λ (rs : List Row). first_rows defs (map (values_of defs) rs)) rows in
     let has : HasKept defs (kept defs extend d) k = subst (λ vs. HasKept defs vs k) keep fresh.kept in
     let count : length (readable defs extend d) ≡ k.kept + k.repeats = ap (λ (rs : List Row). length rs) (sym rows) ∙ sym fresh.counted in
     let repeats : k.repeats ≡ repeat_count defs extend d = omega (arith, count, has.kept) in
@@ -164,8 +159,8 @@ gathers t defs extend d file end scan k g m n is named long table counted made g
       d,
       table,
       record {
-        bytes = subst AreBytes (ap (take (length d)) file_is ∙ take_all (length d) d (omega arith)) fresh.bytes;
-        written = fresh.written ∙ ap (λ vs. Some (laid_file defs vs)) keep;
+        bytes = subst AreBytes file_is (are t.rows);
+        written = fresh.written ∙ ap (λ vs. Some (stored_file defs vs)) keep;
         report = ap (λ x. record { kept = x; repeats = k.repeats; old_length = end; new_length = k.end }) has.kept
             ∙ ap (λ x. record { kept = length (kept defs extend d); repeats = x; old_length = end; new_length = k.end }) repeats
             ∙ ap (λ x. record { kept = length (kept defs extend d); repeats = repeat_count defs extend d; old_length = x; new_length = k.end }) long

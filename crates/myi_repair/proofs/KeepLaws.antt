@@ -1,5 +1,5 @@
 -- What is kept once one more row has come.
-use Rattle.std.proofs.Common.{◌≡◌, ◌⊎◌, inl, inr, ℕ, ◌+◌, ◌^◌, ◌<◌, ◌≤◌, Bool, true, false, List, [], ◌∷◌, ◌++◌, length, get_or, Some, None, unwrap_or, refl, sym, ap, subst, ◌∙◌, arith, eqb, ltb, length-append}
+use Rattle.std.proofs.Common.{◌≡◌, ◌⊎◌, inl, inr, ℕ, zero, suc, ◌+◌, ◌^◌, ◌<◌, ◌≤◌, Bool, true, false, List, [], ◌∷◌, ◌++◌, length, get_or, Some, None, unwrap_or, refl, sym, ap, subst, ◌∙◌, arith, eqb, ltb, length-append}
 use Rattle.std.specs.Prelude.{◌&&◌, ◌||◌, map, replicate, slice_get}
 use Rattle.std.specs.List.{list_any}
 use Rattle.std.specs.Option.{option_map_or}
@@ -32,7 +32,7 @@ use Rattle.myi_defs.specs.ReadDefs.{AreDefs}
 use Rattle.myi_defs.proofs.CallerLemmas.{sound}
 use Rattle.myi_pack.proofs.CallerLemmas.{row-short}
 use Rattle.myi_pack.specs.Spelling.{fits, spelling}
-use Rattle.myi_data.specs.Laid.{stored_by, stored, laid_file, IsStorable}
+use Rattle.myi_data.specs.Stored.{stored_by, stored, stored_file, IsStorable}
 use Rattle.myi_pair.proofs.CallerLemmas.{length-slot}
 use Rattle.myi_pair.proofs.CallerLemmas.{pointer_near}
 use Rattle.myi_repair.specs.Sized.{AreSizedPairs}
@@ -43,12 +43,12 @@ use Rattle.myi_pair.proofs.CallerLemmas.{noted}
 use Rattle.myi_repair.specs.declared.unique.UniqueKey.{UniqueKey}
 use Rattle.myi_repair.specs.declared.kept.KeptRows.{KeptRows}
 use Rattle.myi_repair.specs.Keeping.{is_noted, unique_cmp, AreNoted, row_keys, has_unique, numbered_code, unique_codes, by_code, lists_in, with_pairs, AreCounted, HasKept, kept_with}
-use Rattle.myi_repair.proofs.UniqueLaws.{any_kept, any_number, any_same, any_map}
+use Rattle.myi_repair.proofs.UniqueLaws.{any_kept, any_number, none_before, any_same, any_map}
 use Rattle.myi_repair.proofs.PairLaws.{laid_more, row_pairs_more, no_pairs, sized_with}
 
 -- none is kept
 pub kept_none : (d : Defs) (keys : ℕ) (k : KeptRows) → length d.keys ≡ keys → k.kept ≡ 0 → k.end ≡ 0 → lists_in k ≡ replicate keys [] → k.seen.keys ≡ [] → HasKept d [] k
-unfolding laid_file
+unfolding stored_file
 kept_none d keys k count kept end lists seen = record {
   kept = kept;
   end = end;
@@ -63,12 +63,21 @@ kept_same d rows row k l repeat kept end lists seen has =
 
 -- ---- the keys of the row
 
-not_unique : (d : Defs) (n : ℕ) → length d.keys ≤ n → is_unique d n ≡ false
-not_unique d n past = by (slice_get_cases d.keys n).1
+not_unique : (d : Defs) (i : ℕ) → length d.keys ≤ i → is_unique d (suc i) ≡ false
+not_unique d i past = by (slice_get_cases d.keys i).1
   where
-    by : ((x : Key) × (n < length d.keys) × (slice_get d.keys n ≡ Some x) × (get_or d.keys n x ≡ x)) ⊎ ((length d.keys ≤ n) × (slice_get d.keys n ≡ None)) → is_unique d n ≡ false
+    by : ((x : Key) × (i < length d.keys) × (slice_get d.keys i ≡ Some x) × (get_or d.keys i x ≡ x)) ⊎ ((length d.keys ≤ i) × (slice_get d.keys i ≡ None)) → is_unique d (suc i) ≡ false
     by (inl there) = absurd (omega (arith, there.1))
     by (inr gone) = ap (λ o. option_map_or (λ (key : Key). key.unique) o false) gone.1
+
+-- the numbers of keys have this one where a row has a complete key of it
+number_found : (d : Defs) (code : List ℕ) (row : Values) (n : ℕ) → list_any (λ k. eqb k n && has_code d k code row) (key_numbers d) ≡ has_code d n code row
+number_found d code row zero = none_before (λ k. has_code d k code row) 0 1 (length d.keys) (omega arith)
+number_found d code row (suc i) = any_number (λ k. has_code d k code row) (suc i) 1 (length d.keys) (omega arith) ∙ by (ltb (suc i) (1 + length d.keys)) refl
+  where
+    by : (inside : Bool) → ltb (suc i) (1 + length d.keys) ≡ inside → (inside && has_code d (suc i) code row) ≡ has_code d (suc i) code row
+    by true e = refl
+    by false e = sym (ap (λ u. u && (is_complete (key_of d (suc i) row) && bytes_eq (key_code (key_of d (suc i) row)) code)) (not_unique d i (omega (arith, ltb-false (suc i) (1 + length d.keys) e))))
 
 -- by the codes of a row's keys a number is looked up
 pub noted_of_row : (d : Defs) (row : Values) (us : List UniqueKey) → map by_code us ≡ unique_codes d row → (n : ℕ) (code : List ℕ) → is_noted n code us ≡ has_code d n code row
@@ -77,8 +86,7 @@ noted_of_row d row us are n code =
     ∙ ap (list_any (λ (c : ℕ × List ℕ). eqb c.0 n && bytes_eq c.1 code)) are
     ∙ any_kept (numbered_code d row) (has_unique d row) (λ (c : ℕ × List ℕ). eqb c.0 n && bytes_eq c.1 code) (key_numbers d)
     ∙ any_same (λ k. has_unique d row k && (eqb k n && bytes_eq (key_code (key_of d k row)) code)) (λ k. eqb k n && has_code d k code row) (λ k. turned (is_unique d k) (is_complete (key_of d k row)) (eqb k n) (bytes_eq (key_code (key_of d k row)) code)) (key_numbers d)
-    ∙ any_number (λ k. has_code d k code row) n 0 (length d.keys) (omega arith)
-    ∙ by (ltb n (0 + length d.keys)) refl
+    ∙ number_found d code row n
   where
     turned : (u c e b : Bool) → ((u && c) && (e && b)) ≡ (e && (u && (c && b)))
     turned true true e b = refl
@@ -86,10 +94,6 @@ noted_of_row d row us are n code =
     turned true false false b = refl
     turned false c true b = refl
     turned false c false b = refl
-
-    by : (inside : Bool) → ltb n (0 + length d.keys) ≡ inside → (inside && has_code d n code row) ≡ has_code d n code row
-    by true e = refl
-    by false e = sym (ap (λ u. u && (is_complete (key_of d n row) && bytes_eq (key_code (key_of d n row)) code)) (not_unique d n (omega (arith, ltb-false n (0 + length d.keys) e))))
 
 -- a set has a key where it is noted
 contained : (u k : UniqueKey) → is_eq (unique_cmp u k) ≡ (eqb k.number u.number && bytes_eq k.code.items u.code.items)
@@ -135,7 +139,7 @@ pub kept_new : (d : Defs) (rows : List Values) (row : Values) (k l : KeptRows) (
 kept_new d rows row k l us new kept end lists seen codes has =
     rw new (record {
       kept = kept ∙ omega (arith, has.kept, length-append rows (row ∷ []));
-      end = end ∙ omega (arith, has.end, ap (λ (x : List ℕ). length x) (laid_more d rows row), length-append (laid_file d rows) (stored d row));
+      end = end ∙ omega (arith, has.end, ap (λ (x : List ℕ). length x) (laid_more d rows row), length-append (stored_file d rows) (stored d row));
       pairs = lists ∙ ap (with_pairs (pointer d k.end) (row_keys d row)) has.pairs ∙ row_pairs_more d rows row k.end has.end;
       noted = λ n code. seen n code ∙ ap (λ b. b || is_noted n code us) (has.noted n code) ∙ ap (λ b. list_any (has_code d n code) rows || b) (noted_of_row d row us codes n code ∙ or_none (has_code d n code row)) ∙ sym (list_any-append (has_code d n code) rows (row ∷ []));
     })
@@ -163,11 +167,11 @@ pub put_at_end : (file end_bytes row : List ℕ) (end : ℕ) (m n : Holding) →
 put_at_end file end_bytes row end m n here is wrote =
     wrote.here ∙ ap (λ b. Some (overwritten end row (unwrap_or b []))) here ∙ ap (λ e. Some (overwritten e row end_bytes)) is ∙ ap Some (appended end_bytes row)
 
-pub written_new : (d : Defs) (rows : List Values) (row : Values) (k : KeptRows) (file : List ℕ) (m n : Holding) → list_any (repeats d row) rows ≡ false → HasKept d rows k → m file ≡ Some (laid_file d rows) → Writes file k.end (stored d row) m n → n file ≡ Some (laid_file d (kept_with d rows row))
+pub written_new : (d : Defs) (rows : List Values) (row : Values) (k : KeptRows) (file : List ℕ) (m n : Holding) → list_any (repeats d row) rows ≡ false → HasKept d rows k → m file ≡ Some (stored_file d rows) → Writes file k.end (stored d row) m n → n file ≡ Some (stored_file d (kept_with d rows row))
 written_new d rows row k file m n new has here wrote =
-    rw new (put_at_end file (laid_file d rows) (stored d row) k.end m n here has.end wrote ∙ ap Some (sym (laid_more d rows row)))
+    rw new (put_at_end file (stored_file d rows) (stored d row) k.end m n here has.end wrote ∙ ap Some (sym (laid_more d rows row)))
 
-pub written_same : (d : Defs) (rows : List Values) (row : Values) (file : List ℕ) (m : Holding) → list_any (repeats d row) rows ≡ true → m file ≡ Some (laid_file d rows) → m file ≡ Some (laid_file d (kept_with d rows row))
+pub written_same : (d : Defs) (rows : List Values) (row : Values) (file : List ℕ) (m : Holding) → list_any (repeats d row) rows ≡ true → m file ≡ Some (stored_file d rows) → m file ≡ Some (stored_file d (kept_with d rows row))
 written_same d rows row file m repeat here = rw repeat here
 
 -- ---- the steps of a row together

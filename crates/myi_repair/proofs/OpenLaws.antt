@@ -13,21 +13,21 @@ use Rattle.myi_repair.specs.declared.fault.TableFile.TheVariants.{Index, Data}
 use Rattle.myi_repair.specs.declared.fault.RepairFault.{RepairFault}
 use Rattle.myi_repair.specs.declared.fault.RepairFault.TheVariants.{Absent, Def, TooLong, Memory}
 use Rattle.myi_repair.specs.Names.{FourNames}
-use Rattle.myi_repair.specs.Opening.{Table, CutsOff, opened, opened_read, opened_rows, opened_index}
+use Rattle.myi_repair.specs.Opening.{Table, CutsOff, table_in, table_by, table_by_rows, table_by_index}
 
 -- there is no index file
-pub no_index : (t : FourNames) (m : Holding) → m t.index ≡ None → opened t m ≡ Err (Absent Index)
-unfolding opened
-no_index t m none = ap (λ o. opened_index o (m t.rows)) none
+pub no_index : (t : FourNames) (m : Holding) → m t.index ≡ None → table_in t m ≡ Err (Absent Index)
+unfolding table_in
+no_index t m none = ap (λ o. table_by_index o (m t.rows)) none
 
 -- there is an index file and no data file
-pub no_rows : (t : FourNames) (x : List ℕ) (m : Holding) → m t.index ≡ Some x → m t.rows ≡ None → opened t m ≡ Err (Absent Data)
-unfolding opened
-no_rows t x m index none = ap (λ o. opened_index o (m t.rows)) index ∙ ap (opened_rows x) none
+pub no_rows : (t : FourNames) (x : List ℕ) (m : Holding) → m t.index ≡ Some x → m t.rows ≡ None → table_in t m ≡ Err (Absent Data)
+unfolding table_in
+no_rows t x m index none = ap (λ o. table_by_index o (m t.rows)) index ∙ ap (table_by_rows x) none
 
-pub both_there : (t : FourNames) (x d : List ℕ) (m : Holding) → m t.index ≡ Some x → m t.rows ≡ Some d → opened t m ≡ opened_read (read_defs x) d
-unfolding opened
-both_there t x d m index rows = ap (λ o. opened_index o (m t.rows)) index ∙ ap (opened_rows x) rows
+pub both_there : (t : FourNames) (x d : List ℕ) (m : Holding) → m t.index ≡ Some x → m t.rows ≡ Some d → table_in t m ≡ table_by (read_defs x) d
+unfolding table_in
+both_there t x d m index rows = ap (λ o. table_by_index o (m t.rows)) index ∙ ap (table_by_rows x) rows
 
 -- a file that has a length is there
 pub is_there : (o : Option (List ℕ)) (size : Option ℕ) (n : ℕ) → size ≡ Some n → Measures o size → (bytes : List ℕ) × (o ≡ Some bytes) × (n ≡ length bytes)
@@ -47,19 +47,19 @@ is_there_else o None b same some measured = absurd cc
 is_there_else o (Some n) b same some measured = (measured.0, measured.1)
 
 -- what definitions decide beside a data file of a length
-pub opened_reached : (defs : Defs) (d : List ℕ) (n : ℕ) → n ≡ length d → is_addressable defs n ≡ true → opened_read (Ok defs) d ≡ Ok (defs, d)
+pub opened_reached : (defs : Defs) (d : List ℕ) (n : ℕ) → n ≡ length d → is_addressable defs n ≡ true → table_by (Ok defs) d ≡ Ok (defs, d)
 opened_reached defs d n long reached = let e : is_addressable defs (length d) ≡ true = ap (is_addressable defs) (sym long) ∙ reached in rw e
 
-pub opened_past : (defs : Defs) (d : List ℕ) (n : ℕ) → n ≡ length d → is_addressable defs n ≡ false → opened_read (Ok defs) d ≡ Err TooLong
+pub opened_past : (defs : Defs) (d : List ℕ) (n : ℕ) → n ≡ length d → is_addressable defs n ≡ false → table_by (Ok defs) d ≡ Err TooLong
 opened_past defs d n long reached = let e : is_addressable defs (length d) ≡ false = ap (is_addressable defs) (sym long) ∙ reached in rw e
 
 -- why the definitions at the front of an index file are refused
 pub judged_err : (f : DefFault) (h : List ℕ) (r : RepairFault) (n : ℕ) → AreBytes h → (f ≢ fault.Memory → read_defs h ≡ Err f) → (r ≡ Memory) ⊎ ((f ≢ fault.Memory) × (r ≡ Def f))
-    → (r ≡ Memory) ⊎ ((x d : List ℕ) → h ≡ take 65535 x → n ≡ length d → opened_read (read_defs x) d ≡ Err r)
+    → (r ≡ Memory) ⊎ ((x d : List ℕ) → h ≡ take 65535 x → n ≡ length d → table_by (read_defs x) d ≡ Err r)
 judged_err f h r n bytes found (inl memory) = inl memory
 judged_err f h r n bytes found (inr other) = inr (λ x d front long.
     let read : read_defs x ≡ Err f = sym (read_defs-take 65535 x (omega arith) (subst AreBytes front bytes)) ∙ ap read_defs (sym front) ∙ found other.0 in
-    ap (λ q. opened_read q d) read ∙ ap (λ (e : RepairFault). Err e) (sym other.1))
+    ap (λ q. table_by q d) read ∙ ap (λ (e : RepairFault). Err e) (sym other.1))
 
 -- a refusal for want of memory is none of the table
 pub cut_or : (f : RepairFault) (P Q : Type 0) → (f ≡ Memory) ⊎ P → (P → Q) → CutsOff f ⊎ Q
@@ -83,7 +83,7 @@ pub record IsOpened (t : FourNames) (defs : Defs) (d : List ℕ) (m : Holding) :
   pub read : read_defs index ≡ Ok defs
   pub reached : is_addressable defs (length d) ≡ true
 
-read_parts : (r : Result Defs DefFault) (e : List ℕ) (defs : Defs) (d : List ℕ) → opened_read r e ≡ Ok (defs, d) → (r ≡ Ok defs) × (e ≡ d) × (is_addressable defs (length d) ≡ true)
+read_parts : (r : Result Defs DefFault) (e : List ℕ) (defs : Defs) (d : List ℕ) → table_by r e ≡ Ok (defs, d) → (r ≡ Ok defs) × (e ≡ d) × (is_addressable defs (length d) ≡ true)
 read_parts (Err f) e defs d is = absurd cc
 read_parts (Ok o) e defs d is = by (is_addressable o (length e)) refl is
   where
@@ -95,11 +95,11 @@ read_parts (Ok o) e defs d is = by (is_addressable o (length e)) refl is
         (ap (λ x. Ok x) first, second, ap (λ x. is_addressable x (length d)) (sym first) ∙ ap (λ x. is_addressable o (length x)) (sym second) ∙ reached)
     by false reached same = absurd cc
 
-pub is_opened : (t : FourNames) (defs : Defs) (d : List ℕ) (m : Holding) → opened t m ≡ Ok (defs, d) → IsOpened t defs d m
-unfolding opened
+pub is_opened : (t : FourNames) (defs : Defs) (d : List ℕ) (m : Holding) → table_in t m ≡ Ok (defs, d) → IsOpened t defs d m
+unfolding table_in
 is_opened t defs d m is = by (m t.index) (m t.rows) refl refl is
   where
-    by : (x r : Option (List ℕ)) → m t.index ≡ x → m t.rows ≡ r → opened_index x r ≡ Ok (defs, d) → IsOpened t defs d m
+    by : (x r : Option (List ℕ)) → m t.index ≡ x → m t.rows ≡ r → table_by_index x r ≡ Ok (defs, d) → IsOpened t defs d m
     by None r a b same = absurd cc
     by (Some x) None a b same = absurd cc
     by (Some x) (Some e) a b same =

@@ -10,8 +10,8 @@ use Rattle.myi_keys.specs.declared.values.KeySeg.{KeySeg}
 use Rattle.myi_keys.specs.Limits.{IsKey}
 use Rattle.myi_pack.specs.Packed.{Values}
 use Rattle.myi_pack.specs.Spelling.{fits}
-use Rattle.myi_data.specs.Keys.{key_of}
-use Rattle.myi_data.specs.Laid.{stored, laid_file}
+use Rattle.myi_data.specs.Keys.{IsKeyNumber, key_of}
+use Rattle.myi_data.specs.Stored.{stored, stored_file}
 use Rattle.myi_btree.specs.declared.pair.Pair.{Pair}
 use Rattle.myi_btree.specs.Nodes.{entry_of}
 use Rattle.myi_btree.specs.Sizes.{IsSized}
@@ -25,16 +25,16 @@ use Rattle.myi_repair.specs.Keeping.{row_keys, lists_of, with_pairs}
 
 -- ---- one more row at the end
 
-pub laid_more : (d : Defs) (rows : List Values) (row : Values) → laid_file d (rows ++ row ∷ []) ≡ laid_file d rows ++ stored d row
-unfolding laid_file
+pub laid_more : (d : Defs) (rows : List Values) (row : Values) → stored_file d (rows ++ row ∷ []) ≡ stored_file d rows ++ stored d row
+unfolding stored_file
 laid_more d [] row = append-nil (stored d row)
-laid_more d (r ∷ rows) row = ap (λ x. stored d r ++ x) (laid_more d rows row) ∙ sym (append_assoc (stored d r) (laid_file d rows) (stored d row))
+laid_more d (r ∷ rows) row = ap (λ x. stored d r ++ x) (laid_more d rows row) ∙ sym (append_assoc (stored d r) (stored_file d rows) (stored d row))
 
-pub placed_more : (d : Defs) (at : ℕ) (rows : List Values) (row : Values) → placed_from d at (rows ++ row ∷ []) ≡ placed_from d at rows ++ (at + length (laid_file d rows), row) ∷ []
-unfolding laid_file
+pub placed_more : (d : Defs) (at : ℕ) (rows : List Values) (row : Values) → placed_from d at (rows ++ row ∷ []) ≡ placed_from d at rows ++ (at + length (stored_file d rows), row) ∷ []
+unfolding stored_file
 placed_more d at [] row = let e : at ≡ at + 0 = omega arith in ap (λ p. (p, row) ∷ []) e
 placed_more d at (r ∷ rows) row =
-    let e : at + length (stored d r) + length (laid_file d rows) ≡ at + length (stored d r ++ laid_file d rows) = omega (arith, length-append (stored d r) (laid_file d rows)) in
+    let e : at + length (stored d r) + length (stored_file d rows) ≡ at + length (stored d r ++ stored_file d rows) = omega (arith, length-append (stored d r) (stored_file d rows)) in
     ap (λ ps. (at, r) ∷ ps) (placed_more d (at + length (stored d r)) rows row ∙ ap (λ p. placed_from d (at + length (stored d r)) rows ++ (p, row) ∷ []) e)
 
 pairs_more : (d : Defs) (rows : List PlacedRow) (at : ℕ) (row : Values) (ks : List ℕ)
@@ -45,14 +45,14 @@ pairs_more d rows at row (k ∷ ks) =
     ∙ ap (λ ls. pairs_of d k (rows ++ (at, row) ∷ []) ∷ ls) (pairs_more d rows at row ks)
 
 -- the pairs of the rows with one more
-pub row_pairs_more : (d : Defs) (rows : List Values) (row : Values) (end : ℕ) → end ≡ length (laid_file d rows) → with_pairs (pointer d end) (row_keys d row) (row_pairs d (placed_from d 0 rows)) ≡ row_pairs d (placed_from d 0 (rows ++ row ∷ []))
+pub row_pairs_more : (d : Defs) (rows : List Values) (row : Values) (end : ℕ) → end ≡ length (stored_file d rows) → with_pairs (pointer d end) (row_keys d row) (row_pairs d (placed_from d 0 rows)) ≡ row_pairs d (placed_from d 0 (rows ++ row ∷ []))
 row_pairs_more d rows row end is =
-    let e : end ≡ 0 + length (laid_file d rows) = omega arith in
+    let e : end ≡ 0 + length (stored_file d rows) = omega arith in
     pairs_more d (placed_from d 0 rows) end row (key_numbers d)
     ∙ ap (λ p. row_pairs d (placed_from d 0 rows ++ (p, row) ∷ [])) e ∙ ap (row_pairs d) (sym (placed_more d 0 rows row))
 
 pub no_pairs : (d : Defs) → row_pairs d (placed_from d 0 []) ≡ replicate (length d.keys) []
-no_pairs d = each 0 (length d.keys)
+no_pairs d = each 1 (length d.keys)
   where
     each : (at n : ℕ) → map (λ (k : ℕ). pairs_of d k []) (numbers_from at n) ≡ replicate n []
     each at zero = refl
@@ -65,7 +65,7 @@ length-numbers at zero = refl
 length-numbers at (suc n) = ap suc (length-numbers (suc at) n)
 
 pub length-row_keys : (d : Defs) (row : Values) → length (row_keys d row) ≡ length d.keys
-length-row_keys d row = length-map (key_numbers d) (λ k. key_of d k row) ∙ length-numbers 0 (length d.keys)
+length-row_keys d row = length-map (key_numbers d) (λ k. key_of d k row) ∙ length-numbers 1 (length d.keys)
 
 pub length-with_pairs : (row : ℕ) (keys : List (List KeySeg)) (lists : List (List Pair)) → length keys ≡ length lists → length (with_pairs row keys lists) ≡ length lists
 length-with_pairs row [] lists same = refl
@@ -92,12 +92,12 @@ all_with P d row ptr at (suc n) (ps ∷ lists) long one all (suc k) inside =
     (all_with P d row ptr (suc at) n lists (omega arith) (λ j low high. one j (omega arith) (omega arith)) (λ j less. let f : at + suc j ≡ suc at + j = omega arith in subst (λ i. AllByRecursion (P i) (get_or lists j [])) f (all (suc j) (omega arith))) k (omega arith))
 
 all_from_none : (P : ℕ → Pair → Type 0) (d : Defs) (row : Values) (ptr : ℕ) (lists : List (List Pair)) → length lists ≡ length d.keys
-    → ((k : ℕ) → k < length d.keys → P k (record { key = key_of d k row; row = ptr }))
-    → ((k : ℕ) → k < length d.keys → AllByRecursion (P k) (get_or lists k [])) → (k : ℕ) → k < length d.keys → AllByRecursion (P k) (get_or (with_pairs ptr (row_keys d row) lists) k [])
+    → ((k : ℕ) → IsKeyNumber d k → P k (record { key = key_of d k row; row = ptr }))
+    → ((k : ℕ) → k < length d.keys → AllByRecursion (P (k + 1)) (get_or lists k [])) → (k : ℕ) → k < length d.keys → AllByRecursion (P (k + 1)) (get_or (with_pairs ptr (row_keys d row) lists) k [])
 all_from_none P d row ptr lists long one all k inside =
-    let e : 0 + k ≡ k = omega arith in
+    let e : 1 + k ≡ k + 1 = omega arith in
     subst (λ j. AllByRecursion (P j) (get_or (with_pairs ptr (row_keys d row) lists) k [])) e
-    (all_with P d row ptr 0 (length d.keys) lists long (λ j low high. one j (omega arith)) (λ j less. let f : j ≡ 0 + j = omega arith in subst (λ i. AllByRecursion (P i) (get_or lists j [])) f (all j less)) k inside)
+    (all_with P d row ptr 1 (length d.keys) lists long (λ j low high. one j (omega arith, omega arith)) (λ j less. let f : j + 1 ≡ 1 + j = omega arith in subst (λ i. AllByRecursion (P i) (get_or lists j [])) f (all j less)) k inside)
 
 pub sized_with : (d : Defs) (row : Values) (end : ℕ) (lists : List (List Pair)) → IsSound d → fits d row ≡ true → pointer d end < 256 ^ d.rec_ref → AreSizedPairs d lists → AreSizedPairs d (with_pairs (pointer d end) (row_keys d row) lists)
 sized_with d row end lists s fit near are = record {

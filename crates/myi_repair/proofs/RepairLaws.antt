@@ -10,7 +10,7 @@ use Rattle.myi_header.specs.StateOf.{state_of}
 use Rattle.myi_header.specs.HeaderOf.{header_of}
 use Rattle.myi_pack.specs.Packed.{Values}
 use Rattle.myi_btree.specs.declared.pair.Pair.{Pair}
-use Rattle.myi_btree.specs.Laid.{laid}
+use Rattle.myi_btree.specs.LaidPages.{laid}
 use Rattle.myi_btree.specs.Sizes.{fits_in}
 use Rattle.myi_pair.specs.FirstRows.{key_numbers}
 use Rattle.myi_pair.specs.KeyList.{PlacedRow, pairs_of, sorted, key_list}
@@ -28,7 +28,7 @@ use Rattle.myi_repair.specs.declared.report.Report.{Report}
 use Rattle.myi_repair.specs.declared.gathering.Gathered.{Gathered}
 use Rattle.myi_repair.specs.Names.{FourNames, names_for, Holds, KeepsBoth}
 use Rattle.myi_repair.specs.Gathering.{IsGathered, Gathers}
-use Rattle.myi_repair.specs.Repairs.{Repairs, Completes}
+use Rattle.myi_repair.specs.Repaired.{LeavesRepaired, Completes}
 use Rattle.myi_repair.specs.Building.{trees_of, Builds}
 use Rattle.myi_repair.specs.Finishing.{state_set, finished_index, IsWhole, Finishes, FinishesPart}
 use Rattle.myi_repair.proofs.FilesLaws.{resized_none, whole_before}
@@ -51,7 +51,7 @@ roots_count d first (k ∷ ks) (pairs ∷ lists) same = ap suc (roots_count d (f
 
 pub count_roots : (d : Defs) (lists : List (List Pair)) → length lists ≡ length d.keys → length (trees_of d lists).roots ≡ length d.keys
 count_roots d lists same =
-    let numbers = length-numbers 0 (length d.keys) in
+    let numbers = length-numbers 1 (length d.keys) in
     roots_count d (first_page_of d) (key_numbers d) (map sorted lists) (omega (arith, length-map lists sorted, numbers)) ∙ numbers
 
 -- ---- the file
@@ -106,7 +106,7 @@ completed_part t u extend d g h now end roots m n o s named left counted is root
     whole_before t (new_data g.defs extend d) (new_index g.defs extend d now) m n o (subst (λ v. KeepsBoth v m n) named both)
     (subst (λ x. IsWhole t (new_data g.defs extend d) x n o) index (part (new_data g.defs extend d) (there ∙ is.written)))
 
-pub repaired : (name : List ℕ) (t : FourNames) (extend : Bool) (now : ℕ) (g : Gathered) (said : Report) (m n o : Holding) → t ≡ names_for name → AreDefs g.defs → AreBytes g.defs.raw → now < 2 ^ 64 → Gathers t extend g m n → said ≡ g.report → Completes t g now n o → Repairs name extend now said m o
+pub repaired : (name : List ℕ) (t : FourNames) (extend : Bool) (now : ℕ) (g : Gathered) (said : Report) (m n o : Holding) → t ≡ names_for name → AreDefs g.defs → AreBytes g.defs.raw → now < 2 ^ 64 → Gathers t extend g m n → said ≡ g.report → Completes t g now n o → LeavesRepaired name extend now said m o
 repaired name t extend now g said m n o named are header early gathers same completes =
     let gathered : Gathers (names_for name) extend g m n = subst (λ u. Gathers u extend g m n) named gathers in
     let done : Completes (names_for name) g now n o = subst (λ u. Completes u g now n o) named completes in

@@ -14,12 +14,12 @@ use Rattle.myi_header.specs.Layout.{first_page_of}
 use Rattle.myi_keys.specs.Limits.{IsKey}
 use Rattle.myi_keycache.specs.Kept.{kept}
 use Rattle.myi_keycache.specs.Lent.{flushed}
-use Rattle.myi_keycache.specs.Caching.{Caching, contents, IsCurrent}
+use Rattle.myi_keycache.specs.Caching.{pages_of, Caching, contents, IsCurrent}
 use Rattle.myi_btree.specs.declared.pair.Pair.{Pair}
 use Rattle.myi_btree.specs.declared.place.Place.{Place}
 use Rattle.myi_btree.specs.Walk.{Node}
 use Rattle.myi_btree.specs.Sizes.{IsPlaced, AreSized}
-use Rattle.myi_btree.specs.Laid.{root_of}
+use Rattle.myi_btree.specs.LaidPages.{root_of}
 use Rattle.myi_btree.specs.Building.{CanLay, EndBefore, Lays}
 use Rattle.myi_btree.proofs.CallerLemmas.{multiple}
 use Rattle.myi_btree.proofs.CallerLemmas.{ends}
@@ -68,11 +68,11 @@ abbrev pub LaysTo : Defs → List (List Pair) → ℕ → ℕ → Caching → Ca
 LaysTo d lists i end old now m n = CanLay old m (first_page_of d) → CanLay now n end × OthersStay old.name m n × (length (contents old m) ≡ 0 → HoldsTo d lists i end (contents now n))
 
 module _ (d : Defs) (lists : List (List Pair)) (i end : ℕ) (ps : List Pair) (inside : i < length lists) (keys : length lists ≡ length d.keys) (is : ps ≡ get_or lists i ps) where
-  number_here : drop i (key_numbers d) ≡ i ∷ drop (i + 1) (key_numbers d)
+  number_here : drop i (key_numbers d) ≡ (i + 1) ∷ drop (i + 1) (key_numbers d)
   number_here =
       let next : suc i ≡ i + 1 = omega arith in
-      let from : 0 + i ≡ i = omega arith in
-      drop-cons (key_numbers d) i 0 (omega (arith, length-numbers 0 (length d.keys))) ∙ ap (λ k. k ∷ drop (suc i) (key_numbers d)) (number_at 0 (length d.keys) i (omega arith) ∙ from) ∙ ap (λ j. i ∷ drop j (key_numbers d)) next
+      let from : 1 + i ≡ i + 1 = omega arith in
+      drop-cons (key_numbers d) i 0 (omega (arith, length-numbers 1 (length d.keys))) ∙ ap (λ k. k ∷ drop (suc i) (key_numbers d)) (number_at 1 (length d.keys) i (omega arith) ∙ from) ∙ ap (λ j. (i + 1) ∷ drop j (key_numbers d)) next
     where
       number_at : (at n k : ℕ) → k < n → get_or (numbers_from at n) k 0 ≡ at + k
       number_at at zero k inside = absurd (omega arith)
@@ -85,17 +85,17 @@ module _ (d : Defs) (lists : List (List Pair)) (i end : ℕ) (ps : List Pair) (i
       drop-cons (map sorted lists) i (sorted ps) (omega (arith, length-map lists sorted)) ∙ ap (λ p. p ∷ drop (suc i) (map sorted lists)) (get_or-map sorted lists i ps ∙ ap sorted (sym is)) ∙ ap (λ j. sorted ps ∷ drop j (map sorted lists)) next
 
   -- the next tree and those behind it
-  rest_here : rest_of d lists i end ≡ pages_then d i end (tree_nodes (place_of d i) end (sorted ps)) (rest_of d lists (i + 1) (tree_end (place_of d i) end (sorted ps)))
-  rest_here = ap (λ ks. laid_trees d end ks (drop i (map sorted lists))) number_here ∙ ap (λ ls. laid_trees d end (i ∷ drop (i + 1) (key_numbers d)) ls) list_here
+  rest_here : rest_of d lists i end ≡ pages_then d (i + 1) end (tree_nodes (place_of d (i + 1)) end (sorted ps)) (rest_of d lists (i + 1) (tree_end (place_of d (i + 1)) end (sorted ps)))
+  rest_here = ap (λ ks. laid_trees d end ks (drop i (map sorted lists))) number_here ∙ ap (λ ls. laid_trees d end ((i + 1) ∷ drop (i + 1) (key_numbers d)) ls) list_here
 
-  pub laid_next : (next : ℕ) (root : Option ℕ) (roots : List (Option ℕ)) → IsPlaced (place_of d i) → next ≡ tree_end (place_of d i) end (sorted ps) → next < 2 ^ 64 → root ≡ root_of (block_of_key d i) end (tree_nodes (place_of d i) end (sorted ps))
+  pub laid_next : (next : ℕ) (root : Option ℕ) (roots : List (Option ℕ)) → IsPlaced (place_of d (i + 1)) → next ≡ tree_end (place_of d (i + 1)) end (sorted ps) → next < 2 ^ 64 → root ≡ root_of (block_of_key d (i + 1)) end (tree_nodes (place_of d (i + 1)) end (sorted ps))
       → AreLaidTo d lists i end roots → AreLaidTo d lists (i + 1) next (roots ++ root ∷ [])
   laid_next next root roots placed ended short rooted was = record {
     all_roots = append_assoc roots (root ∷ []) (rest_of d lists (i + 1) next).roots ∙ ap (λ r. roots ++ r ∷ (rest_of d lists (i + 1) next).roots) rooted
-        ∙ ap (λ e. roots ++ root_of (block_of_key d i) end (tree_nodes (place_of d i) end (sorted ps)) ∷ (rest_of d lists (i + 1) e).roots) ended ∙ ap (λ t. roots ++ t.roots) (sym rest_here) ∙ was.all_roots;
+        ∙ ap (λ e. roots ++ root_of (block_of_key d (i + 1)) end (tree_nodes (place_of d (i + 1)) end (sorted ps)) ∷ (rest_of d lists (i + 1) e).roots) ended ∙ ap (λ t. roots ++ t.roots) (sym rest_here) ∙ was.all_roots;
     last = ap (λ e. (rest_of d lists (i + 1) e).end) ended ∙ ap (λ t. t.end) (sym rest_here) ∙ was.last;
-    whole = ap (λ e. e % 1024) ended ∙ multiple (block_of_key d i) (length (tree_nodes (place_of d i) end (sorted ps))) end was.whole placed.whole;
-    places = All-push IsPlace roots root was.places (subst IsPlace (sym rooted) (root_place (block_of_key d i) end (tree_nodes (place_of d i) end (sorted ps)) placed.least (omega (arith, short, ended))));
+    whole = ap (λ e. e % 1024) ended ∙ multiple (block_of_key d (i + 1)) (length (tree_nodes (place_of d (i + 1)) end (sorted ps))) end was.whole placed.whole;
+    places = All-push IsPlace roots root was.places (subst IsPlace (sym rooted) (root_place (block_of_key d (i + 1)) end (tree_nodes (place_of d (i + 1)) end (sorted ps)) placed.least (omega (arith, short, ended))));
   }
     where
       root_place : (block first : ℕ) (nodes : List Node) → 1024 ≤ block → first + block * length nodes < 2 ^ 64 → IsPlace (root_of block first nodes)
@@ -105,24 +105,24 @@ module _ (d : Defs) (lists : List (List Pair)) (i end : ℕ) (ps : List Pair) (i
           far : (p : ℕ) → p + 1024 < 2 ^ 64 → ◌≡◌ {A = Option ℕ} (Some p) (Some (2 ^ 64 - 1)) → ⊥
           far p low same = let e : p ≡ 2 ^ 64 - 1 = ap (λ o. unwrap_or o 0) same in omega arith
 
-  pub lays_next : (next : ℕ) (old now new : Caching) (m n o : Holding) → CanBeLaid (place_of d i) end (sorted ps) → next ≡ tree_end (place_of d i) end (sorted ps) → now.name ≡ old.name → (CanLay now n end → Lays (place_of d i) end (tree_nodes (place_of d i) end (sorted ps)) now new n o)
+  pub lays_next : (next : ℕ) (old now new : Caching) (m n o : Holding) → CanBeLaid (place_of d (i + 1)) end (sorted ps) → next ≡ tree_end (place_of d (i + 1)) end (sorted ps) → now.name ≡ old.name → (CanLay now n end → Lays (place_of d (i + 1)) end (tree_nodes (place_of d (i + 1)) end (sorted ps)) now new n o)
       → LaysTo d lists i end old now m n → LaysTo d lists (i + 1) next old new m o
   lays_next next old now new m n o can ended named lays was begin =
       let before = was begin in
       let laid = lays before.0 in
-      let nodes = tree_nodes (place_of d i) end (sorted ps) in (
+      let nodes = tree_nodes (place_of d (i + 1)) end (sorted ps) in (
         record {
           current = laid.spares.current;
-          before = subst (EndBefore new.pages) (sym ended) (ends (place_of d i) end (length nodes) now.pages new.pages before.0.before laid.kept);
+          before = subst (EndBefore (pages_of new)) (sym ended) (ends (place_of d (i + 1)) end (length nodes) (pages_of now) (pages_of new) before.0.before laid.kept);
         },
         λ q differs. laid.spares.others q (λ same. differs (same ∙ named)) ∙ before.1 q differs,
         λ none.
             let held = before.2 none in
             record {
-              bytes = held.bytes ++ tree_pages (place_of d i) end (sorted ps);
-              behind = subst (λ file. HasBehind (first_page_of d) next (held.bytes ++ tree_pages (place_of d i) end (sorted ps)) file) (sym laid.contents)
-                  (subst (λ e. HasBehind (first_page_of d) e (held.bytes ++ tree_pages (place_of d i) end (sorted ps)) (with_tree (place_of d i) end (sorted ps) (contents now n))) (sym ended) (tree_behind (place_of d i) end (sorted ps) can (first_page_of d) held.bytes (contents now n) held.behind));
-              all = append_assoc held.bytes (tree_pages (place_of d i) end (sorted ps)) (rest_of d lists (i + 1) next).bytes ∙ ap (λ e. held.bytes ++ (tree_pages (place_of d i) end (sorted ps) ++ (rest_of d lists (i + 1) e).bytes)) ended ∙ ap (λ t. held.bytes ++ t.bytes) (sym rest_here) ∙ held.all;
+              bytes = held.bytes ++ tree_pages (place_of d (i + 1)) end (sorted ps);
+              behind = subst (λ file. HasBehind (first_page_of d) next (held.bytes ++ tree_pages (place_of d (i + 1)) end (sorted ps)) file) (sym laid.contents)
+                  (subst (λ e. HasBehind (first_page_of d) e (held.bytes ++ tree_pages (place_of d (i + 1)) end (sorted ps)) (with_tree (place_of d (i + 1)) end (sorted ps) (contents now n))) (sym ended) (tree_behind (place_of d (i + 1)) end (sorted ps) can (first_page_of d) held.bytes (contents now n) held.behind));
+              all = append_assoc held.bytes (tree_pages (place_of d (i + 1)) end (sorted ps)) (rest_of d lists (i + 1) next).bytes ∙ ap (λ e. held.bytes ++ (tree_pages (place_of d (i + 1)) end (sorted ps) ++ (rest_of d lists (i + 1) e).bytes)) ended ∙ ap (λ t. held.bytes ++ t.bytes) (sym rest_here) ∙ held.all;
             },
       )
 
@@ -133,7 +133,7 @@ item_is lists i ps inside is = get_or_default lists i [] ps inside ∙ sym is
 
 rest_none : (d : Defs) (lists : List (List Pair)) (i end : ℕ) → i ≡ length lists → length lists ≡ length d.keys → rest_of d lists i end ≡ record { bytes = []; roots = []; end = end }
 rest_none d lists i end all keys =
-    ap (λ ks. laid_trees d end ks (drop i (map sorted lists))) (drop_all i (key_numbers d) (omega (arith, length-numbers 0 (length d.keys))))
+    ap (λ ks. laid_trees d end ks (drop i (map sorted lists))) (drop_all i (key_numbers d) (omega (arith, length-numbers 1 (length d.keys))))
 
 pub laid_all : (d : Defs) (lists : List (List Pair)) (i end : ℕ) (roots : List (Option ℕ)) → i ≡ length lists → length lists ≡ length d.keys → AreLaidTo d lists i end roots → (roots ≡ (trees_of d lists).roots) × (end ≡ (trees_of d lists).end)
 laid_all d lists i end roots all keys laid =
@@ -151,7 +151,7 @@ lays_all d lists i end old now m n all keys ended lays begin empty =
 -- ---- an empty file
 
 -- pages may be put from anywhere on in the file of a cache that keeps none
-pub begins : (cache : Caching) (first : ℕ) (m : Holding) → cache.pages ≡ [] → IsCurrent cache m → CanLay cache m first
+pub begins : (cache : Caching) (first : ℕ) (m : Holding) → (pages_of cache) ≡ [] → IsCurrent cache m → CanLay cache m first
 unfolding kept
 begins cache first m none current = record { current = current; before = subst (λ ps. EndBefore ps first) (sym none) (none_kept first) }
   where
@@ -159,10 +159,10 @@ begins cache first m none current = record { current = current; before = subst (
     none_kept first p n there = absurd cc
 
 -- the file was emptied, and then the trees were laid in it
-pub others_laid : (cache : Caching) (file : List ℕ) (first : ℕ) (m k n : Holding) → cache.pages ≡ [] → cache.name ≡ file → IsCurrent cache k → Cuts file 0 m k → (CanLay cache k first → OthersStay cache.name k n) → OthersStay file m n
+pub others_laid : (cache : Caching) (file : List ℕ) (first : ℕ) (m k n : Holding) → (pages_of cache) ≡ [] → cache.name ≡ file → IsCurrent cache k → Cuts file 0 m k → (CanLay cache k first → OthersStay cache.name k n) → OthersStay file m n
 others_laid cache file first m k n none named current cut laid q differs = laid (begins cache first k none current) q (λ same. differs (same ∙ named)) ∙ cut.others q differs
 
-pub empty_contents : (cache : Caching) (file : List ℕ) (m n : Holding) → cache.pages ≡ [] → cache.name ≡ file → Cuts file 0 m n → length (contents cache n) ≡ 0
+pub empty_contents : (cache : Caching) (file : List ℕ) (m n : Holding) → (pages_of cache) ≡ [] → cache.name ≡ file → Cuts file 0 m n → length (contents cache n) ≡ 0
 unfolding flushed
 empty_contents cache file m n none named cut =
     ap (λ ps. length (flushed ps (bytes_of cache.name n))) none ∙ ap (λ f. length (bytes_of f n)) named ∙ ap (λ o. length (unwrap_or o [])) cut.here ∙ ap (λ (b : List ℕ). length b) (resized_none (bytes_of file m))

@@ -32,17 +32,23 @@ numbers_more at (suc n) =
     let e : suc at + n ≡ at + suc n = omega arith in
     ap (λ ks. at ∷ ks) (numbers_more (suc at) n ∙ ap (λ k. numbers_from (suc at) n ++ k ∷ []) e)
 
-pub mapped_more : {X : Type 0} (f : ℕ → X) (n : ℕ) (done after : List X) (x : X) → after ≡ done ++ x ∷ [] → done ≡ map f (numbers_from 0 n) → x ≡ f n → after ≡ map f (numbers_from 0 (n + 1))
-mapped_more f n done after x step so_far is =
+-- the first so many numbers of keys, with one more
+more_numbers : (n : ℕ) → numbers_from 1 (n + 1) ≡ numbers_from 1 n ++ (n + 1) ∷ []
+more_numbers n =
     let next : n + 1 ≡ suc n = omega arith in
-    let last : 0 + n ≡ n = omega arith in
-    let more : numbers_from 0 (n + 1) ≡ numbers_from 0 n ++ n ∷ [] = ap (numbers_from 0) next ∙ numbers_more 0 n ∙ ap (λ k. numbers_from 0 n ++ k ∷ []) last in
-    step ∙ ap (λ ys. ys ++ x ∷ []) so_far ∙ ap (λ y. map f (numbers_from 0 n) ++ y ∷ []) is ∙ sym (ap (map f) more ∙ map-append f (numbers_from 0 n) (n ∷ []))
+    let last : 1 + n ≡ n + 1 = omega arith in
+    ap (numbers_from 1) next ∙ numbers_more 1 n ∙ ap (λ k. numbers_from 1 n ++ k ∷ []) last
+
+pub mapped_more : {X : Type 0} (f : ℕ → X) (n : ℕ) (done after : List X) (x : X) → after ≡ done ++ x ∷ [] → done ≡ map f (numbers_from 1 n) → x ≡ f (n + 1) → after ≡ map f (numbers_from 1 (n + 1))
+mapped_more f n done after x step so_far is =
+    step ∙ ap (λ ys. ys ++ x ∷ []) so_far ∙ ap (λ y. map f (numbers_from 1 n) ++ y ∷ []) is ∙ sym (ap (map f) (more_numbers n) ∙ map-append f (numbers_from 1 n) ((n + 1) ∷ []))
 
 -- ---- complete keys in unique keys
 
-pub unique_here : (d : Defs) (n : ℕ) (key : Key) → n < length d.keys → key ≡ get_or d.keys n key → is_unique d n ≡ key.unique
-unique_here d n key inside is = ap (λ o. option_map_or (λ (k : Key). k.unique) o false) (slice_get-get_or d.keys n key inside) ∙ ap (λ (k : Key). k.unique) (sym is)
+pub unique_here : (d : Defs) (n : ℕ) (key : Key) → n < length d.keys → key ≡ get_or d.keys n key → is_unique d (n + 1) ≡ key.unique
+unique_here d n key inside is =
+    let next : n + 1 ≡ suc n = omega arith in
+    ap (λ k. is_unique d k) next ∙ ap (λ o. option_map_or (λ (k : Key). k.unique) o false) (slice_get-get_or d.keys n key inside) ∙ ap (λ (k : Key). k.unique) (sym is)
 
 mapped_at : {X : Type 0} (f : ℕ → X) (at m n : ℕ) (x : X) → n < m → get_or (map f (numbers_from at m)) n x ≡ f (at + n)
 mapped_at f at zero n x inside = absurd (omega arith)
@@ -50,41 +56,38 @@ mapped_at f at (suc m) zero x inside = ap f (omega arith)
 mapped_at f at (suc m) (suc n) x inside = mapped_at f (suc at) m n x (omega arith) ∙ ap f (omega arith)
 
 -- of the keys of a row the one of a number
-pub row_key : (d : Defs) (row : Values) (keys : List (List KeySeg)) (n : ℕ) (key : List KeySeg) → keys ≡ row_keys d row → n < length d.keys → key ≡ get_or keys n key → key ≡ key_of d n row
+pub row_key : (d : Defs) (row : Values) (keys : List (List KeySeg)) (n : ℕ) (key : List KeySeg) → keys ≡ row_keys d row → n < length d.keys → key ≡ get_or keys n key → key ≡ key_of d (n + 1) row
 row_key d row keys n key rowed inside is =
-    let here : 0 + n ≡ n = omega arith in
-    is ∙ ap (λ ks. get_or ks n key) rowed ∙ mapped_at (λ k. key_of d k row) 0 (length d.keys) n key inside ∙ ap (λ k. key_of d k row) here
+    let here : 1 + n ≡ n + 1 = omega arith in
+    is ∙ ap (λ ks. get_or ks n key) rowed ∙ mapped_at (λ k. key_of d k row) 1 (length d.keys) n key inside ∙ ap (λ k. key_of d k row) here
 
 -- the complete keys in unique keys of so many
 abbrev pub codes_before : Defs → Values → ℕ → List (ℕ × List ℕ)
-codes_before d row n = map (numbered_code d row) (filter (has_unique d row) (numbers_from 0 n))
+codes_before d row n = map (numbered_code d row) (filter (has_unique d row) (numbers_from 1 n))
 
-codes_more : (d : Defs) (row : Values) (n : ℕ) → codes_before d row (n + 1) ≡ codes_before d row n ++ (if has_unique d row n then numbered_code d row n ∷ [] else [])
+codes_more : (d : Defs) (row : Values) (n : ℕ) → codes_before d row (n + 1) ≡ codes_before d row n ++ (if has_unique d row (n + 1) then numbered_code d row (n + 1) ∷ [] else [])
 codes_more d row n =
-    let next : n + 1 ≡ suc n = omega arith in
-    let last : 0 + n ≡ n = omega arith in
-    let more : numbers_from 0 (n + 1) ≡ numbers_from 0 n ++ n ∷ [] = ap (numbers_from 0) next ∙ numbers_more 0 n ∙ ap (λ k. numbers_from 0 n ++ k ∷ []) last in
-    ap (λ ks. map (numbered_code d row) (filter (has_unique d row) ks)) more
-    ∙ ap (map (numbered_code d row)) (filter-append (has_unique d row) (numbers_from 0 n) (n ∷ []))
-    ∙ map-append (numbered_code d row) (filter (has_unique d row) (numbers_from 0 n)) (filter (has_unique d row) (n ∷ []))
-    ∙ ap (λ cs. codes_before d row n ++ cs) (one (has_unique d row n))
+    ap (λ ks. map (numbered_code d row) (filter (has_unique d row) ks)) (more_numbers n)
+    ∙ ap (map (numbered_code d row)) (filter-append (has_unique d row) (numbers_from 1 n) ((n + 1) ∷ []))
+    ∙ map-append (numbered_code d row) (filter (has_unique d row) (numbers_from 1 n)) (filter (has_unique d row) ((n + 1) ∷ []))
+    ∙ ap (λ cs. codes_before d row n ++ cs) (one (has_unique d row (n + 1)))
   where
-    one : (b : Bool) → map (numbered_code d row) (if b then n ∷ [] else []) ≡ (if b then numbered_code d row n ∷ [] else [])
+    one : (b : Bool) → map (numbered_code d row) (if b then (n + 1) ∷ [] else []) ≡ (if b then numbered_code d row (n + 1) ∷ [] else [])
     one true = refl
     one false = refl
 
 -- a key that is no complete one of a unique key was passed
-pub codes_passed : (d : Defs) (row : Values) (n : ℕ) (us : List UniqueKey) → has_unique d row n ≡ false → map by_code us ≡ codes_before d row n → map by_code us ≡ codes_before d row (n + 1)
+pub codes_passed : (d : Defs) (row : Values) (n : ℕ) (us : List UniqueKey) → has_unique d row (n + 1) ≡ false → map by_code us ≡ codes_before d row n → map by_code us ≡ codes_before d row (n + 1)
 codes_passed d row n us none so_far =
-    so_far ∙ sym (codes_more d row n ∙ ap (λ b. codes_before d row n ++ (if b then numbered_code d row n ∷ [] else [])) none ∙ append-nil (codes_before d row n))
+    so_far ∙ sym (codes_more d row n ∙ ap (λ b. codes_before d row n ++ (if b then numbered_code d row (n + 1) ∷ [] else [])) none ∙ append-nil (codes_before d row n))
 
 -- a complete one was noted
-pub codes_noted : (d : Defs) (row : Values) (n : ℕ) (us after : List UniqueKey) (u : UniqueKey) (key : List KeySeg) → has_unique d row n ≡ true → after ≡ us ++ u ∷ [] → u.number ≡ n → u.code.items ≡ key_code key → key ≡ key_of d n row
+pub codes_noted : (d : Defs) (row : Values) (n : ℕ) (us after : List UniqueKey) (u : UniqueKey) (key : List KeySeg) → has_unique d row (n + 1) ≡ true → after ≡ us ++ u ∷ [] → u.number ≡ n + 1 → u.code.items ≡ key_code key → key ≡ key_of d (n + 1) row
     → map by_code us ≡ codes_before d row n → map by_code after ≡ codes_before d row (n + 1)
 codes_noted d row n us after u key some step number code is so_far =
-    let one : by_code u ≡ numbered_code d row n = ap (λ m. (m, u.code.items)) number ∙ ap (λ c. (n, c)) (code ∙ ap key_code is) in
-    ap (map by_code) step ∙ map-append by_code us (u ∷ []) ∙ ap (λ c. map by_code us ++ c ∷ []) one ∙ ap (λ cs. cs ++ numbered_code d row n ∷ []) so_far
-    ∙ sym (codes_more d row n ∙ ap (λ b. codes_before d row n ++ (if b then numbered_code d row n ∷ [] else [])) some)
+    let one : by_code u ≡ numbered_code d row (n + 1) = ap (λ m. (m, u.code.items)) number ∙ ap (λ c. (n + 1, c)) (code ∙ ap key_code is) in
+    ap (map by_code) step ∙ map-append by_code us (u ∷ []) ∙ ap (λ c. map by_code us ++ c ∷ []) one ∙ ap (λ cs. cs ++ numbered_code d row (n + 1) ∷ []) so_far
+    ∙ sym (codes_more d row n ∙ ap (λ b. codes_before d row n ++ (if b then numbered_code d row (n + 1) ∷ [] else [])) some)
 
 -- ---- the set
 
@@ -170,7 +173,7 @@ any_kept f p q (x ∷ xs) = by (p x) (any_kept f p q xs)
     by true more = ap (λ r. q (f x) || r) more
     by false more = more
 
-none_before : (g : ℕ → Bool) (n at m : ℕ) → n < at → list_any (λ k. eqb k n && g k) (numbers_from at m) ≡ false
+pub none_before : (g : ℕ → Bool) (n at m : ℕ) → n < at → list_any (λ k. eqb k n && g k) (numbers_from at m) ≡ false
 none_before g n at zero before = refl
 none_before g n at (suc m) before =
     let e : eqb at n ≡ false = ne_eqb at n (λ same. absurd (omega arith)) in

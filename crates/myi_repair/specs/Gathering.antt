@@ -1,12 +1,12 @@
 -- What gathering leaves and answers.
-use Rattle.std.specs.Prelude.{◌≡◌, ◌+◌, ℕ, Bool, true, false, List, [], ◌∷◌, length, map, take, Some, None}
-use Rattle.myi_base.specs.Holding.{Holding, bytes_of}
+use Rattle.std.specs.Prelude.{◌≡◌, ◌+◌, ◌<◌, ◌≤◌, ℕ, Bool, true, false, List, [], ◌∷◌, length, map, Some}
+use Rattle.myi_base.specs.Holding.{Holding}
 use Rattle.myi_base.specs.Numbers.{AreBytes}
 use Rattle.myi_defs.specs.declared.types.Defs.{Defs}
 use Rattle.myi_pack.specs.Packed.{Values}
 use Rattle.myi_chain.specs.Readable.{Row}
-use Rattle.myi_data.specs.Laid.{laid_file}
-use Rattle.myi_data.specs.Scanning.{TableScan, rows_left}
+use Rattle.myi_data.specs.Stored.{stored_file}
+use Rattle.myi_data.specs.Scanning.{TableScan, rows_ahead}
 use Rattle.myi_pair.specs.Clean.{values_of}
 use Rattle.myi_pair.specs.FirstRows.{first_rows}
 use Rattle.myi_pair.specs.RecoveredBytes.{kept, repeat_count, new_data, placed_from, row_pairs}
@@ -15,7 +15,7 @@ use Rattle.myi_repair.specs.declared.kept.KeptRows.{KeptRows}
 use Rattle.myi_repair.specs.declared.gathering.Gathered.{Gathered}
 use Rattle.myi_repair.specs.Names.{FourNames}
 use Rattle.myi_repair.specs.Opening.{IsTable}
-use Rattle.myi_repair.specs.Keeping.{HasKept, kept_with}
+use Rattle.myi_repair.specs.Keeping.{HasKept, TakesIn, WritesIn}
 
 -- what is said of a repair of this data file
 abbrev pub report_of : Defs → Bool → List ℕ → Report
@@ -41,27 +41,30 @@ Gathers t extend g m n = (d : List ℕ) × IsTable t g.defs d m × IsGathered t 
 -- ---- the rows of a scan
 
 -- the values of the rows that a scan has left
-abbrev pub values_left : TableScan → Holding → List Values
-values_left s m = map (values_of s.test) (rows_left s m)
+abbrev pub values_ahead : TableScan → Holding → List Values
+values_ahead s m = map (values_of s.test) (rows_ahead s m)
 
--- the first row that was left was taken
+-- the first row that was left was taken, and the others are left
 pub record TakesRow (d : Defs) (file : List ℕ) (s t : TableScan) (k l : KeptRows) (m n : Holding) : Type 0 where
   pub row : Row
-  pub rest : List Row
-  pub left : rows_left s m ≡ row ∷ rest
-  pub behind : rows_left t n ≡ rest
+  pub first : rows_ahead s m ≡ row ∷ rows_ahead t n
   pub counted : l.kept + l.repeats ≡ k.kept + k.repeats + 1
-  pub kept : (rows : List Values) → HasKept d rows k → HasKept d (kept_with d rows (values_of d row)) l
-  pub written : (rows : List Values) → HasKept d rows k → m file ≡ Some (laid_file d rows) → n file ≡ Some (laid_file d (kept_with d rows (values_of d row)))
+  pub kept : TakesIn d (values_of d row) k l
+  pub written : WritesIn d file (values_of d row) k m n
 
 -- a row was taken, or none was left
 abbrev pub TakesIf : Bool → Defs → List ℕ → TableScan → TableScan → KeptRows → KeptRows → Holding → Holding → Type 0
 TakesIf true d file s t k l m n = TakesRow d file s t k l m n
-TakesIf false d file s t k l m n = (rows_left s m ≡ []) × (l ≡ k) × (n ≡ m)
+TakesIf false d file s t k l m n = (rows_ahead s m ≡ []) × (l ≡ k) × (n ≡ m)
+
+-- the scan went on, and has passed at least a byte for each row that came
+pub record RisesTo (s t : TableScan) (k : KeptRows) : Type 0 where
+  pub rises : s.place < t.place
+  pub within : t.place ≤ s.end
+  pub few : k.kept + k.repeats ≤ t.place
 
 -- the first rows of those that a scan had left are kept, and the file holds them
 pub record GathersRows (s : TableScan) (file : List ℕ) (k : KeptRows) (m n : Holding) : Type 0 where
-  pub bytes : AreBytes (take s.end (bytes_of s.name m))
-  pub kept : HasKept s.test (first_rows s.test (values_left s m)) k
-  pub counted : k.kept + k.repeats ≡ length (rows_left s m)
-  pub written : n file ≡ Some (laid_file s.test (first_rows s.test (values_left s m)))
+  pub kept : HasKept s.test (first_rows s.test (values_ahead s m)) k
+  pub counted : k.kept + k.repeats ≡ length (rows_ahead s m)
+  pub written : n file ≡ Some (stored_file s.test (first_rows s.test (values_ahead s m)))

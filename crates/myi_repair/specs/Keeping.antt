@@ -1,17 +1,18 @@
 -- The rows that are kept so far, by what is kept of them.
-use Rattle.std.specs.Prelude.{◌≡◌, ◌≤◌, ◌==◌, ◌&&◌, ◌^◌, ℕ, Bool, List, [], ◌∷◌, ◌++◌, length, map, filter, Vec, if◌then◌else◌}
+use Rattle.std.specs.Prelude.{◌≡◌, ◌≤◌, ◌==◌, ◌&&◌, ◌||◌, ◌^◌, ℕ, Bool, List, [], ◌∷◌, ◌++◌, length, map, filter, Some, Vec, if◌then◌else◌}
 use Rattle.std.specs.List.{list_any}
 use Rattle.std.specs.Ordering.{nat_cmp, ordering_then}
 use Rattle.std.specs.declared.cmp.Ordering.{Ordering}
 use Rattle.std.specs.Cmp.Lexicographic.{slice_cmp}
 use Rattle.std.specs.Str.{bytes_eq}
+use Rattle.myi_base.specs.Holding.{Holding}
 use Rattle.myi_defs.specs.declared.types.Defs.{Defs}
 use Rattle.myi_keys.specs.declared.values.KeySeg.{KeySeg}
 use Rattle.myi_keys.specs.Limits.{is_complete}
 use Rattle.myi_keys.specs.Codes.{key_code}
 use Rattle.myi_pack.specs.Packed.{Values}
 use Rattle.myi_data.specs.Keys.{key_of}
-use Rattle.myi_data.specs.Laid.{laid_file}
+use Rattle.myi_data.specs.Stored.{stored_file}
 use Rattle.myi_btree.specs.declared.pair.Pair.{Pair}
 use Rattle.myi_pair.specs.FirstRows.{key_numbers, is_unique, repeats, has_code}
 use Rattle.myi_pair.specs.RecoveredBytes.{placed_from, row_pairs}
@@ -24,6 +25,10 @@ use Rattle.myi_repair.specs.Sized.{AreSizedPairs}
 -- the complete key of that number, with that code, is among these
 abbrev pub is_noted : ℕ → List ℕ → List UniqueKey → Bool
 is_noted number code keys = list_any (λ (k : UniqueKey). (k.number == number) && bytes_eq k.code.items code) keys
+
+-- noted are the keys of two lists together
+abbrev pub NotesBoth : List UniqueKey → List UniqueKey → List UniqueKey → Type 0
+NotesBoth keys more all = (number : ℕ) (code : List ℕ) → is_noted number code all ≡ (is_noted number code keys || is_noted number code more)
 
 -- by number and then by code
 abbrev pub unique_cmp : UniqueKey → UniqueKey → Ordering
@@ -76,10 +81,18 @@ pub record AreCounted (d : Defs) (k : KeptRows) : Type 0 where
 -- these rows are the ones that are kept
 pub record HasKept (d : Defs) (rows : List Values) (k : KeptRows) : Type 0 where
   pub kept : k.kept ≡ length rows
-  pub end : k.end ≡ length (laid_file d rows)
+  pub end : k.end ≡ length (stored_file d rows)
   pub pairs : lists_in k ≡ row_pairs d (placed_from d 0 rows)
   pub noted : AreNoted d rows k.seen.keys
 
 -- the rows that are kept once one more has come
 abbrev pub kept_with : Defs → List Values → Values → List Values
 kept_with d rows row = if list_any (repeats d row) rows then rows else rows ++ row ∷ []
+
+-- a row has come, and is kept or repeats one that is
+abbrev pub TakesIn : Defs → Values → KeptRows → KeptRows → Type 0
+TakesIn d row k l = (rows : List Values) → HasKept d rows k → HasKept d (kept_with d rows row) l
+
+-- a file that held the rows that were kept holds those that are kept once the row has come
+abbrev pub WritesIn : Defs → List ℕ → Values → KeptRows → Holding → Holding → Type 0
+WritesIn d file row k m n = (rows : List Values) → HasKept d rows k → m file ≡ Some (stored_file d rows) → n file ≡ Some (stored_file d (kept_with d rows row))

@@ -11,7 +11,7 @@ pub mod Gathering
 -- what the end of a repair does
 pub mod Finishing
 -- what a repair does to the files
-pub mod Repairs
+pub mod Repaired
 -- what serves private contracts
 
 -- pairs that can be laid

@@ -29,7 +29,6 @@ const REPAIRED: u8 = 40;
 /// then the working index file the name of the old one. `now` is the moment, in seconds since 1970. Where
 /// that is cut off, the working files are taken away.
 pub fn finish<F: Files>(
-    alloc: Global,
     files: &mut F,
     name: &str,
     gathered: &Gathered,
@@ -51,13 +50,12 @@ pub fn finish<F: Files>(
     ensures others { Told (F.holds files.old) (F.holds files.new) (KeepsBut (names_for name.now)) }
     ensures cause { HasCause Failed (F.faults files.old) (F.faults files.new) result }
 {
-    let table = TableFiles::of(alloc, name)?;
-    finish_table(alloc, files, &table, gathered, roots, index_length, now)
+    let table = TableFiles::of(gathered.defs.raw.allocator(), name)?;
+    finish_table(files, &table, gathered, roots, index_length, now)
 }
 
 /// The same for the table of these files, whose working files are gone after a refusal.
 pub(crate) fn finish_table<F: Files>(
-    alloc: Global,
     files: &mut F,
     table: &TableFiles,
     gathered: &Gathered,
@@ -80,7 +78,7 @@ pub(crate) fn finish_table<F: Files>(
     ensures others { Told (F.holds files.old) (F.holds files.new) (KeepsBut (names_of table.now)) }
     ensures cause { HasCause Failed (F.faults files.old) (F.faults files.new) result }
 {
-    match replace(alloc, files, table, gathered, roots, index_length, now) {
+    match replace(files, table, gathered, roots, index_length, now) {
         Ok(()) => Ok(()),
         Err(error) => {
             table.clear(files);
@@ -90,7 +88,6 @@ pub(crate) fn finish_table<F: Files>(
 }
 
 fn replace<F: Files>(
-    alloc: Global,
     files: &mut F,
     table: &TableFiles,
     gathered: &Gathered,
@@ -110,7 +107,13 @@ fn replace<F: Files>(
     ensures others { Told (F.holds files.old) (F.holds files.new) (KeepsBut (names_of table.now)) }
     ensures cause { HasCause Failed (F.faults files.old) (F.faults files.new) result }
 {
-    let header = new_header(alloc, gathered, roots, index_length, now)?;
+    let header = new_header(
+        gathered.defs.raw.allocator(),
+        gathered,
+        roots,
+        index_length,
+        now,
+    )?;
     put_header(files, table.new_index.as_str(), &header, index_length)?;
     files.rename(table.new_rows.as_str(), table.rows.as_str())?;
     files.rename(table.new_index.as_str(), table.index.as_str())?;
@@ -125,8 +128,8 @@ fn put_header<F: Files>(
     file_length: u64,
 ) -> Result<(), FileErr>
     requires { IsTrue F.writable }
-    ensures done { OnOk result (Told (F.holds files.old) (F.holds files.new)
-        (λ m n. Sets file.now (resized file_length (overwritten 0 header.now (bytes_of file.now m))) m n)) }
+    ensures done { OnOk result (Told (F.holds files.old) (F.holds files.new) (λ m n.
+        Sets file.now (resized file_length (overwritten 0 header.now (bytes_of file.now m))) m n)) }
     ensures others { Told (F.holds files.old) (F.holds files.new) (OthersStay file.now) }
     ensures cause { HasCause Failed (F.faults files.old) (F.faults files.new) result }
 {
@@ -202,8 +205,8 @@ fn key_map(defs: &Defs) -> u64
 // The kept bytes of the state, with no list of free pages.
 fn without_free_pages(mut rest: Vec<u8>, page_sizes: usize) -> Vec<u8>
     requires { 24 + 8 * page_sizes ≤ length rest.items }
-    ensures { result.items
-        ≡ take 24 rest.items ++ (replicate (8 * page_sizes) 255 ++ drop (24 + 8 * page_sizes) rest.items) }
+    ensures { result.items ≡ take 24 rest.items
+        ++ (replicate (8 * page_sizes) 255 ++ drop (24 + 8 * page_sizes) rest.items) }
 {
     fill_part(&mut rest, 24, 8 * page_sizes);
     rest
@@ -211,7 +214,8 @@ fn without_free_pages(mut rest: Vec<u8>, page_sizes: usize) -> Vec<u8>
 
 fn fill_part(bytes: &mut [u8], at: usize, count: usize)
     requires { at + count ≤ length bytes.old }
-    ensures { bytes.new ≡ take at bytes.old ++ (replicate count 255 ++ drop (at + count) bytes.old) }
+    ensures { bytes.new
+        ≡ take at bytes.old ++ (replicate count 255 ++ drop (at + count) bytes.old) }
 {
     bytes[at..at + count].fill(0xFF);
 }

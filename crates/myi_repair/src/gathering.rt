@@ -1,22 +1,23 @@
 //! Gathering: the rows that are kept, in the working data file, and the pairs of their keys.
-ghost use Rattle.std.specs.Prelude.{◌≡◌, ◌≢◌, ◌⊎◌, ◌≤◌, ◌<◌, ◌+◌, ◌-◌, ◌^◌, ℕ, List, [], true, None, Some, Err, length, IfOk, IfErr, OnOk, IsTrue};
+ghost use Rattle.std.specs.Prelude.{◌≡◌, ◌≢◌, ◌⊎◌, ◌≤◌, ◌<◌, ◌+◌, ◌-◌, ◌^◌, ℕ, List, [], true, Some, Err, length, IfOk, IfErr, OnOk, IsTrue};
 ghost use Rattle.myi_base.specs.Holding.{IfTold, Told, OthersStay};
 ghost use Rattle.myi_base.specs.Causes.{HasCause};
 ghost use Rattle.myi_base.specs.Numbers.{AreBytes};
 ghost use Rattle.myi_defs.specs.ReadDefs.{AreDefs};
 ghost use Rattle.myi_defs.specs.Sound.{IsSound};
-ghost use Rattle.myi_chain.specs.Scanning.{fresh_scan, IsSameScan, ReadsBytes};
+ghost use Rattle.myi_chain.specs.ScanModel.{fresh_scan, IsSameScan};
+ghost use Rattle.myi_data.specs.Scanning.{IsAsKnown};
 ghost use Rattle.myi_repair.specs.Faults.{faults_told, RoseAtMost};
 ghost use Rattle.myi_repair.specs.Names.{names_of, names_for, AreApart, KeepsBut, KeepsBoth, Clears};
 ghost use Rattle.myi_repair.specs.Opening.{HasTable, Refuses, CutsOff};
 ghost use Rattle.myi_repair.specs.Sized.{AreSizedPairs};
 ghost use Rattle.myi_repair.specs.Keeping.{lists_in, AreCounted};
-ghost use Rattle.myi_repair.specs.Gathering.{Gathers, GathersRows, TakesIf};
+ghost use Rattle.myi_repair.specs.Gathering.{Gathers, GathersRows, RisesTo, TakesIf};
 
 use crate::fault::RepairFault;
 use crate::kept::KeptRows;
 use crate::names::TableFiles;
-use crate::opening::{Opened, open_table};
+use crate::opening::{OpenedTable, open_table};
 use crate::report::Report;
 use myi_base::Sequence;
 use myi_btree::Pair;
@@ -24,11 +25,10 @@ use myi_data::{DataFile, DataScan};
 use myi_defs::Defs;
 use myi_header::{State, stored_state};
 use myi_io::Files;
-use myi_pack::view;
+use myi_pack::view_packed;
 use std::alloc::{AllocError, Global};
 
 /// What gathering found in a table.
-#[derive(Drop)]
 pub struct Gathered {
     pub defs: Defs,
     pub report: Report,
@@ -36,6 +36,17 @@ pub struct Gathered {
     pub split: u64,
     /// For each key the pairs of the kept rows, in the order of the rows, with their new pointers.
     pub pairs: Sequence<Sequence<Pair>>,
+}
+
+impl Drop for Gathered {
+    fn drop(self) {
+        let Gathered {
+            defs: _,
+            report: _,
+            split: _,
+            pairs: _,
+        } = self;
+    }
 }
 
 /// Writes the rows of a table that a repair keeps into its working data file, `NAME.TMD`, which is made
@@ -114,24 +125,26 @@ fn gather_opened<F: Files>(
     alloc: Global,
     files: &mut F,
     table: &TableFiles,
-    opened: Opened,
+    opened: OpenedTable,
     extend: bool,
 ) -> Result<Gathered, RepairFault>
     requires writable { IsTrue F.writable }
     requires apart { AreApart (names_of table.now) }
     requires defs { AreDefs opened.defs }
     requires header { AreBytes opened.defs.raw }
-    requires table { IfTold (F.holds files.old) (HasTable (names_of table.now) opened.defs opened.length) }
+    requires table { IfTold (F.holds files.old)
+        (HasTable (names_of table.now) opened.defs opened.length) }
     ensures gathered { IfOk result (λ g. Told (F.holds files.old) (F.holds files.new)
         (Gathers (names_of table.now) extend g)) }
     ensures defs { IfOk result (λ g. AreDefs g.defs) }
     ensures header { IfOk result (λ g. AreBytes g.defs.raw) }
     ensures pairs { IfOk result (λ g. AreSizedPairs g.defs g.pairs) }
     ensures cut { IfErr result CutsOff }
-    ensures others { Told (F.holds files.old) (F.holds files.new) (OthersStay (names_of table.now).new_rows) }
+    ensures others { Told (F.holds files.old) (F.holds files.new)
+        (OthersStay (names_of table.now).new_rows) }
     ensures cause { HasCause RepairFault.File (F.faults files.old) (F.faults files.new) result }
 {
-    let Opened { defs, length } = opened;
+    let OpenedTable { defs, length } = opened;
     let mut scan = scan_of(alloc, table, &defs, length, extend)?;
     let rows = take_rows(alloc, files, &mut scan, table.new_rows.as_str(), &defs)?;
     Ok(into_gathered(alloc, defs, length, rows)?)
@@ -173,7 +186,8 @@ fn take_rows<F: Files>(
 ) -> Result<KeptRows, RepairFault>
     requires writable { IsTrue F.writable }
     requires apart { scan.old.name ≢ file.now }
-    requires fresh { scan.old.left ≡ None }
+    requires current { IfTold (F.holds files.old) (IsAsKnown scan.old) }
+    requires end { scan.old.end < 2 ^ 64 }
     requires test { scan.old.test ≡ defs.now }
     requires defs { AreDefs defs.now }
     ensures gathered { IfOk result (λ k. Told (F.holds files.old) (F.holds files.new)
@@ -185,17 +199,12 @@ fn take_rows<F: Files>(
 {
     files.cut(file, 0)?;
     let mut rows = KeptRows::new(alloc, defs.keys.as_slice().len())?;
-    for _turn in 0..u64::MAX {
-        if !take_next(alloc, files, scan, file, defs, &mut rows)? {
-            return Ok(rows);
-        }
-    }
-    Err(RepairFault::Memory)
+    while take_next(files, scan, file, defs, &mut rows)? {}
+    Ok(rows)
 }
 
 // Takes the next row of a scan, and says whether there was one.
 fn take_next<F: Files>(
-    alloc: Global,
     files: &mut F,
     scan: &mut DataScan,
     file: &str,
@@ -204,16 +213,18 @@ fn take_next<F: Files>(
 ) -> Result<bool, RepairFault>
     requires writable { IsTrue F.writable }
     requires apart { scan.old.name ≢ file.now }
+    requires current { IfTold (F.holds files.old) (IsAsKnown scan.old) }
+    requires end { scan.old.end < 2 ^ 64 }
     requires test { scan.old.test ≡ defs.now }
     requires defs { AreDefs defs.now }
     requires counted { AreCounted defs.now rows.old }
-    requires few { rows.old.kept + rows.old.repeats < 2 ^ 64 - 1 }
+    requires few { rows.old.kept + rows.old.repeats ≤ scan.old.place }
     ensures same { OnOk result (IsSameScan scan.old scan.new) }
+    ensures rises { IfOk result (λ more. more ≡ true → RisesTo scan.old scan.new rows.new) }
     ensures counted { OnOk result (AreCounted defs.now rows.new) }
-    ensures most { OnOk result (rows.new.kept + rows.new.repeats ≤ rows.old.kept + rows.old.repeats + 1) }
     ensures took { IfOk result (λ more. Told (F.holds files.old) (F.holds files.new)
         (TakesIf more defs.now file.now scan.old scan.new rows.old rows.new)) }
-    ensures bytes { OnOk result (IfTold (F.holds files.old) (ReadsBytes scan.old)) }
+    ensures current { OnOk result (IfTold (F.holds files.new) (IsAsKnown scan.new)) }
     ensures cut { IfErr result CutsOff }
     ensures others { Told (F.holds files.old) (F.holds files.new) (OthersStay file.now) }
     ensures cause { HasCause RepairFault.File (F.faults files.old) (F.faults files.new) result }
@@ -221,8 +232,8 @@ fn take_next<F: Files>(
     let Some((_, piece)) = scan.next_row(files)? else {
         return Ok(false);
     };
-    let row = view(defs, piece.bytes()).unwrap();
-    rows.take(alloc, files, file, defs, &row)?;
+    let row = view_packed(defs, piece.bytes());
+    rows.take(files, file, defs, &row)?;
     Ok(true)
 }
 
@@ -234,7 +245,8 @@ fn scan_of(
     extend: bool,
 ) -> Result<DataScan, AllocError>
     requires { IsSound defs.now }
-    ensures { IfOk result (λ scan. scan ≡ fresh_scan (names_of table.now).rows defs.now extend end) }
+    ensures { IfOk result (λ scan.
+        scan ≡ fresh_scan (names_of table.now).rows defs.now extend end) }
 {
     let state = state_at(alloc, defs, end)?;
     let file = DataFile::new(alloc, table.rows.as_str(), defs, &state)?;

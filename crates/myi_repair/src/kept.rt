@@ -22,7 +22,6 @@ use std::alloc::{AllocError, Global};
 use std::collections::BTreeSet;
 
 /// The rows that are kept so far.
-#[derive(Drop)]
 pub(crate) struct KeptRows {
     kept: u64,
     repeats: u64,
@@ -33,18 +32,30 @@ pub(crate) struct KeptRows {
     pairs: Vec<Vec<Pair>>,
 }
 
+impl Drop for KeptRows {
+    fn drop(self) {
+        let KeptRows {
+            kept: _,
+            repeats: _,
+            end: _,
+            split: _,
+            seen: _,
+            pairs: _,
+        } = self;
+    }
+}
+
 impl KeptRows {
-    ghost use Rattle.std.specs.Prelude.{◌≡◌, ◌≤◌, ◌<◌, ◌+◌, ◌-◌, ◌^◌, ◌||◌, ℕ, List, [], true, Some, length, IfOk, IfErr, OnOk, IsTrue};
+    ghost use Rattle.std.specs.Prelude.{◌≡◌, ◌≤◌, ◌<◌, ◌+◌, ◌-◌, ◌^◌, [], true, length, IfOk, IfErr, OnOk, IsTrue};
     ghost use Rattle.myi_base.specs.Holding.{Told, Writes, OthersStay};
     ghost use Rattle.myi_base.specs.Causes.{HasCause};
     ghost use Rattle.myi_defs.specs.declared.types.Defs.{Defs};
     ghost use Rattle.myi_defs.specs.Addressable.{is_addressable};
     ghost use Rattle.myi_defs.specs.ReadDefs.{AreDefs};
-    ghost use Rattle.myi_pack.specs.Packed.{Values};
     ghost use Rattle.myi_pack.specs.Spelling.{fits};
-    ghost use Rattle.myi_data.specs.Laid.{stored, laid_file};
+    ghost use Rattle.myi_data.specs.Stored.{stored};
     ghost use Rattle.myi_repair.specs.Opening.{CutsOff};
-    ghost use Rattle.myi_repair.specs.Keeping.{lists_in, with_pairs, is_noted, AreCounted, HasKept, kept_with};
+    ghost use Rattle.myi_repair.specs.Keeping.{lists_in, with_pairs, NotesBoth, AreCounted, HasKept, TakesIn, WritesIn};
 
     /// No row yet, of a table with so many keys.
     pub(crate) fn new(alloc: Global, keys: usize) -> Result<KeptRows, AllocError>
@@ -65,7 +76,6 @@ impl KeptRows {
     /// Keeps a row and writes it into the file, or leaves it out where it repeats one that is kept.
     pub(crate) fn take<F: Files>(
         &mut self,
-        alloc: Global,
         files: &mut F,
         file: &str,
         defs: &Defs,
@@ -77,13 +87,16 @@ impl KeptRows {
         requires counted { AreCounted defs.now self.old }
         requires few { self.old.kept + self.old.repeats < 2 ^ 64 - 1 }
         ensures counted { OnOk result (AreCounted defs.now self.new) }
-        ensures one { OnOk result (self.new.kept + self.new.repeats ≡ self.old.kept + self.old.repeats + 1) }
-        ensures kept { OnOk result ((rows : List Values) → HasKept defs.now rows self.old → HasKept defs.now (kept_with defs.now rows row.now) self.new) }
-        ensures written { OnOk result (Told (F.holds files.old) (F.holds files.new) (λ m n. (rows : List Values) → HasKept defs.now rows self.old → m file.now ≡ Some (laid_file defs.now rows) → n file.now ≡ Some (laid_file defs.now (kept_with defs.now rows row.now)))) }
+        ensures one { OnOk result (
+            self.new.kept + self.new.repeats ≡ self.old.kept + self.old.repeats + 1) }
+        ensures kept { OnOk result (TakesIn defs.now row.now self.old self.new) }
+        ensures written { OnOk result (Told (F.holds files.old) (F.holds files.new)
+            (WritesIn defs.now file.now row.now self.old)) }
         ensures cut { IfErr result CutsOff }
         ensures others { Told (F.holds files.old) (F.holds files.new) (OthersStay file.now) }
         ensures cause { HasCause RepairFault.File (F.faults files.old) (F.faults files.new) result }
     {
+        let alloc = defs.raw.allocator();
         let keys = keys_of(alloc, defs, row)?;
         let unique = unique_keys(alloc, defs, &keys)?;
         if has_any(&self.seen, &unique) {
@@ -91,7 +104,7 @@ impl KeptRows {
             return Ok(());
         }
         let at = self.end;
-        self.put(alloc, files, file, defs, row)?;
+        self.put(files, file, defs, row)?;
         self.add(unique, keys, pointer(defs, at))?;
         Ok(())
     }
@@ -99,7 +112,6 @@ impl KeptRows {
     // Writes a row that is kept at the end of the file.
     fn put<F: Files>(
         &mut self,
-        alloc: Global,
         files: &mut F,
         file: &str,
         defs: &Defs,
@@ -116,14 +128,17 @@ impl KeptRows {
           split = self.old.split + 1;
           end = self.old.end + length (stored defs.now row.now);
         }) }
-        ensures reached { OnOk result (is_addressable defs.now (self.old.end + length (stored defs.now row.now)) ≡ true) }
-        ensures written { OnOk result (Told (F.holds files.old) (F.holds files.new) (Writes file.now self.old.end (stored defs.now row.now))) }
+        ensures reached { OnOk result (
+            is_addressable defs.now (self.old.end + length (stored defs.now row.now)) ≡ true) }
+        ensures written { OnOk result (Told (F.holds files.old) (F.holds files.new)
+            (Writes file.now self.old.end (stored defs.now row.now))) }
         ensures cut { IfErr result CutsOff }
         ensures others { Told (F.holds files.old) (F.holds files.new) (OthersStay file.now) }
         ensures cause { HasCause RepairFault.File (F.faults files.old) (F.faults files.new) result }
     {
+        let alloc = defs.raw.allocator();
         let spelled = pack(alloc, defs, &unpack(alloc, row)?)?;
-        let (end, blocks) = put_row(alloc, files, file, defs, self.end, &spelled, &[])?;
+        let (end, blocks) = put_row(files, file, defs, self.end, &spelled, &[])?;
         if !defs.addressable(end) {
             return Err(RepairFault::Memory);
         }
@@ -136,8 +151,9 @@ impl KeptRows {
     // Notes the keys of a row with that pointer.
     fn add(&mut self, unique: Vec<UniqueKey>, keys: Vec<KeyVal>, row: u64) -> Result<(), AllocError>
         requires all { length keys.items ≡ length self.old.pairs.items }
-        ensures noted { OnOk result ((number : ℕ) (code : List ℕ) → is_noted number code self.new.seen.keys ≡ (is_noted number code self.old.seen.keys || is_noted number code unique.items)) }
-        ensures pairs { OnOk result (lists_in self.new ≡ with_pairs row keys.items (lists_in self.old)) }
+        ensures noted { OnOk result (NotesBoth self.old.seen.keys unique.items self.new.seen.keys) }
+        ensures pairs { OnOk result (
+            lists_in self.new ≡ with_pairs row keys.items (lists_in self.old)) }
         ensures kept { self.new.kept ≡ self.old.kept }
         ensures repeats { self.new.repeats ≡ self.old.repeats }
         ensures end { self.new.end ≡ self.old.end }
@@ -150,7 +166,12 @@ impl KeptRows {
 
     /// What is said of a repair of a data file of that length.
     pub(crate) fn report(&self, old_length: u64) -> Report
-        ensures { result ≡ record { kept = self.now.kept; repeats = self.now.repeats; old_length = old_length; new_length = self.now.end } }
+        ensures { result ≡ record {
+          kept = self.now.kept;
+          repeats = self.now.repeats;
+          old_length = old_length;
+          new_length = self.now.end;
+        } }
     {
         Report {
             kept: self.kept,
@@ -171,9 +192,17 @@ impl KeptRows {
     pub(crate) fn into_pairs(self, alloc: Global) -> Result<Sequence<Sequence<Pair>>, AllocError>
         ensures { IfOk result (λ all. all ≡ lists_in self) }
     {
-        let mut all = Vec::with_capacity(alloc, self.pairs.len())?;
-        for pairs in self.pairs {
-            all.push(Sequence::new(pairs))?;
+        let KeptRows {
+            kept: _,
+            repeats: _,
+            end: _,
+            split: _,
+            seen: _,
+            pairs,
+        } = self;
+        let mut all = Vec::with_capacity(alloc, pairs.len())?;
+        for list in pairs {
+            all.push(Sequence::new(list))?;
         }
         Ok(Sequence::new(all))
     }
@@ -193,7 +222,8 @@ fn no_lists(alloc: Global, count: usize) -> Result<Vec<Vec<Pair>>, AllocError>
 // Adds to each list the pair of its key and the pointer.
 fn push_pairs(lists: &mut Vec<Vec<Pair>>, keys: Vec<KeyVal>, row: u64) -> Result<(), AllocError>
     requires { length keys.items ≡ length lists.old.items }
-    ensures { OnOk result (lists_of lists.new.items ≡ with_pairs row keys.items (lists_of lists.old.items)) }
+    ensures { OnOk result (
+        lists_of lists.new.items ≡ with_pairs row keys.items (lists_of lists.old.items)) }
 {
     let mut number = 0;
     for key in keys {

@@ -8,6 +8,16 @@
 //! `put_row`, into the working data file, and answers the pairs of their keys; the trees are built in
 //! the working index file; `finish` writes the header and gives both working files the names of the old
 //! ones.
+//!
+//! ```
+//! match recover(alloc, files, name, extend, now) {
+//!     Ok(report) => Ok((Status::Ok, recovered_line(alloc, name, report)?)),
+//!     Err(fault) => not_repaired(alloc, name, fault),
+//! }
+//! ```
+//!
+//! `crates/myisamkit/src/recover.rt` has it, and the case `kit` in
+//! `crates/cases_runs/src/runs.rt` runs it.
 #![tactic(auto)]
 
 mod fault;

@@ -5,7 +5,6 @@ use myi_io::Files;
 use std::alloc::{AllocError, Global};
 
 /// The names of a table's files.
-#[derive(Drop)]
 pub(crate) struct TableFiles {
     pub(crate) rows: String,
     pub(crate) index: String,
@@ -13,6 +12,17 @@ pub(crate) struct TableFiles {
     pub(crate) new_rows: String,
     /// The new index file, until it is whole.
     pub(crate) new_index: String,
+}
+
+impl Drop for TableFiles {
+    fn drop(self) {
+        let TableFiles {
+            rows: _,
+            index: _,
+            new_rows: _,
+            new_index: _,
+        } = self;
+    }
 }
 
 impl TableFiles {
@@ -37,9 +47,12 @@ impl TableFiles {
         requires writable { IsTrue F.writable }
         requires apart { AreApart (names_of self.now) }
         ensures gone { RoseAtMost 0 (F.faults files.old) (F.faults files.new)
-            → Told (F.holds files.old) (F.holds files.new) (λ _ n. NoWorking (names_of self.now) n) }
-        ensures both { Told (F.holds files.old) (F.holds files.new) (KeepsBoth (names_of self.now)) }
-        ensures others { Told (F.holds files.old) (F.holds files.new) (KeepsBut (names_of self.now)) }
+            → Told (F.holds files.old) (F.holds files.new)
+            (λ _ n. NoWorking (names_of self.now) n) }
+        ensures both { Told (F.holds files.old) (F.holds files.new)
+            (KeepsBoth (names_of self.now)) }
+        ensures others { Told (F.holds files.old) (F.holds files.new)
+            (KeepsBut (names_of self.now)) }
         ensures later { F.faults files.old ≤ F.faults files.new }
     {
         let _ = files.remove(self.new_rows.as_str());

@@ -6,7 +6,7 @@ ghost use Rattle.myi_base.specs.Numbers.{AreBytes};
 ghost use Rattle.myi_defs.specs.Addressable.{is_addressable};
 ghost use Rattle.myi_defs.specs.ReadDefs.{read_defs, AreDefs};
 ghost use Rattle.myi_repair.specs.Names.{names_of};
-ghost use Rattle.myi_repair.specs.Opening.{opened_read, HasTable, Refuses, CutsOff};
+ghost use Rattle.myi_repair.specs.Opening.{table_by, HasTable, Refuses, CutsOff};
 
 use crate::fault::{RepairFault, TableFile};
 use crate::names::TableFiles;
@@ -19,7 +19,7 @@ const LONGEST_HEADER: u64 = 65_535;
 
 /// The definitions of a table that can be repaired, and the length of its data file, in bytes.
 #[derive(Drop)]
-pub(crate) struct Opened {
+pub(crate) struct OpenedTable {
     pub(crate) defs: Defs,
     pub(crate) length: u64,
 }
@@ -29,7 +29,7 @@ pub(crate) fn open_table<F: Files>(
     alloc: Global,
     files: &mut F,
     table: &TableFiles,
-) -> Result<Opened, RepairFault>
+) -> Result<OpenedTable, RepairFault>
     ensures table { IfOk result (λ o.
         IfTold (F.holds files.old) (HasTable (names_of table.now) o.defs o.length)) }
     ensures defs { IfOk result (λ o. AreDefs o.defs) }
@@ -51,16 +51,16 @@ pub(crate) fn open_table<F: Files>(
 }
 
 /// Judges the front of an index file, beside a data file of so many bytes.
-fn judge(alloc: Global, header: &[u8], size: u64) -> Result<Opened, RepairFault>
+fn judge(alloc: Global, header: &[u8], size: u64) -> Result<OpenedTable, RepairFault>
     ensures table { IfOk result (λ o. (x d : List ℕ) → header.now ≡ take 65535 x → size ≡ length d
-        → opened_read (read_defs x) d ≡ Ok (o.defs, d)) }
+        → table_by (read_defs x) d ≡ Ok (o.defs, d)) }
     ensures size { IfOk result (λ o. o.length ≡ size) }
     ensures defs { IfOk result (λ o. AreDefs o.defs) }
     ensures header { IfOk result (λ o. AreBytes o.defs.raw) }
     ensures reached { IfOk result (λ o. is_addressable o.defs o.length ≡ true) }
     ensures refused { IfErr result (λ f. (f ≡ RepairFault.Memory)
         ⊎ ((x d : List ℕ) → header.now ≡ take 65535 x → size ≡ length d
-        → opened_read (read_defs x) d ≡ Err f)) }
+        → table_by (read_defs x) d ≡ Err f)) }
     ensures file { IfErr result (λ f. f ≢ RepairFault.File) }
 {
     match read_defs(alloc, header) {
@@ -80,20 +80,21 @@ fn of_defs(fault: DefFault) -> RepairFault
     }
 }
 
-fn judge_defs(defs: Defs, size: u64) -> Result<Opened, RepairFault>
+fn judge_defs(defs: Defs, size: u64) -> Result<OpenedTable, RepairFault>
     requires defs { AreDefs defs }
     requires header { AreBytes defs.raw }
     ensures table { IfOk result (λ o. (d : List ℕ) → size ≡ length d
-        → opened_read (Ok defs) d ≡ Ok (o.defs, d)) }
+        → table_by (Ok defs) d ≡ Ok (o.defs, d)) }
     ensures size { IfOk result (λ o. o.length ≡ size) }
     ensures defs { IfOk result (λ o. AreDefs o.defs) }
     ensures header { IfOk result (λ o. AreBytes o.defs.raw) }
     ensures reached { IfOk result (λ o. is_addressable o.defs o.length ≡ true) }
-    ensures refused { IfErr result (λ f. (d : List ℕ) → size ≡ length d → opened_read (Ok defs) d ≡ Err f) }
+    ensures refused { IfErr result (λ f. (d : List ℕ) → size ≡ length d
+        → table_by (Ok defs) d ≡ Err f) }
     ensures file { IfErr result (λ f. f ≢ RepairFault.File) }
 {
     if !defs.addressable(size) {
         return Err(RepairFault::TooLong);
     }
-    Ok(Opened { defs, length: size })
+    Ok(OpenedTable { defs, length: size })
 }

@@ -9,7 +9,7 @@ ghost use Rattle.myi_repair.specs.Names.{names_of, names_for, AreApart, KeepsBot
 ghost use Rattle.myi_repair.specs.Opening.{Refuses, CutsOff};
 ghost use Rattle.myi_repair.specs.Sized.{AreSizedPairs};
 ghost use Rattle.myi_repair.specs.Building.{trees_of, AreTrees, Builds};
-ghost use Rattle.myi_repair.specs.Repairs.{Repairs, OldOrNew, Completes, CompletesPart};
+ghost use Rattle.myi_repair.specs.Repaired.{LeavesRepaired, OldOrNew, Completes, CompletesPart};
 
 use crate::fault::RepairFault;
 use crate::finishing::finish_table;
@@ -36,7 +36,7 @@ pub fn recover<F: Files>(
 
     // The two files are the recovered bytes, which are recovered; the report says how many rows and bytes.
     ensures repaired { IfOk result (λ said. Told (F.holds files.old) (F.holds files.new)
-        (Repairs name.now extend now said)) }
+        (LeavesRepaired name.now extend now said)) }
 
     // Why a table is refused; nothing is changed then.
     ensures refused { IfErr result (λ f.
@@ -84,7 +84,7 @@ fn complete<F: Files>(
     ensures cause { HasCause RepairFault.File (F.faults files.old) (F.faults files.new) result }
 {
     let trees = build(alloc, files, table, &mut gathered)?;
-    finish_table(alloc, files, table, &gathered, &trees.roots, trees.end, now)?;
+    finish_table(files, table, &gathered, &trees.roots, trees.end, now)?;
     Ok(gathered.report)
 }
 

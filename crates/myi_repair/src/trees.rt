@@ -6,8 +6,9 @@ ghost use Rattle.myi_defs.specs.ReadDefs.{AreDefs};
 ghost use Rattle.myi_defs.specs.Sound.{IsSound};
 ghost use Rattle.myi_header.specs.StateOf.{IsPlace};
 ghost use Rattle.myi_header.specs.Layout.{first_page_of};
+ghost use Rattle.myi_data.specs.Keys.{IsKeyNumber};
 ghost use Rattle.myi_btree.specs.Sizes.{IsPlaced, AreSized, fits_in};
-ghost use Rattle.myi_btree.specs.Laid.{laid, root_of};
+ghost use Rattle.myi_btree.specs.LaidPages.{laid, root_of};
 ghost use Rattle.myi_btree.specs.Building.{CanLay, Lays};
 ghost use Rattle.myi_pair.specs.KeyList.{sorted};
 ghost use Rattle.myi_pair.specs.Trees.{place_of};
@@ -32,10 +33,15 @@ const SETUP: CacheSetup = CacheSetup {
 };
 
 /// The roots of the trees, and the place behind their pages.
-#[derive(Drop)]
 pub(crate) struct Trees {
     pub(crate) roots: Vec<Option<u64>>,
     pub(crate) end: u64,
+}
+
+impl Drop for Trees {
+    fn drop(self) {
+        let Trees { roots: _, end: _ } = self;
+    }
 }
 
 impl Trees {
@@ -112,7 +118,7 @@ fn lay_trees<F: Files>(
         end: room.end,
     };
     for pairs in pairs {
-        let place = place_of(defs, trees.roots.len());
+        let place = place_of(defs, trees.roots.len() + 1);
         let root = build_tree(alloc, files, cache, place, &mut room, pairs)?;
         trees.push(root, room.end)?;
     }
@@ -121,11 +127,11 @@ fn lay_trees<F: Files>(
 
 // How the pages of the key of that number are made.
 fn place_of(defs: &Defs, key: usize) -> Place
-    requires { key < length defs.now.keys }
+    requires { IsKeyNumber defs.now key }
     ensures { result ≡ place_of defs.now key }
 {
     Place {
-        block_length: defs.keys.as_slice()[key].block_length,
+        block_length: defs.keys.as_slice()[key - 1].block_length,
         rec_ref: defs.rec_ref,
         root: None,
     }
@@ -146,7 +152,8 @@ fn build_tree<F: Files>(
     requires sized { AreSized place pairs }
     ensures laid { OnOk result (Told (F.holds files.old) (F.holds files.new) (λ m n.
         CanLay cache.old m room.old.end
-        → Lays place room.old.end (laid (fits_in place) place.block_length room.old.end (sorted pairs))
+        → Lays place room.old.end
+        (laid (fits_in place) place.block_length room.old.end (sorted pairs))
         cache.old cache.new m n)) }
     ensures root { IfOk result (λ root. root ≡ root_of place.block_length room.old.end
         (laid (fits_in place) place.block_length room.old.end (sorted pairs))) }

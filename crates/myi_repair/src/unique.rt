@@ -1,12 +1,12 @@
 //! `UniqueKey`: the keys of kept rows that no other row may have.
-ghost use Rattle.std.specs.Prelude.{◌≡◌, ◌≤◌, ◌&&◌, ◌||◌, ℕ, true, List, [], length, map, IfOk, OnOk};
+ghost use Rattle.std.specs.Prelude.{◌≡◌, ◌≤◌, ◌&&◌, true, [], length, map, IfOk, OnOk};
 ghost use Rattle.std.specs.BTreeSet.{contains};
 ghost use Rattle.std.specs.List.{list_any};
 ghost use Rattle.myi_defs.specs.Sound.{IsSound};
 ghost use Rattle.myi_keys.specs.Limits.{is_complete};
 ghost use Rattle.myi_pack.specs.Packed.{Values};
 ghost use Rattle.myi_pack.specs.Spelling.{fits};
-ghost use Rattle.myi_repair.specs.Keeping.{is_noted, unique_cmp, row_keys, unique_codes, by_code};
+ghost use Rattle.myi_repair.specs.Keeping.{NotesBoth, unique_cmp, row_keys, unique_codes, by_code};
 
 use myi_data::key_of;
 use myi_defs::{Defs, Key};
@@ -15,7 +15,7 @@ use myi_pack::RowView;
 use std::alloc::{AllocError, Global};
 use std::collections::BTreeSet;
 
-/// A complete key of a row in a unique key: the number of the key, from 0, and the code of the row's.
+/// A complete key of a row in a unique key: the number of the key, from 1, and the code of the row's.
 #[derive(Debug, Drop, PartialEq, Eq, PartialOrd, Ord)]
 pub(crate) struct UniqueKey {
     number: u8,
@@ -34,8 +34,8 @@ pub(crate) fn keys_of(
 {
     let count = defs.keys.as_slice().len();
     let mut keys = Vec::with_capacity(alloc, count)?;
-    for key in 0..count {
-        keys.push(key_of(alloc, defs, key, row)?)?;
+    for index in 0..count {
+        keys.push(key_of(alloc, defs, index + 1, row)?)?;
     }
     Ok(keys)
 }
@@ -55,14 +55,15 @@ pub(crate) fn unique_keys(
 ) -> Result<Vec<UniqueKey>, AllocError>
     requires all { length keys.now ≡ length defs.now.keys }
     requires few { length defs.now.keys ≤ 64 }
-    ensures { IfOk result (λ unique. (row : Values) → keys.now ≡ row_keys defs.now row → map by_code unique.items ≡ unique_codes defs.now row) }
+    ensures { IfOk result (λ unique. (row : Values) → keys.now ≡ row_keys defs.now row
+        → map by_code unique.items ≡ unique_codes defs.now row) }
 {
     let defs = defs.keys.as_slice();
     let mut unique = Vec::new(alloc);
-    for (number, key) in keys.iter().enumerate() {
-        if is_distinct(&defs[number], key) {
+    for (index, key) in keys.iter().enumerate() {
+        if is_distinct(&defs[index], key) {
             unique.push(UniqueKey {
-                number: number as u8,
+                number: index as u8 + 1,
                 code: encode(alloc, key)?,
             })?;
         }
@@ -79,7 +80,7 @@ pub(crate) fn has_any(seen: &BTreeSet<UniqueKey>, unique: &[UniqueKey]) -> bool
 
 /// Notes keys.
 pub(crate) fn note(seen: &mut BTreeSet<UniqueKey>, unique: Vec<UniqueKey>) -> Result<(), AllocError>
-    ensures { OnOk result ((number : ℕ) (code : List ℕ) → is_noted number code seen.new.keys ≡ (is_noted number code seen.old.keys || is_noted number code unique.items)) }
+    ensures { OnOk result (NotesBoth seen.old.keys unique.items seen.new.keys) }
 {
     for key in unique {
         seen.insert(key)?;

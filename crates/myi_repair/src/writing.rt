@@ -3,7 +3,7 @@ ghost use Rattle.std.specs.Prelude.{◌≡◌, ◌+◌, ◌^◌, ◌<◌, ◌≤
 ghost use Rattle.myi_base.specs.Holding.{Told, Writes, WritesPart};
 ghost use Rattle.myi_base.specs.Causes.{HasCause};
 ghost use Rattle.myi_io.specs.declared.files.FileErr.TheVariants.{Failed};
-ghost use Rattle.myi_data.specs.Laid.{stored_by, own_block};
+ghost use Rattle.myi_data.specs.Stored.{stored_by, own_block};
 
 use myi_defs::{Defs, RowFormat};
 use myi_frames::{FrameKind, FrameSpec, least_size, write_frame};
@@ -14,7 +14,6 @@ use std::alloc::{AllocError, Global};
 /// answers the place behind it and the number of its blocks. `packed` is the row's spelling. `sizes`, the
 /// sizes of the blocks that held it, is not read: no row that is built needs more than one block.
 pub fn put_row<F: Files>(
-    alloc: Global,
     files: &mut F,
     file: &str,
     defs: &Defs,
@@ -25,8 +24,10 @@ pub fn put_row<F: Files>(
     requires writable { IsTrue F.writable }
     requires short { length packed.now < 2 ^ 24 }
     requires place { at ≤ 2 ^ 40 }
-    ensures ok { OnOk result (Told (F.holds files.old) (F.holds files.new) (Writes file.now at (stored_by defs.now.format packed.now))) }
-    ensures err { OnErr result (Told (F.holds files.old) (F.holds files.new) (WritesPart file.now at (stored_by defs.now.format packed.now))) }
+    ensures ok { OnOk result (Told (F.holds files.old) (F.holds files.new)
+        (Writes file.now at (stored_by defs.now.format packed.now))) }
+    ensures err { OnErr result (Told (F.holds files.old) (F.holds files.new)
+        (WritesPart file.now at (stored_by defs.now.format packed.now))) }
     ensures end { IfOk result (λ r. r.0 ≡ at + length (stored_by defs.now.format packed.now)) }
     ensures count { IfOk result (λ r. r.1 ≡ 1) }
     ensures cause { HasCause Failed (F.faults files.old) (F.faults files.new) result }
@@ -34,7 +35,7 @@ pub fn put_row<F: Files>(
     match defs.format {
         RowFormat::Static => write_row(files, file, at, packed),
         RowFormat::Dynamic => {
-            let block = block_of(alloc, packed)?;
+            let block = block_of(defs.raw.allocator(), packed)?;
             write_row(files, file, at, &block)
         }
     }
@@ -49,8 +50,10 @@ fn write_row<F: Files>(
 ) -> Result<(u64, u64), FileErr>
     requires writable { IsTrue F.writable }
     requires end { at + length bytes.now < 2 ^ 64 }
-    ensures ok { OnOk result (Told (F.holds files.old) (F.holds files.new) (Writes file.now at bytes.now)) }
-    ensures err { OnErr result (Told (F.holds files.old) (F.holds files.new) (WritesPart file.now at bytes.now)) }
+    ensures ok { OnOk result (Told (F.holds files.old) (F.holds files.new)
+        (Writes file.now at bytes.now)) }
+    ensures err { OnErr result (Told (F.holds files.old) (F.holds files.new)
+        (WritesPart file.now at bytes.now)) }
     ensures end { IfOk result (λ r. r.0 ≡ at + length bytes.now) }
     ensures count { IfOk result (λ r. r.1 ≡ 1) }
     ensures cause { HasCause Failed (F.faults files.old) (F.faults files.new) result }

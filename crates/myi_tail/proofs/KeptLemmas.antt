@@ -10,7 +10,7 @@ use Rattle.atomic_table.proofs.Lists.{at_set, set_here, set_else}
 use Rattle.myi_tail.specs.declared.table.View.{View}
 use Rattle.myi_tail.specs.declared.table.View.TheVariants.{Appends, Reads, Spent}
 use Rattle.myi_tail.specs.Prefix.{BeginsWith}
-use Rattle.myi_tail.specs.Seats.{Reading}
+use Rattle.myi_tail.specs.Seats.{TailReader}
 use Rattle.myi_tail.specs.Rule.{Moment, IsKnown, IsOther, Kept}
 use Rattle.myi_tail.specs.Steps.{AppenderView, ReaderView, appends, reads}
 
@@ -119,9 +119,9 @@ appender_turned m k cells words published joined long fits within counted stored
     )
 
 -- what these readers know are the first of the published words
-pub all_known_prefixes : (count : ℕ) (words : List ℕ) (readers : List Reading) → All (IsKnown count words) (map (λ (r : Reading). r.known) readers)
-    → All (λ (r : Reading). BeginsWith (take count words) r.known) readers
+pub all_known_prefixes : (count : ℕ) (words : List ℕ) (readers : List TailReader) → All (IsKnown count words) (map (λ (r : TailReader). r.known) readers)
+    → All (λ (r : TailReader). BeginsWith (take count words) r.known) readers
 all_known_prefixes count words readers all k d h =
-    let long : length (map (λ (r : Reading). r.known) readers) ≡ length readers = length-map readers (λ (r : Reading). r.known) in
+    let long : length (map (λ (r : TailReader). r.known) readers) ≡ length readers = length-map readers (λ (r : TailReader). r.known) in
     known_prefix count words (get_or readers k d).known
-    (subst (IsKnown count words) (get_or-map (λ (r : Reading). r.known) readers k d [] h) (all k [] (omega arith)))
+    (subst (IsKnown count words) (get_or-map (λ (r : TailReader). r.known) readers k d [] h) (all k [] (omega arith)))

@@ -18,7 +18,7 @@ pub record Appending : Type 0 where
   pub published : ℕ
 
 -- a reader: its tail, the count that it loaded last, and the words that it knows
-pub record Reading : Type 0 where
+pub record TailReader : Type 0 where
   pub tail : TailId
   pub seen : ℕ
   pub known : List ℕ
@@ -35,7 +35,7 @@ abbrev pub free_words : Appending → ℕ
 free_words a = room_of a.tail - length a.words
 
 -- a reader of this tail that has loaded nothing yet
-pub record IsNew (tail : TailId) (r : Reading) : Type 0 where
+pub record IsNew (tail : TailId) (r : TailReader) : Type 0 where
   pub of_tail : r.tail ≡ tail
   pub unseen : r.seen ≡ 0
   pub unknown : r.known ≡ []
@@ -49,8 +49,8 @@ abbrev pub appending_code : Coded Appending
 appending_code = code_by (TableId × (List ℕ × ℕ)) (coded× table_id_coded (coded× (coded_list coded_ℕ) coded_ℕ))
     (λ e. (e.tail, (e.words, e.published))) (λ p. record { tail = p.0; words = p.1.0; published = p.1.1 }) (λ _. refl)
 
-abbrev pub reading_code : Coded Reading
-reading_code = code_by (TableId × (ℕ × List ℕ)) (coded× table_id_coded (coded× coded_ℕ (coded_list coded_ℕ)))
+abbrev pub reader_code : Coded TailReader
+reader_code = code_by (TableId × (ℕ × List ℕ)) (coded× table_id_coded (coded× coded_ℕ (coded_list coded_ℕ)))
     (λ e. (e.tail, (e.seen, e.known))) (λ p. record { tail = p.0; seen = p.1.0; known = p.1.1 }) (λ _. refl)
 
 abbrev pub closing_code : Coded Closing

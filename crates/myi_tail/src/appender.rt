@@ -1,6 +1,7 @@
 //! The one that appends. `Appender` keeps the words that it stored, beside the table that the readers
 //! see; `NoRoom` is its refusal of a row.
-ghost use Rattle.std.specs.Prelude.{◌≡◌, ◌+◌, ◌/◌, ◌<◌, ◌≤◌, ◌↔◌, [], ◌∷◌, ◌++◌, length, IfOk, IfErr, OnOk, OnErr, IsOk};
+ghost use Rattle.std.specs.Prelude.{◌≡◌, ◌+◌, ◌/◌, ◌<◌, ◌≤◌, ◌↔◌, ◌∷◌, ◌++◌};
+ghost use Rattle.std.specs.Prelude.{[], length, IfOk, IfErr, OnOk, OnErr, IsOk};
 ghost use Rattle.myi_tail.specs.Rows.{row_words, bytes_words};
 ghost use Rattle.myi_tail.specs.Seats.{free_words, room_of, IsNew, closing};
 
@@ -31,7 +32,8 @@ impl Model for Appender {
 
     ghost use Rattle.myi_tail.specs.Inside.{IsAppender};
 
-    ghost view = { λ a. record { tail = a.seat.table_id; words = a.words.items; published = a.published } };
+    ghost view = { λ a.
+        record { tail = a.seat.table_id; words = a.words.items; published = a.published } };
 
     ghost invariant = { IsAppender };
 }
@@ -123,7 +125,8 @@ impl Appender {
     /// `NoRoom` comes exactly where the row needs more words than are free; then nothing changes.
     pub fn stage(&mut self, packed: &[u8]) -> Result<(), NoRoom>
         ensures exact { IsOk result ↔ (length (row_words packed.now) ≤ free_words self.old) }
-        ensures ok { OnOk result (self.new ≡ record self.old { words = self.old.words ++ row_words packed.now }) }
+        ensures ok { OnOk result
+            (self.new ≡ record self.old { words = self.old.words ++ row_words packed.now }) }
         ensures err { OnErr result (self.new ≡ self.old) }
         ensures need { IfErr result (λ e. e.need ≡ length (row_words packed.now)) }
         ensures free { IfErr result (λ e. e.free ≡ free_words self.old) }

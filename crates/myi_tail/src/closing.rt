@@ -28,7 +28,13 @@ impl Model for ClosingAppender {
     ghost use Rattle.myi_tail.specs.Inside.{IsClosing};
     ghost use Rattle.myi_tail.specs.Plays.{joined_of};
 
-    ghost view = { λ a. record { tail = a.seat.table_id; words = a.words.items; published = a.published; joined = joined_of a.seat.me.0 } };
+    ghost view = { λ a.
+        record {
+          tail = a.seat.table_id;
+          words = a.words.items;
+          published = a.published;
+          joined = joined_of a.seat.me.0;
+        } };
 
     ghost invariant = { IsClosing };
 }

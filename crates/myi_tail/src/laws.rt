@@ -1,6 +1,7 @@
 //! Laws over the definitions of this crate. Each is the contract of a function that does nothing, so
 //! that it is proved with the crate and stands for the crates above.
-ghost use Rattle.std.specs.Prelude.{◌≡◌, ℕ, ◌+◌, ◌≤◌, List, [], ◌∷◌, ◌++◌, take, length, slice_index, All};
+ghost use Rattle.std.specs.Prelude.{◌≡◌, ◌+◌, ◌≤◌, ◌∷◌, ◌++◌};
+ghost use Rattle.std.specs.Prelude.{ℕ, List, [], take, length, slice_index, All};
 ghost use Rattle.std.specs.List.{flat_map};
 ghost use mathlib.Core.Option.{some};
 ghost use lib.ListN.{get_elem?};
@@ -10,12 +11,15 @@ ghost use Rattle.myi_tail.specs.Rows.{row_words};
 ghost use Rattle.myi_tail.specs.Spelled.{AreSpelled, spelled};
 ghost use Rattle.myi_tail.specs.Rule.{Moment, IsKnown, Kept, Keeps};
 ghost use Rattle.myi_tail.specs.Runs.{new_table, published_in, IsRun, ReadersFollow};
-ghost use Rattle.myi_tail.specs.Steps.{AppenderView, ReaderView, appends, reads, StoresWord, StoresCount, LooksAtCount, LoadsCount, LoadsWord, SplitsSeat, JoinsSeat};
+ghost use Rattle.myi_tail.specs.Steps.{AppenderView, ReaderView, appends, reads};
+ghost use Rattle.myi_tail.specs.Steps.{StoresWord, StoresCount, LooksAtCount};
+ghost use Rattle.myi_tail.specs.Steps.{LoadsCount, LoadsWord, SplitsSeat, JoinsSeat};
 
 /// Whatever steps the appender and any number of readers make, in any order: at each moment each reader
 /// saw no more than is published, and knows the first of the published words.
 pub fn readers_follow_the_tail()
-    ensures { (words : ℕ) (run : List Moment) → IsRun (new_table words) run → All ReadersFollow run }
+    ensures { (words : ℕ) (run : List Moment) → IsRun (new_table words) run
+        → All ReadersFollow run }
 {}
 
 /// At each moment of the rule a reader saw no more than the published words, and the words that it knows
@@ -57,7 +61,8 @@ pub fn steps_keep_the_rule()
     ensures seat_split { (seat : ℕ) (a : AppenderView) (before after : Moment)
         → (k : Kept before) → SplitsSeat seat a before after
         → Keeps after k.words k.published }
-    ensures seat_joined { (seat other : ℕ) (a : AppenderView) (r : ReaderView) (before after : Moment)
+    ensures seat_joined { (seat other : ℕ) (a : AppenderView) (r : ReaderView)
+        (before after : Moment)
         → (k : Kept before) → JoinsSeat seat other a r before after
         → Keeps after k.words k.published }
 {}
@@ -74,5 +79,6 @@ pub fn rows_read_back()
 
 /// The first of some words spell the first of the rows that all of them spell.
 pub fn spelled_rows_are_first()
-    ensures { (all words : List ℕ) → BeginsWith all words → BeginsWith (spelled all) (spelled words) }
+    ensures { (all words : List ℕ) → BeginsWith all words
+        → BeginsWith (spelled all) (spelled words) }
 {}

@@ -18,11 +18,11 @@ pub struct ReaderSeat {
 }
 
 impl Model for ReaderSeat {
-    ghost use Rattle.myi_tail.specs.Seats.{Reading, reading_code};
+    ghost use Rattle.myi_tail.specs.Seats.{TailReader, reader_code};
 
-    ghost Value = { Reading };
+    ghost Value = { TailReader };
 
-    ghost coded = { reading_code };
+    ghost coded = { reader_code };
 
     ghost use Rattle.myi_tail.specs.Inside.{IsReader};
 

@@ -42,9 +42,11 @@ impl Tail {
     pub fn close(self) -> Result<Vec<u64>, AllocError>
         requires { All (λ r. r.tail ≡ self.appender.tail) self.readers.items }
         ensures never { IsOk result }
-        ensures words { IfOk result (λ v. v.items ≡ take self.appender.published self.appender.words) }
+        ensures words { IfOk result (λ v.
+            v.items ≡ take self.appender.published self.appender.words) }
         ensures count { IfOk result (λ v. vec_len v ≡ self.appender.published) }
-        ensures known { IfOk result (λ v. All (λ r. BeginsWith v.items r.known) self.readers.items) }
+        ensures known { IfOk result (λ v.
+            All (λ r. BeginsWith v.items r.known) self.readers.items) }
     {
         let Tail { appender, readers } = self;
         let mut closing = appender.into_closing();

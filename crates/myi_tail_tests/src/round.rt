@@ -38,7 +38,8 @@ fn jobs_of(alloc: Global, tail: Tail) -> Result<Vec<Job>, AllocError>
 
 fn tail_from(alloc: Global, jobs: Vec<Job>) -> Result<Option<Tail>, AllocError>
     ensures { (id : _) → All (λ j. tail_of j ≡ id) jobs.items
-        → IfOk result (λ o. IfSome o (λ t. (t.appender.tail ≡ id) × All (λ r. r.tail ≡ id) t.readers.items)) }
+        → IfOk result (λ o. IfSome o (λ t.
+        (t.appender.tail ≡ id) × All (λ r. r.tail ≡ id) t.readers.items)) }
 {
     let mut found = None;
     let mut readers = Vec::new(alloc);

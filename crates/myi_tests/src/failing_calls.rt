@@ -50,7 +50,7 @@ fn pair_of(files: &MemFiles) -> Pair<'_> {
 // The index file of a creating text.
 fn index(alloc: Global, text: &[u8]) -> Result<Vec<u8>, Fail> {
     match parse_text(alloc, text) {
-        Ok(defs) => Ok(defs.raw.into_vec()),
+        Ok(defs) => Ok(Vec::from_slice(alloc, defs.raw.as_slice())?),
         Err(fault) => Err(Fail::new(fault)),
     }
 }

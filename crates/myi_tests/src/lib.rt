@@ -1,10 +1,6 @@
-//! Tests that need code, over all crates: loops over failing calls, files in memory, and a real
-//! folder. Rows and vectors are lines of the program `cases`.
+//! Tests of whole runs that need code: loops over failing calls. Rows and vectors are lines of the programs
+//! of stored cases.
 #![tactic(auto)]
 
 #[cfg(test)]
 mod failing_calls;
-#[cfg(test)]
-mod memory_files;
-#[cfg(test)]
-mod real_folder;

@@ -4,9 +4,9 @@ use Rattle.myi_base.specs.Holding.{Holding, IfTold}
 use Rattle.myi_repair.specs.declared.fault.RepairFault.{RepairFault}
 use Rattle.myi_repair.specs.declared.fault.RepairFault.TheVariants as repair
 use Rattle.myi_repair.specs.Names.{names_for, KeepsBut, Clears}
-use Rattle.myi_repair.specs.Opening.{Table, opened}
+use Rattle.myi_repair.specs.Opening.{Table, table_in}
 use Rattle.myi_repair.specs.Gathering.{report_of}
-use Rattle.myi_repair.specs.Repairs.{Repaired, OldOrNew}
+use Rattle.myi_repair.specs.Repaired.{Repaired, OldOrNew}
 use Rattle.myisamkit.specs.declared.status.Status.{Status}
 use Rattle.myisamkit.specs.declared.status.Status.TheVariants as status
 use Rattle.myisamkit.specs.Words.{Request, usage, recover}
@@ -19,7 +19,7 @@ repair_line name extend (Ok t) = recovered_line name (report_of t.0 extend t.1)
 
 abbrev pub text : Request → Holding → List ℕ
 text usage m = usage_line
-text (recover extend name) m = repair_line name extend (opened (names_for name) m)
+text (recover extend name) m = repair_line name extend (table_in (names_for name) m)
 
 -- the status of a fault
 abbrev pub fault_status : RepairFault → Status
@@ -36,7 +36,7 @@ repair_status (Ok t) = status.Ok
 
 abbrev pub status_of : Request → Holding → Status
 status_of usage m = status.Usage
-status_of (recover extend name) m = repair_status (opened (names_for name) m)
+status_of (recover extend name) m = repair_status (table_in (names_for name) m)
 
 -- this text is what the request says on these files
 abbrev pub IsText : Request → List ℕ → Holding → Type 0
@@ -79,13 +79,13 @@ LeavesWhole usage now m n = n ≡ m
 LeavesWhole (recover extend name) now m n = KeepsBut (names_for name) m n × OldOrNew name extend now m n
 
 -- what a run does that nothing cuts off; a table that cannot be repaired keeps all that it has
-abbrev pub Repairs : List ℕ → Bool → ℕ → Result Table RepairFault → Holding → Holding → Type 0
-Repairs name extend now (Err f) m n = n ≡ m
-Repairs name extend now (Ok t) m n = Repaired name extend now t.0 t.1 (report_of t.0 extend t.1) n
+abbrev pub RepairsOrKeeps : List ℕ → Bool → ℕ → Result Table RepairFault → Holding → Holding → Type 0
+RepairsOrKeeps name extend now (Err f) m n = n ≡ m
+RepairsOrKeeps name extend now (Ok t) m n = Repaired name extend now t.0 t.1 (report_of t.0 extend t.1) n
 
 abbrev pub Does : Request → ℕ → Holding → Holding → Type 0
 Does usage now m n = n ≡ m
-Does (recover extend name) now m n = Repairs name extend now (opened (names_for name) m) m n
+Does (recover extend name) now m n = RepairsOrKeeps name extend now (table_in (names_for name) m) m n
 
 -- what was written is the text for these files
 abbrev pub SaysAll : Request → Option Holding → Option (List ℕ) → Option (List ℕ) → Type 0

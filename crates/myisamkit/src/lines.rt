@@ -23,7 +23,8 @@ fn file_of(alloc: Global, name: &str, file: TableFile) -> Result<String, AllocEr
 }
 
 pub(crate) fn absent_line(alloc: Global, name: &str, file: TableFile) -> Result<String, AllocError>
-    ensures { IfOk result (λ line. string_bytes line ≡ spec.absent_line (spec.file_of file name.now)) }
+    ensures { IfOk result (λ line.
+        string_bytes line ≡ spec.absent_line (spec.file_of file name.now)) }
 {
     let file = file_of(alloc, name, file)?;
     format!(in alloc; "{file}: absent\n")

@@ -1,5 +1,6 @@
 //! `chk --recover` of one table: what is done, and the line and the status that say so.
-ghost use Rattle.std.specs.Prelude.{◌≡◌, ◌≢◌, ◌⊎◌, Err, Some, string_bytes, IfOk, IfErr, OnOk, IsTrue};
+ghost use Rattle.std.specs.Prelude.{◌≡◌, ◌≢◌, ◌⊎◌};
+ghost use Rattle.std.specs.Prelude.{Err, Some, string_bytes, IfOk, IfErr, OnOk, IsTrue};
 ghost use Rattle.myi_base.specs.Holding.{IfTold, Told};
 ghost use Rattle.myi_base.specs.Causes.{HasCause};
 ghost use Rattle.myi_repair.specs.Opening.{CutsOff};
@@ -8,7 +9,8 @@ ghost use Rattle.myi_repair.specs.Names.{names_for, Clears};
 ghost use Rattle.myisamkit.specs.Words.{recover};
 ghost use Rattle.myisamkit.specs.Stops.{status_of_stop};
 ghost use Rattle.myisamkit.specs.Lines as spec;
-ghost use Rattle.myisamkit.specs.Runs.{IsText, IsStatus, fault_status, faults_told, IsFault, LeavesWhole, Does};
+ghost use Rattle.myisamkit.specs.Runs.{IsText, IsStatus, fault_status};
+ghost use Rattle.myisamkit.specs.Runs.{faults_told, IsFault, LeavesWhole, Does};
 
 use crate::lines::{absent_line, reason_of, recovered_line, refused_line};
 use crate::status::{Status, Stop};
@@ -27,10 +29,12 @@ pub(crate) fn recover_table<F: Files>(
     requires { IsTrue F.writable }
     ensures said { IfOk result (λ r. IfTold (F.holds files.old)
         (IsText (recover extend name.now) (string_bytes r.1))) }
-    ensures status { IfOk result (λ r. IfTold (F.holds files.old) (IsStatus (recover extend name.now) r.0)) }
+    ensures status { IfOk result (λ r.
+        IfTold (F.holds files.old) (IsStatus (recover extend name.now) r.0)) }
     ensures plain { IfOk result (λ r. IsFault r.0 → ⊥) }
     ensures usage { IfOk result (λ r. r.0 ≢ Status.Usage) }
-    ensures files { Told (F.holds files.old) (F.holds files.new) (LeavesWhole (recover extend name.now) now) }
+    ensures files { Told (F.holds files.old) (F.holds files.new)
+        (LeavesWhole (recover extend name.now) now) }
     ensures cleared { IfErr result (λ s.
         repair.RoseAtMost (faults_told (status_of_stop s)) (F.faults files.old) (F.faults files.new)
         → Told (F.holds files.old) (F.holds files.new) (Clears (names_for name.now))) }

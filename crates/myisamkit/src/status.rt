@@ -26,7 +26,7 @@ pub enum Status {
 
 /// What cuts the work on files off.
 #[derive(Clone, Copy, Debug, PartialEq, Eq)]
-pub enum Stop {
+pub(crate) enum Stop {
     File,
     Memory,
 }

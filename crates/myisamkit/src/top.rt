@@ -5,7 +5,8 @@ ghost use Rattle.myi_base.specs.Causes.{Rose, HasCause};
 ghost use Rattle.myi_repair.specs.Faults.{RoseAtMost};
 ghost use Rattle.myisamkit.specs.Words.{request_of, usage};
 ghost use Rattle.myisamkit.specs.Stops.{status_of_stop};
-ghost use Rattle.myisamkit.specs.Runs.{IsText, IsStatus, faults_told, IsFault, Says, LeavesWhole, LeavesNoWorking, Does};
+ghost use Rattle.myisamkit.specs.Runs.{IsText, IsStatus, faults_told, IsFault};
+ghost use Rattle.myisamkit.specs.Runs.{Says, LeavesWhole, LeavesNoWorking, Does};
 
 use crate::lines::usage_line;
 use crate::recover::recover_table;
@@ -35,7 +36,8 @@ pub fn kit<F: Files, O: Sink>(
     ensures usage { IsFault result ⊎ ((request_of words.now ≡ usage) ↔ (result ≡ Status.Usage)) }
 
     // At each status a table's files are the old ones or whole new ones, and other files stay.
-    ensures files { Told (F.holds files.old) (F.holds files.new) (LeavesWhole (request_of words.now) now) }
+    ensures files { Told (F.holds files.old) (F.holds files.new)
+        (LeavesWhole (request_of words.now) now) }
 
     // Where no file call failed but the one that the status tells of, nothing was changed or no working file
     // is left.
@@ -69,10 +71,12 @@ fn work<F: Files>(
     requires { IsTrue F.writable }
     ensures said { IfOk result (λ r. IfTold (F.holds files.old)
         (IsText (request_of words.now) (string_bytes r.1))) }
-    ensures status { IfOk result (λ r. IfTold (F.holds files.old) (IsStatus (request_of words.now) r.0)) }
+    ensures status { IfOk result (λ r.
+        IfTold (F.holds files.old) (IsStatus (request_of words.now) r.0)) }
     ensures plain { IfOk result (λ r. IsFault r.0 → ⊥) }
     ensures usage { IfOk result (λ r. (request_of words.now ≡ usage) ↔ (r.0 ≡ Status.Usage)) }
-    ensures files { Told (F.holds files.old) (F.holds files.new) (LeavesWhole (request_of words.now) now) }
+    ensures files { Told (F.holds files.old) (F.holds files.new)
+        (LeavesWhole (request_of words.now) now) }
     ensures cleared { IfErr result (λ s.
         RoseAtMost (faults_told (status_of_stop s)) (F.faults files.old) (F.faults files.new)
         → Told (F.holds files.old) (F.holds files.new) (LeavesNoWorking (request_of words.now))) }

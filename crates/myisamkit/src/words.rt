@@ -6,7 +6,7 @@ ghost use Rattle.myisamkit.specs.Plans.{asked};
 
 /// What the words ask for. A table is named without the end `.MYI` of its index file.
 #[derive(Clone, Copy)]
-pub enum Plan<'a> {
+pub(crate) enum Plan<'a> {
     /// The words are refused.
     Usage,
     /// A repair of one table, with every position of its data file tried or not.
@@ -14,7 +14,7 @@ pub enum Plan<'a> {
 }
 
 /// Reads the words after the program's name.
-pub fn read_words(words: &[String]) -> Plan<'_>
+pub(crate) fn read_words(words: &[String]) -> Plan<'_>
     ensures { asked result ≡ spec.plan (map (λ w. string_bytes w) words.now) }
 {
     match words {

@@ -6,8 +6,7 @@ use Rattle.myi_btree.specs.Nodes.{entries_of}
 use Rattle.std.specs.List.{AllByRecursion}
 use Rattle.myi_keypage.specs.Page.{IsPlace}
 use Rattle.myi_btree.specs.Sizes.{AreSized, fits_in}
-use Rattle.myi_btree.specs.Laid.{laid}
-use Rattle.myi_btree.specs.Building.{CanLay, Lays}
+use Rattle.myi_btree.specs.Building.{laid_at, MayLay}
 use Rattle.myi_btree.proofs.LevelsLaws.{upper}
 use Rattle.myi_btree.proofs.build.lay_levels.Given as goal
 
@@ -16,19 +15,18 @@ invariant-levels g l = record {
   written : List Node;
   bound : ℕ;
   aside : List Pair;
-  all : laid (fits_in l.place) l.place.block_length l.fn.first l.pairs ≡ written ++ upper bound (fits_in l.place) l.place.block_length l.level.end aside l.level.places.items (ltb 1 (length l.level.places.items));
+  all : laid_at l.setup.place l.fn.first l.pairs ≡ written ++ upper bound (fits_in l.setup.place) l.setup.place.block_length l.level.end aside l.level.places.items (ltb 1 (length l.level.places.items));
   enough : length aside ≤ bound;
   aside_are : l.level.separators.items ≡ entries_of aside;
-  sized : AreSized l.place aside;
+  sized : AreSized l.setup.place aside;
   count : length l.level.places.items ≡ suc (length aside);
   places : AllByRecursion IsPlace l.level.places.items;
-  end : l.level.end ≡ l.fn.first + l.place.block_length * length written;
+  end : l.level.end ≡ l.fn.first + l.setup.place.block_length * length written;
   whole : l.level.end % 1024 ≡ 0;
-  buffer : length l.page ≡ l.place.block_length;
   name : l.cache.name ≡ l.fn.cache.name;
   later : g.F.Files.faults l.fn.files ≤ g.F.Files.faults l.files;
   reads : g.F.Files.reads l.files ≡ g.F.Files.reads l.fn.files;
-  told : Told (g.F.Files.holds l.fn.files) (g.F.Files.holds l.files) (λ m n. CanLay l.fn.cache m l.fn.first → Lays l.place l.fn.first written l.fn.cache l.cache m n);
+  told : Told (g.F.Files.holds l.fn.files) (g.F.Files.holds l.files) (MayLay l.setup.place l.fn.first written l.fn.cache l.cache);
 }
 
 abbrev pub decreases-levels : goal.decreases-levels

@@ -1,7 +1,7 @@
 use Rattle.std.proofs.Common.{◌≡◌, ℕ, Some, None, List, [], ◌∷◌, ◌++◌, drop, refl, sym, ap, subst, ◌∙◌, append_assoc, append-nil}
 use Rattle.std.specs.Option.{option_to_list}
-use Rattle.myi_keypage.specs.Reading.{Item, key_after}
-use Rattle.myi_keypage.specs.Showing.{entries_after, children_of, with_child}
+use Rattle.myi_keypage.specs.PageItems.{Item, key_after}
+use Rattle.myi_keypage.specs.Views.{entries_after, children_of, with_child}
 use Rattle.myi_btree.specs.Nodes.{key_in}
 use Rattle.myi_btree.proofs.NodeLaws.{Reads, first_item, no_item, reads_step, reads_none, reads_end, child_first, node_none, node_failed, node_made}
 use Rattle.myi_btree.proofs.node.read_node.Goals as goal

@@ -1,15 +1,16 @@
-use Rattle.std.proofs.Common.{◌≡◌, ◌∙◌, ◌-◌, ◌<◌, ℕ, suc, List, [], ◌∷◌, ◌++◌, map, take, drop, append_assoc, append-nil, sym, ap, subst, refl, arith}
+use Rattle.std.proofs.Common.{◌≡◌, ◌∙◌, ◌-◌, ◌<◌, ℕ, suc, List, [], ◌∷◌, ◌++◌, map, take, drop, append_assoc, append-nil, sym, ap, subst, arith}
 use Rattle.std.specs.List.{flat_map}
 use Rattle.std.specs.Vec.Iter.{into_iter_items}
 use Rattle.std.proofs.lemmas.Result.{err_from_is_err_and}
 use Rattle.myi_btree.specs.declared.pair.Pair.{Pair}
 use Rattle.myi_btree.specs.Walk.{node_with, Places, Walked}
-use Rattle.myi_btree.specs.Serving.{shown, EachWithin}
-use Rattle.myi_btree.specs.Meeting.{left_of, Visits, VisitsEach, Breaks, BreaksEach}
+use Rattle.myi_btree.specs.Serving.{nodes_at, EachWithin}
+use Rattle.myi_btree.specs.Visited.{node_left, Visits, VisitsEach, Breaks, BreaksEach}
 use Rattle.myi_btree.proofs.WalkLaws.{same_place, if_err}
 use Rattle.myi_btree.proofs.WalkFinds.{nothing_left, something_left, on_ok, on_err, drop_more}
 use Rattle.myi_btree.proofs.ServeLaws.{reads_none, reads_on}
-use Rattle.myi_btree.proofs.Within.{asked_here, below_within}
+use Rattle.myi_btree.proofs.CanLaws.{enters, asks}
+use Rattle.myi_btree.proofs.Within.{below_within}
 use Rattle.myi_btree.proofs.VisitSteps.{on_way, on_way_next, next_way, child_way, each_stops, entered_breaks, leaf_breaks, deep_breaks, leaf_visits, node_found, node_stops}
 use Rattle.myi_btree.proofs.walk.+visit.Goals as goal
 
@@ -17,149 +18,143 @@ pub visit-returns-in_err-page-clause-damaged : goal.visit-returns-in_err-page-cl
 visit-returns-in_err-page-clause-damaged g t c =
     let e = err_from_is_err_and c.from_residual.result c.from_residual.ensures.1 in
     if_err c.from_residual.result e.0 _ e.1
-    (λ p d v seen s w has.
-    let read : Places = shown c.args.place v in
-    entered_breaks c.args.place.block_length read c.args.level c.args.at seen p (c.in_err-page.ensures.damaged p (sym e.2 ∙ d) v seen s (asked_here c.args.place.block_length read c.args.level c.args.at seen v.asked w) has))
+    (λ p d v seen k.
+    let read : Places = nodes_at c.args.setup.place v in
+    entered_breaks c.args.setup.place.block_length read c.args.level c.args.at seen p (c.in_err-page.ensures.damaged p (sym e.2 ∙ d) v seen (enters _ _ _ _ _ _ _ _ k)))
 
 pub visit-returns-in_err-page-clause-served : goal.visit-returns-in_err-page-clause-served
-visit-returns-in_err-page-clause-served g t c = λ v seen s w has. c.enter.ensures.served v s (asked_here c.args.place.block_length (shown c.args.place v) c.args.level c.args.at seen v.asked w)
+visit-returns-in_err-page-clause-served g t c = λ v seen k. c.enter.ensures.served v (asks _ _ _ _ _ _ _ _ k)
 
 pub visit-returns-in_err-push_leaf-clause-damaged : goal.visit-returns-in_err-push_leaf-clause-damaged
 visit-returns-in_err-push_leaf-clause-damaged g t c =
     let e = err_from_is_err_and c.from_residual-in_err-push_leaf.result c.from_residual-in_err-push_leaf.ensures.1 in
     if_err c.from_residual-in_err-push_leaf.result e.0 _ e.1
-    (λ p d v seen s w has.
+    (λ p d v seen k.
     let f = c.in_err-push_leaf.ensures.damaged p (sym e.2 ∙ d) in
-    let read : Places = shown c.args.place v in
-    let asked = asked_here c.args.place.block_length read c.args.level c.args.at seen v.asked w in
+    let read : Places = nodes_at c.args.setup.place v in
     let is : c.args.at ≡ p = sym (f.0 ∙ c.in_ok-page.ensures.at) in
-    subst (λ (q : ℕ). Breaks c.args.place.block_length read c.args.level c.args.at seen q) is
-    (subst (λ (h : ℕ). Breaks c.args.place.block_length read h c.args.at seen c.args.at) (sym c.if-level-eq0.true)
-    (deep_breaks c.args.place.block_length read c.args.at seen (left_of c.in_ok-page.page) f.1 (c.in_ok-page.ensures.node v seen s asked has))))
+    subst (λ (q : ℕ). Breaks c.args.setup.place.block_length read c.args.level c.args.at seen q) is
+    (subst (λ (h : ℕ). Breaks c.args.setup.place.block_length read h c.args.at seen c.args.at) (sym c.if-level-eq0.true)
+    (deep_breaks c.args.setup.place.block_length read c.args.at seen (node_left c.in_ok-page.page) f.1 (c.in_ok-page.ensures.node v seen (enters _ _ _ _ _ _ _ _ k)))))
 
 pub visit-returns-in_err-push_leaf-clause-served : goal.visit-returns-in_err-push_leaf-clause-served
-visit-returns-in_err-push_leaf-clause-served g t c = λ v seen s w has. c.enter.ensures.served v s (asked_here c.args.place.block_length (shown c.args.place v) c.args.level c.args.at seen v.asked w)
+visit-returns-in_err-push_leaf-clause-served g t c = λ v seen k. c.enter.ensures.served v (asks _ _ _ _ _ _ _ _ k)
 
 pub visit-returns-then-level-eq0-clause-ok : goal.visit-returns-then-level-eq0-clause-ok
-visit-returns-then-level-eq0-clause-ok g t c = λ v seen s w has.
-    let read : Places = shown c.args.place v in
-    let asked = asked_here c.args.place.block_length read c.args.level c.args.at seen v.asked w in
+visit-returns-then-level-eq0-clause-ok g t c = λ v seen k.
+    let read : Places = nodes_at c.args.setup.place v in
     let h = c.in_ok-page.ensures in
     let n = c.in_ok-push_leaf.ensures in
     let pairs : List Pair = into_iter_items c.in_ok-page.page.pairs in
-    subst (λ (h : ℕ). Visits c.args.place.block_length read h c.args.at seen c.args.met.now c.push_leaf.new.self) (sym c.if-level-eq0.true)
-    (leaf_visits c.args.place.block_length read c.args.at seen (left_of c.in_ok-page.page) c.args.met.now c.enter.new.met c.push_leaf.new.self n.leaf (h.node v seen s asked has) h.pairs (h.met seen has)
-    (n.pairs ∙ ap (λ (q : ℕ). c.enter.new.met.pairs.items ++ map (λ (p : Pair). (p, q)) pairs) h.at) n.places)
+    subst (λ (h : ℕ). Visits c.args.setup.place.block_length read h c.args.at seen c.args.visited.now c.push_leaf.new.self) (sym c.if-level-eq0.true)
+    (leaf_visits c.args.setup.place.block_length read c.args.at seen (node_left c.in_ok-page.page) c.args.visited.now c.enter.new.visited c.push_leaf.new.self n.leaf (h.node v seen (enters _ _ _ _ _ _ _ _ k)) h.pairs (h.met seen k.has)
+    (n.pairs ∙ ap (λ (q : ℕ). c.enter.new.visited.pairs.items ++ map (λ (p : Pair). (p, q)) pairs) h.at) n.places)
 
 pub visit-returns-then-level-eq0-clause-served : goal.visit-returns-then-level-eq0-clause-served
-visit-returns-then-level-eq0-clause-served g t c = λ v seen s w has. c.enter.ensures.served v s (asked_here c.args.place.block_length (shown c.args.place v) c.args.level c.args.at seen v.asked w)
+visit-returns-then-level-eq0-clause-served g t c = λ v seen k. c.enter.ensures.served v (asks _ _ _ _ _ _ _ _ k)
 
 pub visit-returns-then-len-eq0-clause-damaged : goal.visit-returns-then-len-eq0-clause-damaged
-visit-returns-then-len-eq0-clause-damaged g t c = λ p e v seen s w has.
-    let read : Places = shown c.args.place v in
-    let asked = asked_here c.args.place.block_length read c.args.level c.args.at seen v.asked w in
+visit-returns-then-len-eq0-clause-damaged g t c = λ p e v seen k.
+    let read : Places = nodes_at c.args.setup.place v in
     let is : c.args.at ≡ p = sym (same_place c.args.at p e) in
     let none : into_iter_items c.in_ok-page.page.children ≡ [] = nothing_left (into_iter_items c.in_ok-page.page.children) _ c.in_ok-page.page.children.rest.ok.0 (sym c.len.ensures ∙ c.if-len-eq0.true) in
-    subst (λ (q : ℕ). Breaks c.args.place.block_length read c.args.level c.args.at seen q) is
-    (leaf_breaks c.args.place.block_length read c.args.level c.args.at seen (left_of c.in_ok-page.page) (omega (arith, c.if-level-eq0.false)) none (c.in_ok-page.ensures.node v seen s asked has))
+    subst (λ (q : ℕ). Breaks c.args.setup.place.block_length read c.args.level c.args.at seen q) is
+    (leaf_breaks c.args.setup.place.block_length read c.args.level c.args.at seen (node_left c.in_ok-page.page) (omega (arith, c.if-level-eq0.false)) none (c.in_ok-page.ensures.node v seen (enters _ _ _ _ _ _ _ _ k)))
 
 pub visit-returns-then-len-eq0-clause-served : goal.visit-returns-then-len-eq0-clause-served
-visit-returns-then-len-eq0-clause-served g t c = λ v seen s w has. c.enter.ensures.served v s (asked_here c.args.place.block_length (shown c.args.place v) c.args.level c.args.at seen v.asked w)
+visit-returns-then-len-eq0-clause-served g t c = λ v seen k. c.enter.ensures.served v (asks _ _ _ _ _ _ _ _ k)
 
 pub visit-returns-clause-ok : goal.visit-returns-clause-ok
-visit-returns-clause-ok g t c = on_ok c.visit_children.result c.visit_children.ensures.ok (λ f v seen s w has.
-    let read : Places = shown c.args.place v in
-    let asked = asked_here c.args.place.block_length read c.args.level c.args.at seen v.asked w in
+visit-returns-clause-ok g t c = on_ok c.visit_children.result c.visit_children.ensures.ok (λ f v seen k.
+    let read : Places = nodes_at c.args.setup.place v in
     let h = c.in_ok-page.ensures in
-    let entered_it = h.node v seen s asked has in
+    let entered_it = h.node v seen (enters _ _ _ _ _ _ _ _ k) in
     let some = something_left (into_iter_items c.in_ok-page.page.children) _ c.in_ok-page.page.children.rest.ok.0 (λ z. c.if-len-eq0.false (c.len.ensures ∙ z)) in
     let level : suc (c.args.level - 1) ≡ c.args.level = omega (arith, c.if-level-eq0.false) in
     let above : 0 < c.args.level = omega (arith, c.if-level-eq0.false) in
-    let below = below_within c.args.place.block_length read c.args.level c.args.at seen (left_of c.in_ok-page.page) v.asked above entered_it w in
-    let x = f v (seen ++ c.args.at ∷ []) (h.served v s asked) below (h.met seen has) in
-    let y : VisitsEach c.args.place.block_length read (c.args.level - 1) c.args.at (left_of c.in_ok-page.page) (seen ++ c.args.at ∷ []) c.enter.new.met c.visit_children.new.met =
-    subst (λ (q : ℕ). VisitsEach c.args.place.block_length read (c.args.level - 1) q (left_of c.in_ok-page.page) (seen ++ c.args.at ∷ []) c.enter.new.met c.visit_children.new.met) h.at x in
-    subst (λ (k : ℕ). Visits c.args.place.block_length read k c.args.at seen c.args.met.now c.visit_children.new.met) level
-    (node_found c.args.place.block_length read (c.args.level - 1) c.args.at seen (left_of c.in_ok-page.page) c.args.met.now c.enter.new.met c.visit_children.new.met some entered_it h.pairs y))
+    let below = below_within c.args.setup.place.block_length read c.args.level c.args.at seen (node_left c.in_ok-page.page) v.asked above entered_it k.within in
+    let x = f v (seen ++ c.args.at ∷ []) (record { serves = h.served v (asks _ _ _ _ _ _ _ _ k); within = below; has = h.met seen k.has }) in
+    let y : VisitsEach c.args.setup.place.block_length read (c.args.level - 1) c.args.at (node_left c.in_ok-page.page) (seen ++ c.args.at ∷ []) c.enter.new.visited c.visit_children.new.visited =
+    subst (λ (q : ℕ). VisitsEach c.args.setup.place.block_length read (c.args.level - 1) q (node_left c.in_ok-page.page) (seen ++ c.args.at ∷ []) c.enter.new.visited c.visit_children.new.visited) h.at x in
+    subst (λ (k : ℕ). Visits c.args.setup.place.block_length read k c.args.at seen c.args.visited.now c.visit_children.new.visited) level
+    (node_found c.args.setup.place.block_length read (c.args.level - 1) c.args.at seen (node_left c.in_ok-page.page) c.args.visited.now c.enter.new.visited c.visit_children.new.visited some entered_it h.pairs y))
 
 pub visit-returns-clause-damaged : goal.visit-returns-clause-damaged
-visit-returns-clause-damaged g t c = on_err c.visit_children.result _ _ c.visit_children.ensures.damaged (λ fault f p d v seen s w has.
-    let read : Places = shown c.args.place v in
-    let asked = asked_here c.args.place.block_length read c.args.level c.args.at seen v.asked w in
+visit-returns-clause-damaged g t c = on_err c.visit_children.result _ _ c.visit_children.ensures.damaged (λ fault f p d v seen k.
+    let read : Places = nodes_at c.args.setup.place v in
     let h = c.in_ok-page.ensures in
-    let entered_it = h.node v seen s asked has in
+    let entered_it = h.node v seen (enters _ _ _ _ _ _ _ _ k) in
     let some = something_left (into_iter_items c.in_ok-page.page.children) _ c.in_ok-page.page.children.rest.ok.0 (λ z. c.if-len-eq0.false (c.len.ensures ∙ z)) in
     let level : suc (c.args.level - 1) ≡ c.args.level = omega (arith, c.if-level-eq0.false) in
     let above : 0 < c.args.level = omega (arith, c.if-level-eq0.false) in
-    let below = below_within c.args.place.block_length read c.args.level c.args.at seen (left_of c.in_ok-page.page) v.asked above entered_it w in
-    let b = f p d v (seen ++ c.args.at ∷ []) (h.served v s asked) below (h.met seen has) in
-    subst (λ (k : ℕ). Breaks c.args.place.block_length read k c.args.at seen p) level
-    (node_stops c.args.place.block_length read (c.args.level - 1) c.args.at seen (left_of c.in_ok-page.page) p some entered_it b))
+    let below = below_within c.args.setup.place.block_length read c.args.level c.args.at seen (node_left c.in_ok-page.page) v.asked above entered_it k.within in
+    let b = f p d v (seen ++ c.args.at ∷ []) (record { serves = h.served v (asks _ _ _ _ _ _ _ _ k); within = below; has = h.met seen k.has }) in
+    subst (λ (k : ℕ). Breaks c.args.setup.place.block_length read k c.args.at seen p) level
+    (node_stops c.args.setup.place.block_length read (c.args.level - 1) c.args.at seen (node_left c.in_ok-page.page) p some entered_it b))
 
 pub visit-returns-clause-served : goal.visit-returns-clause-served
-visit-returns-clause-served g t c = λ v seen s w has.
-    let read : Places = shown c.args.place v in
-    let asked = asked_here c.args.place.block_length read c.args.level c.args.at seen v.asked w in
+visit-returns-clause-served g t c = λ v seen k.
+    let read : Places = nodes_at c.args.setup.place v in
     let h = c.in_ok-page.ensures in
     let above : 0 < c.args.level = omega (arith, c.if-level-eq0.false) in
-    let below = below_within c.args.place.block_length read c.args.level c.args.at seen (left_of c.in_ok-page.page) v.asked above (h.node v seen s asked has) w in
-    c.visit_children.ensures.served v (seen ++ c.args.at ∷ []) (h.served v s asked) below (h.met seen has)
+    let below = below_within c.args.setup.place.block_length read c.args.level c.args.at seen (node_left c.in_ok-page.page) v.asked above (h.node v seen (enters _ _ _ _ _ _ _ _ k)) k.within in
+    c.visit_children.ensures.served v (seen ++ c.args.at ∷ []) (record { serves = h.served v (asks _ _ _ _ _ _ _ _ k); within = below; has = h.met seen k.has })
 
 pub visit-returns-clause-cache : goal.visit-returns-clause-cache
 visit-returns-clause-cache g t c = reads_on _ _ _ c.args.cache.now c.enter.new.cache c.visit_children.new.cache c.in_ok-page.ensures.cache c.visit_children.ensures.cache
 
 pub visit_children-loop-child-init : goal.visit_children-loop-child-init
 visit_children-loop-child-init g t c =
-    let items = ap into_iter_items (sym c.into_iter-child-iterator.ensures.into_iter_gives) in
+    let items = ap into_iter_items (sym (c.into_iter-child-iterator.ensures.into_iter_gives ∙ c.parts-pairs.ensures.children)) in
     record {
       cache = reads_none (g.F.Files.holds c.args.files.now) c.args.cache.now;
       faults = omega arith;
       reads = omega arith;
       items = items;
-      pairs = refl;
-      served = λ v seen s w has. s;
-      way = λ v seen s w has. on_way c.args.place.block_length (shown c.args.place v) c.args.level c.args.page.at (into_iter_items c.args.page.pairs) (into_iter_items c.into_iter-child-iterator.result) seen v.asked c.args.met.now
-          (subst (λ (t : List ℕ). EachWithin c.args.place v c.args.level t seen) items w) has;
+      pairs = ap into_iter_items c.parts-pairs.ensures.pairs;
+      served = λ v seen k. k.serves;
+      way = λ v seen k. on_way c.args.setup.place.block_length (nodes_at c.args.setup.place v) c.args.level c.args.page.at (into_iter_items c.args.page.pairs) (into_iter_items c.into_iter-child-iterator.result) seen v.asked c.args.visited.now
+          (subst (λ (t : List ℕ). EachWithin c.args.setup.place v c.args.level t seen) items k.within) k.has;
     }
 
 pub visit_children-returns-in_err-visit-clause-damaged : goal.visit_children-returns-in_err-visit-clause-damaged
 visit_children-returns-in_err-visit-clause-damaged g t c =
     let e = err_from_is_err_and c.from_residual.result c.from_residual.ensures.1 in
     if_err c.from_residual.result e.0 _ e.1
-    (λ p d v seen s w has.
+    (λ p d v seen k.
     let i = c.loop-child.invariant in
-    let read : Places = shown c.args.place v in
+    let read : Places = nodes_at c.args.setup.place v in
     let pairs : List Pair = into_iter_items c.args.page.pairs in
     let left : List ℕ = into_iter_items c.next.new.self in
-    let q = next_way c.args.place.block_length read c.args.level c.args.page.at pairs c.loop-child.yielded (into_iter_items c.loop-child.child-iterator) c.in-Some.child left seen v.asked c.args.met.now c.loop-child.met c.in-Some.ensures.steps.0 (i.way v seen s w has) in
+    let q = next_way c.args.setup.place.block_length read c.args.level c.args.page.at pairs c.loop-child.yielded (into_iter_items c.loop-child.child-iterator) c.in-Some.child left seen v.asked c.args.visited.now c.loop-child.visited c.in-Some.ensures.steps.0 (i.way v seen k) in
     let met : List ℕ = seen ++ flat_map (λ (w : Walked). w.pages) q.each.walks in
-    let b = c.in_err-visit.ensures.damaged p (sym e.2 ∙ d) v met (i.served v seen s w has) (child_way c.args.place.block_length read c.args.level c.args.page.at pairs c.loop-child.yielded c.in-Some.child left seen v.asked c.args.met.now c.loop-child.met q) q.each.met_all in
+    let b = c.in_err-visit.ensures.damaged p (sym e.2 ∙ d) v met (record { serves = i.served v seen k; within = (child_way c.args.setup.place.block_length read c.args.level c.args.page.at pairs c.loop-child.yielded c.in-Some.child left seen v.asked c.args.visited.now c.loop-child.visited q); has = q.each.met_all }) in
     let all : into_iter_items c.args.page.children ≡ c.loop-child.yielded ++ c.in-Some.child ∷ left = i.items ∙ ap (λ (t : List ℕ). c.loop-child.yielded ++ t) c.in-Some.ensures.steps.0 in
-    subst (λ (t : List ℕ). BreaksEach c.args.place.block_length read c.args.level t seen p) (sym all)
-    (each_stops c.args.place.block_length read c.args.level c.args.page.at pairs c.loop-child.yielded c.in-Some.child left seen c.args.met.now c.loop-child.met p q.each b))
+    subst (λ (t : List ℕ). BreaksEach c.args.setup.place.block_length read c.args.level t seen p) (sym all)
+    (each_stops c.args.setup.place.block_length read c.args.level c.args.page.at pairs c.loop-child.yielded c.in-Some.child left seen c.args.visited.now c.loop-child.visited p q.each b))
 
 pub visit_children-returns-in_err-visit-clause-served : goal.visit_children-returns-in_err-visit-clause-served
-visit_children-returns-in_err-visit-clause-served g t c = λ v seen s w has.
+visit_children-returns-in_err-visit-clause-served g t c = λ v seen k.
     let i = c.loop-child.invariant in
-    let read : Places = shown c.args.place v in
+    let read : Places = nodes_at c.args.setup.place v in
     let pairs : List Pair = into_iter_items c.args.page.pairs in
     let left : List ℕ = into_iter_items c.next.new.self in
-    let q = next_way c.args.place.block_length read c.args.level c.args.page.at pairs c.loop-child.yielded (into_iter_items c.loop-child.child-iterator) c.in-Some.child left seen v.asked c.args.met.now c.loop-child.met c.in-Some.ensures.steps.0 (i.way v seen s w has) in
+    let q = next_way c.args.setup.place.block_length read c.args.level c.args.page.at pairs c.loop-child.yielded (into_iter_items c.loop-child.child-iterator) c.in-Some.child left seen v.asked c.args.visited.now c.loop-child.visited c.in-Some.ensures.steps.0 (i.way v seen k) in
     let met : List ℕ = seen ++ flat_map (λ (w : Walked). w.pages) q.each.walks in
-    c.visit.ensures.served v met (i.served v seen s w has) (child_way c.args.place.block_length read c.args.level c.args.page.at pairs c.loop-child.yielded c.in-Some.child left seen v.asked c.args.met.now c.loop-child.met q) q.each.met_all
+    c.visit.ensures.served v met (record { serves = i.served v seen k; within = (child_way c.args.setup.place.block_length read c.args.level c.args.page.at pairs c.loop-child.yielded c.in-Some.child left seen v.asked c.args.visited.now c.loop-child.visited q); has = q.each.met_all })
 
 pub visit_children-returns-in_err-visit-clause-cache : goal.visit_children-returns-in_err-visit-clause-cache
 visit_children-returns-in_err-visit-clause-cache g t c = reads_on _ _ _ c.args.cache.now c.loop-child.cache c.visit.new.cache c.loop-child.invariant.cache c.in_err-visit.ensures.cache
 
 pub visit_children-returns-in_err-push_next-clause-served : goal.visit_children-returns-in_err-push_next-clause-served
-visit_children-returns-in_err-push_next-clause-served g t c = λ v seen s w has.
+visit_children-returns-in_err-push_next-clause-served g t c = λ v seen k.
     let i = c.loop-child.invariant in
-    let read : Places = shown c.args.place v in
+    let read : Places = nodes_at c.args.setup.place v in
     let pairs : List Pair = into_iter_items c.args.page.pairs in
     let left : List ℕ = into_iter_items c.next.new.self in
-    let q = next_way c.args.place.block_length read c.args.level c.args.page.at pairs c.loop-child.yielded (into_iter_items c.loop-child.child-iterator) c.in-Some.child left seen v.asked c.args.met.now c.loop-child.met c.in-Some.ensures.steps.0 (i.way v seen s w has) in
+    let q = next_way c.args.setup.place.block_length read c.args.level c.args.page.at pairs c.loop-child.yielded (into_iter_items c.loop-child.child-iterator) c.in-Some.child left seen v.asked c.args.visited.now c.loop-child.visited c.in-Some.ensures.steps.0 (i.way v seen k) in
     let met : List ℕ = seen ++ flat_map (λ (w : Walked). w.pages) q.each.walks in
-    c.visit.ensures.served v met (i.served v seen s w has) (child_way c.args.place.block_length read c.args.level c.args.page.at pairs c.loop-child.yielded c.in-Some.child left seen v.asked c.args.met.now c.loop-child.met q) q.each.met_all
+    c.visit.ensures.served v met (record { serves = i.served v seen k; within = (child_way c.args.setup.place.block_length read c.args.level c.args.page.at pairs c.loop-child.yielded c.in-Some.child left seen v.asked c.args.visited.now c.loop-child.visited q); has = q.each.met_all })
 
 pub visit_children-returns-in_err-push_next-clause-cache : goal.visit_children-returns-in_err-push_next-clause-cache
 visit_children-returns-in_err-push_next-clause-cache g t c = reads_on _ _ _ c.args.cache.now c.loop-child.cache c.visit.new.cache c.loop-child.invariant.cache c.in_ok-visit.ensures.cache
@@ -179,23 +174,23 @@ visit_children-loop-child-preserved g t c =
       reads = omega (arith, i.reads, x.reads);
       items = i.items ∙ ap (λ (t : List ℕ). done ++ t) c.in-Some.ensures.steps.0 ∙ sym (append_assoc done (child ∷ []) left);
       pairs = n.rest ∙ ap (drop 1) i.pairs ∙ drop_more done child pairs;
-      served = λ v seen s w has.
-          let read : Places = shown c.args.place v in
-          let q = next_way c.args.place.block_length read c.args.level c.args.page.at pairs done (into_iter_items c.loop-child.child-iterator) child left seen v.asked c.args.met.now c.loop-child.met c.in-Some.ensures.steps.0 (i.way v seen s w has) in
+      served = λ v seen k.
+          let read : Places = nodes_at c.args.setup.place v in
+          let q = next_way c.args.setup.place.block_length read c.args.level c.args.page.at pairs done (into_iter_items c.loop-child.child-iterator) child left seen v.asked c.args.visited.now c.loop-child.visited c.in-Some.ensures.steps.0 (i.way v seen k) in
           let met : List ℕ = seen ++ flat_map (λ (w : Walked). w.pages) q.each.walks in
-          x.served v met (i.served v seen s w has) (child_way c.args.place.block_length read c.args.level c.args.page.at pairs done child left seen v.asked c.args.met.now c.loop-child.met q) q.each.met_all;
-      way = λ v seen s w has.
-          let read : Places = shown c.args.place v in
-          let q = next_way c.args.place.block_length read c.args.level c.args.page.at pairs done (into_iter_items c.loop-child.child-iterator) child left seen v.asked c.args.met.now c.loop-child.met c.in-Some.ensures.steps.0 (i.way v seen s w has) in
+          x.served v met (record { serves = i.served v seen k; within = (child_way c.args.setup.place.block_length read c.args.level c.args.page.at pairs done child left seen v.asked c.args.visited.now c.loop-child.visited q); has = q.each.met_all });
+      way = λ v seen k.
+          let read : Places = nodes_at c.args.setup.place v in
+          let q = next_way c.args.setup.place.block_length read c.args.level c.args.page.at pairs done (into_iter_items c.loop-child.child-iterator) child left seen v.asked c.args.visited.now c.loop-child.visited c.in-Some.ensures.steps.0 (i.way v seen k) in
           let met : List ℕ = seen ++ flat_map (λ (w : Walked). w.pages) q.each.walks in
-          let b = x.ok v met (i.served v seen s w has) (child_way c.args.place.block_length read c.args.level c.args.page.at pairs done child left seen v.asked c.args.met.now c.loop-child.met q) q.each.met_all in
-          on_way_next c.args.place.block_length read c.args.level c.args.page.at pairs done child left seen v.asked c.args.met.now c.loop-child.met c.visit.new.met c.push_next.new.self q b
-          (n.pairs ∙ ap (λ (t : List Pair). c.visit.new.met.pairs.items ++ map (λ (p : Pair). (p, c.args.page.at)) (take 1 t)) i.pairs) n.places;
+          let b = x.ok v met (record { serves = i.served v seen k; within = (child_way c.args.setup.place.block_length read c.args.level c.args.page.at pairs done child left seen v.asked c.args.visited.now c.loop-child.visited q); has = q.each.met_all }) in
+          on_way_next c.args.setup.place.block_length read c.args.level c.args.page.at pairs done child left seen v.asked c.args.visited.now c.loop-child.visited c.visit.new.visited c.push_next.new.self q b
+          (n.pairs ∙ ap (λ (t : List Pair). c.visit.new.visited.pairs.items ++ map (λ (p : Pair). (p, c.args.page.at)) (take 1 t)) i.pairs) n.places;
     }
 
 pub visit_children-returns-clause-ok : goal.visit_children-returns-clause-ok
-visit_children-returns-clause-ok g t c = λ v seen s w has.
+visit_children-returns-clause-ok g t c = λ v seen k.
     let i = c.loop-child.invariant in
     let none : into_iter_items c.loop-child.child-iterator ≡ [] = nothing_left (into_iter_items c.loop-child.child-iterator) _ c.loop-child.child-iterator.rest.ok.0 c.in-None.ensures.steps.0 in
     let all : c.loop-child.yielded ≡ into_iter_items c.args.page.children = sym (i.items ∙ ap (λ (t : List ℕ). c.loop-child.yielded ++ t) none ∙ append-nil c.loop-child.yielded) in
-    subst (λ (t : List ℕ). VisitsEach c.args.place.block_length (shown c.args.place v) c.args.level c.args.page.at (node_with (into_iter_items c.args.page.pairs) t) seen c.args.met.now c.loop-child.met) all (i.way v seen s w has).each
+    subst (λ (t : List ℕ). VisitsEach c.args.setup.place.block_length (nodes_at c.args.setup.place v) c.args.level c.args.page.at (node_with (into_iter_items c.args.page.pairs) t) seen c.args.visited.now c.loop-child.visited) all (i.way v seen k).each

@@ -1,8 +1,7 @@
 use Rattle.std.proofs.Common.{◌≡◌, ◌≤◌, ◌+◌, ◌*◌, ◌++◌, ℕ, List, length, drop}
 use Rattle.std.specs.Vec.Iter.{into_iter_items}
-use Rattle.myi_btree.specs.Reading.{ReadsOnly}
-use Rattle.myi_btree.specs.Serving.{View, shown, Serves, EachWithin}
-use Rattle.myi_btree.specs.Meeting.{HasMet}
+use Rattle.myi_btree.specs.CachedTrees.{ReadsOnly}
+use Rattle.myi_btree.specs.Serving.{View, nodes_at, Serves, CanVisitEach}
 use Rattle.myi_btree.proofs.VisitSteps.{IsOnWay}
 use Rattle.myi_btree.proofs.walk.+visit.Given as goal
 
@@ -19,8 +18,8 @@ invariant-visit_children-loop-child g l = record {
   reads : g.F.Files.reads l.fn.files ≤ g.F.Files.reads l.files;
   items : into_iter_items l.fn.page.children ≡ l.yielded ++ into_iter_items l.child-iterator;
   pairs : into_iter_items l.pairs ≡ drop (length l.yielded) (into_iter_items l.fn.page.pairs);
-  served : (v : View) (seen : List ℕ) → Serves l.place v (g.F.Files.holds l.fn.files) l.fn.cache → EachWithin l.place v l.level (into_iter_items l.fn.page.children) seen → HasMet l.fn.met.places.keys seen
-      → Serves l.place v (g.F.Files.holds l.files) l.cache;
-  way : (v : View) (seen : List ℕ) → Serves l.place v (g.F.Files.holds l.fn.files) l.fn.cache → EachWithin l.place v l.level (into_iter_items l.fn.page.children) seen → HasMet l.fn.met.places.keys seen
-      → IsOnWay l.place.block_length (shown l.place v) l.level l.at (into_iter_items l.fn.page.pairs) l.yielded (into_iter_items l.child-iterator) seen v.asked l.fn.met l.met;
+  served : (v : View) (seen : List ℕ) → CanVisitEach l.setup.place v (g.F.Files.holds l.fn.files) l.fn.cache l.level (into_iter_items l.fn.page.children) seen l.fn.visited
+      → Serves l.setup.place v (g.F.Files.holds l.files) l.cache;
+  way : (v : View) (seen : List ℕ) → CanVisitEach l.setup.place v (g.F.Files.holds l.fn.files) l.fn.cache l.level (into_iter_items l.fn.page.children) seen l.fn.visited
+      → IsOnWay l.setup.place.block_length (nodes_at l.setup.place v) l.level l.at (into_iter_items l.fn.page.pairs) l.yielded (into_iter_items l.child-iterator) seen v.asked l.fn.visited l.visited;
 }

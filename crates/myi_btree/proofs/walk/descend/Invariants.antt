@@ -1,7 +1,7 @@
 use Rattle.std.proofs.Common.{◌≡◌, ◌≤◌, ℕ, []}
-use Rattle.myi_btree.specs.Reading.{ReadsOnly}
-use Rattle.myi_btree.specs.Serving.{View, shown, Serves, VisitsWithin}
-use Rattle.myi_btree.specs.Meeting.{HasMet, IsPath, places_of}
+use Rattle.myi_btree.specs.CachedTrees.{ReadsOnly}
+use Rattle.myi_btree.specs.Serving.{View, nodes_at, Serves, CanVisit}
+use Rattle.myi_btree.specs.Visited.{HasPlaces, IsPath, places_of}
 use Rattle.myi_btree.proofs.walk.descend.Given as goal
 
 abbrev pub invariant-loop : goal.invariant-loop
@@ -9,10 +9,10 @@ invariant-loop g l = record {
   cache : ReadsOnly (g.F.Files.holds l.fn.files) (g.F.Files.holds l.files) l.fn.cache l.cache;
   faults : g.F.Files.faults l.fn.files ≤ g.F.Files.faults l.files;
   reads : g.F.Files.reads l.fn.files ≤ g.F.Files.reads l.files;
-  pairs : l.met.pairs ≡ l.fn.met.pairs;
-  met : HasMet l.fn.met.places.keys [] → HasMet l.met.places.keys (places_of l.path.items);
-  served : (v : View) (height : ℕ) → Serves l.place v (g.F.Files.holds l.fn.files) l.fn.cache → VisitsWithin l.place v height l.root [] → HasMet l.fn.met.places.keys []
-      → Serves l.place v (g.F.Files.holds l.files) l.cache;
-  path : (v : View) (height : ℕ) → Serves l.place v (g.F.Files.holds l.fn.files) l.fn.cache → VisitsWithin l.place v height l.root [] → HasMet l.fn.met.places.keys []
-      → IsPath l.place.block_length (shown l.place v) l.root [] l.path.items l.at;
+  pairs : l.visited.pairs ≡ l.fn.visited.pairs;
+  met : HasPlaces l.fn.visited.places.keys [] → HasPlaces l.visited.places.keys (places_of l.path.items);
+  served : (v : View) (height : ℕ) → CanVisit l.setup.place v (g.F.Files.holds l.fn.files) l.fn.cache height l.root [] l.fn.visited
+      → Serves l.setup.place v (g.F.Files.holds l.files) l.cache;
+  path : (v : View) (height : ℕ) → CanVisit l.setup.place v (g.F.Files.holds l.fn.files) l.fn.cache height l.root [] l.fn.visited
+      → IsPath l.setup.place.block_length (nodes_at l.setup.place v) l.root [] l.path.items l.at;
 }

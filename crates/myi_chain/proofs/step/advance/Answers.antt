@@ -1,38 +1,58 @@
-use Rattle.std.proofs.Common.{arith, length, sym, ◌∙◌}
-use Rattle.myi_frames.specs.Block.{block_of}
-use Rattle.myi_chain.proofs.BlockLemmas.{blocks_read}
-use Rattle.myi_chain.proofs.ReadableLemmas.{rest_end}
-use Rattle.myi_chain.proofs.StepLemmas.{moves_on, passes, meets_free, meets_row}
+use Rattle.std.proofs.Common.{◌≡◌, ◌∙◌, ◌++◌, refl, sym, ap, subst, arith}
+use Rattle.myi_chain.specs.Found.{met_at, items_at, MeetsShortAt, FindsShortAt, KeepsUsed}
+use Rattle.myi_chain.proofs.SourceLemmas.{ready_still, reads_same, reads_then}
+use Rattle.myi_chain.proofs.StepLemmas.{met_end, met_same, meets_same, short_ended}
 use Rattle.myi_chain.proofs.step.advance.Goals as goal
 
-pub loop-place-smaller : goal.loop-place-smaller
-loop-place-smaller g c =
-    let a = c.args in
-    let d = a.bytes.now in
-    omega (arith, moves_on (block_of d) (length d) (blocks_read d) a.extend (g.A.Accepts.accepts_gives a.test.now) c.loop-place.place c.loop-place.used (omega arith) _ _ _ _ _ c.in_ok-step.ensures.ok)
+pub loop-position-init : goal.loop-position-init
+loop-position-init g c = record {
+  later = omega arith;
+  within = c.requires.within;
+  used = refl;
+  holds = refl;
+  faults = omega arith;
+  reads = reads_same (g.F.Files.holds c.args.files.now) c.args.source.now c.requires.ready;
+  same = λ m held. refl;
+  short = λ m held meets. refl;
+}
 
-pub loop-place-preserved : goal.loop-place-preserved
-loop-place-preserved g c =
-    let a = c.args in
-    let d = a.bytes.now in
-    passes (block_of d) (length d) (blocks_read d) a.extend (g.A.Accepts.accepts_gives a.test.now) c.loop-place.place c.loop-place.used (omega arith) _ _ _ _ _ c.in-Passed.is c.in_ok-step.ensures.ok ∙ c.loop-place.invariant
+pub step-requires-clause-ready : goal.step-requires-clause-ready
+step-requires-clause-ready g c κs lives = ready_still _ _ _ _ c.loop-position.invariant.holds c.loop-position.invariant.reads
 
-pub returns-in-Free-clause-ok : goal.returns-in-Free-clause-ok
-returns-in-Free-clause-ok g c =
-    let a = c.args in
-    let d = a.bytes.now in
-    sym c.loop-place.invariant ∙ meets_free (block_of d) (length d) (blocks_read d) a.extend (g.A.Accepts.accepts_gives a.test.now) c.loop-place.place c.loop-place.used (omega arith) _ _ _ _ _ _ c.in-Free.is c.in_ok-step.ensures.ok
+pub step-requires-clause-inside : goal.step-requires-clause-inside
+step-requires-clause-inside g c κs lives = omega (arith, c.loop-position.invariant.reads.end, c.loop-position-test.true, c.end-end.ensures)
 
-pub returns-in-Row-clause-ok : goal.returns-in-Row-clause-ok
-returns-in-Row-clause-ok g c =
+pub loop-position-preserved : goal.loop-position-preserved
+loop-position-preserved g c =
+    let was = c.loop-position.invariant in
+    let stepped = c.in_ok-found.ensures in
     let a = c.args in
-    let d = a.bytes.now in
-    let t = meets_row (block_of d) (length d) (blocks_read d) a.extend (g.A.Accepts.accepts_gives a.test.now) c.loop-place.place c.loop-place.used (omega arith) _ _ _ _ _ c.in-Row.is c.in_ok-step.ensures.ok in
-    (t.0, sym c.loop-place.invariant ∙ t.1, t.2)
+    let h = g.F.Files.holds a.files.now in
+    let accepts = g.A.Accepts.accepts_gives a.rules.now.test in
+    let old = c.loop-position.position in
+    let new = c.step.new.position in
+    record {
+      later = omega (arith, was.later, stepped.rises.0);
+      within = omega (arith, was.reads.end, stepped.rises.1);
+      used = subst (KeepsUsed old.used new.used) c.in_default.is stepped.kept ∙ was.used;
+      holds = stepped.holds ∙ was.holds;
+      faults = omega (arith, was.faults, stepped.cause.later);
+      reads = reads_then _ _ _ _ _ was.holds was.reads stepped.reads;
+      same = λ m held.
+          let told = subst (λ f. met_at a.rules.now.extend accepts c.loop-position.source old m ≡ items_at c.step.new.source c.step.new.row f ++ met_at a.rules.now.extend accepts c.loop-position.source new m) c.in_default.is (stepped.told m (was.holds ∙ held)) in
+          sym (met_same h a.rules.now.extend accepts a.source.now c.loop-position.source new m was.reads) ∙ sym told ∙ met_same h a.rules.now.extend accepts a.source.now c.loop-position.source old m was.reads ∙ was.same m held;
+      short = λ m held meets.
+          let here : old ≡ a.position.now = was.short m held meets in
+          let now = meets_same h accepts a.source.now c.loop-position.source old m was.reads (subst (λ p. MeetsShortAt accepts a.source.now p m) (sym here) meets) in
+          absurd (subst (λ f. FindsShortAt f new) c.in_default.is (stepped.short m (was.holds ∙ held) now));
+    }
 
-pub returns-clause-ok : goal.returns-clause-ok
-returns-clause-ok g c =
-    let a = c.args in
-    let d = a.bytes.now in
-    let e = rest_end (block_of d) (length d) (blocks_read d) a.extend (g.A.Accepts.accepts_gives a.test.now) c.loop-place.place c.loop-place.used (omega arith) in
-    (sym c.loop-place.invariant ∙ e, e)
+pub returns-clause-told : goal.returns-clause-told
+returns-clause-told g c m held =
+    let e = met_end c.args.rules.now.extend (g.A.Accepts.accepts_gives c.args.rules.now.test) c.args.source.now c.loop-position.position m (c.requires.ready m held) (omega (arith, c.loop-position-test.false, c.end-end.ensures)) in
+    (sym (c.loop-position.invariant.same m held) ∙ e, e)
+
+pub returns-clause-short : goal.returns-clause-short
+returns-clause-short g c m held meets =
+    let was = c.loop-position.invariant.short m held meets in
+    short_ended (g.A.Accepts.accepts_gives c.args.rules.now.test) c.args.source.now c.args.position.now m (c.requires.ready m held) (omega (arith, c.loop-position-test.false, c.end-end.ensures, ap (λ (p : Rattle.myi_chain.specs.declared.step.Position.Position). p.place) was)) meets

@@ -1,12 +1,23 @@
-use Rattle.std.proofs.Common.{◌≡◌, ◌-◌, length}
-use Rattle.myi_frames.specs.Block.{block_of}
-use Rattle.myi_chain.specs.Readable.{rest}
+use Rattle.std.proofs.Common.{◌≡◌, ◌≤◌, ◌-◌}
+use Rattle.myi_base.specs.Holding.{IfTold}
+use Rattle.myi_chain.specs.Source.{ReadsOn}
+use Rattle.myi_chain.specs.Found.{met_at, MeetsShortAt}
 use Rattle.myi_chain.proofs.step.advance.Given as goal
 
-abbrev pub invariant-loop-place : goal.invariant-loop-place
-invariant-loop-place g l =
-    rest l.extend (block_of l.bytes) (length l.bytes) (g.A.Accepts.accepts_gives l.test) l.place l.used
-    ≡ rest l.extend (block_of l.bytes) (length l.bytes) (g.A.Accepts.accepts_gives l.test) l.initial.place l.initial.used
+abbrev pub invariant-loop-position : goal.invariant-loop-position
+invariant-loop-position g l = record {
+  later : l.fn.position.place ≤ l.position.place;
+  within : l.position.place ≤ l.fn.source.end;
+  used : l.position.used ≡ l.fn.position.used;
+  holds : g.F.Files.holds l.files ≡ g.F.Files.holds l.fn.files;
+  faults : g.F.Files.faults l.fn.files ≤ g.F.Files.faults l.files;
+  reads : ReadsOn (g.F.Files.holds l.fn.files) l.fn.source l.source;
+  same : IfTold (g.F.Files.holds l.fn.files) (λ m.
+      met_at l.rules.extend (g.A.Accepts.accepts_gives l.rules.test) l.fn.source l.position m
+      ≡ met_at l.rules.extend (g.A.Accepts.accepts_gives l.rules.test) l.fn.source l.fn.position m);
+  short : IfTold (g.F.Files.holds l.fn.files) (λ m.
+      MeetsShortAt (g.A.Accepts.accepts_gives l.rules.test) l.fn.source l.fn.position m → l.position ≡ l.fn.position);
+}
 
-abbrev pub decreases-loop-place : goal.decreases-loop-place
-decreases-loop-place g l = length l.bytes - l.place
+abbrev pub decreases-loop-position : goal.decreases-loop-position
+decreases-loop-position g l = l.end - l.position.place

@@ -1,40 +1,75 @@
-use Rattle.std.proofs.Common.{arith, ◌≡◌, false, length, sym, ap, ◌∙◌}
-use Rattle.myi_frames.specs.Block.{block_of}
-use Rattle.myi_chain.specs.Readable.{rows_of}
-use Rattle.myi_chain.specs.Walk.{is_row}
-use Rattle.myi_chain.proofs.BlockLemmas.{blocks_read}
-use Rattle.myi_chain.proofs.ReadableLemmas.{rest_end}
-use Rattle.myi_chain.proofs.StepLemmas.{moves_on, goes_by, comes_to}
+use Rattle.std.proofs.Common.{◌≡◌, ◌∙◌, ◌+◌, ◌∷◌, Some, refl, sym, ap, subst, arith}
+use Rattle.myi_chain.specs.Readable.{row, free}
+use Rattle.myi_chain.specs.Found.{met_at, row_held, MeetsShortAt, FindsShortAt, FindsItem, KeepsUsed, Rises}
+use Rattle.myi_chain.proofs.SourceLemmas.{ready_still, reads_same, reads_then}
+use Rattle.myi_chain.proofs.StepLemmas.{met_same, meets_same, over_same, over_free, over_row, over_end}
 use Rattle.myi_chain.proofs.step.advance_row.Goals as goal
 
-pub returns-then-is_row-clause-ok : goal.returns-then-is_row-clause-ok
-returns-then-is_row-clause-ok g c =
-    let a = c.args in
-    let d = a.bytes.now in
-    let t = comes_to (block_of d) (length d) (blocks_read d) a.extend (g.A.Accepts.accepts_gives a.test.now) c.loop-place.place c.loop-place.used (omega arith) _ _ _ _ c.in-Ok.met (sym c.is_row.ensures ∙ c.if-is_row.true) c.in-Ok.ensures.ok in
-    (t.0, sym c.loop-place.invariant.rows ∙ t.1, sym c.loop-place.invariant.behind ∙ t.2, t.3)
+pub loop-found-init : goal.loop-found-init
+loop-found-init g c = record {
+  later = omega arith;
+  within = c.requires.within;
+  used = refl;
+  holds = refl;
+  faults = omega arith;
+  reads = reads_same (g.F.Files.holds c.args.files.now) c.args.source.now c.requires.ready;
+  passed = λ m held. over_same _ _ refl;
+  short = λ m held meets. refl;
+}
 
-pub loop-place-smaller : goal.loop-place-smaller
-loop-place-smaller g c =
-    let a = c.args in
-    let d = a.bytes.now in
-    omega (arith, moves_on (block_of d) (length d) (blocks_read d) a.extend (g.A.Accepts.accepts_gives a.test.now) c.loop-place.place c.loop-place.used (omega arith) _ _ _ _ _ c.in-Ok.ensures.ok)
+pub advance-requires-clause-ready : goal.advance-requires-clause-ready
+advance-requires-clause-ready g c κs lives = ready_still _ _ _ _ c.loop-found.invariant.holds c.loop-found.invariant.reads
 
-pub loop-place-preserved : goal.loop-place-preserved
-loop-place-preserved g c =
+pub loop-found-preserved : goal.loop-found-preserved
+loop-found-preserved g c =
+    let was = c.loop-found.invariant in
+    let next = c.in-Ok.ensures in
     let a = c.args in
-    let d = a.bytes.now in
-    let none : is_row c.in-Ok.met ≡ false = sym c.is_row.ensures ∙ c.if-is_row.false in
-    let t = goes_by (block_of d) (length d) (blocks_read d) a.extend (g.A.Accepts.accepts_gives a.test.now) c.loop-place.place c.loop-place.used (omega arith) _ _ _ _ c.in-Ok.met none c.in-Ok.ensures.ok in
+    let h = g.F.Files.holds a.files.now in
+    let accepts = g.A.Accepts.accepts_gives a.rules.now.test in
+    let old = c.loop-found.position in
+    let new = c.advance.new.position in
+    let s = c.loop-found.source in
+    let is = c.in-Some.is ∙ ap Some c.in-Free.is in
+    let rises = subst (Rises old.place new.place s.end) is next.rises in
     record {
-      used = c.in-Ok.ensures.kept none ∙ c.loop-place.invariant.used;
-      rows = t.0 ∙ c.loop-place.invariant.rows;
-      behind = t.1 ∙ c.loop-place.invariant.behind;
+      later = omega (arith, was.later, rises.0);
+      within = omega (arith, was.reads.end, rises.1);
+      used = subst (KeepsUsed old.used new.used) is next.kept ∙ was.used;
+      holds = next.holds ∙ was.holds;
+      faults = omega (arith, was.faults, next.cause.later);
+      reads = reads_then _ _ _ _ _ was.holds was.reads next.reads;
+      passed = λ m held.
+          let told = subst (FindsItem c.advance.new.source c.advance.new.row (met_at a.rules.now.extend accepts s old m) (met_at a.rules.now.extend accepts s new m)) is (next.told m (was.holds ∙ held)) in
+          let here = sym (met_same h a.rules.now.extend accepts a.source.now s old m was.reads) ∙ told ∙ ap (λ js. free (c.in-Free.field-0, c.in-Free.field-0 + c.in-Free.field-1) ∷ js) (met_same h a.rules.now.extend accepts a.source.now s new m was.reads) in
+          over_free _ _ _ _ (was.passed m held) here;
+      short = λ m held meets.
+          let same : old ≡ a.position.now = was.short m held meets in
+          let now = meets_same h accepts a.source.now s old m was.reads (subst (λ p. MeetsShortAt accepts a.source.now p m) (sym same) meets) in
+          absurd (subst (λ f. FindsShortAt f new) is (next.short m (was.holds ∙ held) now));
     }
 
-pub returns-clause-ok : goal.returns-clause-ok
-returns-clause-ok g c =
+pub returns-in_default-clause-told : goal.returns-in_default-clause-told
+returns-in_default-clause-told g c m held =
+    let was = c.loop-found.invariant in
     let a = c.args in
-    let d = a.bytes.now in
-    let e = rest_end (block_of d) (length d) (blocks_read d) a.extend (g.A.Accepts.accepts_gives a.test.now) c.loop-place.place c.loop-place.used (omega arith) in
-    (sym c.loop-place.invariant.rows ∙ ap rows_of e, e)
+    let h = g.F.Files.holds a.files.now in
+    let accepts = g.A.Accepts.accepts_gives a.rules.now.test in
+    let old = c.loop-found.position in
+    let new = c.advance.new.position in
+    let s = c.loop-found.source in
+    let told = subst (FindsItem c.advance.new.source c.advance.new.row (met_at a.rules.now.extend accepts s old m) (met_at a.rules.now.extend accepts s new m)) c.in_default.is (c.in-Ok.ensures.told m (was.holds ∙ held)) in
+    (over_end _ _ (was.passed m held) (sym (met_same h a.rules.now.extend accepts a.source.now s old m was.reads) ∙ told.0), sym (met_same h a.rules.now.extend accepts a.source.now s new m was.reads) ∙ told.1)
+
+pub returns-in-Row-clause-told : goal.returns-in-Row-clause-told
+returns-in-Row-clause-told g c m held =
+    let was = c.loop-found.invariant in
+    let a = c.args in
+    let h = g.F.Files.holds a.files.now in
+    let accepts = g.A.Accepts.accepts_gives a.rules.now.test in
+    let old = c.loop-found.position in
+    let new = c.advance.new.position in
+    let s = c.loop-found.source in
+    let is = c.in-Some.is ∙ ap Some c.in-Row.is in
+    let told = subst (FindsItem c.advance.new.source c.advance.new.row (met_at a.rules.now.extend accepts s old m) (met_at a.rules.now.extend accepts s new m)) is (c.in-Ok.ensures.told m (was.holds ∙ held)) in
+    over_row _ _ _ _ (was.passed m held) (sym (met_same h a.rules.now.extend accepts a.source.now s old m was.reads) ∙ told ∙ ap (λ js. row (row_held c.advance.new.source c.advance.new.row c.in-Row.found) ∷ js) (met_same h a.rules.now.extend accepts a.source.now s new m was.reads))

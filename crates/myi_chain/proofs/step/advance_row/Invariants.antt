@@ -1,17 +1,24 @@
-use Rattle.std.proofs.Common.{◌≡◌, ◌-◌, length}
-use Rattle.myi_frames.specs.Block.{block_of}
-use Rattle.myi_chain.specs.Readable.{rest, rows_of}
-use Rattle.myi_chain.specs.Walk.{behind_row}
+use Rattle.std.proofs.Common.{◌≡◌, ◌≤◌, ◌-◌}
+use Rattle.myi_base.specs.Holding.{IfTold}
+use Rattle.myi_chain.specs.Source.{ReadsOn}
+use Rattle.myi_chain.specs.Found.{met_at, MeetsShortAt}
+use Rattle.myi_chain.proofs.StepLemmas.{OverFrees}
 use Rattle.myi_chain.proofs.step.advance_row.Given as goal
 
-abbrev pub invariant-loop-place : goal.invariant-loop-place
-invariant-loop-place g l = record {
-  used : l.used ≡ l.initial.used;
-  rows : rows_of (rest l.extend (block_of l.bytes) (length l.bytes) (g.A.Accepts.accepts_gives l.test) l.place l.used)
-      ≡ rows_of (rest l.extend (block_of l.bytes) (length l.bytes) (g.A.Accepts.accepts_gives l.test) l.initial.place l.initial.used);
-  behind : behind_row (rest l.extend (block_of l.bytes) (length l.bytes) (g.A.Accepts.accepts_gives l.test) l.place l.used)
-      ≡ behind_row (rest l.extend (block_of l.bytes) (length l.bytes) (g.A.Accepts.accepts_gives l.test) l.initial.place l.initial.used);
+abbrev pub invariant-loop-found : goal.invariant-loop-found
+invariant-loop-found g l = record {
+  later : l.fn.position.place ≤ l.position.place;
+  within : l.position.place ≤ l.fn.source.end;
+  used : l.position.used ≡ l.fn.position.used;
+  holds : g.F.Files.holds l.files ≡ g.F.Files.holds l.fn.files;
+  faults : g.F.Files.faults l.fn.files ≤ g.F.Files.faults l.files;
+  reads : ReadsOn (g.F.Files.holds l.fn.files) l.fn.source l.source;
+  passed : IfTold (g.F.Files.holds l.fn.files) (λ m. OverFrees
+      (met_at l.rules.extend (g.A.Accepts.accepts_gives l.rules.test) l.fn.source l.fn.position m)
+      (met_at l.rules.extend (g.A.Accepts.accepts_gives l.rules.test) l.fn.source l.position m));
+  short : IfTold (g.F.Files.holds l.fn.files) (λ m.
+      MeetsShortAt (g.A.Accepts.accepts_gives l.rules.test) l.fn.source l.fn.position m → l.position ≡ l.fn.position);
 }
 
-abbrev pub decreases-loop-place : goal.decreases-loop-place
-decreases-loop-place g l = length l.bytes - l.place
+abbrev pub decreases-loop-found : goal.decreases-loop-found
+decreases-loop-found g l = l.fn.source.end - l.position.place

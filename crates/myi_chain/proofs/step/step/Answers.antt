@@ -1,59 +1,95 @@
-use Rattle.std.proofs.Common.{arith, ◌≤◌, ◌++◌, length, refl, sym, subst, ◌≡◌, Some}
-use Rattle.std.specs.List.{AllByRecursion}
-use Rattle.myi_frames.specs.Block.{block_of}
-use Rattle.myi_frames.specs.Seeing.{shown}
-use Rattle.myi_chain.specs.Readable.{end_of, free_by}
-use Rattle.myi_chain.specs.Chain.{AreApart, chain_of}
-use Rattle.myi_chain.specs.Used.{IsRange}
-use Rattle.myi_chain.proofs.BlockLemmas.{blocks_read}
-use Rattle.myi_chain.specs.Walk.{ranges_at, SameUsed, IsRowHere, NoRowHere, IsPassed}
-use Rattle.myi_chain.proofs.StepLemmas.{step_over, step_empty, step_past, step_found, row_apart, row_filled, told_row, told_none}
+use Rattle.std.proofs.Common.{◌≡◌, ◌∙◌, None, refl, subst, arith}
+use Rattle.std.specs.Prelude.{IfSome}
+use Rattle.myi_frames.specs.Seeing.{HeadsBlock}
+use Rattle.myi_chain.specs.Source.{read_bytes, read_blocks, CanAdd}
+use Rattle.myi_base.specs.Holding.{IfTold}
+use Rattle.myi_chain.specs.declared.piece.ScanFault.TheVariants.{Memory}
+use Rattle.myi_chain.specs.Found.{MeetsShortAt, IsHeld, found_at, found_blocks}
+use Rattle.myi_chain.proofs.SourceLemmas.{long_bytes}
+use Rattle.myi_chain.proofs.StepLemmas.{over_used, over_none, over_block, found_at_place, short_refused, short_adds, short_needs, if_err, heads_now, finds_here, free_held}
 use Rattle.myi_chain.proofs.step.step.Goals as goal
 
-pub returns-then-at-end-clause-ok : goal.returns-then-at-end-clause-ok
-returns-then-at-end-clause-ok g c =
+pub returns-then-at-used_end-clause-told : goal.returns-then-at-used_end-clause-told
+returns-then-at-used_end-clause-told g c m held =
     let a = c.args in
-    step_over a.extend (block_of a.bytes.now) (g.A.Accepts.accepts_gives a.test.now) a.place.now a.used.now _ _ _ _ (omega (arith, c.end_from-end.ensures, c.if-at-end.true)) c.if-at-end.true refl
+    let x = read_bytes a.source.now m in
+    let long = long_bytes a.source.now m (c.requires.ready m held) in
+    over_used x a.rules.now.extend (g.A.Accepts.accepts_gives a.rules.now.test) a.position.now.place a.position.now.used (omega (arith, long, c.requires.inside)) c.end_from-used_end.result c.min-position.result c.end_from-used_end.ensures c.if-at-used_end.true (omega (arith, long, c.end-end.ensures, c.min-position.ensures))
 
-pub returns-in_default-clause-ok : goal.returns-in_default-clause-ok
-returns-in_default-clause-ok g c =
+pub returns-in_default-clause-told : goal.returns-in_default-clause-told
+returns-in_default-clause-told g c m held =
     let a = c.args in
-    let e : end_of a.place.now a.used.now ≤ a.place.now = omega (arith, c.end_from-end.ensures, c.if-at-end.false) in
-    step_empty a.extend (block_of a.bytes.now) (g.A.Accepts.accepts_gives a.test.now) a.place.now a.used.now _ _ _ _ e c.in_default.ensures.block refl refl
+    let x = read_bytes a.source.now m in
+    let long = long_bytes a.source.now m (c.requires.ready m held) in
+    let none = subst (λ o. HeadsBlock x o (read_blocks a.source.now m a.position.now.place)) c.in_default.is (c.in_ok-block.ensures.told m held) in
+    over_none x a.rules.now.extend (g.A.Accepts.accepts_gives a.rules.now.test) a.position.now.place a.position.now.used (omega (arith, long, c.requires.inside)) _ (omega (arith, c.end_from-used_end.ensures, c.if-at-used_end.false)) none (omega (arith, long, c.end-end.ensures, c.min.ensures))
 
-pub returns-then-branch-clause-ok : goal.returns-then-branch-clause-ok
-returns-then-branch-clause-ok g c =
+pub row_at-requires-clause-here : goal.row_at-requires-clause-here
+row_at-requires-clause-here g c κs lives =
     let a = c.args in
-    let read = block_of a.bytes.now in
-    let b = c.in-Some.block in
-    let e : end_of a.place.now a.used.now ≤ a.place.now = omega (arith, c.end_from-end.ensures, c.if-at-end.false) in
-    let at : b.at ≡ a.place.now = c.in-Some.ensures.inside.0 in
-    let r = told_row read (g.A.Accepts.accepts_gives a.test.now) b.at a.used.now _ _ _ c.if-branch.true c.in_ok-row_from.ensures in
-    let same : SameUsed c.add.new.self (a.used.now ++ ranges_at c.row_from.new.taken.items) = subst (λ t. SameUsed c.add.new.self (a.used.now ++ ranges_at t)) c.deref.ensures.value c.in_ok-add.ensures.ok in
-    step_found a.extend read (g.A.Accepts.accepts_gives a.test.now) a.place.now a.used.now _ _ (shown b) _ _ e (subst (λ p. IsRowHere read (g.A.Accepts.accepts_gives a.test.now) p a.used.now c.row_from.new.taken.items c.row_from.new.joined.items) at r) c.in-Some.ensures.block refl same
+    let place = subst (λ o. IfSome o (Rattle.myi_chain.specs.Source.IsHeader a.position.now.place a.source.now.end)) c.in-Some.is c.in_ok-block.ensures.place in
+    heads_now (g.F.Files.holds a.files.now) _ a.source.now c.slide_to.new.self a.position.now.place _ c.in-Some.block c.slide_to.ensures.holds c.slide_to.ensures.reads c.in-Some.is place.here c.in_ok-block.ensures.told
 
-pub returns-clause-ok : goal.returns-clause-ok
-returns-clause-ok g c =
+pub returns-in_err-add_row-clause-never : goal.returns-in_err-add_row-clause-never
+returns-in_err-add_row-clause-never g c = if_err c.from_residual-in_err-add_row.result (λ e. e ≡ Memory → IfTold (g.F.Files.holds c.args.files.now) (λ m. MeetsShortAt (g.A.Accepts.accepts_gives c.args.rules.now.test) c.args.source.now c.args.position.now m → ⊥)) (λ e memory m held meets.
     let a = c.args in
-    let read = block_of a.bytes.now in
-    let b = c.in-Some.block in
-    let e : end_of a.place.now a.used.now ≤ a.place.now = omega (arith, c.end_from-end.ensures, c.if-at-end.false) in
-    let at : b.at ≡ a.place.now = c.in-Some.ensures.inside.0 in
-    let none = told_none read (g.A.Accepts.accepts_gives a.test.now) b.at a.used.now _ _ _ c.if-branch.false c.in_ok-row_from.ensures in
-    step_past a.extend read (g.A.Accepts.accepts_gives a.test.now) a.place.now a.used.now _ _ (shown b) _ _ _ _ e (subst (λ p. NoRowHere read (g.A.Accepts.accepts_gives a.test.now) p a.used.now (chain_of read p a.used.now)) at none) c.in-Some.ensures.block c.past-skip.ensures.skip (subst (λ p. IsPassed p (free_by a.extend (Some (shown b))) c.past-skip.result.1) at c.past-skip.ensures.free) refl refl
+    let x = read_bytes a.source.now m in
+    let accepts = g.A.Accepts.accepts_gives a.rules.now.test in
+    let p = a.position.now.place in
+    let place = subst (λ o. IfSome o (Rattle.myi_chain.specs.Source.IsHeader p a.source.now.end)) c.in-Some.is c.in_ok-block.ensures.place in
+    let finds = finds_here (g.F.Files.holds a.files.now) a.source.now c.slide_to.new.self m c.in-Some.block.head.at p a.position.now.used accepts _ _ _ _ _ c.slide_to.ensures.reads place.here c.in-Some-2.is (c.in_ok-found.ensures.told m (c.slide_to.ensures.holds ∙ held)) in
+    short_needs x accepts p a.position.now.used meets c.in-Some-2.found _ _ _ finds c.in_err-add_row.ensures.err.1)
 
-pub add-requires-clause-apart : goal.add-requires-clause-apart
-add-requires-clause-apart g c =
+pub returns-in-Some-2-clause-told : goal.returns-in-Some-2-clause-told
+returns-in-Some-2-clause-told g c m held =
     let a = c.args in
-    let read = block_of a.bytes.now in
-    let accepts = g.A.Accepts.accepts_gives a.test.now in
-    let r = told_row read accepts c.in-Some.block.at a.used.now _ _ _ c.if-branch.true c.in_ok-row_from.ensures in
-    subst (λ t. AreApart a.used.now (ranges_at t)) (sym c.deref.ensures.value) (row_apart read accepts c.in-Some.block.at a.used.now _ _ r)
+    let x = read_bytes a.source.now m in
+    let accepts = g.A.Accepts.accepts_gives a.rules.now.test in
+    let p = a.position.now.place in
+    let used = a.position.now.used in
+    let long = long_bytes a.source.now m (c.requires.ready m held) in
+    let place = subst (λ o. IfSome o (Rattle.myi_chain.specs.Source.IsHeader p a.source.now.end)) c.in-Some.is c.in_ok-block.ensures.place in
+    let here = subst (λ o. HeadsBlock x o (read_blocks a.source.now m p)) c.in-Some.is (c.in_ok-block.ensures.told m held) in
+    let finds = finds_here (g.F.Files.holds a.files.now) a.source.now c.slide_to.new.self m c.in-Some.block.head.at p used accepts _ _ _ _ _ c.slide_to.ensures.reads place.here c.in-Some-2.is (c.in_ok-found.ensures.told m (c.slide_to.ensures.holds ∙ held)) in
+    let kept = subst (λ o. IfSome o (IsHeld accepts c.row_at.new.source.kept c.row_at.new.row.chain.taken c.row_at.new.row.joined.items)) c.in-Some-2.is c.in_ok-found.ensures.held in
+    let can = subst (λ o. IfSome o (λ r. (found_at r ≡ c.in-Some.block.head.at) × CanAdd used (found_blocks c.row_at.new.row.chain.taken r))) c.in-Some-2.is c.in_ok-found.ensures.can in
+    found_at_place x a.rules.now.extend accepts p used (omega (arith, long, c.requires.inside)) _ c.add_row.new.used c.in-Some.block c.in-Some-2.found c.row_at.new.source.kept c.row_at.new.row.chain.taken c.row_at.new.row.joined.items (omega (arith, c.end_from-used_end.ensures, c.if-at-used_end.false)) here finds kept.packs (can.0 ∙ place.here) c.in_ok-add_row.ensures.ok refl
 
-pub add-requires-clause-some : goal.add-requires-clause-some
-add-requires-clause-some g c =
+pub returns-in-Some-2-clause-short : goal.returns-in-Some-2-clause-short
+returns-in-Some-2-clause-short g c m held meets =
     let a = c.args in
-    let d = a.bytes.now in
-    let accepts = g.A.Accepts.accepts_gives a.test.now in
-    let r = told_row (block_of d) accepts c.in-Some.block.at a.used.now _ _ _ c.if-branch.true c.in_ok-row_from.ensures in
-    subst (λ t. AllByRecursion IsRange (ranges_at t)) (sym c.deref.ensures.value) (row_filled (block_of d) (length d) (blocks_read d) (omega arith) accepts c.in-Some.block.at a.used.now _ _ r)
+    let x = read_bytes a.source.now m in
+    let accepts = g.A.Accepts.accepts_gives a.rules.now.test in
+    let p = a.position.now.place in
+    let used = a.position.now.used in
+    let place = subst (λ o. IfSome o (Rattle.myi_chain.specs.Source.IsHeader p a.source.now.end)) c.in-Some.is c.in_ok-block.ensures.place in
+    let here = subst (λ o. HeadsBlock x o (read_blocks a.source.now m p)) c.in-Some.is (c.in_ok-block.ensures.told m held) in
+    let finds = finds_here (g.F.Files.holds a.files.now) a.source.now c.slide_to.new.self m c.in-Some.block.head.at p used accepts _ _ _ _ _ c.slide_to.ensures.reads place.here c.in-Some-2.is (c.in_ok-found.ensures.told m (c.slide_to.ensures.holds ∙ held)) in
+    short_adds x accepts p used meets _ c.add_row.new.used c.in-Some.block c.in-Some-2.found c.row_at.new.source.kept c.row_at.new.row.chain.taken c.row_at.new.row.joined.items here finds c.in_ok-add_row.ensures.ok refl
+
+pub returns-clause-told : goal.returns-clause-told
+returns-clause-told g c m held =
+    let a = c.args in
+    let x = read_bytes a.source.now m in
+    let accepts = g.A.Accepts.accepts_gives a.rules.now.test in
+    let p = a.position.now.place in
+    let used = a.position.now.used in
+    let long = long_bytes a.source.now m (c.requires.ready m held) in
+    let place = subst (λ o. IfSome o (Rattle.myi_chain.specs.Source.IsHeader p a.source.now.end)) c.in-Some.is c.in_ok-block.ensures.place in
+    let here = subst (λ o. HeadsBlock x o (read_blocks a.source.now m p)) c.in-Some.is (c.in_ok-block.ensures.told m held) in
+    let none = finds_here (g.F.Files.holds a.files.now) a.source.now c.slide_to.new.self m c.in-Some.block.head.at p used accepts c.row_at.new.source.kept c.row_at.new.row.chain.taken c.row_at.new.row.joined.items _ None c.slide_to.ensures.reads place.here c.in_default-2.is (c.in_ok-found.ensures.told m (c.slide_to.ensures.holds ∙ held)) in
+    over_block x a.rules.now.extend accepts p used (omega (arith, long, c.requires.inside)) _ c.past-skip.result.0 c.in-Some.block c.past-skip.result.1 c.row_at.new.source.kept c.row_at.new.row.chain.taken c.row_at.new.row.joined.items (omega (arith, c.end_from-used_end.ensures, c.if-at-used_end.false)) here none c.past-skip.ensures.passed (omega (arith, long, c.end-end.ensures, c.min-2.ensures))
+
+pub returns-clause-held : goal.returns-clause-held
+returns-clause-held g c = free_held (g.A.Accepts.accepts_gives c.args.rules.now.test) c.row_at.new.source c.row_at.new.row c.past-skip.result.1 c.past-skip.ensures.free
+
+pub returns-clause-short : goal.returns-clause-short
+returns-clause-short g c m held meets =
+    let a = c.args in
+    let x = read_bytes a.source.now m in
+    let accepts = g.A.Accepts.accepts_gives a.rules.now.test in
+    let p = a.position.now.place in
+    let used = a.position.now.used in
+    let place = subst (λ o. IfSome o (Rattle.myi_chain.specs.Source.IsHeader p a.source.now.end)) c.in-Some.is c.in_ok-block.ensures.place in
+    let none = finds_here (g.F.Files.holds a.files.now) a.source.now c.slide_to.new.self m c.in-Some.block.head.at p used accepts c.row_at.new.source.kept c.row_at.new.row.chain.taken c.row_at.new.row.joined.items _ None c.slide_to.ensures.reads place.here c.in_default-2.is (c.in_ok-found.ensures.told m (c.slide_to.ensures.holds ∙ held)) in
+    absurd (short_refused x accepts p used meets none)

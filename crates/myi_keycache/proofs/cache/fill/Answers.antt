@@ -1,6 +1,6 @@
 use Rattle.std.proofs.Common.{arith}
 use Rattle.myi_base.specs.Holding.{bytes_of}
-use Rattle.myi_keycache.proofs.PlainLemmas.{filled_page, short_page}
+use Rattle.myi_keycache.proofs.ReadLemmas.{filled_page, short_page}
 use Rattle.myi_keycache.proofs.cache.fill.Goals as goal
 
 pub returns-then-count-size-clause-short : goal.returns-then-count-size-clause-short

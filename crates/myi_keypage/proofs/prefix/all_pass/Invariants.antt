@@ -1,6 +1,6 @@
 use Rattle.std.proofs.Common.{◌≡◌, ◌+◌, ◌≤◌, length, take, []}
 use Rattle.myi_keypage.proofs.prefix.all_pass.Given as goal
-use Rattle.myi_keypage.specs.Reading.{passes, items_of}
+use Rattle.myi_keypage.specs.PageItems.{passes, items_of}
 use Rattle.myi_base.specs.Numbers.{AreBytes}
 
 abbrev pub invariant-loop-rest : goal.invariant-loop-rest

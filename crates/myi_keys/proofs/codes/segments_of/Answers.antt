@@ -1,7 +1,7 @@
 use Rattle.std.proofs.Common.{◌≡◌, ◌≢◌, ◌++◌, ◌∷◌, [], length, sym, ◌∙◌, arith, vec_len}
 use Rattle.std.proofs.lemmas.Bool.{eqb-true, eqb-false}
 use Rattle.std.proofs.lemmas.Result.{err_from_is_err_and}
-use Rattle.myi_keys.specs.Reading.{segs_at}
+use Rattle.myi_keys.specs.Decoding.{segs_at}
 use Rattle.myi_keys.proofs.Readings.{goes_on, too_many, ends, is_done}
 use Rattle.myi_keys.proofs.codes.segments_of.Goals as goal
 

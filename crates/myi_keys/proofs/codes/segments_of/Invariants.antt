@@ -1,5 +1,5 @@
 use Rattle.std.proofs.Common.{◌≡◌, ◌-◌, ◌≤◌, vec_len}
-use Rattle.myi_keys.specs.Reading.{segs_at}
+use Rattle.myi_keys.specs.Decoding.{segs_at}
 use Rattle.myi_keys.proofs.Readings.{with_front}
 use Rattle.myi_keys.proofs.codes.segments_of.Given as goal
 

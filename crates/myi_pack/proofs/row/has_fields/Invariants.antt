@@ -1,6 +1,6 @@
 use Rattle.std.proofs.Common.{◌≡◌, ◌≤◌, drop}
 use Rattle.std.specs.Option.{option_map}
-use Rattle.myi_pack.specs.Reading.{fields_of}
+use Rattle.myi_pack.specs.Unpacking.{fields_of}
 use Rattle.myi_pack.proofs.row.has_fields.Given as goal
 
 abbrev pub invariant-loop-field : goal.invariant-loop-field

@@ -4,15 +4,29 @@ use Rattle.std.proofs.lemmas.Iterator.Adapters.{YieldsList-from_vec}
 use Rattle.std.proofs.lemmas.Iterator.Consumers.{YieldsList-turn, YieldsList-end}
 use Rattle.std.specs.List.{AllByRecursion}
 use Rattle.myi_base.proofs.CallerLemmas.{told_more, told_then}
+use Rattle.myi_data.specs.Keys.{IsKeyNumber}
 use Rattle.myi_keys.specs.Limits.{IsKey}
 use Rattle.myi_btree.specs.declared.pair.Pair.{Pair}
-use Rattle.myi_btree.specs.Sizes.{AreSized}
+use Rattle.myi_btree.specs.Sizes.{IsPlaced, AreSized}
 use Rattle.myi_pair.specs.KeyList.{sorted}
 use Rattle.myi_pair.specs.Trees.{place_of}
 use Rattle.myi_pair.specs.TreePages.{tree_end, CanBeLaid}
 use Rattle.myi_pair.proofs.CallerLemmas.{placed}
 use Rattle.myi_repair.proofs.TreeLaws.{AreLaidTo, LaysTo, sorted_sized, sorted_keys, item_is, laid_next, lays_next, laid_all, lays_all}
 use Rattle.myi_repair.proofs.trees.lay_trees.Goals as goal
+
+pub build_tree-requires-clause-placed : goal.build_tree-requires-clause-placed
+build_tree-requires-clause-placed g c κs lives =
+    let was = c.loop-pairs.invariant in
+    let d = c.args.defs.now in
+    let lists = c.args.pairs.items in
+    let i = length c.loop-pairs.yielded in
+    let given = c.into_iter-pairs-iterator.ensures.into_iter_gives in
+    let turn = YieldsList-turn (YieldsList-from_vec {s = c.into_iter-pairs-iterator.result} lists given.0 (omega (arith, given.1, c.args.pairs.ok.0))) c.loop-pairs.yielded c.loop-pairs.pairs-iterator c.loop-pairs.yielded_by c.next.result c.next.new.self c.in-Some.pairs c.in-Some.is c.next.ensures.steps in
+    let keyed : IsKeyNumber d (i + 1) = (omega arith, omega (arith, turn.0, c.requires.pairs.all)) in
+    let number : c.len-in-loop-pairs.result ≡ i = omega (arith, c.len-in-loop-pairs.ensures, was.count, c.loop-pairs.trees.roots.ok.0) in
+    let place : c.place_of-place.result ≡ place_of d (i + 1) = c.place_of-place.ensures ∙ ap (λ n. place_of d (n + 1)) number in
+    subst IsPlaced (sym place) (placed d c.requires.sound (i + 1) keyed)
 
 pub loop-pairs-preserved : goal.loop-pairs-preserved
 loop-pairs-preserved g c =
@@ -24,19 +38,20 @@ loop-pairs-preserved g c =
     let end = c.loop-pairs.room.end in
     let given = c.into_iter-pairs-iterator.ensures.into_iter_gives in
     let turn = YieldsList-turn (YieldsList-from_vec {s = c.into_iter-pairs-iterator.result} lists given.0 (omega (arith, given.1, c.args.pairs.ok.0))) c.loop-pairs.yielded c.loop-pairs.pairs-iterator c.loop-pairs.yielded_by c.next.result c.next.new.self ps c.in-Some.is c.next.ensures.steps in
-    let keyed : i < length d.keys = omega (arith, turn.0, c.requires.pairs.all) in
+    let inside : i < length d.keys = omega (arith, turn.0, c.requires.pairs.all) in
+    let keyed : IsKeyNumber d (i + 1) = (omega arith, omega (arith, inside)) in
     let number : c.len-in-loop-pairs.result ≡ i = omega (arith, c.len-in-loop-pairs.ensures, was.count, c.loop-pairs.trees.roots.ok.0) in
-    let place : c.place_of-place.result ≡ place_of d i = c.place_of-place.ensures ∙ ap (place_of d) number in
+    let place : c.place_of-place.result ≡ place_of d (i + 1) = c.place_of-place.ensures ∙ ap (λ n. place_of d (n + 1)) number in
     let one = c.in_ok-root.ensures in
     let root = rw place at one.root in
-    let ended : c.build_tree.new.room.end ≡ tree_end (place_of d i) end (sorted ps) = rw place at one.end in
+    let ended : c.build_tree.new.room.end ≡ tree_end (place_of d (i + 1)) end (sorted ps) = rw place at one.end in
     let more : length (c.loop-pairs.yielded ++ ps ∷ []) ≡ i + 1 = length_push c.loop-pairs.yielded ps in
     let short : c.build_tree.new.room.end < 2 ^ 64 = c.push.ensures.fits in
-    let can : CanBeLaid (place_of d i) end (sorted ps) = record {
-      placed = placed d c.requires.sound i keyed;
+    let can : CanBeLaid (place_of d (i + 1)) end (sorted ps) = record {
+      placed = placed d c.requires.sound (i + 1) keyed;
       at = was.laid.whole;
-      sized = sorted_sized (place_of d i) ps (subst (AreSized (place_of d i)) (item_is lists i ps turn.0 turn.1) (c.requires.pairs.sized i keyed));
-      keys = sorted_keys ps (subst (λ (qs : List Pair). AllByRecursion (λ (p : Pair). IsKey p.key) qs) (item_is lists i ps turn.0 turn.1) (c.requires.pairs.keys i keyed));
+      sized = sorted_sized (place_of d (i + 1)) ps (subst (AreSized (place_of d (i + 1))) (item_is lists i ps turn.0 turn.1) (c.requires.pairs.sized i inside));
+      keys = sorted_keys ps (subst (λ (qs : List Pair). AllByRecursion (λ (p : Pair). IsKey p.key) qs) (item_is lists i ps turn.0 turn.1) (c.requires.pairs.keys i inside));
       room = omega (arith, short, ended);
     } in
     record {

@@ -4,5 +4,5 @@ use Rattle.myi_data.specs.Keys.{key_of}
 use Rattle.myi_pair.specs.FirstRows.{numbers_from}
 use Rattle.myi_repair.proofs.unique.keys_of.Given as goal
 
-abbrev pub invariant-loop-key : goal.invariant-loop-key
-invariant-loop-key l = l.keys.items ≡ map (λ k. key_of l.defs k l.row) (numbers_from 0 l.key)
+abbrev pub invariant-loop-index : goal.invariant-loop-index
+invariant-loop-index l = l.keys.items ≡ map (λ k. key_of l.defs k l.row) (numbers_from 1 l.index)

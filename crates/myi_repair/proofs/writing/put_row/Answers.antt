@@ -1,7 +1,7 @@
 use Rattle.std.proofs.Common.{◌≡◌, ◌∙◌, subst}
 use Rattle.std.specs.Prelude.{OnOk, OnErr}
 use Rattle.myi_base.specs.Holding.{Told, Writes, WritesPart}
-use Rattle.myi_data.specs.Laid.{own_block}
+use Rattle.myi_data.specs.Stored.{own_block}
 use Rattle.myi_repair.proofs.writing.put_row.Goals as goal
 
 pub returns-in-Static-clause-ok : goal.returns-in-Static-clause-ok

@@ -2,7 +2,7 @@ use Rattle.std.proofs.Common.{rules, ◌≡◌, ◌∙◌, ap, sym, subst, All, 
 use Rattle.std.proofs.lemmas.List.Elements.{All-append, All-cons, All-nil}
 use Rattle.std.proofs.lemmas.Iterator.Consumers.{YieldsList-turn}
 use Rattle.std.proofs.lemmas.Iterator.Adapters.{YieldsList-from_vec}
-use Rattle.myi_tail.specs.Seats.{Reading, Appending}
+use Rattle.myi_tail.specs.Seats.{TailReader, Appending}
 use Rattle.myi_tail_tests.specs.Jobs.{tail_of}
 use Rattle.myi_tail_tests.proofs.round.tail_from.Goals as goal
 
@@ -19,7 +19,7 @@ loop-job-preserved c =
       λ id all.
           let mine = ap tail_of (sym c.in-Read.is) ∙ (ap tail_of t.1 ∙ all (length c.loop-job.yielded) c.in-Some.job t.0) in
           let was = c.loop-job.invariant.2 id all in
-          (was.0, subst (λ (rs : List Reading). All (λ (r : Reading). r.tail ≡ id) rs) (sym (search rules)) (All-append (λ (r : Reading). r.tail ≡ id) c.loop-job.readers.items (c.in-Read.read.reader ∷ []) was.1 (All-cons (λ (r : Reading). r.tail ≡ id) c.in-Read.read.reader [] mine (All-nil (λ (r : Reading). r.tail ≡ id))))),
+          (was.0, subst (λ (rs : List TailReader). All (λ (r : TailReader). r.tail ≡ id) rs) (sym (search rules)) (All-append (λ (r : TailReader). r.tail ≡ id) c.loop-job.readers.items (c.in-Read.read.reader ∷ []) was.1 (All-cons (λ (r : TailReader). r.tail ≡ id) c.in-Read.read.reader [] mine (All-nil (λ (r : TailReader). r.tail ≡ id))))),
     )
 
 pub returns-in-Some-found : goal.returns-in-Some-found

@@ -1,48 +1,89 @@
-use Rattle.std.proofs.Common.{◌≡◌, ◌∙◌, sym, ap, refl, subst, true}
-use Rattle.std.specs.Prelude.{Some}
-use Rattle.myi_frames.specs.Block.{block_of}
-use Rattle.myi_chain.specs.declared.piece.Item.TheVariants as item
-use Rattle.myi_chain.specs.Readable.{rows_of}
-use Rattle.myi_chain.specs.Pieces.{shown}
-use Rattle.myi_chain.specs.Scanning.{IsFirst}
-use Rattle.myi_chain.proofs.ScanLemmas.{opened, answered_free, answered_row, row_found, free_found, first_packs}
+use Rattle.std.proofs.Common.{◌∙◌, Some, refl, ap, subst}
+use Rattle.std.specs.Prelude.{IfSome}
+use Rattle.myi_base.proofs.CallerLemmas.{ok_not_err}
+use Rattle.myi_chain.specs.declared.step.FoundRow.TheVariants.{Kept, Joined}
+use Rattle.myi_chain.specs.declared.step.Found.TheVariants as found
+use Rattle.myi_chain.specs.declared.piece.Piece.TheVariants as piece
+use Rattle.myi_chain.specs.Found.{HoldsItem, FindsItem, FindsShortAt, Rises, met_at}
+use Rattle.myi_chain.specs.Chain.{ranges_at}
+use Rattle.myi_chain.specs.Pieces.{is_lent}
+use Rattle.myi_chain.proofs.ScanLemmas.{ready_scan, item_answered, free_answered, goes_on_plain, packs_old}
 use Rattle.myi_chain.proofs.scan.Scan.next_item.Goals as goal
 
-pub returns-in-Row : goal.returns-in-Row
-returns-in-Row g c =
-    let gives = g.A.Accepts.accepts_gives in
-    let h = g.F.Files.holds c.args.files.now in
+pub advance-requires-clause-ready : goal.advance-requires-clause-ready
+advance-requires-clause-ready g c κs lives =
     let i = c.self.inside in
-    let open_scan = opened gives h _ c.read.new.self _ _ _ _ _ _ _ c.in_ok-read.ensures.ok c.self.view_is in
-    let t = row_found i.extend (gives i.test) i.place i.used _ _ _ c.swap.new.x.items _ _ _ i.held.bytes.items c.in-Row.at c.deref.ensures.value (ap (λ v. v.items) c.swap.ensures.x_after) (c.in-Some.is ∙ ap Some c.in-Row.is) c.in-Ok.ensures.ok in
-    let piece = c.piece_at.ensures t.0 t.2 in
-    let answer = answered_row _ _ _ _ _ _ _ _ _ _ open_scan (block_of i.held.bytes.items) _ c.in-Row.at c.swap.new.x.items c.advance.new.joined.items t.0 c.piece_at.result t.1 t.2 piece in (
-      (refl, λ _. tt, answer),
+    ready_scan (g.F.Files.holds c.args.files.now) c.args.self.now i.source i.rules.test i.rules.extend i.position i.blocks c.self.view_is c.requires.current
+
+pub returns-in-Free : goal.returns-in-Free
+returns-in-Free g c =
+    let i = c.self.inside in
+    let h = g.F.Files.holds c.args.files.now in
+    let gives = g.A.Accepts.accepts_gives in
+    let next = c.in_ok-found.ensures in
+    let mid = c.advance.new.source in
+    let q = c.advance.new.position in
+    let r = c.advance.new.row in
+    let is = c.in-Some.is ∙ ap Some c.in-Free.is in
+    let rises = subst (Rises i.position.place q.place i.source.end) is next.rises in
+    let old = c.args.self.now in
+    let answer = free_answered h old i.source i.rules.test i.rules.extend i.position i.blocks c.self.view_is c.requires.current gives mid q r next.reads c.in-Free.at c.in-Free.size rises (λ m told. subst (FindsItem mid r (met_at i.rules.extend (gives i.rules.test) i.source i.position m) (met_at i.rules.extend (gives i.rules.test) i.source q m)) is (next.told m told)) in (
+      (refl, λ _. tt, (answer, λ m told. goes_on_plain h old i.source i.rules.test i.rules.extend i.position i.blocks c.self.view_is c.requires.current gives mid q r next.reads rises m (λ meets. absurd (subst (λ o. FindsShortAt o q) is (next.short m told meets))))),
       record {
-        item = λ m held. subst (λ is. IsFirst is (Some (item.Row c.in-Row.at c.piece_at.result))) (sym (answer.told m held)) answer.item;
-        packs = subst (λ t. gives t (shown c.piece_at.result) ≡ true) open_scan.same_test (first_packs i.extend (gives i.test) i.place i.used i.held.bytes.items t.0 _ c.piece_at.result (ap rows_of t.1) piece);
-        bytes = c.in_ok-read.ensures.bytes;
-        holds = c.read.ensures.holds;
-        cause = record { later = c.read.ensures.cause.later; cause = λ e. absurd cc };
+        packs = tt;
+        never = tt;
+        holds = next.holds;
+        cause = record { later = next.cause.later; cause = λ e. absurd (ok_not_err e) };
         after = tt;
       },
     )
 
-pub returns-in-Free : goal.returns-in-Free
-returns-in-Free g c =
-    let gives = g.A.Accepts.accepts_gives in
-    let h = g.F.Files.holds c.args.files.now in
+pub returns-in-Kept : goal.returns-in-Kept
+returns-in-Kept g c =
     let i = c.self.inside in
-    let open_scan = opened gives h _ c.read.new.self _ _ _ _ _ _ _ c.in_ok-read.ensures.ok c.self.view_is in
-    let t = free_found i.extend (gives i.test) i.place i.used _ _ _ _ _ _ i.held.bytes.items c.in-Free.at c.in-Free.size c.deref.ensures.value (c.in-Some.is ∙ ap Some c.in-Free.is) c.in-Ok.ensures.ok in
-    let answer = answered_free _ _ _ _ _ _ _ _ _ _ open_scan _ c.in-Free.at c.in-Free.size t in (
-      (refl, λ _. tt, answer),
+    let h = g.F.Files.holds c.args.files.now in
+    let gives = g.A.Accepts.accepts_gives in
+    let next = c.in_ok-found.ensures in
+    let mid = c.advance.new.source in
+    let q = c.advance.new.position in
+    let r = c.advance.new.row in
+    let f = Kept c.in-Kept.block in
+    let is = c.in-Some.is ∙ ap Some (c.in-Row.is ∙ ap found.Row c.in-Kept.is) in
+    let held = subst (λ o. IfSome o (HoldsItem (gives i.rules.test) mid r)) is next.held in
+    let rises = subst (Rises i.position.place q.place i.source.end) is next.rises in
+    let old = c.args.self.now in
+    let answer = item_answered h old i.source i.rules.test i.rules.extend i.position i.blocks c.self.view_is c.requires.current gives mid q r next.reads f c.in-Kept.block.head.at (piece.Lent c.row_bytes.result) c.set_one.new.self rises (λ m told. subst (FindsItem mid r (met_at i.rules.extend (gives i.rules.test) i.source i.position m) (met_at i.rules.extend (gives i.rules.test) i.source q m)) is (next.told m told)) c.row_bytes.ensures refl c.set_one.ensures (ap (λ b. is_lent (ranges_at b)) c.set_one.ensures ∙ held.lent) in (
+      (refl, λ _. tt, (answer, λ m told. goes_on_plain h old i.source i.rules.test i.rules.extend i.position i.blocks c.self.view_is c.requires.current gives mid q r next.reads rises m (λ meets. subst (λ o. FindsShortAt o q) is (next.short m told meets)))),
       record {
-        item = λ m held. subst (λ is. IsFirst is (Some (item.Free c.in-Free.at c.in-Free.size))) (sym (answer.told m held)) answer.item;
-        packs = tt;
-        bytes = c.in_ok-read.ensures.bytes;
-        holds = c.read.ensures.holds;
-        cause = record { later = c.read.ensures.cause.later; cause = λ e. absurd cc };
+        packs = packs_old h old i.source i.rules.test i.rules.extend i.position i.blocks c.self.view_is c.requires.current gives mid q r next.reads _ (ap (gives i.rules.test) c.row_bytes.ensures ∙ held.packs);
+        never = tt;
+        holds = next.holds;
+        cause = record { later = next.cause.later; cause = λ e. absurd (ok_not_err e) };
+        after = tt;
+      },
+    )
+
+pub returns-in-Joined : goal.returns-in-Joined
+returns-in-Joined g c =
+    let i = c.self.inside in
+    let h = g.F.Files.holds c.args.files.now in
+    let gives = g.A.Accepts.accepts_gives in
+    let next = c.in_ok-found.ensures in
+    let mid = c.advance.new.source in
+    let q = c.advance.new.position in
+    let r = c.advance.new.row in
+    let f = Joined c.in-Joined.at in
+    let is = c.in-Some.is ∙ ap Some (c.in-Row.is ∙ ap found.Row c.in-Joined.is) in
+    let held = subst (λ o. IfSome o (HoldsItem (gives i.rules.test) mid r)) is next.held in
+    let rises = subst (Rises i.position.place q.place i.source.end) is next.rises in
+    let old = c.args.self.now in
+    let answer = item_answered h old i.source i.rules.test i.rules.extend i.position i.blocks c.self.view_is c.requires.current gives mid q r next.reads f c.in-Joined.at (piece.Joined c.deref.result) c.take.new.self rises (λ m told. subst (FindsItem mid r (met_at i.rules.extend (gives i.rules.test) i.source i.position m) (met_at i.rules.extend (gives i.rules.test) i.source q m)) is (next.told m told)) c.deref.ensures.value refl c.take.ensures (ap (λ b. is_lent (ranges_at b)) c.take.ensures ∙ held.lent) in (
+      (refl, λ _. tt, (answer, λ m told. goes_on_plain h old i.source i.rules.test i.rules.extend i.position i.blocks c.self.view_is c.requires.current gives mid q r next.reads rises m (λ meets. subst (λ o. FindsShortAt o q) is (next.short m told meets)))),
+      record {
+        packs = packs_old h old i.source i.rules.test i.rules.extend i.position i.blocks c.self.view_is c.requires.current gives mid q r next.reads _ (ap (gives i.rules.test) c.deref.ensures.value ∙ held.packs);
+        never = tt;
+        holds = next.holds;
+        cause = record { later = next.cause.later; cause = λ e. absurd (ok_not_err e) };
         after = tt;
       },
     )

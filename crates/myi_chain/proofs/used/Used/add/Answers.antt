@@ -1,41 +1,41 @@
-use Rattle.std.proofs.Common.{◌+◌, ◌++◌, ◌∷◌, [], sym, ap, subst, ◌∙◌, arith}
-use Rattle.myi_base.specs.Ranges.{Range}
-use Rattle.myi_chain.specs.Chain.{AreApart}
+use Rattle.std.proofs.Common.{◌≡◌, ◌+◌, ◌++◌, ◌∷◌, ℕ, refl, sym, ap, subst, arith}
 use Rattle.std.specs.List.{AllByRecursion}
-use Rattle.myi_chain.specs.Used.{IsRange, AreInOrder, reach}
-use Rattle.myi_chain.specs.Walk.{ranges_at, SameUsed}
-use Rattle.myi_chain.proofs.MapLemmas.{far_apart, more_apart, same_far, same_near}
-use Rattle.myi_chain.proofs.NearLemmas.{push_order}
+use Rattle.myi_chain.specs.Chain.{AreApart, ranges_at}
+use Rattle.myi_chain.specs.Used.{IsRange, joined, AddsBlocks, NeedsMemory}
+use Rattle.myi_chain.proofs.JoinsLemmas.{blocks_added, blocks_need}
 use Rattle.myi_chain.proofs.used.Used.add.Goals as goal
 
-pub put_all-requires-clause-apart : goal.put_all-requires-clause-apart
-put_all-requires-clause-apart c =
+pub add_blocks-requires-clause-apart : goal.add_blocks-requires-clause-apart
+add_blocks-requires-clause-apart c =
     let u = c.self.inside in
-    far_apart u.near.items u.far.entries (ranges_at c.args.blocks.now) (subst (λ t. AreApart t (ranges_at c.args.blocks.now)) (sym c.self.view_is) c.requires.apart)
+    subst (AreApart (joined u.front ++ u.others.entries)) (ap ranges_at c.in-Some.ensures.cases.0) (subst (λ v. AreApart v (ranges_at c.args.blocks.now)) (sym c.self.view_is) c.requires.apart)
 
-pub put_all-requires-2-clause-apart : goal.put_all-requires-2-clause-apart
-put_all-requires-2-clause-apart c =
-    let u = c.self.inside in
-    more_apart u.near.items u.far.entries (ranges_at c.in-Some.more.now) (ranges_at c.args.blocks.now) _ (ap ranges_at c.in-Some.ensures.cases.0) (subst (λ t. AreApart t (ranges_at c.args.blocks.now)) (sym c.self.view_is) c.requires.apart)
+pub add_blocks-requires-clause-first : goal.add_blocks-requires-clause-first
+add_blocks-requires-clause-first c =
+    let some = subst (λ bs. AllByRecursion IsRange (ranges_at bs)) c.in-Some.ensures.cases.0 c.requires.some in
+    some.0.0
 
-pub returns-then-first-reach-clause-ok : goal.returns-then-first-reach-clause-ok
-returns-then-first-reach-clause-ok c =
-    let u = c.self.inside in
-    let rs = ranges_at c.args.blocks.now in
-    subst (λ t. SameUsed (u.near.items ++ c.put_all.new.far.entries) (t ++ rs)) c.self.view_is (same_far u.near.items u.far.entries rs _ c.in_ok-put_all.ensures.same)
+pub add_blocks-requires-clause-some : goal.add_blocks-requires-clause-some
+add_blocks-requires-clause-some c =
+    let some = subst (λ bs. AllByRecursion IsRange (ranges_at bs)) c.in-Some.ensures.cases.0 c.requires.some in
+    some.1
 
-pub invariant_of-self-in-Ok : goal.invariant_of-self-in-Ok
-invariant_of-self-in-Ok c =
-    let u = c.self.inside in
-    let some = subst (AllByRecursion IsRange) (ap ranges_at c.in-Some.ensures.cases.0) c.requires.some in
-    let near = push_order 0 u.near.items (c.in-Some.first.now.0, c.in-Some.first.now.0 + c.in-Some.first.now.1) c.self.invariant.0 (omega (arith, c.reach.ensures ∙ ap (reach 0) c.deref.ensures.value, c.if-first-reach.false)) some.0.0 in
-    (subst (AreInOrder 0) (sym c.in_ok-push.ensures.items) near, c.in-Ok.ensures.order)
+pub join_up-self-inside-requires-clause-some : goal.join_up-self-inside-requires-clause-some
+join_up-self-inside-requires-clause-some c =
+    let some = subst (λ bs. AllByRecursion IsRange (ranges_at bs)) c.in-Some.ensures.cases.0 c.requires.some in
+    some.1
 
-pub returns-in-Ok-clause-ok : goal.returns-in-Ok-clause-ok
-returns-in-Ok-clause-ok c =
+pub join_up-self-inside-requires-clause-place : goal.join_up-self-inside-requires-clause-place
+join_up-self-inside-requires-clause-place c =
+    let first : ℕ × ℕ = c.in-Some.first.now in
+    let some = subst (λ bs. AllByRecursion IsRange (ranges_at bs)) c.in-Some.ensures.cases.0 c.requires.some in
+    omega (arith, some.0.0)
+
+pub returns-clause-ok : goal.returns-clause-ok
+returns-clause-ok c =
     let u = c.self.inside in
-    let rs = ranges_at c.args.blocks.now in
-    let first : Range = (c.in-Some.first.now.0, c.in-Some.first.now.0 + c.in-Some.first.now.1) in
-    let far = c.put_all-2.new.far.entries in
-    let same = same_near u.near.items u.far.entries (ranges_at c.in-Some.more.now) rs far first (ap ranges_at c.in-Some.ensures.cases.0) c.in-Ok.ensures.same in
-    subst (λ t. SameUsed (t ++ far) (c.args.self.now ++ rs)) (sym c.in_ok-push.ensures.items) (subst (λ t. SameUsed ((u.near.items ++ first ∷ []) ++ far) (t ++ rs)) c.self.view_is same)
+    let first : ℕ × ℕ = c.in-Some.first.now in
+    let added = c.in_ok-front.ensures in
+    let up = c.join_up-self-inside.ensures in
+    let adds = blocks_added u.front c.join_up-self-inside.result u.others.entries c.add_blocks.new.far.entries c.join_up-self-inside.new.far.entries first c.in-Some.more.now (first.0 + first.1) refl c.self.invariant.start _ added.same added.plain up.same up.none in
+    subst (λ bs. AddsBlocks c.args.self.now bs (joined c.join_up-self-inside.result ++ c.join_up-self-inside.new.far.entries)) (sym c.in-Some.ensures.cases.0) (subst (λ old. AddsBlocks old (first ∷ c.in-Some.more.now) (joined c.join_up-self-inside.result ++ c.join_up-self-inside.new.far.entries)) c.self.view_is adds)

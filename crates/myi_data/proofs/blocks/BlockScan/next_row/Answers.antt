@@ -1,22 +1,25 @@
-use Rattle.std.proofs.Common.{◌≡◌, take, refl, subst, Some, None}
-use Rattle.std.specs.Prelude.{IfOk, IfSome, OnOk}
-use Rattle.myi_base.specs.Numbers.{AreBytes}
-use Rattle.myi_base.specs.Holding.{Holding, bytes_of}
-use Rattle.myi_chain.specs.Scanning.{IsFirstRow}
-use Rattle.myi_data.specs.Scanning.{TableScan, rows_left, PacksRow, IsSlotOf, LeavesRows}
-use Rattle.myi_data.proofs.BlockScans.{rows_leave_of, rows_ok, slots_ok}
+use Rattle.std.proofs.Common.{◌≡◌, refl, subst, sym}
+use Rattle.std.specs.Prelude.{IfOk, IfErr, IfSome}
+use Rattle.myi_base.specs.Holding.{IfTold}
+use Rattle.myi_chain.specs.declared.piece.ScanFault.TheVariants.{File, Memory}
+use Rattle.myi_defs.specs.declared.types.RowFormat.TheVariants.{Static}
+use Rattle.myi_data.specs.Scanning.{IsAsKnown, MeetsPlainRow, IsSlotRow, PacksRow, AfterTableRow}
+use Rattle.myi_data.proofs.BlockScans.{known_to, plain_to, no_static, rows_slot, row_after}
 use Rattle.myi_data.proofs.blocks.BlockScan.next_row.Goals as goal
+
+pub next_row-requires-clause-current : goal.next_row-requires-clause-current
+next_row-requires-clause-current g c κs lives m held = known_to (g.F.Files.holds c.args.files.now) c.self.inside.scan c.self.invariant m (subst (λ s. IsAsKnown s m) (sym c.self.view_is) (c.requires m held))
 
 pub returns : goal.returns
 returns g c =
     let h = g.F.Files.holds c.args.files.now in
     let scan = c.self.inside.scan in (
-      (refl, λ _. tt, subst (λ s. LeavesRows h s c.next_row.result c.next_row.follows.lender-at-none) c.self.view_is (rows_leave_of h scan c.self.invariant c.next_row.result _ c.next_row.follows.holds-at-none)),
+      (refl, λ _. tt, subst (λ s. AfterTableRow h s c.next_row.result c.next_row.follows.lender-at-none) c.self.view_is (row_after h scan c.self.invariant c.next_row.result _ c.next_row.follows.holds-at-none)),
       record {
-        row = subst (λ s. IfOk c.next_row.result (λ found. (m : Holding) → h ≡ Some m → IsFirstRow (rows_left s m) found)) c.self.view_is (rows_ok h scan c.self.invariant c.next_row.result c.next_row.ensures.row);
         packs = subst (λ s. IfOk c.next_row.result (λ found. IfSome found (PacksRow s))) c.self.view_is c.next_row.ensures.packs;
-        slot = subst (λ s. IfOk c.next_row.result (λ found. IfSome found (IsSlotOf s))) c.self.view_is (slots_ok h scan c.self.invariant c.next_row.result);
-        bytes = subst (λ (s : TableScan). OnOk c.next_row.result ((m : Holding) → h ≡ Some m → s.left ≡ None → AreBytes (take s.end (bytes_of s.name m)))) c.self.view_is c.next_row.ensures.bytes;
+        slot = subst (λ s. IfOk c.next_row.result (λ found. IfSome found (IsSlotRow s))) c.self.view_is (rows_slot h scan c.self.invariant c.next_row.result);
+        never = λ static. subst (λ s. s.test.format ≡ Static → IfErr c.next_row.result (λ e. e ≡ File)) c.self.view_is (λ e. no_static h scan c.self.invariant e) static;
+        plain = subst (λ s. IfErr c.next_row.result (λ e. e ≡ Memory → IfTold h (λ m. MeetsPlainRow s m → ⊥))) c.self.view_is (plain_to h scan c.self.invariant c.next_row.result c.next_row.ensures.never);
         holds = c.next_row.ensures.holds;
         cause = c.next_row.ensures.cause;
         after = tt;

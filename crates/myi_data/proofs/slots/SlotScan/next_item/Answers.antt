@@ -1,26 +1,64 @@
-use Rattle.std.proofs.Common.{◌∙◌, sym, ap, refl, subst, arith, Some}
-use Rattle.std.proofs.lemmas.List.{length-drop}
-use Rattle.myi_chain.specs.declared.piece.Item.TheVariants as item
-use Rattle.myi_chain.specs.declared.piece.Piece.TheVariants.{Lent, Joined}
-use Rattle.myi_chain.specs.Scanning.{IsFirst}
+use Rattle.std.proofs.Common.{◌≡◌, ◌∙◌, refl, ap, subst, Some, None, Ok, Err, take, [], ◌∷◌}
+use Rattle.std.specs.Prelude.{option_to_list}
+use Rattle.std.proofs.lemmas.Result.{err_from_is_err_and}
+use Rattle.myi_base.specs.Holding.{bytes_of}
+use Rattle.myi_base.proofs.CallerLemmas.{ok_not_err}
+use Rattle.myi_chain.specs.declared.piece.ScanFault.TheVariants.{File}
+use Rattle.myi_chain.specs.Pieces.{shown}
+use Rattle.myi_io.specs.Faults.{handed_on}
+use Rattle.myi_chain.specs.declared.piece.ScanFault.TheVariants as fault
 use Rattle.myi_data.specs.Readable.{packs}
-use Rattle.myi_data.specs.NextSlot.{row_in_slot}
-use Rattle.myi_data.proofs.SlotLemmas.{items_none}
-use Rattle.myi_data.proofs.ScanLaws.{opened, ended, none_first, answered_free, answered_row, few_at, slot_none, slot_free, slot_row_found, slot_packs, packs_of, slot_shown, slot_blocks, lent_slot, joined_slot}
+use Rattle.myi_data.specs.NextSlot.{IsNext, IsPlaced, IsHeld, IsSlotBetween}
+use Rattle.myi_chain.specs.declared.piece.Item.TheVariants as item
+use Rattle.myi_data.specs.Scanning.{AfterTableItem}
+use Rattle.myi_data.proofs.ScanLaws.{went, slot_scan, item_answered, free_answered, items_ended, items_kept, no_plain, row_packs, row_slot, free_slot}
 use Rattle.myi_data.proofs.slots.SlotScan.next_item.Goals as goal
 
 pub returns-in_default : goal.returns-in_default
 returns-in_default g c =
     let i = c.self.inside in
-    let open_scan = opened _ c.args.self.now c.read.new.self _ _ _ _ _ _ _ c.in_ok-read.ensures.ok c.self.view_is in
-    let none = slot_none (packs i.test) _ _ i.at _ i.bytes.items c.deref.ensures.value c.slot_length-size.ensures _ c.in_default.is c.next_slot.ensures in (
-      (refl, λ _. tt, ended _ _ _ _ _ _ _ _ _ open_scan _ (items_none (packs i.test) i.test.slot_length c.len-self-inside.result i.bytes.items (omega arith) (omega (arith, c.self.invariant.1)))),
+    let h = g.F.Files.holds c.args.files.now in
+    let name = c.as_str.result.now in
+    let v = c.next_slot.new.bytes.held in
+    let to = c.next_slot.new.place in
+    let size = c.slot_length-size.result in
+    let found = c.in_ok-slot.ensures in
+    let k = went h c.args.self.now name _ i.test i.extend i.end i.place to (option_to_list i.last) i.bytes.held v size c.as_str.ensures.value c.self.view_is c.self.invariant.0 c.self.invariant.1 c.slot_length-size.ensures found.later found.within found.inside c.requires found.stands in
+    let last = subst (IsPlaced size i.place to i.end) c.in_default.is found.placed in (
+      (refl, λ _. tt, subst (λ n. AfterTableItem h c.args.self.now (Ok None) (slot_scan n i.test i.extend i.end to (option_to_list i.last) v)) c.as_str.ensures.value (items_ended h c.args.self.now name i.test i.extend i.end i.place to (option_to_list i.last) i.bytes.held v size k last (λ m held stood. subst (IsNext (packs i.test) size (take i.end (bytes_of name m)) i.place to) c.in_default.is (found.found m held stood)))),
       record {
-        item = none_first _ _ _ _ _ _ _ _ _ open_scan none;
         packs = tt;
-        bytes = c.in_ok-read.ensures.bytes;
-        holds = c.read.ensures.holds;
-        cause = record { later = c.read.ensures.cause.later; cause = λ e. absurd cc };
+        slot = tt;
+        never = λ static. tt;
+        plain = tt;
+        holds = found.holds;
+        cause = record { later = found.cause.later; cause = λ e. absurd (ok_not_err e) };
+        after = tt;
+      },
+    )
+
+pub returns-in-Row : goal.returns-in-Row
+returns-in-Row g c =
+    let i = c.self.inside in
+    let h = g.F.Files.holds c.args.files.now in
+    let name = c.as_str.result.now in
+    let v = c.next_slot.new.bytes.held in
+    let to = c.next_slot.new.place in
+    let size = c.slot_length-size.result in
+    let found = c.in_ok-slot.ensures in
+    let k = went h c.args.self.now name _ i.test i.extend i.end i.place to (option_to_list i.last) i.bytes.held v size c.as_str.ensures.value c.self.view_is c.self.invariant.0 c.self.invariant.1 c.slot_length-size.ensures found.later found.within found.inside c.requires found.stands in
+    let at = c.in-Row.at in
+    let placed : IsSlotBetween size i.place to i.end at = subst (IsPlaced size i.place to i.end) (c.in-Some.is ∙ ap Some c.in-Row.is) found.placed in
+    let whole = subst (IsHeld (packs i.test) size v) (c.in-Some.is ∙ ap Some c.in-Row.is) found.held in
+    let slot = c.slot_at.ensures.shown in (
+      (refl, λ _. tt, subst (λ n. AfterTableItem h c.args.self.now (Ok (Some (item.Row at c.slot_at.result))) (slot_scan n i.test i.extend i.end to ((at, size) ∷ []) v)) c.as_str.ensures.value (item_answered h c.args.self.now name i.test i.extend i.end i.place to (option_to_list i.last) i.bytes.held v size k at c.slot_at.result placed whole.0 slot c.slot_at.ensures.form (λ m held stood. subst (IsNext (packs i.test) size (take i.end (bytes_of name m)) i.place to) (c.in-Some.is ∙ ap Some c.in-Row.is) (found.found m held stood)))),
+      record {
+        packs = row_packs h c.args.self.now name i.test i.extend i.end i.place to (option_to_list i.last) i.bytes.held v size k (shown c.slot_at.result) at slot whole.1;
+        slot = row_slot h c.args.self.now name i.test i.extend i.end i.place to (option_to_list i.last) i.bytes.held v size k at c.slot_at.result placed whole.0 slot;
+        never = λ static. tt;
+        plain = tt;
+        holds = found.holds;
+        cause = record { later = found.cause.later; cause = λ e. absurd (ok_not_err e) };
         after = tt;
       },
     )
@@ -28,61 +66,49 @@ returns-in_default g c =
 pub returns-in-Free : goal.returns-in-Free
 returns-in-Free g c =
     let i = c.self.inside in
-    let open_scan = opened _ c.args.self.now c.read.new.self _ _ _ _ _ _ _ c.in_ok-read.ensures.ok c.self.view_is in
-    let t = slot_free (packs i.test) _ _ i.at _ i.bytes.items c.deref.ensures.value c.slot_length-size.ensures _ c.in-Free.at (c.in-Some.is ∙ ap Some c.in-Free.is) c.next_slot.ensures in
-    let few = few_at (packs i.test) i.test.slot_length i.end i.at i.bytes.items c.self.invariant.1 (omega (arith, length-drop i.at i.bytes.items, c.self.invariant.2)) in
-    let answer = answered_free _ _ _ _ _ _ _ _ _ open_scan _ c.in-Free.at c.slot_length-size.result t.1 few in (
-      (refl, λ _. tt, answer),
+    let h = g.F.Files.holds c.args.files.now in
+    let name = c.as_str.result.now in
+    let v = c.next_slot.new.bytes.held in
+    let to = c.next_slot.new.place in
+    let size = c.slot_length-size.result in
+    let found = c.in_ok-slot.ensures in
+    let k = went h c.args.self.now name _ i.test i.extend i.end i.place to (option_to_list i.last) i.bytes.held v size c.as_str.ensures.value c.self.view_is c.self.invariant.0 c.self.invariant.1 c.slot_length-size.ensures found.later found.within found.inside c.requires found.stands in
+    let at = c.in-Free.at in
+    let is = c.in-Some.is ∙ ap Some c.in-Free.is in
+    let placed : IsSlotBetween size i.place to i.end at = subst (IsPlaced size i.place to i.end) is found.placed in (
+      (refl, λ _. tt, subst (λ n. AfterTableItem h c.args.self.now (Ok (Some (item.Free at size))) (slot_scan n i.test i.extend i.end to (option_to_list i.last) v)) c.as_str.ensures.value (free_answered h c.args.self.now name i.test i.extend i.end i.place to (option_to_list i.last) i.bytes.held v size k at placed (λ m held stood. subst (IsNext (packs i.test) size (take i.end (bytes_of name m)) i.place to) is (found.found m held stood)))),
       record {
-        item = λ m held. subst (λ is. IsFirst is (Some (item.Free c.in-Free.at c.slot_length-size.result))) (sym (answer.told m held)) answer.item;
         packs = tt;
-        bytes = c.in_ok-read.ensures.bytes;
-        holds = c.read.ensures.holds;
-        cause = record { later = c.read.ensures.cause.later; cause = λ e. absurd cc };
+        slot = free_slot h c.args.self.now name i.test i.extend i.end i.place to (option_to_list i.last) i.bytes.held v size k at placed;
+        never = λ static. tt;
+        plain = tt;
+        holds = found.holds;
+        cause = record { later = found.cause.later; cause = λ e. absurd (ok_not_err e) };
         after = tt;
       },
     )
 
-pub returns-then-size-gt-WINDOW : goal.returns-then-size-gt-WINDOW
-returns-then-size-gt-WINDOW g c =
+pub returns-in_err-slot : goal.returns-in_err-slot
+returns-in_err-slot g c =
     let i = c.self.inside in
+    let h = g.F.Files.holds c.args.files.now in
+    let name = c.as_str.result.now in
+    let v = c.next_slot.new.bytes.held in
+    let to = c.next_slot.new.place in
     let size = c.slot_length-size.result in
-    let at = c.in-Row.at in
-    let open_scan = opened _ c.args.self.now c.read.new.self _ _ _ _ _ _ _ c.in_ok-read.ensures.ok c.self.view_is in
-    let t = slot_row_found (packs i.test) _ _ i.at _ i.bytes.items c.deref.ensures.value c.slot_length-size.ensures _ at (c.in-Some.is ∙ ap Some c.in-Row.is) c.next_slot.ensures in
-    let few = few_at (packs i.test) i.test.slot_length i.end i.at i.bytes.items c.self.invariant.1 (omega (arith, length-drop i.at i.bytes.items, c.self.invariant.2)) in
-    let bytes = slot_shown (packs i.test) size i.test.slot_length i.at _ i.bytes.items c.deref-then-size-gt-WINDOW.ensures.value c.slot_length-size.ensures at c.slot_at.result.now t.0 c.slot_at.ensures in
-    let piece = joined_slot i.test.slot_length at i.bytes.items c.slot_at.result.now (omega (arith, t.0, c.slot_length-size.ensures)) (omega (arith, c.slot_length-size.ensures)) bytes in
-    let answer = answered_row _ _ _ _ _ _ _ _ _ open_scan _ (row_in_slot i.test.slot_length i.bytes.items at) at size (Joined c.slot_at.result) t.1 (slot_blocks i.test.slot_length at size i.bytes.items c.slot_length-size.ensures t.0) refl piece few in (
-      (refl, λ _. tt, answer),
+    let found = c.in_err-slot.ensures in
+    let k = went h c.args.self.now name _ i.test i.extend i.end i.place to (option_to_list i.last) i.bytes.held v size c.as_str.ensures.value c.self.view_is c.self.invariant.0 c.self.invariant.1 c.slot_length-size.ensures found.later found.within found.inside c.requires found.stands in
+    let e = err_from_is_err_and c.from_residual.result c.from_residual.ensures.1 in
+    let same : c.from_residual.result ≡ Err File = e.1 ∙ ap Err (e.2 ∙ ap (handed_on fault.File fault.Memory) found.failed) in
+    rw same (
+      (refl, λ _. tt, subst (λ n. AfterTableItem h c.args.self.now (Err File) (slot_scan n i.test i.extend i.end to (option_to_list i.last) v)) c.as_str.ensures.value (items_kept h c.args.self.now name i.test i.extend i.end i.place to (option_to_list i.last) i.bytes.held v size k found.err)),
       record {
-        item = λ m held. subst (λ is. IsFirst is (Some (item.Row at (Joined c.slot_at.result)))) (sym (answer.told m held)) answer.item;
-        packs = packs_of _ _ _ _ _ _ _ _ _ open_scan at (Joined c.slot_at.result) (row_in_slot i.test.slot_length i.bytes.items at) piece (slot_packs (packs i.test) i.test.slot_length i.at at i.bytes.items _ t.1);
-        bytes = c.in_ok-read.ensures.bytes;
-        holds = c.read.ensures.holds;
-        cause = record { later = c.read.ensures.cause.later; cause = λ e. absurd cc };
-        after = tt;
-      },
-    )
-
-pub returns-else-size-gt-WINDOW : goal.returns-else-size-gt-WINDOW
-returns-else-size-gt-WINDOW g c =
-    let i = c.self.inside in
-    let size = c.slot_length-size.result in
-    let at = c.in-Row.at in
-    let open_scan = opened _ c.args.self.now c.read.new.self _ _ _ _ _ _ _ c.in_ok-read.ensures.ok c.self.view_is in
-    let t = slot_row_found (packs i.test) _ _ i.at _ i.bytes.items c.deref.ensures.value c.slot_length-size.ensures _ at (c.in-Some.is ∙ ap Some c.in-Row.is) c.next_slot.ensures in
-    let few = few_at (packs i.test) i.test.slot_length i.end i.at i.bytes.items c.self.invariant.1 (omega (arith, length-drop i.at i.bytes.items, c.self.invariant.2)) in
-    let bytes = slot_shown (packs i.test) size i.test.slot_length i.at _ i.bytes.items c.deref-in-Row.ensures.value c.slot_length-size.ensures at c.slot_at-in-Row.result.now t.0 c.slot_at-in-Row.ensures in
-    let piece = lent_slot i.test.slot_length at i.bytes.items c.slot_at-in-Row.result.now (omega (arith, t.0, c.slot_length-size.ensures)) (omega (arith, c.slot_length-size.ensures)) bytes in
-    let answer = answered_row _ _ _ _ _ _ _ _ _ open_scan _ (row_in_slot i.test.slot_length i.bytes.items at) at size (Lent c.slot_at-in-Row.result) t.1 (slot_blocks i.test.slot_length at size i.bytes.items c.slot_length-size.ensures t.0) refl piece few in (
-      (refl, λ _. tt, answer),
-      record {
-        item = λ m held. subst (λ is. IsFirst is (Some (item.Row at (Lent c.slot_at-in-Row.result)))) (sym (answer.told m held)) answer.item;
-        packs = packs_of _ _ _ _ _ _ _ _ _ open_scan at (Lent c.slot_at-in-Row.result) (row_in_slot i.test.slot_length i.bytes.items at) piece (slot_packs (packs i.test) i.test.slot_length i.at at i.bytes.items _ t.1);
-        bytes = c.in_ok-read.ensures.bytes;
-        holds = c.read.ensures.holds;
-        cause = record { later = c.read.ensures.cause.later; cause = λ e. absurd cc };
+        packs = tt;
+        slot = tt;
+        never = λ static. refl;
+        plain = λ is m held meets. no_plain h c.args.self.now name i.test i.extend i.end i.place to (option_to_list i.last) i.bytes.held v size k m meets;
+        holds = found.holds;
+        cause = record { later = found.cause.later; cause = λ _. found.cause.cause (ap Err found.failed) };
         after = tt;
       },
     )

@@ -1,49 +1,37 @@
-use Rattle.std.proofs.Common.{◌∙◌, sym, ap, refl, subst, arith, length, Some}
-use Rattle.std.proofs.lemmas.List.{length-drop}
-use Rattle.myi_chain.specs.declared.piece.Piece.TheVariants.{Lent, Joined}
-use Rattle.myi_chain.specs.Scanning.{IsFirstRow}
+use Rattle.std.proofs.Common.{◌≡◌, ◌∙◌, refl, ap, subst, Some, None, Ok, Err, take, [], ◌∷◌}
+use Rattle.std.specs.Prelude.{option_to_list}
+use Rattle.std.proofs.lemmas.Result.{err_from_is_err_and}
+use Rattle.myi_base.specs.Holding.{bytes_of}
+use Rattle.myi_base.proofs.CallerLemmas.{ok_not_err}
+use Rattle.myi_chain.specs.declared.piece.ScanFault.TheVariants.{File}
+use Rattle.myi_chain.specs.Pieces.{shown}
+use Rattle.myi_io.specs.Faults.{handed_on}
+use Rattle.myi_chain.specs.declared.piece.ScanFault.TheVariants as fault
 use Rattle.myi_data.specs.Readable.{packs}
-use Rattle.myi_data.specs.NextSlot.{row_in_slot}
-use Rattle.myi_data.proofs.SlotLemmas.{items_none, long_here}
-use Rattle.myi_data.proofs.ScanLaws.{opened, ended, none_first_row, answered_next, few_at, place_none, place_found, place_packs, packs_of, slot_shown, slot_blocks, slot_of, lent_slot, joined_slot}
+use Rattle.myi_data.specs.NextSlot.{IsNextRow, IsRowPlaced, IsRowHeld, IsSlotBetween}
+use Rattle.myi_data.specs.Scanning.{AfterTableRow}
+use Rattle.myi_data.proofs.ScanLaws.{went, slot_scan, row_answered, rows_ended, rows_kept, no_plain, row_packs, row_slot}
 use Rattle.myi_data.proofs.slots.SlotScan.next_row.Goals as goal
 
 pub returns-in_default : goal.returns-in_default
 returns-in_default g c =
     let i = c.self.inside in
-    let open_scan = opened _ c.args.self.now c.read.new.self _ _ _ _ _ _ _ c.in_ok-read.ensures.ok c.self.view_is in
-    let none = place_none (packs i.test) _ _ i.at _ i.bytes.items c.deref.ensures.value c.slot_length-size.ensures _ c.in_default.is c.next_row_place.ensures in (
-      (refl, λ _. tt, ended _ _ _ _ _ _ _ _ _ open_scan _ (items_none (packs i.test) i.test.slot_length c.len-self-inside.result i.bytes.items (omega arith) (omega (arith, c.self.invariant.1)))),
+    let h = g.F.Files.holds c.args.files.now in
+    let name = c.as_str.result.now in
+    let v = c.next_row_slot.new.bytes.held in
+    let to = c.next_row_slot.new.place in
+    let size = c.slot_length-size.result in
+    let found = c.in_ok-at.ensures in
+    let k = went h c.args.self.now name _ i.test i.extend i.end i.place to (option_to_list i.last) i.bytes.held v size c.as_str.ensures.value c.self.view_is c.self.invariant.0 c.self.invariant.1 c.slot_length-size.ensures found.later found.within found.inside c.requires found.stands in
+    let last = subst (IsRowPlaced size i.place to i.end) c.in_default.is found.placed in (
+      (refl, λ _. tt, subst (λ n. AfterTableRow h c.args.self.now (Ok None) (slot_scan n i.test i.extend i.end to (option_to_list i.last) v)) c.as_str.ensures.value (rows_ended h c.args.self.now name i.test i.extend i.end i.place to (option_to_list i.last) i.bytes.held v size k last (λ m held stood. subst (IsNextRow (packs i.test) size (take i.end (bytes_of name m)) i.place to) c.in_default.is (found.found m held stood)))),
       record {
-        row = none_first_row _ _ _ _ _ _ _ _ _ open_scan none;
         packs = tt;
         slot = tt;
-        bytes = c.in_ok-read.ensures.bytes;
-        holds = c.read.ensures.holds;
-        cause = record { later = c.read.ensures.cause.later; cause = λ e. absurd cc };
-        after = tt;
-      },
-    )
-
-pub returns-then-size-gt-WINDOW : goal.returns-then-size-gt-WINDOW
-returns-then-size-gt-WINDOW g c =
-    let i = c.self.inside in
-    let size = c.slot_length-size.result in
-    let at = c.in-Some.at in
-    let open_scan = opened _ c.args.self.now c.read.new.self _ _ _ _ _ _ _ c.in_ok-read.ensures.ok c.self.view_is in
-    let t = place_found (packs i.test) _ _ i.at _ i.bytes.items c.deref.ensures.value c.slot_length-size.ensures _ at c.in-Some.is c.next_row_place.ensures in
-    let few = few_at (packs i.test) i.test.slot_length i.end i.at i.bytes.items c.self.invariant.1 (omega (arith, length-drop i.at i.bytes.items, c.self.invariant.2)) in
-    let bytes = slot_shown (packs i.test) size i.test.slot_length i.at _ i.bytes.items c.deref-then-size-gt-WINDOW.ensures.value c.slot_length-size.ensures at c.slot_at.result.now t.0 c.slot_at.ensures in
-    let piece = joined_slot i.test.slot_length at i.bytes.items c.slot_at.result.now (omega (arith, t.0, c.slot_length-size.ensures)) (omega (arith, c.slot_length-size.ensures)) bytes in
-    let answer = answered_next _ _ _ _ _ _ _ _ _ open_scan _ (row_in_slot i.test.slot_length i.bytes.items at) at size (Joined c.slot_at.result) t.1 (slot_blocks i.test.slot_length at size i.bytes.items c.slot_length-size.ensures t.0) refl piece few in (
-      (refl, λ _. tt, answer),
-      record {
-        row = λ m held. subst (λ rows. IsFirstRow rows (Some (at, Joined c.slot_at.result))) (sym (answer.told m held).rows) (answer.at, answer.piece);
-        packs = packs_of _ _ _ _ _ _ _ _ _ open_scan at (Joined c.slot_at.result) (row_in_slot i.test.slot_length i.bytes.items at) piece (place_packs (packs i.test) i.test.slot_length i.at at i.bytes.items _ t.1);
-        slot = slot_of _ _ _ _ _ _ _ _ _ open_scan at (Joined c.slot_at.result) (ap (λ b. length b) bytes ∙ long_here (packs i.test) i.test.slot_length at i.bytes.items (omega (arith, t.0, c.slot_length-size.ensures))) (omega (arith, t.0, c.slot_length-size.ensures, c.self.invariant.2));
-        bytes = c.in_ok-read.ensures.bytes;
-        holds = c.read.ensures.holds;
-        cause = record { later = c.read.ensures.cause.later; cause = λ e. absurd cc };
+        never = λ static. tt;
+        plain = tt;
+        holds = found.holds;
+        cause = record { later = found.cause.later; cause = λ e. absurd (ok_not_err e) };
         after = tt;
       },
     )
@@ -51,22 +39,50 @@ returns-then-size-gt-WINDOW g c =
 pub returns : goal.returns
 returns g c =
     let i = c.self.inside in
+    let h = g.F.Files.holds c.args.files.now in
+    let name = c.as_str.result.now in
+    let v = c.next_row_slot.new.bytes.held in
+    let to = c.next_row_slot.new.place in
     let size = c.slot_length-size.result in
+    let found = c.in_ok-at.ensures in
+    let k = went h c.args.self.now name _ i.test i.extend i.end i.place to (option_to_list i.last) i.bytes.held v size c.as_str.ensures.value c.self.view_is c.self.invariant.0 c.self.invariant.1 c.slot_length-size.ensures found.later found.within found.inside c.requires found.stands in
     let at = c.in-Some.at in
-    let open_scan = opened _ c.args.self.now c.read.new.self _ _ _ _ _ _ _ c.in_ok-read.ensures.ok c.self.view_is in
-    let t = place_found (packs i.test) _ _ i.at _ i.bytes.items c.deref.ensures.value c.slot_length-size.ensures _ at c.in-Some.is c.next_row_place.ensures in
-    let few = few_at (packs i.test) i.test.slot_length i.end i.at i.bytes.items c.self.invariant.1 (omega (arith, length-drop i.at i.bytes.items, c.self.invariant.2)) in
-    let bytes = slot_shown (packs i.test) size i.test.slot_length i.at _ i.bytes.items c.deref-2.ensures.value c.slot_length-size.ensures at c.slot_at-2.result.now t.0 c.slot_at-2.ensures in
-    let piece = lent_slot i.test.slot_length at i.bytes.items c.slot_at-2.result.now (omega (arith, t.0, c.slot_length-size.ensures)) (omega (arith, c.slot_length-size.ensures)) bytes in
-    let answer = answered_next _ _ _ _ _ _ _ _ _ open_scan _ (row_in_slot i.test.slot_length i.bytes.items at) at size (Lent c.slot_at-2.result) t.1 (slot_blocks i.test.slot_length at size i.bytes.items c.slot_length-size.ensures t.0) refl piece few in (
-      (refl, λ _. tt, answer),
+    let placed : IsSlotBetween size i.place to i.end at = subst (IsRowPlaced size i.place to i.end) c.in-Some.is found.placed in
+    let whole = subst (IsRowHeld (packs i.test) size v) c.in-Some.is found.held in
+    let slot = c.slot_at.ensures.shown in (
+      (refl, λ _. tt, subst (λ n. AfterTableRow h c.args.self.now (Ok (Some (at, c.slot_at.result))) (slot_scan n i.test i.extend i.end to ((at, size) ∷ []) v)) c.as_str.ensures.value (row_answered h c.args.self.now name i.test i.extend i.end i.place to (option_to_list i.last) i.bytes.held v size k at c.slot_at.result placed whole.0 slot c.slot_at.ensures.form (λ m held stood. subst (IsNextRow (packs i.test) size (take i.end (bytes_of name m)) i.place to) c.in-Some.is (found.found m held stood)))),
       record {
-        row = λ m held. subst (λ rows. IsFirstRow rows (Some (at, Lent c.slot_at-2.result))) (sym (answer.told m held).rows) (answer.at, answer.piece);
-        packs = packs_of _ _ _ _ _ _ _ _ _ open_scan at (Lent c.slot_at-2.result) (row_in_slot i.test.slot_length i.bytes.items at) piece (place_packs (packs i.test) i.test.slot_length i.at at i.bytes.items _ t.1);
-        slot = slot_of _ _ _ _ _ _ _ _ _ open_scan at (Lent c.slot_at-2.result) (ap (λ b. length b) bytes ∙ long_here (packs i.test) i.test.slot_length at i.bytes.items (omega (arith, t.0, c.slot_length-size.ensures))) (omega (arith, t.0, c.slot_length-size.ensures, c.self.invariant.2));
-        bytes = c.in_ok-read.ensures.bytes;
-        holds = c.read.ensures.holds;
-        cause = record { later = c.read.ensures.cause.later; cause = λ e. absurd cc };
+        packs = row_packs h c.args.self.now name i.test i.extend i.end i.place to (option_to_list i.last) i.bytes.held v size k (shown c.slot_at.result) at slot whole.1;
+        slot = row_slot h c.args.self.now name i.test i.extend i.end i.place to (option_to_list i.last) i.bytes.held v size k at c.slot_at.result placed whole.0 slot;
+        never = λ static. tt;
+        plain = tt;
+        holds = found.holds;
+        cause = record { later = found.cause.later; cause = λ e. absurd (ok_not_err e) };
+        after = tt;
+      },
+    )
+
+pub returns-in_err-at : goal.returns-in_err-at
+returns-in_err-at g c =
+    let i = c.self.inside in
+    let h = g.F.Files.holds c.args.files.now in
+    let name = c.as_str.result.now in
+    let v = c.next_row_slot.new.bytes.held in
+    let to = c.next_row_slot.new.place in
+    let size = c.slot_length-size.result in
+    let found = c.in_err-at.ensures in
+    let k = went h c.args.self.now name _ i.test i.extend i.end i.place to (option_to_list i.last) i.bytes.held v size c.as_str.ensures.value c.self.view_is c.self.invariant.0 c.self.invariant.1 c.slot_length-size.ensures found.later found.within found.inside c.requires found.stands in
+    let e = err_from_is_err_and c.from_residual.result c.from_residual.ensures.1 in
+    let same : c.from_residual.result ≡ Err File = e.1 ∙ ap Err (e.2 ∙ ap (handed_on fault.File fault.Memory) found.failed) in
+    rw same (
+      (refl, λ _. tt, subst (λ n. AfterTableRow h c.args.self.now (Err File) (slot_scan n i.test i.extend i.end to (option_to_list i.last) v)) c.as_str.ensures.value (rows_kept h c.args.self.now name i.test i.extend i.end i.place to (option_to_list i.last) i.bytes.held v size k found.err)),
+      record {
+        packs = tt;
+        slot = tt;
+        never = λ static. refl;
+        plain = λ is m held meets. no_plain h c.args.self.now name i.test i.extend i.end i.place to (option_to_list i.last) i.bytes.held v size k m meets;
+        holds = found.holds;
+        cause = record { later = found.cause.later; cause = λ _. found.cause.cause (ap Err found.failed) };
         after = tt;
       },
     )

@@ -1,13 +1,41 @@
-use Rattle.std.proofs.Common.{refl}
-use Rattle.myi_base.proofs.CallerLemmas.{told_same}
-use Rattle.myi_keycache.proofs.PlainLemmas.{plain_written, plain_flushes, counts_stay}
+use Rattle.std.proofs.Common.{◌≡◌, Err, sym, ap, subst, ◌∙◌}
+use Rattle.std.specs.Prelude.{string_bytes}
+use Rattle.std.proofs.lemmas.Result.{err_from_is_err_and}
+use Rattle.myi_keycache.specs.declared.setup.CacheFault.{CacheFault}
+use Rattle.myi_keycache.specs.Kept.{kept, AllWritten, WrittenUpTo}
+use Rattle.myi_keycache.specs.Caching.{pages_of}
+use Rattle.myi_keycache.specs.Order.{cache_of, contents_of}
+use Rattle.myi_keycache.proofs.CacheLemmas.{pages_eq}
+use Rattle.myi_keycache.proofs.GetLemmas.{cache_is, pages_in}
+use Rattle.myi_keycache.proofs.FlushLemmas.{flush_told}
 use Rattle.myi_keycache.proofs.cache.KeyCache.flush.Goals as goal
 
+pub returns-in_err-write_all-clause-in_order : goal.returns-in_err-write_all-clause-in_order
+returns-in_err-write_all-clause-in_order g c =
+    let fault : CacheFault = c.in_err-write_all.field-0.0 in
+    let e = err_from_is_err_and c.from_residual.result c.from_residual.ensures.1 in
+    let same : c.from_residual.result ≡ Err fault = e.1 ∙ ap Err e.2 in
+    let old = pages_in (string_bytes c.self.inside.name) c.self.inside.blocks c.self.inside.counters c.args.self.now c.self.view_is in
+    let new = pages_eq (string_bytes c.self.inside.name) c.write_all.new.blocks c.write_all.new.counters in
+    rw same (subst (λ l. WrittenUpTo l (pages_of (cache_of (string_bytes c.self.inside.name) c.write_all.new.blocks c.write_all.new.counters))) (sym old) (subst (λ l. WrittenUpTo (contents_of c.self.inside.blocks.pages) l) (sym new) c.in_err-write_all.ensures.in_order))
+
+pub returns-in_err-write_all-clause-kept : goal.returns-in_err-write_all-clause-kept
+returns-in_err-write_all-clause-kept g c p n =
+    let old = pages_in (string_bytes c.self.inside.name) c.self.inside.blocks c.self.inside.counters c.args.self.now c.self.view_is in
+    let new = pages_eq (string_bytes c.self.inside.name) c.write_all.new.blocks c.write_all.new.counters in
+    ap (λ l. kept l p n) new ∙ c.in_err-write_all.ensures.stay.kept p n ∙ ap (λ l. kept l p n) (sym old)
+
+pub returns-in_err-write_all-clause-clean : goal.returns-in_err-write_all-clause-clean
+returns-in_err-write_all-clause-clean g c all =
+    let old = cache_is c.as_str.result.now (string_bytes c.self.inside.name) c.self.inside.blocks c.self.inside.counters c.args.self.now c.as_str.ensures.value c.self.view_is in
+    c.in_err-write_all.ensures.writes.clean (subst (λ k. AllWritten (pages_of k)) (sym old) all)
+
 pub returns-clause-ok : goal.returns-clause-ok
-returns-clause-ok g c = told_same _ _ _ refl (λ m held can. plain_flushes _ _ c.args.self.now m c.self.view_is can)
+returns-clause-ok g c =
+    let old = cache_is c.as_str.result.now (string_bytes c.self.inside.name) c.self.inside.blocks c.self.inside.counters c.args.self.now c.as_str.ensures.value c.self.view_is in
+    flush_told _ _ c.as_str.result.now (string_bytes c.self.inside.name) c.self.inside.blocks c.write_all.new.blocks c.self.inside.counters c.write_all.new.counters c.args.self.now old c.as_str.ensures.value c.in_ok-write_all.ensures.written c.in_ok-write_all.ensures.writes.told
 
-pub returns-clause-written : goal.returns-clause-written
-returns-clause-written g c = plain_written _ _ c.args.self.now c.self.view_is
-
-pub returns-clause-counters : goal.returns-clause-counters
-returns-clause-counters g c = counts_stay _ _ c.args.self.now c.self.view_is c.self.invariant.1
+pub returns-clause-clean : goal.returns-clause-clean
+returns-clause-clean g c all =
+    let old = cache_is c.as_str.result.now (string_bytes c.self.inside.name) c.self.inside.blocks c.self.inside.counters c.args.self.now c.as_str.ensures.value c.self.view_is in
+    c.in_ok-write_all.ensures.writes.clean (subst (λ k. AllWritten (pages_of k)) (sym old) all)

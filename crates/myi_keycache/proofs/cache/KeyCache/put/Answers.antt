@@ -1,17 +1,67 @@
-use Rattle.myi_keycache.proofs.PlainLemmas.{told_puts, told_part, told_others, told_others_part, puts_counts, on_err}
+use Rattle.std.proofs.Common.{◌≡◌, ℕ, true, length, refl, sym, ap, ◌∙◌, arith}
+use Rattle.std.specs.Prelude.{string_bytes, is_some}
+use Rattle.std.proofs.lemmas.Result.{err_from_is_err_and}
+use Rattle.std.proofs.lemmas.Bool.{and_parts, eqb-true}
+use Rattle.myi_base.proofs.CallerLemmas.{ok_not_err}
+use Rattle.myi_keycache.specs.declared.setup.CacheFault.{CacheFault}
+use Rattle.myi_keycache.specs.Kept.{is_kept}
+use Rattle.myi_keycache.specs.Order.{contents_of}
+use Rattle.myi_keycache.proofs.OrderLemmas.{split}
+use Rattle.myi_keycache.proofs.MidpointLemmas.{named}
+use Rattle.myi_keycache.proofs.OneLemmas.{due_kept, never_hit, one_none, one_kept}
+use Rattle.myi_keycache.proofs.GetLemmas.{hit_page}
+use Rattle.myi_keycache.proofs.PutLemmas.{renewed, hit_stores, stores_on}
 use Rattle.myi_keycache.proofs.cache.KeyCache.put.Goals as goal
 
-pub returns-in_err-write_at-clause-err : goal.returns-in_err-write_at-clause-err
-returns-in_err-write_at-clause-err g c = on_err c.from_residual.result (told_part _ _ _ _ c.args.at c.args.bytes.now _ c.args.self.now c.self.view_is c.as_str.ensures.value c.in_err-write_at.ensures.err)
+pub overwrite-requires-clause-long : goal.overwrite-requires-clause-long
+overwrite-requires-clause-long g c s =
+    let n = named c.args.at (length c.args.bytes.now) c.self.inside.blocks.pages c.in-Some.index s (sym c.in-Some.ensures.index) in
+    sym (eqb-true _ _ (and_parts _ _ n.here).1)
 
-pub returns-clause-ok : goal.returns-clause-ok
-returns-clause-ok g c = told_puts _ _ _ _ c.args.at c.args.bytes.now _ c.count_write.new.self c.args.self.now c.self.view_is c.as_str.ensures.value c.in_ok-write_at.ensures.ok
+pub hit-requires : goal.hit-requires
+hit-requires g c =
+    let s = split c.self.inside.blocks.pages c.in-Some.index c.in-Some.ensures.within in
+    let r = renewed c.self.inside.blocks c.overwrite.new.self c.in-Some.index c.args.at c.args.bytes.now s c.in-Some.ensures.ordered.differ (sym c.in-Some.ensures.index) (c.overwrite.ensures s) in
+    let lt = c.in-Some.ensures.within in
+    omega (arith, lt, r.long)
 
-pub returns-clause-counters : goal.returns-clause-counters
-returns-clause-counters g c = puts_counts _ _ c.count_write.new.self c.args.self.now c.args.at _ c.self.view_is c.count_write.ensures
+pub returns : goal.returns
+returns g c =
+    let s = split c.self.inside.blocks.pages c.in-Some.index c.in-Some.ensures.within in
+    let r = renewed c.self.inside.blocks c.overwrite.new.self c.in-Some.index c.args.at c.args.bytes.now s c.in-Some.ensures.ordered.differ (sym c.in-Some.ensures.index) (c.overwrite.ensures s) in
+    let e = c.hit.ensures in
+    let there : is_kept (contents_of c.self.inside.blocks.pages) c.args.at (length c.args.bytes.now) ≡ true = ap is_some (hit_page c.self.inside.blocks c.in-Some.index c.args.at (length c.args.bytes.now) c.in-Some.ensures.within (sym c.in-Some.ensures.index)).3 in
+    let t = stores_on {T = ℕ} {U = ℕ} {E = CacheFault} {F = CacheFault} (g.F.Files.holds c.args.files.now) (g.F.Files.holds c.args.files.now) c.args.at c.args.bytes.now 0 0 _ _ c.args.self.now _ c.self.view_is refl
+    (hit_stores {T = ℕ} {E = CacheFault} _ _ (string_bytes c.self.inside.name) c.self.inside.blocks c.overwrite.new.self c.hit.new.self c.self.inside.counters c.count_put.new.self c.in-Some.index c.args.at c.args.bytes.now 0 refl r there c.self.invariant.1 e.setup (e.lists c.args.at (length c.args.bytes.now) r.found) e.alike c.count_put.ensures) in
+    record {
+      ok = t.ok;
+      err = tt;
+      others = t.others;
+      kept = tt;
+      added = t.added;
+      name = t.name;
+      setup = t.setup;
+      access = t.access;
+      counters = t.counters;
+      written = t.written;
+      one = one_none _ _ _ _ _ (due_kept (string_bytes c.self.inside.name) c.self.inside.blocks c.self.inside.counters c.args.self.now c.args.at (length c.args.bytes.now) c.self.view_is there) refl;
+      quiet = λ none. refl;
+      hit = λ kept. (refl, refl);
+      faults = tt;
+      cause = record { later = omega arith; cause = λ e. absurd (ok_not_err e) };
+      reads = refl;
+    }
 
-pub returns-in_err-write_at-clause-others : goal.returns-in_err-write_at-clause-others
-returns-in_err-write_at-clause-others g c = told_others_part _ _ _ _ c.args.at c.args.bytes.now _ c.args.self.now c.self.view_is c.as_str.ensures.value c.in_err-write_at.ensures.err
+pub returns-in_err-extend_from_slice-clause-hit : goal.returns-in_err-extend_from_slice-clause-hit
+returns-in_err-extend_from_slice-clause-hit g c kept = absurd (never_hit (string_bytes c.self.inside.name) c.self.inside.blocks c.self.inside.counters c.args.self.now c.args.at (length c.args.bytes.now) c.self.view_is (sym c.index_of.ensures.index ∙ c.in_default.is) kept)
 
-pub returns-clause-others : goal.returns-clause-others
-returns-clause-others g c = told_others _ _ _ _ c.args.at c.args.bytes.now _ c.args.self.now c.self.view_is c.as_str.ensures.value c.in_ok-write_at.ensures.ok
+pub returns-in_err-store-clause-hit : goal.returns-in_err-store-clause-hit
+returns-in_err-store-clause-hit g c kept = absurd (never_hit (string_bytes c.self.inside.name) c.self.inside.blocks c.self.inside.counters c.args.self.now c.args.at (length c.args.bytes.now) c.self.view_is (sym c.index_of.ensures.index ∙ c.in_default.is) kept)
+
+pub returns-in_default-clause-hit : goal.returns-in_default-clause-hit
+returns-in_default-clause-hit g c kept = absurd (never_hit (string_bytes c.self.inside.name) c.self.inside.blocks c.self.inside.counters c.args.self.now c.args.at (length c.args.bytes.now) c.self.view_is (sym c.index_of.ensures.index ∙ c.in_default.is) kept)
+
+pub returns-in_err-extend_from_slice-clause-one : goal.returns-in_err-extend_from_slice-clause-one
+returns-in_err-extend_from_slice-clause-one g c =
+    let e = err_from_is_err_and c.from_residual.result c.from_residual.ensures.1 in
+    rw e.1 (one_kept _ _ _ _ e.0 refl)

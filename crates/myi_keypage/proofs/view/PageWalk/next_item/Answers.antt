@@ -1,6 +1,6 @@
 use Rattle.std.proofs.Common.{refl, ◌∙◌, sym, ap, drop, List}
 use Rattle.myi_keypage.proofs.view.PageWalk.next_item.Goals as goal
-use Rattle.myi_keypage.specs.Reading.{Item}
+use Rattle.myi_keypage.specs.PageItems.{Item}
 use Rattle.myi_keypage.proofs.PageIs.{walk_end, walk_more}
 
 pub returns-in_default-clause-item : goal.returns-in_default-clause-item

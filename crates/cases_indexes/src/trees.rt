@@ -1,0 +1,310 @@
+//! Trees of an index file, whose first page stands at 1024.
+ghost use Rattle.std.specs.Prelude.{◌≡◌, ◌≤◌, ◌^◌, ◌<◌, true, IfOk};
+ghost use Rattle.myi_btree.specs.Sizes.{IsPlaced, IsSized, AreSized};
+ghost use Rattle.myi_btree.specs.Nodes.{entry_of};
+
+use case_lines::{
+    Fault, PlaceText, Words, four_bytes, key_of_code, number, one_byte, place, push_word, sides,
+    size, two_bytes,
+};
+use myi_base::Sequence;
+use myi_btree::{Pair, Place, Room, Tree, TreeFault};
+use myi_io::MemFiles;
+use myi_keycache::{CacheFault, CacheSetup, KeyCache};
+use myi_keys::{KeySeg, KeyVal, MOST_WEIGHTS, WeightList, encode};
+use std::alloc::{AllocError, Global};
+
+/// The name of the index file.
+const NAME: &str = "t.MYI";
+
+/// Where the first page stands.
+const FIRST: u64 = 1024;
+
+fn is_placed(place: &Place) -> bool
+    ensures { result ≡ true → IsPlaced place.now }
+{
+    place.block_length % 1024 == 0
+        && 1024 <= place.block_length
+        && place.block_length <= 16_384
+        && 2 <= place.rec_ref
+        && place.rec_ref <= 8
+}
+
+fn is_row(rec_ref: u8, row: u64) -> bool
+    requires { rec_ref ≤ 8 }
+    ensures { result ≡ true → row < 256 ^ rec_ref }
+{
+    match 256u64.checked_pow(rec_ref as u32) {
+        Some(all) => row < all,
+        None => true,
+    }
+}
+
+fn is_sized(alloc: Global, place: Place, pair: &Pair) -> Result<bool, AllocError>
+    requires { place.rec_ref ≤ 8 }
+    ensures { IfOk result (λ sized. sized ≡ true → IsSized place (entry_of pair.now)) }
+{
+    let code = encode(alloc, &pair.key)?;
+    let row = pair.row;
+    let most = place.block_length as usize;
+    Ok(
+        code.len() <= 16_384
+            && 2 * (code.len() + 13 + place.rec_ref as usize) + 9 <= most
+            && is_row(place.rec_ref, row),
+    )
+}
+
+// Whether two such entries fit into a page, and the rows into the row pointers.
+fn are_sized(alloc: Global, place: Place, pairs: &[Pair]) -> Result<bool, AllocError>
+    requires { place.rec_ref ≤ 8 }
+    ensures { IfOk result (λ sized. sized ≡ true → AreSized place pairs.now) }
+{
+    for pair in pairs {
+        if !is_sized(alloc, place, pair)? {
+            return Ok(false);
+        }
+    }
+    Ok(true)
+}
+
+// A tree that has no root yet.
+fn unrooted(block_length: &str, rec_ref: &str) -> Result<Place, Fault>
+    ensures { IfOk result IsPlaced }
+{
+    let place = Place {
+        block_length: two_bytes(block_length)?,
+        rec_ref: one_byte(rec_ref)?,
+        root: None,
+    };
+    if is_placed(&place) {
+        Ok(place)
+    } else {
+        Err(Fault::Unread)
+    }
+}
+
+/// An index file, the cache of its pages and the room behind them.
+struct Index {
+    files: MemFiles,
+    cache: KeyCache,
+    room: Room,
+}
+
+impl Drop for Index {
+    fn drop(self) {
+        let Index {
+            files: _,
+            cache: _,
+            room: _,
+        } = self;
+    }
+}
+
+fn index_of(alloc: Global, bytes: Vec<u8>, faults: Vec<u64>) -> Result<Index, AllocError> {
+    let given = vec![in alloc; (String::from_str(alloc, NAME)?, bytes)]?;
+    let setup = CacheSetup {
+        blocks: 64,
+        division: 100,
+        age: 300,
+    };
+    Ok(Index {
+        files: MemFiles::new(alloc, given, faults)?,
+        cache: KeyCache::new(alloc, NAME, setup)?,
+        room: Room {
+            end: FIRST,
+            free: Sequence::new(Vec::new(alloc)),
+        },
+    })
+}
+
+fn of_tree(fault: TreeFault) -> Fault {
+    match fault {
+        TreeFault::Memory => Fault::Memory,
+        TreeFault::Damaged { .. } | TreeFault::File => Fault::Unread,
+    }
+}
+
+// Builds a tree from the room's end on, writes its root, and answers it.
+fn push_built(
+    out: &mut String,
+    index: &mut Index,
+    place: Place,
+    pairs: &[Pair],
+) -> Result<Option<u64>, Fault>
+    requires { IsPlaced place }
+{
+    let alloc = *out.allocator();
+    let end = index.room.end;
+    if end % 1024 != 0 || !are_sized(alloc, place, pairs)? {
+        return Err(Fault::Unread);
+    }
+    let Index { files, cache, room } = index;
+    match Tree::build(alloc, files, cache, place, room, pairs) {
+        Ok(tree) => {
+            let root = PlaceText(tree.root());
+            write!(out, "root {root} ")?;
+            Ok(tree.root())
+        }
+        Err(TreeFault::File) => {
+            out.push_str("failed ")?;
+            Ok(None)
+        }
+        Err(fault) => Err(of_tree(fault)),
+    }
+}
+
+// Writes the pages that were put into the file, and tells a write that failed.
+fn push_flushed(out: &mut String, index: &mut Index) -> Result<(), Fault> {
+    let Index { files, cache, .. } = index;
+    match cache.flush(files) {
+        Ok(()) => Ok(()),
+        Err(CacheFault::Memory) => Err(Fault::Memory),
+        Err(_) => Ok(out.push_str("failed ")?),
+    }
+}
+
+fn pairs(words: &Words, args: &[&str]) -> Result<Vec<Pair>, Fault> {
+    let mut pairs = Vec::new(words.alloc());
+    for arg in args {
+        let (code, row) = sides(*arg, ':')?;
+        pairs.push(Pair {
+            key: key_of_code(words, code)?,
+            row: number(row)?,
+        })?;
+    }
+    Ok(pairs)
+}
+
+/// `build LENGTH POINTER FAULTS CODE:ROW.. [tree CODE:ROW..]..`: trees of sorted pairs, with pages of that length
+/// and row pointers of that size, one behind the other: the roots, the room's end and the file.
+fn build(words: &Words, args: &[&str]) -> Result<String, Fault> {
+    let [block_length, rec_ref, faults, others @ ..] = args else {
+        return Err(Fault::Unread);
+    };
+    let alloc = words.alloc();
+    let place = unrooted(*block_length, *rec_ref)?;
+    let header = vec![in alloc; 0u8; FIRST as usize]?;
+    let mut index = index_of(alloc, header, words.numbers(*faults)?)?;
+    let mut out = String::new(alloc);
+    for group in others.split(|word| *word == "tree") {
+        let pairs = pairs(words, group)?;
+        push_built(&mut out, &mut index, place, &pairs)?;
+    }
+    push_flushed(&mut out, &mut index)?;
+    write!(out, "end {} ", index.room.end)?;
+    push_word(&mut out, index.files.get(NAME).unwrap_or_default())?;
+    Ok(out)
+}
+
+// The pairs of a tree, each with its page.
+fn walked(alloc: Global, index: &mut Index, place: Place) -> Result<Vec<(Pair, u64)>, TreeFault>
+    requires { IsPlaced place }
+{
+    let Index { files, cache, .. } = index;
+    cache.flush(files)?;
+    Tree::new(place).walk(alloc, files, cache)
+}
+
+fn push_pairs(out: &mut String, walked: &[(Pair, u64)]) -> Result<(), AllocError> {
+    let alloc = *out.allocator();
+    out.push_str("walk")?;
+    for (pair, page) in walked {
+        out.push(' ')?;
+        push_word(out, &encode(alloc, &pair.key)?)?;
+        write!(out, ":{}:{page}", pair.row)?;
+    }
+    Ok(())
+}
+
+/// `walk LENGTH POINTER ROOT BYTES`: the pairs of the tree with that root in an index file.
+fn walk(words: &Words, args: &[&str]) -> Result<String, Fault> {
+    let [block_length, rec_ref, root, bytes] = args else {
+        return Err(Fault::Unread);
+    };
+    let alloc = words.alloc();
+    let place = Place {
+        root: place(*root)?,
+        ..unrooted(*block_length, *rec_ref)?
+    };
+    let mut index = index_of(alloc, words.bytes(*bytes)?, Vec::new(alloc))?;
+    let mut out = String::new(alloc);
+    match walked(alloc, &mut index, place) {
+        Ok(pairs) => push_pairs(&mut out, &pairs)?,
+        Err(TreeFault::Damaged { at }) => write!(out, "damaged {at}")?,
+        Err(fault) => return Err(of_tree(fault)),
+    }
+    Ok(out)
+}
+
+// A key of one segment of so many weights: the number, high byte first, and zeros.
+fn numbered(alloc: Global, width: usize, number: u32) -> Result<KeyVal, AllocError>
+    requires { width ≤ 1000 }
+{
+    let mut weights = Vec::from_slice(alloc, &number.to_be_bytes())?;
+    weights.resize(width, 0)?;
+    let weights = WeightList::new(weights);
+    let segments = Vec::from_array(alloc, [KeySeg::Weights(weights)])?;
+    Ok(KeyVal::new(segments))
+}
+
+fn numbered_pairs(alloc: Global, width: usize, count: u32) -> Result<Vec<Pair>, AllocError>
+    requires { width ≤ 1000 }
+{
+    let mut pairs = Vec::new(alloc);
+    for number in 0..count {
+        let key = numbered(alloc, width, number + 1)?;
+        pairs.push(Pair {
+            key,
+            row: number as u64 * 8,
+        })?;
+    }
+    Ok(pairs)
+}
+
+// Codes, rows and pages of a walk, one after the other.
+fn walk_bytes(alloc: Global, walked: &[(Pair, u64)]) -> Result<Vec<u8>, AllocError> {
+    let mut bytes = Vec::new(alloc);
+    for (pair, page) in walked {
+        bytes.extend_from_slice(&encode(alloc, &pair.key)?)?;
+        bytes.extend_from_slice(&pair.row.to_be_bytes())?;
+        bytes.extend_from_slice(&page.to_be_bytes())?;
+    }
+    Ok(bytes)
+}
+
+/// `laid LENGTH POINTER WIDTH COUNT`: the tree of so many numbered keys of so many weights, whose rows are
+/// eight apart: its root, the room's end, its pages, and its walk.
+fn laid(words: &Words, args: &[&str]) -> Result<String, Fault> {
+    let [block_length, rec_ref, width, count] = args else {
+        return Err(Fault::Unread);
+    };
+    let alloc = words.alloc();
+    let place = unrooted(*block_length, *rec_ref)?;
+    let (width, count) = (size(*width)?, four_bytes(*count)?);
+    if width > MOST_WEIGHTS {
+        return Err(Fault::Unread);
+    }
+    let pairs = numbered_pairs(alloc, width, count)?;
+    let header = vec![in alloc; 0u8; FIRST as usize]?;
+    let mut index = index_of(alloc, header, Vec::new(alloc))?;
+    let mut out = String::new(alloc);
+    let root = push_built(&mut out, &mut index, place, &pairs)?;
+    push_flushed(&mut out, &mut index)?;
+    write!(out, "end {} ", index.room.end)?;
+    let bytes = index.files.get(NAME).unwrap_or_default();
+    push_word(&mut out, bytes.get(FIRST as usize..).unwrap_or_default())?;
+    let walked = walked(alloc, &mut index, Place { root, ..place }).map_err(of_tree)?;
+    out.push_str(" walk ")?;
+    push_word(&mut out, &walk_bytes(alloc, &walked)?)?;
+    Ok(out)
+}
+
+/// The answer to a call of this module, and None where the name is no such call.
+pub fn answer(words: &Words, name: &str, args: &[&str]) -> Option<Result<String, Fault>> {
+    match name {
+        "laid" => Some(laid(words, args)),
+        "build" => Some(build(words, args)),
+        "walk" => Some(walk(words, args)),
+        _ => None,
+    }
+}

@@ -1,0 +1,154 @@
+-- A file that is read through a window: what one call leaves, and what it appends.
+use Rattle.std.proofs.Common.{◌≡◌, ◌∙◌, ℕ, ◌+◌, ◌-◌, ◌<◌, ◌≤◌, Bool, true, eqb, List, [], ◌++◌, length, take, drop, min, Option, Some, None, refl, sym, ap, subst, arith, append_assoc}
+use Rattle.std.specs.Prelude.{replicate}
+use Rattle.std.proofs.lemmas.Bool.{eq-eqb}
+use Rattle.std.proofs.lemmas.List.{append-nil, length-append, length-take, length-take-le, length-drop, drop-drop, length-replicate, take_all, take_at, take-take, drop_all}
+use Rattle.myi_base.specs.Holding.{Holding, bytes_of, IfTold}
+use Rattle.myi_window.specs.Excerpt.{Excerpt, bytes_from, AreFront, StandsIn, EndsBy, IsFull}
+use Rattle.myi_window.specs.declared.window.TheConstants.{WINDOW}
+use Rattle.myi_window.proofs.CallerLemmas.{take_add, cut_at_end, front_drop, excerpt_front, excerpt_here, short_excerpt}
+use Rattle.myi_frames.specs.Block.{Block, block_of}
+use Rattle.myi_frames.specs.Seeing.{Heads, HeadsBlock, IsPartAt}
+use Rattle.myi_frames.specs.declared.head.Header.{Header}
+use Rattle.myi_frames.proofs.CallerLemmas.{block-stands}
+use Rattle.myi_chain.specs.Used.{IsRange}
+use Rattle.myi_chain.specs.Source.{SourceModel, read_bytes, read_blocks, IsReady, ReadsOn, IsHeader, IsKept, kept_bytes, range_by}
+
+-- the file is read on
+pub reads_on : (holds : Option Holding) (s : SourceModel) (name file : List ℕ) (end : ℕ) (w v : Excerpt) → record { name = name; end = end; kept = w } ≡ s → file ≡ name → IfTold holds (IsReady s) → ((m : Holding) → holds ≡ Some m → StandsIn w (bytes_of file m) → StandsIn v (bytes_of file m)) → ReadsOn holds s (record { name = name; end = end; kept = v })
+reads_on holds s name file end w v view same ready stands = subst (λ (t : SourceModel). IfTold holds (IsReady t) → ReadsOn holds t (record { name = name; end = end; kept = v })) view (λ is. record {
+  name = refl;
+  end = refl;
+  ready = λ m held. record { kept = subst (λ n. StandsIn v (bytes_of n m)) same (stands m held (subst (λ n. StandsIn w (bytes_of n m)) (sym same) (is m held).kept)); long = (is m held).long };
+}) ready
+
+pub reads_same : (holds : Option Holding) (s : SourceModel) → IfTold holds (IsReady s) → ReadsOn holds s s
+reads_same holds s ready = record { name = refl; end = refl; ready = ready }
+
+-- a window that was slid to a place and shows too little met the file's end
+pub ends_before : (s : SourceModel) (m : Holding) (at size : ℕ) (v : Excerpt) → IsReady s m → v.from ≡ at → v.bytes ≡ take WINDOW (drop at (read_bytes s m)) → size ≤ WINDOW → length (bytes_from at v) < size → s.end < at + size
+ends_before s m at size v ready from bytes narrow short =
+    omega (arith, short_excerpt at s.end size v (bytes_of s.name m) from bytes narrow short, length-take-le s.end (bytes_of s.name m) ready.long)
+
+none_by : (d : List ℕ) (p : ℕ) (o : Option Block) → block_of d p ≡ o → length d < p + 20 → o ≡ None
+none_by d p None e h = refl
+none_by d p (Some b) e h = let s = block-stands d p b e in absurd (omega (arith, s.least, s.inside))
+
+-- no block stands where its header would pass the end
+pub none_short : (s : SourceModel) (m : Holding) (at : ℕ) → IsReady s m → s.end < at + 20 → read_blocks s m at ≡ None
+none_short s m at ready short = none_by (read_bytes s m) at (read_blocks s m at) refl (omega (arith, length-take-le s.end (bytes_of s.name m) ready.long))
+
+-- what is kept from a place on is a part of the file there
+pub kept_part : (s : SourceModel) (m : Holding) (at : ℕ) (bytes : List ℕ) → IsReady s m → EndsBy s.end s.kept → at ≤ s.end → bytes ≡ bytes_from at s.kept → IsPartAt at bytes (read_bytes s m)
+kept_part s m at bytes ready inside order is = subst (λ (xs : List ℕ). IsPartAt at xs (read_bytes s m)) (sym is) (excerpt_here at s.end s.kept (bytes_of s.name m) order inside ready.kept)
+
+pub filled_behind : (start at count k : ℕ) (into new post d : List ℕ) → start ≤ length into → k ≡ length into - start → at + length into ≤ start + length d → post ≡ [] → count ≡ min (length (take k (drop start into))) (length (drop at d)) → new ≡ take (length (take k (drop start into))) (drop at d) ++ drop (length (drop at d)) (take k (drop start into))
+    → (start + count ≡ length into) × (take start into ++ (new ++ post) ≡ take start into ++ take count (drop at d))
+filled_behind start at count k into new post d inside size long none told bytes =
+    let rest : length (drop start into) ≡ length into - start = length-drop start into in
+    let mid : length (take k (drop start into)) ≡ k = length-take-le k (drop start into) (omega arith) in
+    let file : length (drop at d) ≡ length d - at = length-drop at d in
+    let all : count ≡ k = omega (arith, told, mid, file) in
+    let tail : drop (length (drop at d)) (take k (drop start into)) ≡ [] = drop_all (length (drop at d)) (take k (drop start into)) (omega arith) in
+    let is : new ≡ take count (drop at d) = bytes ∙ ap (λ (ys : List ℕ). take (length (take k (drop start into))) (drop at d) ++ ys) tail ∙ append-nil (take (length (take k (drop start into))) (drop at d)) ∙ ap (λ n. take n (drop at d)) (mid ∙ sym all) in
+    (omega (arith, all), ap (λ (ys : List ℕ). take start into ++ (new ++ ys)) none ∙ ap (λ (ys : List ℕ). take start into ++ ys) (append-nil new ∙ is))
+
+pub appended : (old grown new d : List ℕ) (len count at : ℕ) → grown ≡ take (length old + len) old ++ replicate (length old + len - length old) 0 → length old + count ≡ length grown → new ≡ take (length old) grown ++ take count (drop at d)
+    → (eqb count len ≡ true) × (new ≡ old ++ take len (drop at d))
+appended old grown new d len count at is long bytes =
+    let front : take (length old + len) old ≡ old = take_all (length old + len) old (omega arith) in
+    let form : grown ≡ old ++ replicate (length old + len - length old) 0 = is ∙ ap (λ (ys : List ℕ). ys ++ replicate (length old + len - length old) 0) front in
+    let size : length grown ≡ length old + len = ap (λ (ys : List ℕ). length ys) form ∙ length-append old (replicate (length old + len - length old) 0) ∙ ap (λ n. length old + n) (length-replicate (length old + len - length old) 0) ∙ omega arith in
+    let same : count ≡ len = omega (arith, long, size) in
+    let kept : take (length old) grown ≡ old = ap (take (length old)) form ∙ take_at old (replicate (length old + len - length old) 0) (length old) refl in
+    (eq-eqb count len same, bytes ∙ ap (λ (ys : List ℕ). ys ++ take count (drop at d)) kept ∙ ap (λ n. old ++ take n (drop at d)) same)
+
+pub grown_size : (old grown : List ℕ) (len : ℕ) → grown ≡ take (length old + len) old ++ replicate (length old + len - length old) 0 → length grown ≡ length old + len
+grown_size old grown len is =
+    let front : take (length old + len) old ≡ old = take_all (length old + len) old (omega arith) in
+    let more : ℕ = length old + len - length old in
+    ap (λ (ys : List ℕ). length ys) (is ∙ ap (λ (ys : List ℕ). ys ++ replicate more 0) front) ∙ length-append old (replicate more 0) ∙ ap (λ n. length old + n) (length-replicate more 0) ∙ omega arith
+
+-- a range inside an end is that of the file
+pub cut_inside : (p n end : ℕ) (d : List ℕ) → p + n ≤ length (take end d) → take n (drop p (take end d)) ≡ take n (drop p d)
+cut_inside p n end d inside =
+    let few : p + n ≤ end = omega (arith, length-take end d) in
+    ap (take n) (cut_at_end p end d (omega arith)) ∙ take-take n (end - p) (drop p d) (omega arith)
+
+-- the row bytes of a block of the file
+pub block_bytes : (s : SourceModel) (m : Holding) (h : Header) (b : Block) → Heads (read_bytes s m) h b → b.bytes ≡ take h.data_len (drop (h.head.at + h.start) (bytes_of s.name m))
+block_bytes s m h b heads = heads.bytes ∙ cut_inside (h.head.at + h.start) h.data_len s.end (bytes_of s.name m) heads.inside
+
+pub slid_short : (s : SourceModel) (name file : List ℕ) (end : ℕ) (w v : Excerpt) (m : Holding) (at size : ℕ) → record { name = name; end = end; kept = w } ≡ s → file ≡ name → IsReady s m → v.from ≡ at → IsFull file at end w v m → size ≤ WINDOW → length (bytes_from at v) < size → s.end < at + size
+slid_short s name file end w v m at size view same ready from full narrow short = subst (λ (t : SourceModel). IsReady t m → t.end < at + size) view (λ is.
+    let bytes = subst (λ n. StandsIn w (bytes_of n m) → v.bytes ≡ take WINDOW (drop at (take end (bytes_of n m)))) same full is.kept in
+    ends_before (record { name = name; end = end; kept = w }) m at size v is from bytes narrow short) ready
+
+-- the same bytes are read
+pub same_bytes : (holds : Option Holding) (old new : SourceModel) (m : Holding) → ReadsOn holds old new → read_bytes new m ≡ read_bytes old m
+same_bytes holds old new m on = ap (λ n. take n (bytes_of new.name m)) on.end ∙ ap (λ n. take old.end (bytes_of n m)) on.name
+
+pub reads_then : (h k : Option Holding) (old mid new : SourceModel) → k ≡ h → ReadsOn h old mid → ReadsOn k mid new → ReadsOn h old new
+reads_then h k old mid new same a b = record { name = b.name ∙ a.name; end = b.end ∙ a.end; ready = λ m held. b.ready m (same ∙ held) }
+
+pub long_bytes : (s : SourceModel) (m : Holding) → IsReady s m → length (read_bytes s m) ≡ s.end
+long_bytes s m ready = length-take-le s.end (bytes_of s.name m) ready.long
+
+-- a header of the file as it was read before is one of the file
+pub heads_still : (h k : Option Holding) (old mid : SourceModel) (at : ℕ) (o : Option Header) → k ≡ h → ReadsOn h old mid → IfTold k (λ m. HeadsBlock (read_bytes mid m) o (read_blocks mid m at)) → (m : Holding) → h ≡ Some m → HeadsBlock (read_bytes old m) o (read_blocks old m at)
+heads_still h k old mid at o same on told m held = subst (λ (x : List ℕ). HeadsBlock x o (block_of x at)) (same_bytes h old mid m on) (told m (same ∙ held))
+
+-- the file is ready for the next call
+pub ready_still : (h k : Option Holding) (old mid : SourceModel) → k ≡ h → ReadsOn h old mid → IfTold k (IsReady mid)
+ready_still h k old mid same on m held = on.ready m (sym same ∙ held)
+
+-- a block of the file is a range
+pub header_range : (at end : ℕ) (h : Header) → IsHeader at end h → IsRange (range_by h)
+header_range at end h is = (omega (arith, is.place.least), omega (arith, is.here, is.place.inside, is.small))
+
+front_cut : (n : ℕ) (xs ys : List ℕ) → AreFront xs ys → n ≤ length xs → take n ys ≡ take n xs
+front_cut n xs ys front few = sym (take-take n (length xs) ys few) ∙ ap (take n) (sym front)
+
+turn : (start at : ℕ) (d : List ℕ) → drop (at + start) d ≡ drop start (drop at d)
+turn start at d = sym (drop-drop start at d)
+
+-- the row bytes of a block that is kept whole
+pub kept_block : (s : SourceModel) (m : Holding) (h : Header) (b : Block) → IsReady s m → IsKept h s.kept → Heads (read_bytes s m) h b → b.bytes ≡ kept_bytes h s.kept
+kept_block s m h b ready kept heads =
+    let d = bytes_of s.name m in
+    let xs = bytes_from h.head.at s.kept in
+    let front : AreFront (drop h.start xs) (drop h.start (drop h.head.at d)) = front_drop h.start xs (drop h.head.at d) (excerpt_front h.head.at s.kept d ready.kept) in
+    block_bytes s m h b heads ∙ ap (take h.data_len) (turn h.start h.head.at d) ∙ front_cut h.data_len (drop h.start xs) (drop h.start (drop h.head.at d)) front (omega (arith, kept.0, kept.1, length-drop h.start xs))
+
+-- a whole read of the first bytes of a header
+pub read_part : (into old d : List ℕ) (at end : ℕ) → length old ≡ 20 → at + 20 ≤ end → end ≤ length d → into ≡ take (length old) (drop at d) ++ drop (length (drop at d)) old → IsPartAt at into (take end d)
+read_part into old d at end size room long is =
+    let file : length (drop at d) ≡ length d - at = length-drop at d in
+    let rest : drop (length (drop at d)) old ≡ [] = drop_all (length (drop at d)) old (omega (arith, file, size)) in
+    let bytes : into ≡ take 20 (drop at d) = is ∙ ap (λ (xs : List ℕ). take (length old) (drop at d) ++ xs) rest ∙ append-nil (take (length old) (drop at d)) ∙ ap (λ n. take n (drop at d)) size in
+    let count : length into ≡ 20 = ap (λ (xs : List ℕ). length xs) bytes ∙ length-take-le 20 (drop at d) (omega (arith, file)) in
+    bytes ∙ sym (take-take 20 (end - at) (drop at d) (omega arith)) ∙ ap (take 20) (sym (cut_at_end at end d (omega arith))) ∙ ap (λ n. take n (drop at (take end d))) (sym count)
+
+pub heads_read : (s : SourceModel) (name file : List ℕ) (end : ℕ) (w : Excerpt) (m : Holding) (at : ℕ) (o : Option Header) → record { name = name; end = end; kept = w } ≡ s → file ≡ name → IsReady s m → (end ≤ length (bytes_of file m) → HeadsBlock (take end (bytes_of file m)) o (block_of (take end (bytes_of file m)) at)) → HeadsBlock (read_bytes s m) o (read_blocks s m at)
+heads_read s name file end w m at o view same ready told = subst (λ (t : SourceModel). IsReady t m → HeadsBlock (read_bytes t m) o (read_blocks t m at)) view (λ is.
+    subst (λ n. end ≤ length (bytes_of n m) → HeadsBlock (take end (bytes_of n m)) o (block_of (take end (bytes_of n m)) at)) same told is.long) ready
+
+-- what is kept from a place on is the file's
+kept_front : (s : SourceModel) (m : Holding) (at n : ℕ) (xs : List ℕ) → IsReady s m → xs ≡ bytes_from at s.kept → n ≤ length xs → take n xs ≡ take n (drop at (bytes_of s.name m))
+kept_front s m at n xs ready is few = sym (front_cut n xs (drop at (bytes_of s.name m)) (subst (λ (ys : List ℕ). AreFront ys (drop at (bytes_of s.name m))) (sym is) (excerpt_front at s.kept (bytes_of s.name m) ready.kept)) few)
+
+-- all row bytes of a block are kept
+pub appends_kept : (s : SourceModel) (m : Holding) (h : Header) (b : Block) (xs : List ℕ) (n : ℕ) (old new : List ℕ) → IsReady s m → xs ≡ bytes_from (h.head.at + h.start) s.kept → n ≤ length xs → n ≡ h.data_len → new ≡ old ++ take n xs → Heads (read_bytes s m) h b → new ≡ old ++ b.bytes
+appends_kept s m h b xs n old new ready is few all grown heads =
+    grown ∙ ap (λ (ys : List ℕ). old ++ ys) (kept_front s m (h.head.at + h.start) n xs ready is few ∙ ap (λ k. take k (drop (h.head.at + h.start) (bytes_of s.name m))) all ∙ sym (block_bytes s m h b heads))
+
+-- the first row bytes of a block are kept, and the others were read behind them
+pub appends_rest : (s : SourceModel) (file : List ℕ) (m : Holding) (h : Header) (b : Block) (xs : List ℕ) (n rest : ℕ) (whole : Bool) (old mid new : List ℕ) → file ≡ s.name → IsReady s m → xs ≡ bytes_from (h.head.at + h.start) s.kept → n ≤ length xs → n + rest ≡ h.data_len → mid ≡ old ++ take n xs
+    → (h.head.at + h.start + n + rest ≤ length (bytes_of file m) → (whole ≡ true) × (new ≡ mid ++ take rest (drop (h.head.at + h.start + n) (bytes_of file m)))) → Heads (read_bytes s m) h b → (whole ≡ true) × (new ≡ old ++ b.bytes)
+appends_rest s file m h b xs n rest whole old mid new same ready is few all grown told heads =
+    let d = bytes_of s.name m in
+    let at : ℕ = h.head.at + h.start in
+    let t = subst (λ f. at + n + rest ≤ length (bytes_of f m) → (whole ≡ true) × (new ≡ mid ++ take rest (drop (at + n) (bytes_of f m)))) same told (omega (arith, heads.inside, all, length-take s.end d)) in
+    let front : mid ≡ old ++ take n (drop at d) = grown ∙ ap (λ (ys : List ℕ). old ++ ys) (kept_front s m at n xs ready is few) in
+    let both : take n (drop at d) ++ take rest (drop (at + n) d) ≡ b.bytes = ap (λ (ys : List ℕ). take n (drop at d) ++ take rest ys) (turn n at d) ∙ sym (take_add n rest (drop at d)) ∙ ap (λ k. take k (drop at d)) all ∙ sym (block_bytes s m h b heads) in
+    (t.0, t.1 ∙ ap (λ (ys : List ℕ). ys ++ take rest (drop (at + n) d)) front ∙ append_assoc old (take n (drop at d)) (take rest (drop (at + n) d)) ∙ ap (λ (ys : List ℕ). old ++ ys) both)

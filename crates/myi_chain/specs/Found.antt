@@ -1,0 +1,155 @@
+-- What a scan finds at a place: a row, whose bytes are kept in the window or were joined, or a deleted block.
+use Rattle.std.specs.Prelude.{◌≡◌, ◌+◌, ◌<◌, ◌≤◌, ℕ, Bool, true, false, nat_le, List, [], ◌∷◌, length, Option, Some, None, option_to_list}
+use Rattle.myi_base.specs.Holding.{Holding}
+use Rattle.myi_base.specs.Ranges.{Range}
+use Rattle.myi_frames.specs.declared.head.Header.{Header}
+use Rattle.myi_frames.specs.Block.{Block, head_of, block_of}
+use Rattle.myi_window.specs.Excerpt.{Excerpt}
+use Rattle.myi_window.specs.declared.window.TheConstants.{WINDOW}
+use Rattle.myi_chain.specs.declared.chain.Link.{Link}
+use Rattle.myi_chain.specs.declared.chain.Link.TheVariants.{Broken, Last, More}
+use Rattle.myi_chain.specs.declared.step.FoundRow.{FoundRow}
+use Rattle.myi_chain.specs.declared.step.FoundRow.TheVariants.{Kept, Joined}
+use Rattle.myi_chain.specs.declared.step.Found.{Found}
+use Rattle.myi_chain.specs.declared.step.Found.TheVariants as found
+use Rattle.myi_chain.specs.declared.step.Position.{Position}
+use Rattle.myi_chain.specs.declared.step.RowBuffer.{RowBuffer}
+use Rattle.myi_chain.specs.Chain.{row_bytes}
+use Rattle.myi_chain.specs.Readable.{Row, Item, row, free, rest, skip_by, free_by}
+use Rattle.myi_chain.specs.Pieces.{is_lent}
+use Rattle.myi_chain.specs.Used.{joined}
+use Rattle.myi_chain.specs.ScanModel.{MeetsShort, FirstItem, FirstRow, NoRow}
+use Rattle.myi_chain.specs.Chain.{placed, ranges_at}
+use Rattle.myi_chain.specs.Source.{SourceModel, read_bytes, IsKept, kept_bytes}
+
+-- what is met from a place on in a file of these bytes, where these ranges are used
+abbrev pub met_from : Bool → (List ℕ → Bool) → List ℕ → ℕ → List Range → List Item
+met_from extend accepts x p used = rest extend (block_of x) (length x) accepts p used
+
+-- the first block of a chain is a row in one block that a window can hold
+abbrev pub is_short : Link → Header → Bool
+is_short Broken h = false
+is_short Last h = nat_le h.head.size WINDOW
+is_short More h = false
+
+-- the place of a row that was found
+abbrev pub found_at : FoundRow → ℕ
+found_at (Kept h) = h.head.at
+found_at (Joined p) = p
+
+-- its bytes: kept in a window, or those that were joined
+abbrev pub found_bytes : Excerpt → List ℕ → FoundRow → List ℕ
+found_bytes e bytes (Kept h) = kept_bytes h e
+found_bytes e bytes (Joined p) = bytes
+
+-- its blocks, each by its place and size: one, or those of the chain that was followed
+abbrev pub found_blocks : List (ℕ × ℕ) → FoundRow → List (ℕ × ℕ)
+found_blocks taken (Kept h) = (h.head.at, h.head.size) ∷ []
+found_blocks taken (Joined p) = taken
+
+abbrev pub found_row : Excerpt → List (ℕ × ℕ) → List ℕ → FoundRow → Row
+found_row e taken bytes r = record { at = found_at r; bytes = found_bytes e bytes r; blocks = ranges_at (found_blocks taken r) }
+
+abbrev pub found_item : Excerpt → List (ℕ × ℕ) → List ℕ → Found → Item
+found_item e taken bytes (found.Row r) = row (found_row e taken bytes r)
+found_item e taken bytes (found.Free at size) = free (at, at + size)
+
+abbrev pub found_items : Excerpt → List (ℕ × ℕ) → List ℕ → Option Found → List Item
+found_items e taken bytes None = []
+found_items e taken bytes (Some f) = found_item e taken bytes f ∷ []
+
+abbrev pub is_kept : FoundRow → Bool
+is_kept (Kept h) = true
+is_kept (Joined p) = false
+
+abbrev pub IsKeptRow : FoundRow → Excerpt → Type 0
+IsKeptRow (Kept h) e = IsKept h e
+IsKeptRow (Joined p) e = Unit {0}
+
+-- A row that was found passes the test. It is kept in the window exactly where it is one block that a window can hold.
+pub record IsHeld (accepts : List ℕ → Bool) (e : Excerpt) (taken : List (ℕ × ℕ)) (bytes : List ℕ) (r : FoundRow) : Type 0 where
+  pub packs : accepts (found_bytes e bytes r) ≡ true
+  pub lent : is_lent (ranges_at (found_blocks taken r)) ≡ is_kept r
+  pub kept : IsKeptRow r e
+
+abbrev pub IsHeldItem : (List ℕ → Bool) → Excerpt → List (ℕ × ℕ) → List ℕ → Found → Type 0
+IsHeldItem accepts e taken bytes (found.Row r) = IsHeld accepts e taken bytes r
+IsHeldItem accepts e taken bytes (found.Free at size) = Unit {0}
+
+-- how far it is over a block at which no row starts, and the deleted block that is passed
+abbrev pub IsPassed : Bool → Header → ℕ → Option Found → Type 0
+IsPassed extend h skip found = (b : Block) → head_of b ≡ h.head → (skip ≡ skip_by extend (Some b))
+    × ((e : Excerpt) (taken : List (ℕ × ℕ)) (bytes : List ℕ) → found_items e taken bytes found ≡ option_to_list (free_by extend (Some b)))
+
+-- it is a deleted block
+abbrev pub IsFree : Found → Type 0
+IsFree (found.Row r) = ⊥
+IsFree (found.Free at size) = Unit {0}
+
+-- no row starts where this chain or none does
+abbrev pub NoRowAt : (List ℕ → Bool) → Option (List Block) → Type 0
+NoRowAt accepts None = Unit {0}
+NoRowAt accepts (Some bs) = accepts (row_bytes bs) ≡ false
+
+abbrev pub FindsRow : (List ℕ → Bool) → Excerpt → List (ℕ × ℕ) → List ℕ → Option (List Block) → Option FoundRow → Type 0
+FindsRow accepts e taken bytes o None = NoRowAt accepts o
+FindsRow accepts e taken bytes o (Some r) = (bs : List Block) × (o ≡ Some bs) × (placed bs ≡ found_blocks taken r) × (row_bytes bs ≡ found_bytes e bytes r)
+
+-- the row was found, and all before the place behind it is one used range
+abbrev pub FindsShort : Option Found → ℕ → List Range → Type 0
+FindsShort None p used = ⊥
+FindsShort (Some (found.Row r)) p used = used ≡ joined p
+FindsShort (Some (found.Free at size)) p used = ⊥
+
+-- ---- with where a scan stands, its file and its row buffer
+
+-- what is met from where a scan stands, where the files hold this
+abbrev pub met_at : Bool → (List ℕ → Bool) → SourceModel → Position → Holding → List Item
+met_at extend accepts s p m = met_from extend accepts (read_bytes s m) p.place p.used
+
+abbrev pub item_at : SourceModel → RowBuffer → Found → Item
+item_at s r f = found_item s.kept r.chain.taken r.joined.items f
+
+abbrev pub items_at : SourceModel → RowBuffer → Option Found → List Item
+items_at s r f = found_items s.kept r.chain.taken r.joined.items f
+
+abbrev pub row_held : SourceModel → RowBuffer → FoundRow → Row
+row_held s r f = found_row s.kept r.chain.taken r.joined.items f
+
+abbrev pub HoldsRow : (List ℕ → Bool) → SourceModel → RowBuffer → FoundRow → Type 0
+HoldsRow accepts s r f = IsHeld accepts s.kept r.chain.taken r.joined.items f
+
+abbrev pub HoldsItem : (List ℕ → Bool) → SourceModel → RowBuffer → Found → Type 0
+HoldsItem accepts s r f = IsHeldItem accepts s.kept r.chain.taken r.joined.items f
+
+abbrev pub MeetsShortAt : (List ℕ → Bool) → SourceModel → Position → Holding → Type 0
+MeetsShortAt accepts s p m = MeetsShort accepts (read_bytes s m) p.place p.used
+
+abbrev pub FindsShortAt : Option Found → Position → Type 0
+FindsShortAt f p = FindsShort f p.place p.used
+
+-- this is the first item of those that were to come, and the others are to come
+abbrev pub FindsItem : SourceModel → RowBuffer → List Item → List Item → Option Found → Type 0
+FindsItem s r old new None = (old ≡ []) × (new ≡ [])
+FindsItem s r old new (Some f) = FirstItem (item_at s r f) old new
+
+-- this is the first row of those that were to come, and the items behind it are to come
+abbrev pub FindsNextRow : SourceModel → RowBuffer → List Item → List Item → Option FoundRow → Type 0
+FindsNextRow s r old new None = NoRow old × (new ≡ [])
+FindsNextRow s r old new (Some f) = FirstRow (row_held s r f) old new
+
+-- the used ranges are those of before, where no row was found
+abbrev pub KeepsUsed : List Range → List Range → Option Found → Type 0
+KeepsUsed old new None = new ≡ old
+KeepsUsed old new (Some (found.Free at size)) = new ≡ old
+KeepsUsed old new (Some (found.Row r)) = Unit {0}
+
+-- the row was found, and all before the place behind it is one used range
+abbrev pub FindsShortRowAt : Option FoundRow → Position → Type 0
+FindsShortRowAt None p = ⊥
+FindsShortRowAt (Some f) p = p.used ≡ joined p.place
+
+-- where a call ends that goes from a place up to an end: behind it where something was found, and else at the end
+abbrev pub Rises : {X : Type 0} → ℕ → ℕ → ℕ → Option X → Type 0
+Rises from to end None = to ≡ end
+Rises from to end (Some f) = (from < to) × (to ≤ end)

@@ -1,0 +1,270 @@
+//! `Source`: a data file whose blocks are read through a window.
+//!
+//! `slide_to` goes to a place with the window, and answers what the header of the block there says.
+//! `header` answers it for any other place, and leaves the window where it is. A block that the window
+//! can hold is brought into it whole by `ready`, and `row_bytes` lends its row bytes; those of other
+//! blocks are appended to a buffer by `append`.
+ghost use Rattle.std.specs.Prelude.{◌≡◌, ◌≤◌, ◌+◌, ◌++◌, ℕ, true, length, take, drop, IfOk, IfErr, IfSome};
+ghost use Rattle.myi_base.specs.Holding.{IfTold, bytes_of};
+ghost use Rattle.myi_base.specs.Causes.{HasCause};
+ghost use Rattle.myi_io.specs.declared.files.FileErr.TheVariants.{Failed};
+ghost use Rattle.myi_frames.specs.Block.{block_of};
+ghost use Rattle.myi_frames.specs.Seeing.{HeadsBlock};
+ghost use Rattle.myi_chain.specs.declared.piece.ScanFault.TheVariants.{File};
+ghost use Rattle.myi_chain.specs.Source.{IsHeader};
+
+use crate::piece::ScanFault;
+use myi_frames::{Header, LEAST_SIZE, header_at};
+use myi_io::{FileErr, Files};
+use myi_window::Window;
+use std::alloc::{AllocError, Global};
+use std::marker::Model;
+
+/// Fills a buffer behind its first bytes from a place of a file on, and answers how many bytes it gave.
+fn fill<F: Files>(
+    files: &mut F,
+    name: &str,
+    at: u64,
+    into: &mut [u8],
+    start: usize,
+) -> Result<usize, ScanFault>
+    requires { start ≤ length into.old }
+    ensures told { IfOk result (λ count. IfTold (F.holds files.old) (λ m.
+        at + length into.old ≤ start + length (bytes_of name.now m)
+        → (start + count ≡ length into.old)
+        × (into.new ≡ take start into.old ++ take count (drop at (bytes_of name.now m))))) }
+    ensures holds { F.holds files.new ≡ F.holds files.old }
+    ensures cause { HasCause File (F.faults files.old) (F.faults files.new) result }
+{
+    let count = files.read_at(name, at, &mut into[start..])?;
+    Ok(count)
+}
+
+/// Appends a range of a file to a buffer, and says whether it was there whole.
+fn append_range<F: Files>(
+    files: &mut F,
+    name: &str,
+    at: u64,
+    len: usize,
+    joined: &mut Vec<u8>,
+) -> Result<bool, ScanFault>
+    ensures told { IfOk result (λ whole. IfTold (F.holds files.old) (λ m.
+        at + len ≤ length (bytes_of name.now m) → (whole ≡ true)
+        × (joined.new.items ≡ joined.old.items ++ take len (drop at (bytes_of name.now m))))) }
+    ensures holds { F.holds files.new ≡ F.holds files.old }
+    ensures cause { HasCause File (F.faults files.old) (F.faults files.new) result }
+{
+    let start = joined.len();
+    if len > isize::MAX as usize - start {
+        return Err(ScanFault::Memory);
+    }
+    joined.resize(start + len, 0)?;
+    let count = fill(files, name, at, joined, start)?;
+    Ok(count == len)
+}
+
+/// The header of the block at a place of a file, by one read of its first 20 bytes.
+fn read_header<F: Files>(
+    files: &mut F,
+    name: &str,
+    at: u64,
+    end: u64,
+) -> Result<Option<Header>, FileErr>
+    requires room { at + 20 ≤ end }
+    ensures told { IfOk result (λ found. IfTold (F.holds files.old) (λ m.
+        end ≤ length (bytes_of name.now m) → HeadsBlock (take end (bytes_of name.now m)) found
+        (block_of (take end (bytes_of name.now m)) at))) }
+    ensures place { IfOk result (λ found. IfSome found (IsHeader at end)) }
+    ensures failed { IfErr result (λ e. e ≡ Failed) }
+    ensures holds { F.holds files.new ≡ F.holds files.old }
+    ensures cause { HasCause Failed (F.faults files.old) (F.faults files.new) result }
+{
+    let mut bytes = [0u8; LEAST_SIZE];
+    let count = files.read_at(name, at, &mut bytes)?;
+    if count < LEAST_SIZE {
+        return Ok(None);
+    }
+    Ok(header_at(&bytes, at, end))
+}
+
+/// A data file that is read up to an end.
+pub(crate) struct Source {
+    name: String,
+    end: u64,
+    window: Window,
+}
+
+impl Drop for Source {
+    fn drop(self) {
+        let Source {
+            name: _,
+            end: _,
+            window: _,
+        } = self;
+    }
+}
+
+impl Model for Source {
+    ghost use Rattle.std.specs.Prelude.{string_bytes};
+    ghost use Rattle.myi_window.specs.Excerpt.{EndsBy};
+    ghost use Rattle.myi_chain.specs.Source.{SourceModel};
+
+    ghost Value = { SourceModel };
+
+    ghost view = { λ s. record { name = string_bytes s.name; end = s.end; kept = s.window } };
+
+    ghost invariant = { λ s. EndsBy s.end s.window };
+}
+
+impl Source {
+    ghost use Rattle.std.specs.Prelude.{◌≡◌, ◌≤◌, ◌<◌, ◌+◌, ◌++◌, ℕ, true, false, Some, length, take, drop, IfOk, IfErr, IfSome};
+    ghost use Rattle.myi_base.specs.Holding.{IfTold, bytes_of};
+    ghost use Rattle.myi_base.specs.Causes.{HasCause};
+    ghost use Rattle.myi_io.specs.declared.files.FileErr.TheVariants.{Failed};
+    ghost use Rattle.myi_frames.specs.Block.{Block};
+    ghost use Rattle.myi_frames.specs.Seeing.{Heads, HeadsBlock};
+    ghost use Rattle.myi_window.specs.declared.window.TheConstants.{WINDOW};
+    ghost use Rattle.myi_window.specs.Excerpt.{nothing, bytes_from};
+    ghost use Rattle.myi_chain.specs.declared.piece.ScanFault.TheVariants.{File};
+    ghost use Rattle.myi_chain.specs.Source.{read_bytes, read_blocks, IsReady, ReadsOn, IsHeader, kept_bytes, IsKept, is_cut};
+
+    /// The file of a name up to an end, of which nothing is read yet. Its window takes its memory here.
+    pub(crate) fn new(alloc: Global, name: &str, end: u64) -> Result<Source, AllocError>
+        ensures { IfOk result (λ s. s ≡ record { name = name.now; end = end; kept = nothing }) }
+    {
+        let name = String::from_str(alloc, name)?;
+        let window = Window::new(alloc)?;
+        Ok(Source { name, end, window })
+    }
+
+    /// The place at which the file ends, or at which it is to end.
+    pub(crate) fn end(&self) -> u64
+        ensures { result ≡ self.now.end }
+    {
+        self.end
+    }
+
+    /// Whether the window holds so many bytes from a place on, once it is there. If not, the file ends
+    /// before them.
+    pub(crate) fn ready<F: Files>(
+        &mut self,
+        files: &mut F,
+        at: u64,
+        size: usize,
+    ) -> Result<bool, FileErr>
+        requires order { at ≤ self.old.end }
+        requires narrow { size ≤ WINDOW }
+        requires ready { IfTold (F.holds files.old) (IsReady self.old) }
+        ensures shown { IfOk result (λ is. is ≡ true
+            → size ≤ length (bytes_from at self.new.kept)) }
+        ensures short { IfOk result (λ is. is ≡ false
+            → IfTold (F.holds files.old) (λ m. self.old.end < at + size)) }
+        ensures reads { ReadsOn (F.holds files.old) self.old self.new }
+        ensures failed { IfErr result (λ e. e ≡ Failed) }
+        ensures holds { F.holds files.new ≡ F.holds files.old }
+        ensures cause { HasCause Failed (F.faults files.old) (F.faults files.new) result }
+    {
+        if self.end - at < size as u64 {
+            return Ok(false);
+        }
+        if size <= self.window.bytes_from(at).len() {
+            return Ok(true);
+        }
+        self.window.slide(files, self.name.as_str(), at, self.end)?;
+        Ok(size <= self.window.bytes_from(at).len())
+    }
+
+    /// The header of the block at a place, to which the window goes, and None where no block is.
+    pub(crate) fn slide_to<F: Files>(
+        &mut self,
+        files: &mut F,
+        at: u64,
+    ) -> Result<Option<Header>, FileErr>
+        requires ready { IfTold (F.holds files.old) (IsReady self.old) }
+        ensures told { IfOk result (λ found. IfTold (F.holds files.old) (λ m.
+            HeadsBlock (read_bytes self.old m) found (read_blocks self.old m at))) }
+        ensures place { IfOk result (λ found. IfSome found (IsHeader at self.old.end)) }
+        ensures long { IfOk result (λ found. IfTold (F.holds files.old) (λ m.
+            is_cut at self.new ≡ false)) }
+        ensures reads { ReadsOn (F.holds files.old) self.old self.new }
+        ensures failed { IfErr result (λ e. e ≡ Failed) }
+        ensures holds { F.holds files.new ≡ F.holds files.old }
+        ensures cause { HasCause Failed (F.faults files.old) (F.faults files.new) result }
+    {
+        if self.end < at {
+            return Ok(None);
+        }
+        if !self.ready(files, at, LEAST_SIZE)? {
+            return Ok(None);
+        }
+        Ok(header_at(self.window.bytes_from(at), at, self.end))
+    }
+
+    /// Whether the file gave fewer bytes at a place than its end says, once the window went there.
+    pub(crate) fn is_cut(&self, at: u64) -> bool
+        requires { at ≤ self.now.end }
+        ensures { result ≡ is_cut at self.now }
+    {
+        self.end - at >= LEAST_SIZE as u64 && self.window.bytes_from(at).len() < LEAST_SIZE
+    }
+
+    /// The header of the block at a place, and None where no block is. The window stays where it is.
+    pub(crate) fn header<F: Files>(&self, files: &mut F, at: u64) -> Result<Option<Header>, FileErr>
+        requires ready { IfTold (F.holds files.old) (IsReady self.now) }
+        ensures told { IfOk result (λ found. IfTold (F.holds files.old) (λ m.
+            HeadsBlock (read_bytes self.now m) found (read_blocks self.now m at))) }
+        ensures place { IfOk result (λ found. IfSome found (IsHeader at self.now.end)) }
+        ensures failed { IfErr result (λ e. e ≡ Failed) }
+        ensures holds { F.holds files.new ≡ F.holds files.old }
+        ensures cause { HasCause Failed (F.faults files.old) (F.faults files.new) result }
+    {
+        if self.end < at {
+            return Ok(None);
+        }
+        if self.end - at < LEAST_SIZE as u64 {
+            return Ok(None);
+        }
+        let held = self.window.bytes_from(at);
+        if LEAST_SIZE <= held.len() {
+            return Ok(header_at(held, at, self.end));
+        }
+        let found = read_header(files, self.name.as_str(), at, self.end)?;
+        Ok(found)
+    }
+
+    /// The row bytes of a block that the window holds whole.
+    pub(crate) fn row_bytes(&self, block: &Header) -> &[u8]
+        requires { IsKept block.now self.now.kept }
+        ensures { result.now ≡ kept_bytes block.now self.now.kept }
+    {
+        &self.window.bytes_from(block.head.at)[block.start..block.start + block.data_len]
+    }
+
+    /// Appends the row bytes of a block to a buffer, and says whether they were there. Those that the
+    /// window holds are not read again.
+    pub(crate) fn append<F: Files>(
+        &self,
+        files: &mut F,
+        block: &Header,
+        joined: &mut Vec<u8>,
+    ) -> Result<bool, ScanFault>
+        requires block { IsHeader block.now.head.at self.now.end block.now }
+        requires ready { IfTold (F.holds files.old) (IsReady self.now) }
+        ensures told { IfOk result (λ whole. IfTold (F.holds files.old) (λ m.
+            (b : Block) → Heads (read_bytes self.now m) block.now b
+            → (whole ≡ true) × (joined.new.items ≡ joined.old.items ++ b.bytes))) }
+        ensures holds { F.holds files.new ≡ F.holds files.old }
+        ensures cause { HasCause File (F.faults files.old) (F.faults files.new) result }
+    {
+        let at = block.head.at + block.start as u64;
+        let held = self.window.bytes_from(at);
+        let count = held.len().min(block.data_len);
+        joined.extend_from_slice(&held[..count])?;
+        if count == block.data_len {
+            return Ok(true);
+        }
+        let rest = block.data_len - count;
+        let whole = append_range(files, self.name.as_str(), at + count as u64, rest, joined)?;
+        Ok(whole)
+    }
+}

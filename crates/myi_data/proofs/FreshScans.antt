@@ -1,0 +1,57 @@
+-- A scan of which nothing was read, and what a change of other files leaves of a scan.
+use Rattle.std.proofs.Common.{◌≡◌, ◌∙◌, ◌≤◌, ℕ, Bool, List, [], ◌∷◌, ◌++◌, length, take, Option, Some, None, Result, Ok, Err, refl, sym, ap, subst}
+use Rattle.myi_base.specs.Holding.{Holding, IfTold, bytes_of}
+use Rattle.myi_defs.specs.declared.types.RowFormat.{RowFormat}
+use Rattle.myi_defs.specs.declared.types.RowFormat.TheVariants.{Static, Dynamic}
+use Rattle.myi_defs.specs.declared.types.Defs.{Defs}
+use Rattle.myi_chain.specs.Readable.{Row, rows_of}
+use Rattle.myi_chain.specs.Readable as chains
+use Rattle.myi_chain.specs.ScanModel.{fresh_scan, FirstRow}
+use Rattle.myi_window.specs.Excerpt.{StandsIn}
+use Rattle.myi_data.specs.Readable.{packs, items_at, items_by, items_in}
+use Rattle.myi_chain.specs.declared.piece.Piece.{Piece}
+use Rattle.myi_chain.specs.declared.piece.Item.{Item}
+use Rattle.myi_chain.specs.declared.piece.ScanFault.{ScanFault}
+use Rattle.myi_data.specs.Scanning.{TableScan, left_by, items_ahead, IsAsKnown, AfterTableItem, AfterTableRow}
+use Rattle.myi_data.proofs.SlotLaws.{drop_none}
+
+all_left : (f : RowFormat) (d : Defs) (extend : Bool) (x : List ℕ) → left_by f d extend 0 [] x ≡ items_by f d extend x
+unfolding chains.items_in
+all_left Static d extend x = ap (items_at (packs d) d.slot_length 0) (drop_none x)
+all_left Dynamic d extend x = refl
+
+pub fresh_ahead : (name : List ℕ) (d : Defs) (extend : Bool) (end : ℕ) (m : Holding) → items_ahead (fresh_scan name d extend end) m ≡ items_in d extend (take end (bytes_of name m))
+unfolding items_in
+fresh_ahead name d extend end m = all_left d.format d extend (take end (bytes_of name m))
+
+pub fresh_known : (name : List ℕ) (d : Defs) (extend : Bool) (end : ℕ) (m : Holding) → (d.format ≡ Dynamic → end ≤ length (bytes_of name m)) → IsAsKnown (fresh_scan name d extend end) m
+fresh_known name d extend end m long = record { kept = refl; long = long }
+
+pub ahead_same : (s : TableScan) (m n : Holding) → bytes_of s.name n ≡ bytes_of s.name m → items_ahead s n ≡ items_ahead s m
+ahead_same s m n same = ap (λ (x : List ℕ). left_by s.test.format s.test s.extend s.place s.used (take s.end x)) same
+
+pub known_same : (s : TableScan) (m n : Holding) → bytes_of s.name n ≡ bytes_of s.name m → IsAsKnown s m → IsAsKnown s n
+known_same s m n same current = record {
+  kept = subst (λ (x : List ℕ). StandsIn s.kept x) (sym same) current.kept;
+  long = λ e. subst (λ (x : List ℕ). s.end ≤ length x) (sym same) (current.long e);
+}
+
+-- whatever a call answers, the file is then as the scan knows it
+pub items_known : (h : Option Holding) (old new : TableScan) (r : Result (Option Item) ScanFault) → AfterTableItem h old r new → IfTold h (IsAsKnown new)
+items_known h old new (Err e) l = l.0.current
+items_known h old new (Ok None) l = l.0.current
+items_known h old new (Ok (Some found)) l = l.0.current
+
+pub rows_known : (h : Option Holding) (old new : TableScan) (r : Result (Option (ℕ × Piece)) ScanFault) → AfterTableRow h old r new → IfTold h (IsAsKnown new)
+rows_known h old new (Err e) l = l.0.current
+rows_known h old new (Ok None) l = l.0.current
+rows_known h old new (Ok (Some found)) l = l.0.current
+
+-- the rows that are ahead, where one comes first
+pub rows_first : (r : Row) (before after : List chains.Item) → FirstRow r before after → rows_of before ≡ r ∷ rows_of after
+rows_first r before after first = ap rows_of first.2 ∙ over first.0 after first.1
+  where
+    over : (fs js : List chains.Item) → rows_of fs ≡ [] → rows_of (fs ++ chains.row r ∷ js) ≡ r ∷ rows_of js
+    over [] js none = refl
+    over (chains.row q ∷ fs) js none = absurd cc
+    over (chains.free a ∷ fs) js none = over fs js none

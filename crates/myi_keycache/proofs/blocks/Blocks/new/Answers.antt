@@ -1,0 +1,5 @@
+use Rattle.myi_keycache.proofs.FlushLemmas.{no_order}
+use Rattle.myi_keycache.proofs.blocks.Blocks.new.Goals as goal
+
+pub invariant_of-result : goal.invariant_of-result
+invariant_of-result c = no_order c.args.setup c.new.result.entries c.new.ensures.empty c.requires

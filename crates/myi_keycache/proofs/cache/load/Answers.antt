@@ -1,0 +1,75 @@
+use Rattle.std.proofs.Common.{◌≡◌, ℕ, List, Err, length, sym, ap, subst, ◌∙◌, arith}
+use Rattle.std.proofs.lemmas.Result.{err_from_is_err_and}
+use Rattle.myi_base.proofs.CallerLemmas.{ok_not_err}
+use Rattle.myi_keycache.specs.declared.setup.CacheFault.{CacheFault}
+use Rattle.myi_keycache.specs.Kept.{AllWritten}
+use Rattle.myi_keycache.specs.Order.{WritesOnly, due_in, cache_of}
+use Rattle.myi_keycache.proofs.CacheLemmas.{pages_eq}
+use Rattle.myi_keycache.proofs.LoadLemmas.{room_is}
+use Rattle.myi_keycache.proofs.OneLemmas.{one_due, one_ok, one_kept, one_refused, one_err}
+use Rattle.myi_keycache.proofs.GetLemmas.{refused_gets, short_lent, read_answer, load_gets}
+use Rattle.myi_keycache.proofs.cache.load.Goals as goal
+
+pub returns-in_err-read_page-clause-short : goal.returns-in_err-read_page-clause-short
+returns-in_err-read_page-clause-short g c =
+    let fault : CacheFault = c.in_err-read_page.field-0.0 in
+    let e = err_from_is_err_and c.from_residual.result c.from_residual.ensures.1 in
+    let same : c.from_residual.result ≡ Err fault = e.1 ∙ ap Err e.2 in
+    rw same (λ p is. ((c.in_err-read_page.ensures.short p is).0, short_lent _ c.args.name.now c.args.blocks.now c.args.counters.now c.args.page.at c.args.page.size c.requires.none (c.in_err-read_page.ensures.short p is).1))
+
+pub returns-in_err-make_room-clause-gets : goal.returns-in_err-make_room-clause-gets
+returns-in_err-make_room-clause-gets g c =
+    let fault : CacheFault = c.in_err-make_room.field-0.0 in
+    let e = err_from_is_err_and c.from_residual-in_err-make_room.result c.from_residual-in_err-make_room.ensures.1 in
+    let same : c.from_residual-in_err-make_room.result ≡ Err fault = e.1 ∙ ap Err e.2 in
+    let w = subst (λ h. WritesOnly h (g.F.Files.holds c.make_room.new.files) (cache_of c.args.name.now c.args.blocks.now c.args.counters.now) (cache_of c.args.name.now c.make_room.new.blocks c.make_room.new.counters)) c.in_ok-read_page.ensures.holds c.in_err-make_room.ensures.writes in
+    rw same (refused_gets _ _ c.args.name.now c.args.blocks.now c.make_room.new.blocks c.args.counters.now c.make_room.new.counters c.args.page.at c.args.page.size fault c.in_err-make_room.ensures.stay w)
+
+pub returns-in_err-index-clause-gets : goal.returns-in_err-index-clause-gets
+returns-in_err-index-clause-gets g c =
+    let fault : CacheFault = c.in_err-index.field-0.0 in
+    let e = err_from_is_err_and c.from_residual-in_err-index.result c.from_residual-in_err-index.ensures.1 in
+    let same : c.from_residual-in_err-index.result ≡ Err fault = e.1 ∙ ap Err e.2 in
+    let w = subst (λ h. WritesOnly h (g.F.Files.holds c.make_room.new.files) (cache_of c.args.name.now c.args.blocks.now c.args.counters.now) (cache_of c.args.name.now c.make_room.new.blocks c.make_room.new.counters)) c.in_ok-read_page.ensures.holds c.in_ok-make_room.ensures.writes in
+    rw (same, c.in_err-index.ensures.err) (refused_gets _ _ c.args.name.now c.args.blocks.now c.make_room.new.blocks c.args.counters.now c.make_room.new.counters c.args.page.at c.args.page.size fault c.in_ok-make_room.ensures.stay w)
+
+pub returns-in_err-read_page-clause-one : goal.returns-in_err-read_page-clause-one
+returns-in_err-read_page-clause-one g c =
+    let fault : CacheFault = c.in_err-read_page.field-0.0 in
+    let e = err_from_is_err_and c.from_residual.result c.from_residual.ensures.1 in
+    let same : c.from_residual.result ≡ Err fault = e.1 ∙ ap Err e.2 in
+    rw same (one_kept _ _ c.args.name.now _ fault c.in_err-read_page.ensures.holds)
+
+pub returns-in_err-make_room-clause-one : goal.returns-in_err-make_room-clause-one
+returns-in_err-make_room-clause-one g c =
+    let fault : CacheFault = c.in_err-make_room.field-0.0 in
+    let e = err_from_is_err_and c.from_residual-in_err-make_room.result c.from_residual-in_err-make_room.ensures.1 in
+    let same : c.from_residual-in_err-make_room.result ≡ Err fault = e.1 ∙ ap Err e.2 in
+    rw same (one_due _ _ _ c.args.name.now c.args.blocks.now c.args.counters.now c.args.page.at c.args.page.size _ c.requires.none c.in_ok-read_page.ensures.holds (one_err _ _ c.args.name.now (due_in c.args.blocks.now) _ fault c.in_err-make_room.ensures.one))
+
+pub returns-in_err-index-clause-one : goal.returns-in_err-index-clause-one
+returns-in_err-index-clause-one g c =
+    let fault : CacheFault = c.in_err-index.field-0.0 in
+    let e = err_from_is_err_and c.from_residual-in_err-index.result c.from_residual-in_err-index.ensures.1 in
+    let same : c.from_residual-in_err-index.result ≡ Err fault = e.1 ∙ ap Err e.2 in
+    rw same (one_due _ _ _ c.args.name.now c.args.blocks.now c.args.counters.now c.args.page.at c.args.page.size _ c.requires.none c.in_ok-read_page.ensures.holds (one_refused _ _ c.args.name.now (due_in c.args.blocks.now) _ fault c.in_ok-make_room.ensures.one))
+
+pub returns : goal.returns
+returns g c =
+    let bytes : List ℕ = c.read_page.new.into.items in
+    let long : length bytes ≡ c.args.page.size = sym c.read_page.new.into.ok.0 ∙ c.in_ok-read_page.ensures.long in
+    let w = subst (λ h. WritesOnly h (g.F.Files.holds c.make_room.new.files) (cache_of c.args.name.now c.args.blocks.now c.args.counters.now) (cache_of c.args.name.now c.make_room.new.blocks c.make_room.new.counters)) c.in_ok-read_page.ensures.holds c.in_ok-make_room.ensures.writes in
+    let room = room_is c.args.blocks.now c.make_room.new.blocks c.args.page.at c.args.page.size c.requires.differ c.requires.none c.in_ok-make_room.ensures.stay c.in_ok-make_room.ensures.ok in
+    let shown = read_answer (g.F.Files.holds c.args.files.now) c.args.name.now c.args.blocks.now c.args.counters.now c.args.page.at c.args.page.size bytes c.requires.none long c.in_ok-read_page.ensures.page in
+    let t = c.in_ok-index.ensures in
+    record {
+      there = (_, t.there, long, shown);
+      short = tt;
+      clean = λ all. w.clean (subst AllWritten (sym (pages_eq c.args.name.now c.args.blocks.now c.args.counters.now)) all);
+      one = one_due _ _ _ c.args.name.now c.args.blocks.now c.args.counters.now c.args.page.at c.args.page.size _ c.requires.none c.in_ok-read_page.ensures.holds (one_ok _ _ c.args.name.now (due_in c.args.blocks.now) _ _ c.in_ok-make_room.ensures.one);
+      read_first = tt;
+      gets = load_gets _ _ c.args.name.now c.args.blocks.now c.make_room.new.blocks c.take_in.new.self c.args.counters.now c.make_room.new.counters c.count_get.new.self c.args.page.at c.args.page.size bytes _ long c.in_ok-make_room.ensures.stay w c.requires.none room t.setup t.lists t.alike c.count_get.ensures c.in_ok-make_room.ensures.counted shown;
+      cause = record { later = omega (arith, c.in_ok-read_page.ensures.cause.later, c.in_ok-make_room.ensures.cause.later); cause = λ e. absurd (ok_not_err e) };
+      reads = omega (arith, c.in_ok-read_page.ensures.reads, c.in_ok-make_room.ensures.reads);
+      once = omega (arith, c.in_ok-read_page.ensures.once, c.in_ok-make_room.ensures.reads);
+    }

@@ -1,0 +1,65 @@
+use Rattle.std.proofs.Common.{◌≡◌, ◌<◌, ℕ, Err, length, refl, sym, ap, subst, ◌∙◌, arith}
+use Rattle.std.proofs.lemmas.Result.{err_from_is_err_and}
+use Rattle.myi_keycache.specs.declared.setup.CacheFault.{CacheFault}
+use Rattle.myi_keycache.specs.declared.setup.Counters.{Counters}
+use Rattle.myi_keycache.specs.Kept.{unwritten_count}
+use Rattle.myi_keycache.specs.Order.{Order, contents_of}
+use Rattle.myi_keycache.proofs.OrderLemmas.{split}
+use Rattle.myi_keycache.proofs.CacheLemmas.{stay_same, stay_then, nothing_only, only_then}
+use Rattle.myi_keycache.proofs.FlushLemmas.{writing_start, writing_within, writing_next, writing_done, writing_stops, one_written, one_fewer, still_written, got_is, OneWritten}
+use Rattle.myi_keycache.proofs.cache.write_all.Goals as goal
+
+pub loop-i-init : goal.loop-i-init
+loop-i-init g c = record {
+  stay = stay_same c.args.blocks.now;
+  writes = nothing_only _ _ c.args.name.now c.args.blocks.now c.args.counters.now c.requires.writes refl;
+  writing = writing_start c.args.blocks.now c.in_ok-found.found.items c.in_ok-found.ensures.all;
+  small = c.requires.writes;
+  faults = omega arith;
+  reads = refl;
+}
+
+pub write_page-requires-clause-index : goal.write_page-requires-clause-index
+write_page-requires-clause-index g c κs within =
+    let lt : c.loop-i.i < length c.in_ok-found.found.items = omega (arith, c.loop-i-test.true, c.len-i-end.ensures, c.in_ok-found.found.ok.0) in
+    let w = writing_within c.args.blocks.now c.loop-i.blocks c.in_ok-found.found.items c.loop-i.i lt c.loop-i.invariant.writing in
+    subst (λ (f : ℕ × ℕ). f.1 < length c.loop-i.blocks.pages) (got_is c.in_ok-found.found.items c.loop-i.i c.index.result.now lt c.index.ensures) w
+
+pub loop-i-preserved : goal.loop-i-preserved
+loop-i-preserved g c =
+    let lt : c.loop-i.i < length c.in_ok-found.found.items = omega (arith, c.loop-i-test.true, c.len-i-end.ensures, c.in_ok-found.found.ok.0) in
+    let w = writing_within c.args.blocks.now c.loop-i.blocks c.in_ok-found.found.items c.loop-i.i lt c.loop-i.invariant.writing in
+    let got = got_is c.in_ok-found.found.items c.loop-i.i c.index.result.now lt c.index.ensures in
+    let within : c.index.result.now.1 < length c.loop-i.blocks.pages = subst (λ (f : ℕ × ℕ). f.1 < length c.loop-i.blocks.pages) got w in
+    let h = c.in_ok-write_page.ensures in
+    let s = split c.loop-i.blocks.pages c.index.result.now.1 within in
+    let one = one_written c.loop-i.blocks c.write_page.new.blocks c.index.result.now.1 s (h.ok s) in
+    let i = c.loop-i.invariant in
+    let counted = ap (λ (k : Counters). k.writes) h.writes.counters in
+    record {
+      stay = stay_then _ _ _ i.stay h.stay;
+      writes = only_then _ _ _ c.args.name.now c.args.blocks.now c.loop-i.blocks c.write_page.new.blocks _ _ _ i.writing.fewer (one_fewer _ _ _ one) (λ all p n u. all p n (i.stay.unwritten p n u)) i.writes h.writes;
+      writing = writing_next c.args.blocks.now c.loop-i.blocks c.write_page.new.blocks c.in_ok-found.found.items c.loop-i.i lt i.writing (subst (λ (f : ℕ × ℕ). OneWritten (contents_of c.loop-i.blocks.pages) (contents_of c.write_page.new.blocks.pages) f.1) (sym got) one);
+      small = omega (arith, counted);
+      faults = omega (arith, i.faults, h.cause.later);
+      reads = h.reads ∙ i.reads;
+    }
+
+pub returns-in_err-write_page-clause-in_order : goal.returns-in_err-write_page-clause-in_order
+returns-in_err-write_page-clause-in_order g c =
+    let lt : c.loop-i.i < length c.in_ok-found.found.items = omega (arith, c.loop-i-test.true, c.len-i-end.ensures, c.in_ok-found.found.ok.0) in
+    let fault : CacheFault = c.in_err-write_page.field-0.0 in
+    let e = err_from_is_err_and c.from_residual-in_err-write_page.result c.from_residual-in_err-write_page.ensures.1 in
+    let same : c.from_residual-in_err-write_page.result ≡ Err fault = e.1 ∙ ap Err e.2 in
+    rw same (writing_stops c.args.blocks.now c.write_page.new.blocks c.in_ok-found.found.items c.loop-i.i lt c.in_ok-found.ensures.sorted
+    (still_written c.args.blocks.now c.loop-i.blocks c.write_page.new.blocks c.in_ok-found.found.items c.loop-i.i c.in_err-write_page.ensures.err c.loop-i.invariant.writing))
+
+pub returns-in_err-write_page-clause-writes : goal.returns-in_err-write_page-clause-writes
+returns-in_err-write_page-clause-writes g c =
+    let i = c.loop-i.invariant in
+    let h = c.in_err-write_page.ensures in
+    let k = ap (λ (o : Order). unwritten_count (contents_of o.pages)) h.err in
+    only_then _ _ _ c.args.name.now c.args.blocks.now c.loop-i.blocks c.write_page.new.blocks _ _ _ i.writing.fewer (omega (arith, k)) (λ all p n u. all p n (i.stay.unwritten p n u)) i.writes h.writes
+
+pub returns-clause-written : goal.returns-clause-written
+returns-clause-written g c = writing_done c.args.blocks.now c.loop-i.blocks c.in_ok-found.found.items c.loop-i.i (omega (arith, c.loop-i-test.false, c.len-i-end.ensures, c.in_ok-found.found.ok.0)) c.loop-i.invariant.writing

@@ -1,0 +1,14 @@
+use Rattle.std.proofs.Common.{◌≡◌, ◌<◌, ◌≤◌, ◌^◌}
+use Rattle.myi_keycache.specs.Order.{PagesStay, WritesOnly, cache_of}
+use Rattle.myi_keycache.proofs.FlushLemmas.{Writing}
+use Rattle.myi_keycache.proofs.cache.write_all.Given as goal
+
+abbrev pub invariant-loop-i : goal.invariant-loop-i
+invariant-loop-i g l = record {
+  stay : PagesStay l.fn.blocks l.blocks;
+  writes : WritesOnly (g.F.Files.holds l.fn.files) (g.F.Files.holds l.files) (cache_of l.name l.fn.blocks l.fn.counters) (cache_of l.name l.blocks l.counters);
+  writing : Writing l.fn.blocks l.blocks l.found.items l.i;
+  small : l.counters.writes < 2 ^ 64;
+  faults : g.F.Files.faults l.fn.files ≤ g.F.Files.faults l.files;
+  reads : g.F.Files.reads l.files ≡ g.F.Files.reads l.fn.files;
+}

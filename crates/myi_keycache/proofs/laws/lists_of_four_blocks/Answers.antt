@@ -1,0 +1,7 @@
+use Rattle.std.proofs.Common.{refl}
+use Rattle.myi_keycache.specs.Midpoint.{midpoint, without}
+use Rattle.myi_keycache.proofs.laws.lists_of_four_blocks.Goals as goal
+
+pub returns : goal.returns
+unfolding midpoint without
+returns c = record { third_hit = refl; evicted = refl; old = refl; end = refl }

@@ -1,0 +1,186 @@
+//! `Window`: 131,072 bytes of a file, which slide forward.
+//!
+//! The buffer of a window is taken once and holds an excerpt of a file: the bytes that were read from a
+//! place on. `slide` goes to another place: what the excerpt holds of the bytes from there on moves to
+//! the front, and one read adds what is missing. So no byte is read twice while the place rises.
+ghost use Rattle.std.specs.Prelude.{◌≡◌, ◌≤◌, ◌+◌, ◌-◌, ◌++◌, length, take, drop, min, IfOk, IfErr};
+ghost use Rattle.myi_base.specs.Holding.{IfTold, bytes_of};
+ghost use Rattle.myi_base.specs.Causes.{HasCause};
+ghost use Rattle.myi_io.specs.declared.files.FileErr.TheVariants.{Failed};
+
+use myi_io::{FileErr, Files};
+use std::alloc::{AllocError, Global};
+use std::marker::Model;
+
+/// How many bytes of a file a window holds.
+pub const WINDOW: usize = 131_072;
+
+/// Moves the bytes from `skip` up to `count` to the front.
+fn move_front(buffer: &mut [u8], skip: usize, count: usize)
+    requires order { skip ≤ count }
+    requires inside { count ≤ length buffer.old }
+    ensures { take (count - skip) buffer.new ≡ drop skip (take count buffer.old) }
+{
+    buffer.copy_within(skip..count, 0);
+}
+
+/// Reads the bytes of a file from a place on behind the first `skip` of the buffer, and answers how many.
+fn read_behind<F: Files>(
+    files: &mut F,
+    name: &str,
+    at: u64,
+    buffer: &mut [u8],
+    skip: usize,
+    room: usize,
+) -> Result<usize, FileErr>
+    requires { skip + room ≤ length buffer.old }
+    ensures front { take skip buffer.new ≡ take skip buffer.old }
+    ensures bound { IfOk result (λ count. count ≤ room) }
+    ensures told { IfOk result (λ count. IfTold (F.holds files.old) (λ m.
+        take (skip + count) buffer.new
+        ≡ take skip buffer.old ++ take room (drop at (bytes_of name.now m)))) }
+    ensures failed { IfErr result (λ e. e ≡ Failed) }
+    ensures holds { F.holds files.new ≡ F.holds files.old }
+    ensures cause { HasCause Failed (F.faults files.old) (F.faults files.new) result }
+{
+    let count = files.read_at(name, at, &mut buffer[skip..skip + room])?;
+    Ok(count)
+}
+
+/// How many bytes are missing behind the first `count` from a place on, up to the end or a whole window.
+fn room_behind(count: usize, from: u64, end: u64) -> usize
+    requires few { count ≤ 131072 }
+    requires inside { from + count ≤ end }
+    ensures { count + result ≡ min 131072 (end - from) }
+{
+    if end - from < WINDOW as u64 {
+        return (end - from) as usize - count;
+    }
+    WINDOW - count
+}
+
+/// A part of a file in memory.
+pub struct Window {
+    buffer: Vec<u8>,
+    /// The place of the buffer's first byte in the file.
+    from: u64,
+    /// How many bytes of the buffer are those of the file.
+    count: usize,
+}
+
+impl Drop for Window {
+    fn drop(self) {
+        let Window {
+            buffer: _,
+            from: _,
+            count: _,
+        } = self;
+    }
+}
+
+impl Model for Window {
+    ghost use Rattle.std.specs.Prelude.{◌≡◌, ◌≤◌, length, take};
+    ghost use Rattle.myi_window.specs.Excerpt.{Excerpt};
+
+    ghost Value = { Excerpt };
+
+    ghost view = { λ w. record { from = w.from; bytes = take w.count w.buffer.items } };
+
+    ghost invariant = { λ w. (length w.buffer.items ≡ 131072) × (w.count ≤ 131072) };
+}
+
+impl Window {
+    ghost use Rattle.std.specs.Prelude.{◌≡◌, ◌≤◌, length, IfOk, IfErr, OnOk, OnErr};
+    ghost use Rattle.myi_base.specs.Holding.{IfTold};
+    ghost use Rattle.myi_base.specs.Causes.{HasCause};
+    ghost use Rattle.myi_io.specs.declared.files.FileErr.TheVariants.{Failed};
+    ghost use Rattle.myi_window.specs.Excerpt.{nothing, bytes_from, moved, EndsBy, GoesOnStanding, IsFull};
+    ghost use Rattle.myi_window.specs.declared.window.TheConstants.{WINDOW};
+
+    /// A window that holds nothing of a file yet. Its memory is taken here, and no more later.
+    pub fn new(alloc: Global) -> Result<Window, AllocError>
+        ensures { IfOk result (λ w. w ≡ nothing) }
+    {
+        let mut buffer = Vec::new(alloc);
+        buffer.resize(WINDOW, 0)?;
+        Ok(Window {
+            buffer,
+            from: 0,
+            count: 0,
+        })
+    }
+
+    /// The bytes that the window holds from a place of the file on: none where the place is before or
+    /// behind them.
+    pub fn bytes_from(&self, at: u64) -> &[u8]
+        ensures bytes { result.now ≡ bytes_from at self.now }
+        ensures few { length result.now ≤ WINDOW }
+    {
+        if at < self.from || (self.count as u64) < at - self.from {
+            return &[];
+        }
+        &self.buffer[(at - self.from) as usize..self.count]
+    }
+
+    // Moves to a place. What is held of the bytes from there up to the end stays.
+    fn move_to(&mut self, at: u64, end: u64)
+        requires { at ≤ end }
+        ensures { self.new ≡ moved at end self.old }
+    {
+        let mut skip = self.count;
+        if self.from <= at && at - self.from < self.count as u64 {
+            skip = (at - self.from) as usize;
+        }
+        move_front(&mut self.buffer, skip, self.count);
+        self.count -= skip;
+        self.from = at;
+        if end - at < self.count as u64 {
+            self.count = (end - at) as usize;
+        }
+    }
+
+    // Reads what is missing up to the end or a whole window.
+    fn read_more<F: Files>(&mut self, files: &mut F, name: &str, end: u64) -> Result<(), FileErr>
+        requires { EndsBy end self.old }
+        ensures from { self.new.from ≡ self.old.from }
+        ensures full { OnOk result (IfTold (F.holds files.old)
+            (IsFull name.now self.old.from end self.old self.new)) }
+        ensures inside { OnOk result (EndsBy end self.new) }
+        ensures err { OnErr result (self.new ≡ self.old) }
+        ensures failed { IfErr result (λ e. e ≡ Failed) }
+        ensures holds { F.holds files.new ≡ F.holds files.old }
+        ensures cause { HasCause Failed (F.faults files.old) (F.faults files.new) result }
+    {
+        let room = room_behind(self.count, self.from, end);
+        let at = self.from + self.count as u64;
+        let count = read_behind(files, name, at, &mut self.buffer, self.count, room)?;
+        self.count += count;
+        Ok(())
+    }
+
+    /// Slides to a place of a file that is read up to an end. Where what the window held stands in the
+    /// file, it then holds the file from the place on, as far as a window goes; after a failure what it
+    /// holds stands there still. It takes no memory, and reads at most once, only bytes that it does not
+    /// hold.
+    pub fn slide<F: Files>(
+        &mut self,
+        files: &mut F,
+        name: &str,
+        at: u64,
+        end: u64,
+    ) -> Result<(), FileErr>
+        requires { at ≤ end }
+        ensures from { self.new.from ≡ at }
+        ensures full { OnOk result (IfTold (F.holds files.old)
+            (IsFull name.now at end self.old self.new)) }
+        ensures stands { IfTold (F.holds files.old) (GoesOnStanding name.now self.old self.new) }
+        ensures inside { EndsBy end self.new }
+        ensures failed { IfErr result (λ e. e ≡ Failed) }
+        ensures holds { F.holds files.new ≡ F.holds files.old }
+        ensures cause { HasCause Failed (F.faults files.old) (F.faults files.new) result }
+    {
+        self.move_to(at, end);
+        self.read_more(files, name, end)?;
+        Ok(())
+    }
+}
