@@ -3,7 +3,7 @@
 //! The file is read through a window that slides forward. A row in one block that a window can hold is
 //! lent as a slice of it; the bytes of any other row are joined in a buffer of the scan. The model of a
 //! `Scan` is where it stands, from which the definition of readable rows says what is left of the file.
-ghost use Rattle.std.specs.Prelude.{◌≡◌, ◌≤◌, ◌∷◌, [], IfOk, IfErr, IfSome};
+ghost use Rattle.std.specs.Prelude.{◌≡◌, ◌≤◌, ◌<◌, ◌∷◌, [], OnErr, IfOk, IfErr, IfSome};
 ghost use Rattle.std.specs.Borrow.{sem};
 ghost use Rattle.std.specs.Io.BufRead.{Rests};
 ghost use Rattle.myi_base.specs.Holding.{IfTold};
@@ -115,7 +115,7 @@ impl<A: Accepts> Model for Scan<A> {
 }
 
 impl<A: Accepts> Scan<A> {
-    ghost use Rattle.std.specs.Prelude.{◌≡◌, Option, IfOk, IfErr, IfSome};
+    ghost use Rattle.std.specs.Prelude.{◌≡◌, ◌<◌, Option, OnErr, IfOk, IfErr, IfSome};
     ghost use Rattle.std.specs.Borrow.{sem};
     ghost use Rattle.std.specs.Io.BufRead.{Rests};
     ghost use Rattle.myi_base.specs.Holding.{IfTold};
@@ -165,6 +165,7 @@ impl<A: Accepts> Scan<A> {
             (Passes (A.accepts_gives self.old.test))) }
         ensures never { IfErr result (λ e. e ≡ Memory → IfTold (F.holds files.old) (λ m.
             MeetsPlain A.accepts_gives self.old m → ⊥)) }
+        ensures failing { OnErr result (self.old.place < self.old.end) }
         ensures holds { F.holds files.new ≡ F.holds files.old }
         ensures cause { HasCause File (F.faults files.old) (F.faults files.new) result }
         ensures* after { sem 𝓛 (Rests (the_row A.row A.Accepts) self.entry
@@ -207,6 +208,7 @@ impl<A: Accepts> Scan<A> {
             (PassesRow (A.accepts_gives self.old.test))) }
         ensures never { IfErr result (λ e. e ≡ Memory → IfTold (F.holds files.old) (λ m.
             MeetsPlain A.accepts_gives self.old m → ⊥)) }
+        ensures failing { OnErr result (self.old.place < self.old.end) }
         ensures holds { F.holds files.new ≡ F.holds files.old }
         ensures cause { HasCause File (F.faults files.old) (F.faults files.new) result }
         ensures* after { sem 𝓛 (Rests (the_row A.row A.Accepts) self.entry

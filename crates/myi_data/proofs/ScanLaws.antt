@@ -197,6 +197,9 @@ module _ (holds : Option Holding) (old : TableScan) (name : List ℕ) (test : De
   pub rows_kept : to ≡ from → AfterTableRow holds old (Err File) (slot_scan name test extend end to blocks v)
   rows_kept same = (kept FirstRow NoRow IsRow LendsRow (λ m held stood. ap (left m) same), λ e. tt)
 
+  pub some_ahead : from < end → old.place < old.end
+  some_ahead some = omega (arith, old_place, old_end, some)
+
   pub no_plain : {P : Type 0} (m : Holding) → MeetsPlainRow old m → P
   no_plain m meets = not_dynamic old.test.format old_static meets.0
 

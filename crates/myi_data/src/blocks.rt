@@ -1,5 +1,5 @@
 //! `BlockScan`: the blocks of a dynamic table's data file, seen as a scan of a table.
-ghost use Rattle.std.specs.Prelude.{◌≡◌, IfOk, IfErr, IfSome};
+ghost use Rattle.std.specs.Prelude.{◌≡◌, ◌<◌, OnErr, IfOk, IfErr, IfSome};
 ghost use Rattle.std.specs.Borrow.{sem};
 ghost use Rattle.std.specs.Io.BufRead.{Rests};
 ghost use Rattle.myi_base.specs.Holding.{IfTold};
@@ -33,7 +33,7 @@ impl Model for BlockScan {
 }
 
 impl BlockScan {
-    ghost use Rattle.std.specs.Prelude.{◌≡◌, IfOk, IfErr, IfSome};
+    ghost use Rattle.std.specs.Prelude.{◌≡◌, ◌<◌, OnErr, IfOk, IfErr, IfSome};
     ghost use Rattle.std.specs.Borrow.{sem};
     ghost use Rattle.std.specs.Io.BufRead.{Rests};
     ghost use Rattle.myi_base.specs.Holding.{IfTold};
@@ -70,6 +70,7 @@ impl BlockScan {
         ensures never { self.old.test.format ≡ Static → IfErr result (λ e. e ≡ File) }
         ensures plain { IfErr result (λ e. e ≡ Memory
             → IfTold (F.holds files.old) (λ m. MeetsPlainRow self.old m → ⊥)) }
+        ensures failing { OnErr result (self.old.place < self.old.end) }
         ensures holds { F.holds files.new ≡ F.holds files.old }
         ensures cause { HasCause File (F.faults files.old) (F.faults files.new) result }
         ensures* after { sem 𝓛 (Rests the_row self.entry
@@ -89,6 +90,7 @@ impl BlockScan {
         ensures never { self.old.test.format ≡ Static → IfErr result (λ e. e ≡ File) }
         ensures plain { IfErr result (λ e. e ≡ Memory
             → IfTold (F.holds files.old) (λ m. MeetsPlainRow self.old m → ⊥)) }
+        ensures failing { OnErr result (self.old.place < self.old.end) }
         ensures holds { F.holds files.new ≡ F.holds files.old }
         ensures cause { HasCause File (F.faults files.old) (F.faults files.new) result }
         ensures* after { sem 𝓛 (Rests the_row self.entry

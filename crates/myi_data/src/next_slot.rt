@@ -90,6 +90,7 @@ pub(crate) fn next_slot<F: Files>(
     ensures stands { IfTold (F.holds files.old)
         (GoesOnStanding file.now.name.now bytes.old.held bytes.new.held) }
     ensures inside { EndsBy file.now.end bytes.new.held }
+    ensures failing { OnErr result (place.old < file.now.end) }
     ensures failed { IfErr result (λ e. e ≡ Failed) }
     ensures holds { F.holds files.new ≡ F.holds files.old }
     ensures cause { HasCause Failed (F.faults files.old) (F.faults files.new) result }
@@ -140,6 +141,7 @@ pub(crate) fn next_row_slot<F: Files>(
     ensures stands { IfTold (F.holds files.old)
         (GoesOnStanding file.now.name.now bytes.old.held bytes.new.held) }
     ensures inside { EndsBy file.now.end bytes.new.held }
+    ensures failing { OnErr result (place.old < file.now.end) }
     ensures failed { IfErr result (λ e. e ≡ Failed) }
     ensures holds { F.holds files.new ≡ F.holds files.old }
     ensures cause { HasCause Failed (F.faults files.old) (F.faults files.new) result }

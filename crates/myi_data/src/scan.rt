@@ -4,7 +4,7 @@
 //! definitions as the test of what packs a row. Where it stands, and so what of the file is left, is its
 //! model, a `TableScan` of `specs/Scanning`, the same for both. Nothing is known of bytes that were not
 //! read: each call is told that the file is as the one before left it.
-ghost use Rattle.std.specs.Prelude.{◌≡◌, IfOk, IfErr, IfSome};
+ghost use Rattle.std.specs.Prelude.{◌≡◌, ◌<◌, OnErr, IfOk, IfErr, IfSome};
 ghost use Rattle.std.specs.Borrow.{sem};
 ghost use Rattle.std.specs.Io.BufRead.{Rests};
 ghost use Rattle.myi_base.specs.Holding.{IfTold};
@@ -51,7 +51,7 @@ impl Model for DataScan {
 }
 
 impl DataScan {
-    ghost use Rattle.std.specs.Prelude.{◌≡◌, IfOk, IfErr, IfSome};
+    ghost use Rattle.std.specs.Prelude.{◌≡◌, ◌<◌, OnErr, IfOk, IfErr, IfSome};
     ghost use Rattle.std.specs.Borrow.{sem};
     ghost use Rattle.std.specs.Io.BufRead.{Rests};
     ghost use Rattle.myi_base.specs.Holding.{IfTold};
@@ -85,6 +85,7 @@ impl DataScan {
         ensures never { self.old.test.format ≡ Static → IfErr result (λ e. e ≡ File) }
         ensures plain { IfErr result (λ e. e ≡ Memory
             → IfTold (F.holds files.old) (λ m. MeetsPlainRow self.old m → ⊥)) }
+        ensures failing { OnErr result (self.old.place < self.old.end) }
         ensures holds { F.holds files.new ≡ F.holds files.old }
         ensures cause { HasCause File (F.faults files.old) (F.faults files.new) result }
         ensures* after { sem 𝓛 (Rests the_row self.entry
@@ -109,6 +110,7 @@ impl DataScan {
         ensures never { self.old.test.format ≡ Static → IfErr result (λ e. e ≡ File) }
         ensures plain { IfErr result (λ e. e ≡ Memory
             → IfTold (F.holds files.old) (λ m. MeetsPlainRow self.old m → ⊥)) }
+        ensures failing { OnErr result (self.old.place < self.old.end) }
         ensures holds { F.holds files.new ≡ F.holds files.old }
         ensures cause { HasCause File (F.faults files.old) (F.faults files.new) result }
         ensures* after { sem 𝓛 (Rests the_row self.entry

@@ -3,7 +3,7 @@
 //! A row is lent as a slice of the window; one that is longer than a window is read whole into a
 //! buffer of the scan. No memory is taken once the scan is made. Where it stands, and so what of the
 //! file is left, is its model, a `TableScan` of `specs/Scanning`.
-ghost use Rattle.std.specs.Prelude.{◌≡◌, IfOk, IfErr, IfSome};
+ghost use Rattle.std.specs.Prelude.{◌≡◌, ◌<◌, OnErr, IfOk, IfErr, IfSome};
 ghost use Rattle.std.specs.Borrow.{sem};
 ghost use Rattle.std.specs.Io.BufRead.{Rests};
 ghost use Rattle.myi_base.specs.Holding.{IfTold};
@@ -71,7 +71,7 @@ impl Model for SlotScan {
 }
 
 impl SlotScan {
-    ghost use Rattle.std.specs.Prelude.{◌≡◌, IfOk, IfErr, IfSome};
+    ghost use Rattle.std.specs.Prelude.{◌≡◌, ◌<◌, OnErr, IfOk, IfErr, IfSome};
     ghost use Rattle.std.specs.Borrow.{sem};
     ghost use Rattle.std.specs.Io.BufRead.{Rests};
     ghost use Rattle.myi_base.specs.Holding.{IfTold};
@@ -118,6 +118,7 @@ impl SlotScan {
         ensures never { self.old.test.format ≡ Static → IfErr result (λ e. e ≡ File) }
         ensures plain { IfErr result (λ e. e ≡ Memory
             → IfTold (F.holds files.old) (λ m. MeetsPlainRow self.old m → ⊥)) }
+        ensures failing { OnErr result (self.old.place < self.old.end) }
         ensures holds { F.holds files.new ≡ F.holds files.old }
         ensures cause { HasCause File (F.faults files.old) (F.faults files.new) result }
         ensures* after { sem 𝓛 (Rests the_row self.entry
@@ -156,6 +157,7 @@ impl SlotScan {
         ensures never { self.old.test.format ≡ Static → IfErr result (λ e. e ≡ File) }
         ensures plain { IfErr result (λ e. e ≡ Memory
             → IfTold (F.holds files.old) (λ m. MeetsPlainRow self.old m → ⊥)) }
+        ensures failing { OnErr result (self.old.place < self.old.end) }
         ensures holds { F.holds files.new ≡ F.holds files.old }
         ensures cause { HasCause File (F.faults files.old) (F.faults files.new) result }
         ensures* after { sem 𝓛 (Rests the_row self.entry

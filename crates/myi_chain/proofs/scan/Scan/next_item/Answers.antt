@@ -32,6 +32,7 @@ returns-in-Free g c =
       record {
         packs = tt;
         never = tt;
+        failing = tt;
         holds = next.holds;
         cause = record { later = next.cause.later; cause = λ e. absurd (ok_not_err e) };
         after = tt;
@@ -57,6 +58,7 @@ returns-in-Kept g c =
       record {
         packs = packs_old h old i.source i.rules.test i.rules.extend i.position i.blocks c.self.view_is c.requires.current gives mid q r next.reads _ (ap (gives i.rules.test) c.row_bytes.ensures ∙ held.packs);
         never = tt;
+        failing = tt;
         holds = next.holds;
         cause = record { later = next.cause.later; cause = λ e. absurd (ok_not_err e) };
         after = tt;
@@ -82,6 +84,7 @@ returns-in-Joined g c =
       record {
         packs = packs_old h old i.source i.rules.test i.rules.extend i.position i.blocks c.self.view_is c.requires.current gives mid q r next.reads _ (ap (gives i.rules.test) c.deref.ensures.value ∙ held.packs);
         never = tt;
+        failing = tt;
         holds = next.holds;
         cause = record { later = next.cause.later; cause = λ e. absurd (ok_not_err e) };
         after = tt;

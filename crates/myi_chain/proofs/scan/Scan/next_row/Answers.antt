@@ -33,6 +33,7 @@ returns-in-Kept g c =
       record {
         packs = packs_old h old i.source i.rules.test i.rules.extend i.position i.blocks c.self.view_is c.requires.current gives mid q r found.reads _ (ap (gives i.rules.test) c.row_bytes.ensures ∙ held.packs);
         never = tt;
+        failing = tt;
         holds = found.holds;
         cause = record { later = found.cause.later; cause = λ e. absurd (ok_not_err e) };
         after = tt;
@@ -58,6 +59,7 @@ returns-in-Joined g c =
       record {
         packs = packs_old h old i.source i.rules.test i.rules.extend i.position i.blocks c.self.view_is c.requires.current gives mid q r found.reads _ (ap (gives i.rules.test) c.deref.ensures.value ∙ held.packs);
         never = tt;
+        failing = tt;
         holds = found.holds;
         cause = record { later = found.cause.later; cause = λ e. absurd (ok_not_err e) };
         after = tt;

@@ -1,5 +1,5 @@
 use Rattle.std.proofs.Common.{◌≡◌, refl, subst, sym}
-use Rattle.std.specs.Prelude.{IfOk, IfErr, IfSome}
+use Rattle.std.specs.Prelude.{◌<◌, OnErr, IfOk, IfErr, IfSome}
 use Rattle.myi_base.specs.Holding.{IfTold}
 use Rattle.myi_chain.specs.declared.piece.ScanFault.TheVariants.{File, Memory}
 use Rattle.myi_defs.specs.declared.types.RowFormat.TheVariants.{Static}
@@ -20,6 +20,7 @@ returns g c =
         slot = subst (λ s. IfOk c.next_item.result (λ found. IfSome found (IsSlotItem s))) c.self.view_is (items_slot h scan c.self.invariant c.next_item.result);
         never = λ static. subst (λ s. s.test.format ≡ Static → IfErr c.next_item.result (λ e. e ≡ File)) c.self.view_is (λ e. no_static h scan c.self.invariant e) static;
         plain = subst (λ s. IfErr c.next_item.result (λ e. e ≡ Memory → IfTold h (λ m. MeetsPlainRow s m → ⊥))) c.self.view_is (plain_to h scan c.self.invariant c.next_item.result c.next_item.ensures.never);
+        failing = subst (λ s. OnErr c.next_item.result (s.place < s.end)) c.self.view_is c.next_item.ensures.failing;
         holds = c.next_item.ensures.holds;
         cause = c.next_item.ensures.cause;
         after = tt;

@@ -1,5 +1,5 @@
 use Rattle.std.proofs.Common.{◌≡◌, ◌∙◌, refl, sym, ap, subst}
-use Rattle.std.specs.Prelude.{IfOk, IfErr, IfSome}
+use Rattle.std.specs.Prelude.{◌<◌, OnErr, IfOk, IfErr, IfSome}
 use Rattle.myi_base.specs.Holding.{IfTold}
 use Rattle.myi_defs.specs.declared.types.RowFormat.TheVariants.{Static}
 use Rattle.myi_chain.specs.declared.piece.ScanFault.TheVariants.{File, Memory}
@@ -19,6 +19,7 @@ returns-in-Blocks g c =
         slot = subst (λ s. IfOk call.result (λ found. IfSome found (IsSlotItem s))) same call.ensures.slot;
         never = subst (λ (s : TableScan). s.test.format ≡ Static → IfErr call.result (λ e. e ≡ File)) same call.ensures.never;
         plain = subst (λ s. IfErr call.result (λ e. e ≡ Memory → IfTold h (λ m. MeetsPlainRow s m → ⊥))) same call.ensures.plain;
+        failing = subst (λ (s : TableScan). OnErr call.result (s.place < s.end)) same call.ensures.failing;
         holds = call.ensures.holds;
         cause = call.ensures.cause;
         after = tt;

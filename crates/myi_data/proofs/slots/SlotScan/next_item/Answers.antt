@@ -11,7 +11,7 @@ use Rattle.myi_data.specs.Readable.{packs}
 use Rattle.myi_data.specs.NextSlot.{IsNext, IsPlaced, IsHeld, IsSlotBetween}
 use Rattle.myi_chain.specs.declared.piece.Item.TheVariants as item
 use Rattle.myi_data.specs.Scanning.{AfterTableItem}
-use Rattle.myi_data.proofs.ScanLaws.{went, slot_scan, item_answered, free_answered, items_ended, items_kept, no_plain, row_packs, row_slot, free_slot}
+use Rattle.myi_data.proofs.ScanLaws.{went, slot_scan, item_answered, free_answered, items_ended, items_kept, no_plain, some_ahead, row_packs, row_slot, free_slot}
 use Rattle.myi_data.proofs.slots.SlotScan.next_item.Goals as goal
 
 pub returns-in_default : goal.returns-in_default
@@ -31,6 +31,7 @@ returns-in_default g c =
         slot = tt;
         never = λ static. tt;
         plain = tt;
+        failing = tt;
         holds = found.holds;
         cause = record { later = found.cause.later; cause = λ e. absurd (ok_not_err e) };
         after = tt;
@@ -57,6 +58,7 @@ returns-in-Row g c =
         slot = row_slot h c.args.self.now name i.test i.extend i.end i.place to (option_to_list i.last) i.bytes.held v size k at c.slot_at.result placed whole.0 slot;
         never = λ static. tt;
         plain = tt;
+        failing = tt;
         holds = found.holds;
         cause = record { later = found.cause.later; cause = λ e. absurd (ok_not_err e) };
         after = tt;
@@ -82,6 +84,7 @@ returns-in-Free g c =
         slot = free_slot h c.args.self.now name i.test i.extend i.end i.place to (option_to_list i.last) i.bytes.held v size k at placed;
         never = λ static. tt;
         plain = tt;
+        failing = tt;
         holds = found.holds;
         cause = record { later = found.cause.later; cause = λ e. absurd (ok_not_err e) };
         after = tt;
@@ -107,6 +110,7 @@ returns-in_err-slot g c =
         slot = tt;
         never = λ static. refl;
         plain = λ is m held meets. no_plain h c.args.self.now name i.test i.extend i.end i.place to (option_to_list i.last) i.bytes.held v size k m meets;
+        failing = some_ahead h c.args.self.now name i.test i.extend i.end i.place to (option_to_list i.last) i.bytes.held v size k found.failing;
         holds = found.holds;
         cause = record { later = found.cause.later; cause = λ _. found.cause.cause (ap Err found.failed) };
         after = tt;

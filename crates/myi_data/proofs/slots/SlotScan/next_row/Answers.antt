@@ -10,7 +10,7 @@ use Rattle.myi_chain.specs.declared.piece.ScanFault.TheVariants as fault
 use Rattle.myi_data.specs.Readable.{packs}
 use Rattle.myi_data.specs.NextSlot.{IsNextRow, IsRowPlaced, IsRowHeld, IsSlotBetween}
 use Rattle.myi_data.specs.Scanning.{AfterTableRow}
-use Rattle.myi_data.proofs.ScanLaws.{went, slot_scan, row_answered, rows_ended, rows_kept, no_plain, row_packs, row_slot}
+use Rattle.myi_data.proofs.ScanLaws.{went, slot_scan, row_answered, rows_ended, rows_kept, no_plain, some_ahead, row_packs, row_slot}
 use Rattle.myi_data.proofs.slots.SlotScan.next_row.Goals as goal
 
 pub returns-in_default : goal.returns-in_default
@@ -30,6 +30,7 @@ returns-in_default g c =
         slot = tt;
         never = λ static. tt;
         plain = tt;
+        failing = tt;
         holds = found.holds;
         cause = record { later = found.cause.later; cause = λ e. absurd (ok_not_err e) };
         after = tt;
@@ -56,6 +57,7 @@ returns g c =
         slot = row_slot h c.args.self.now name i.test i.extend i.end i.place to (option_to_list i.last) i.bytes.held v size k at c.slot_at.result placed whole.0 slot;
         never = λ static. tt;
         plain = tt;
+        failing = tt;
         holds = found.holds;
         cause = record { later = found.cause.later; cause = λ e. absurd (ok_not_err e) };
         after = tt;
@@ -81,6 +83,7 @@ returns-in_err-at g c =
         slot = tt;
         never = λ static. refl;
         plain = λ is m held meets. no_plain h c.args.self.now name i.test i.extend i.end i.place to (option_to_list i.last) i.bytes.held v size k m meets;
+        failing = some_ahead h c.args.self.now name i.test i.extend i.end i.place to (option_to_list i.last) i.bytes.held v size k found.failing;
         holds = found.holds;
         cause = record { later = found.cause.later; cause = λ _. found.cause.cause (ap Err found.failed) };
         after = tt;
