@@ -1,6 +1,8 @@
-//! What is written for a line.
+//! What is written for a line, and for all lines.
 use crate::words::{Fault, Words};
-use std::alloc::AllocError;
+use std::alloc::{AllocError, Global};
+use std::io;
+use std::io::{BufRead, BufReader, BufWriter, Input, Print, Write};
 
 /// The calls that a program answers.
 pub trait Calls {
@@ -38,12 +40,25 @@ fn told<C: Calls>(words: &mut Words, line: &str, calls: &C) -> Result<String, Fa
     }
 }
 
-/// What is written for a line: the answer to its call, or that it is not read.
-pub fn written<C: Calls>(words: &mut Words, line: &str, calls: &C) -> Result<String, AllocError> {
+// What is written for a line: the answer to its call, or that it is not read.
+fn written<C: Calls>(words: &mut Words, line: &str, calls: &C) -> Result<String, AllocError> {
     let alloc = words.alloc();
     match told(words, line, calls) {
         Ok(text) => Ok(text),
         Err(Fault::Unread) => format!(in alloc; "unread: {line}"),
         Err(Fault::Memory) => Err(AllocError),
     }
+}
+
+/// Reads lines from standard input, and writes to standard output a line for each.
+pub fn run<R: Input + Print, C: Calls>(rt: &R, alloc: Global, calls: &C) -> io::Result<()> {
+    let mut words = Words::new(alloc);
+    let mut out = BufWriter::new(alloc, io::writer(rt))?;
+    for line in BufReader::new(alloc, rt.reader())?.lines(alloc) {
+        let line = line?;
+        let text = written(&mut words, line.as_str(), calls)?;
+        out.write_all(text.as_bytes())?;
+        out.write_all(b"\n")?;
+    }
+    out.flush()
 }

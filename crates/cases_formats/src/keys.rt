@@ -7,7 +7,7 @@ use case_lines::{Fault, Words, key_of_code, number, one_byte, push_word, two_byt
 use myi_defs::{SegType, Segment};
 use myi_keys::{
     Collation, KeyFault, KeySeg, KeyVal, MOST_SEGMENTS, MOST_WEIGHTS, WeightList, decode, encode,
-    weigh,
+    first_segment, key_with, weigh,
 };
 use std::alloc::{AllocError, Global};
 
@@ -108,7 +108,7 @@ fn key(words: &Words, args: &[&str]) -> Result<KeyVal, Fault> {
     for arg in args {
         segments.push(segment(words, *arg)?)?;
     }
-    Ok(KeyVal::new(segments))
+    Ok(key_with(words.alloc(), &segments)?)
 }
 
 /// `encode SEGMENT..`: the code of a key.
@@ -119,6 +119,15 @@ fn encode_key(words: &Words, args: &[&str]) -> Result<String, Fault> {
     Ok(out)
 }
 
+fn push_segment(out: &mut String, weights: Option<&[u8]>) -> Result<(), AllocError> {
+    out.push(' ')?;
+    match weights {
+        None => out.push_str("absent")?,
+        Some(weights) => push_word(out, weights)?,
+    }
+    Ok(())
+}
+
 fn key_text(alloc: Global, key: &KeyVal) -> Result<String, AllocError> {
     let first = if key.is_complete() {
         "complete"
@@ -126,12 +135,14 @@ fn key_text(alloc: Global, key: &KeyVal) -> Result<String, AllocError> {
         "incomplete"
     };
     let mut out = String::from_str(alloc, first)?;
-    for segment in key.segments() {
-        out.push(' ')?;
-        match segment {
-            KeySeg::Absent => out.push_str("absent")?,
-            KeySeg::Weights(weights) => push_word(&mut out, weights.as_slice())?,
+    let mut left = key.code();
+    for _turn in 0..MOST_SEGMENTS {
+        if left.is_empty() {
+            break;
         }
+        let (weights, behind) = first_segment(left);
+        push_segment(&mut out, weights)?;
+        left = behind;
     }
     Ok(out)
 }

@@ -1,9 +1,11 @@
 //! The state of a table.
 ghost use Rattle.std.specs.Prelude.{◌≡◌, true, length, All, IfOk};
-ghost use Rattle.myi_header.specs.StateOf.{IsPlace};
+ghost use Rattle.myi_defs.specs.Sound.{IsSound};
+ghost use Rattle.myi_header.specs.StateOf.{IsPlace, rest_length};
 
 use case_lines::{Fault, PlaceText, Words, number, one_byte, place, push_word, two_bytes, word};
 use myi_base::Sequence;
+use myi_defs::Defs;
 use myi_header::{MARK, State, StateFault, first_page, print_state, read_state, stored_state};
 use std::alloc::{AllocError, Global};
 
@@ -88,9 +90,11 @@ fn are_places(places: &[Option<u64>]) -> bool
     true
 }
 
-// The state of these numbers, with the other bytes of a stored one.
-fn given(words: &Words, numbers: &[&str], stored: State) -> Result<State, Fault>
-    ensures { IfOk result (λ s. length s.rest ≡ length stored.rest) }
+// The state of these numbers, with the other bytes of the stored one. The numbers are read before there is
+// anything to drop.
+fn given(words: &Words, defs: &Defs, numbers: &[&str]) -> Result<State, Fault>
+    requires { IsSound defs.now }
+    ensures { IfOk result (λ s. length s.rest ≡ rest_length defs.now) }
 {
     let [
         open_count,
@@ -118,22 +122,37 @@ fn given(words: &Words, numbers: &[&str], stored: State) -> Result<State, Fault>
     else {
         return Err(Fault::Unread);
     };
+    let open_count = two_bytes(*open_count)?;
+    let changed = one_byte(*changed)?;
+    let sortkey = one_byte(*sortkey)?;
+    let records = number(*records)?;
+    let del = number(*del)?;
+    let split = number(*split)?;
+    let dellink = place(*dellink)?;
+    let key_file_length = number(*key_file)?;
+    let data_file_length = number(*data_file)?;
+    let empty = number(*empty)?;
+    let key_empty = number(*key_empty)?;
+    let auto_increment = number(*auto)?;
+    let key_map = number(*key_map)?;
+    let recover_time = number(*time)?;
+    let stored = stored_state(words.alloc(), defs)?;
     Ok(State {
-        open_count: two_bytes(*open_count)?,
-        changed: one_byte(*changed)?,
-        sortkey: one_byte(*sortkey)?,
-        records: number(*records)?,
-        del: number(*del)?,
-        split: number(*split)?,
-        dellink: place(*dellink)?,
-        key_file_length: number(*key_file)?,
-        data_file_length: number(*data_file)?,
-        empty: number(*empty)?,
-        key_empty: number(*key_empty)?,
-        auto_increment: number(*auto)?,
+        open_count,
+        changed,
+        sortkey,
+        records,
+        del,
+        split,
+        dellink,
+        key_file_length,
+        data_file_length,
+        empty,
+        key_empty,
+        auto_increment,
         roots: Sequence::new(words.places(roots)?),
-        key_map: number(*key_map)?,
-        recover_time: number(*time)?,
+        key_map,
+        recover_time,
         rest: stored.rest,
     })
 }
@@ -146,7 +165,7 @@ fn print(words: &Words, args: &[&str]) -> Result<String, Fault> {
     };
     let defs = words.definitions(*defs)?;
     let alloc = words.alloc();
-    let state = given(words, numbers, stored_state(alloc, &defs)?)?;
+    let state = given(words, &defs, numbers)?;
     let roots = state.roots.as_slice();
     if roots.len() != defs.keys.as_slice().len() || !are_places(roots) {
         return Err(Fault::Unread);

@@ -11,7 +11,7 @@ use myi_base::Sequence;
 use myi_btree::{Pair, Place, Room, Tree, TreeFault};
 use myi_io::MemFiles;
 use myi_keycache::{CacheFault, CacheSetup, KeyCache};
-use myi_keys::{KeySeg, KeyVal, MOST_WEIGHTS, WeightList, encode};
+use myi_keys::{KeySeg, KeyVal, MOST_WEIGHTS, WeightList, encode, key_with};
 use std::alloc::{AllocError, Global};
 
 /// The name of the index file.
@@ -243,8 +243,7 @@ fn numbered(alloc: Global, width: usize, number: u32) -> Result<KeyVal, AllocErr
     let mut weights = Vec::from_slice(alloc, &number.to_be_bytes())?;
     weights.resize(width, 0)?;
     let weights = WeightList::new(weights);
-    let segments = Vec::from_array(alloc, [KeySeg::Weights(weights)])?;
-    Ok(KeyVal::new(segments))
+    key_with(alloc, &[KeySeg::Weights(weights)])
 }
 
 fn numbered_pairs(alloc: Global, width: usize, count: u32) -> Result<Vec<Pair>, AllocError>

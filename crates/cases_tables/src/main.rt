@@ -8,9 +8,8 @@ mod rows;
 mod scans;
 mod untold;
 
-use case_lines::{Calls, Fault, Words, written};
+use case_lines::{Calls, Fault, Words};
 use std::io;
-use std::io::{BufRead, BufReader, BufWriter, Write};
 
 /// The calls on rows and their keys, and scans of data files.
 struct TheCalls;
@@ -25,14 +24,5 @@ impl Calls for TheCalls {
 }
 
 fn main(rt: HostRuntime) -> io::Result<()> {
-    let alloc = rt.alloc();
-    let mut words = Words::new(alloc);
-    let mut out = BufWriter::new(alloc, io::writer(&rt))?;
-    for line in BufReader::new(alloc, rt.reader())?.lines(alloc) {
-        let line = line?;
-        let text = written(&mut words, line.as_str(), &TheCalls)?;
-        out.write_all(text.as_bytes())?;
-        out.write_all(b"\n")?;
-    }
-    out.flush()
+    case_lines::run(&rt, rt.alloc(), &TheCalls)
 }

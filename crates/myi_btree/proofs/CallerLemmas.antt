@@ -4,6 +4,12 @@
 pub use Rattle.myi_btree.proofs.Once.{one_walk}
 -- laid_pages_walk
 pub use Rattle.myi_btree.proofs.LaidWalks.{laid_walks}
+-- laid_pages_are_met_once
+pub use Rattle.myi_btree.proofs.LaidRanges.{walks_once}
+pub use Rattle.myi_btree.proofs.BuildClear.{root_some}
+-- pages_are_nodes, trees_are_shallow
+pub use Rattle.myi_btree.proofs.NodeShape.{node_shape}
+pub use Rattle.myi_btree.proofs.Shallow.{depth_bound}
 -- levels_are_laid
 pub use Rattle.myi_btree.proofs.LaidRead.{good_count}
 pub use Rattle.myi_btree.proofs.LaidWalks.{count_pos, level_lt, length-places_from}

@@ -1,5 +1,5 @@
 -- Trees stay clear of other pages when one of them is gone through.
-use Rattle.std.proofs.Common.{◌≡◌, ◌⊎◌, ℕ, ◌+◌, true, eqb, Option, Some, None, List, [], ◌∷◌, map, refl, sym, ap, subst, ◌∙◌, inl, inr}
+use Rattle.std.proofs.Common.{◌≡◌, ◌⊎◌, ℕ, ◌+◌, true, eqb, Option, Some, None, List, [], ◌∷◌, map, refl, sym, ap, subst, ◌∙◌, inl, inr, ◌≤◌, length}
 use Rattle.std.specs.List.{AllByRecursion}
 use Rattle.std.proofs.lemmas.Bool.{and_parts, eq-eqb, eqb-true, cases_Bool}
 use Rattle.myi_base.specs.Ranges.{Range, are_apart, is_apart, AreDisjoint}
@@ -9,12 +9,14 @@ use Rattle.myi_keycache.specs.Caching.{pages_of, Caching, Stays, SameLent}
 use Rattle.myi_btree.specs.declared.place.Place.{Place}
 use Rattle.myi_btree.specs.Walk.{Walked, Agree}
 use Rattle.myi_btree.specs.Visit.{page_range, HasWalk}
-use Rattle.myi_btree.specs.CachedTrees.{node_lent, HasPages, IsClear, AddsAmong, is_among, AddsItsOwn, AreApart}
+use Rattle.myi_btree.specs.CachedTrees.{node_lent, HasPages, IsClear, AddsAmong, IsClosed, IsRootNamed, AddsNamed, is_among, AddsItsOwn, ReadsOnce, AreApart}
 use Rattle.myi_btree.proofs.Frames.{same_walk}
 use Rattle.myi_btree.proofs.Once.{one_walk}
 use Rattle.myi_btree.proofs.VisitWalks.{apart_both}
 use Rattle.myi_btree.proofs.ServeLaws.{lent_bytes, same_bytes}
-use Rattle.myi_btree.proofs.StartLaws.{HasNode, walk_nodes, in_all, or_true}
+use Rattle.myi_btree.proofs.Among.{in_all, or_true, all_in}
+use Rattle.myi_btree.proofs.Named.{walk_first}
+use Rattle.myi_btree.proofs.StartLaws.{HasNode, walk_nodes, pages_closed}
 
 -- ---- the walk stands
 
@@ -33,7 +35,7 @@ walk_stays place old new m n root w same walk = record {
 
 -- ---- pages of one list
 
-all_of : (P : ℕ → Type 0) (xs : List ℕ) → ((at : ℕ) → is_among xs at ≡ true → P at) → AllByRecursion P xs
+pub all_of : (P : ℕ → Type 0) (xs : List ℕ) → ((at : ℕ) → is_among xs at ≡ true → P at) → AllByRecursion P xs
 all_of P [] f = tt
 all_of P (x ∷ xs) f =
     let here : eqb x x ≡ true = eq-eqb x x refl in
@@ -61,6 +63,21 @@ two_pages block (x ∷ xs) p at d e f = elim (cases_Bool (eqb x p)) [
     | inr other ↦ two_pages block xs p at d.1 (rw off at e) (rw other at f)
   ]
 ]
+
+-- ---- the pages of a walk are named from its root on
+
+own_named : (place : Place) (old : Caching) (m : Holding) (r : Option ℕ) (pages : List ℕ) → HasPages place old m r pages → IsRootNamed r (is_among pages) × IsClosed (node_lent place old m) (is_among pages)
+own_named place old m None pages none = (tt, subst (λ (t : List ℕ). IsClosed (node_lent place old m) (is_among t)) (sym none) (λ p node e r. absurd cc))
+own_named place old m (Some root) pages (w, walk, e) =
+    let read = node_lent place old m in
+    subst (λ (t : List ℕ). (is_among t root ≡ true) × IsClosed read (is_among t)) (sym e)
+    (walk_first read (is_among w.pages) walk.height root w walk.walk (all_in w.pages), pages_closed read walk.height root w walk.walk)
+
+pub adds_own : (place : Place) (old new : Caching) (m : Holding) → AddsNamed place old m new → AddsItsOwn place old m new
+adds_own place old new m adds = λ pages has. let own = own_named place old m place.root pages has in adds (is_among pages) own.0 own.1
+
+pub reads_own : (place : Place) (cache : Caching) (m : Holding) (pages : List ℕ) (before after : ℕ) → HasPages place cache m place.root pages → ReadsOnce place cache m before after → after ≤ before + length pages
+reads_own place cache m pages before after has once = let own = own_named place cache m place.root pages has in once pages own.0 own.1
 
 -- ---- trees stay clear
 

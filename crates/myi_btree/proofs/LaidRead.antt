@@ -18,7 +18,7 @@ use Rattle.myi_btree.specs.Walk.{Node, node_with}
 use Rattle.myi_btree.specs.Nodes.{entry_of, entries_of, page_of_node, node_in}
 use Rattle.myi_btree.specs.CachedTrees.{node_lent}
 use Rattle.myi_btree.specs.Sizes.{IsPlaced, IsSized, AreSized, fits_in, IsCount}
-use Rattle.myi_btree.specs.LaidPages.{greatest, count_of, Level, after_page, level_of, places_from, levels_from, laid, Stands, IsRooted}
+use Rattle.myi_btree.specs.LaidPages.{greatest, count_of, Level, after_page, level_of, places_from, levels_from, laid, Stands}
 use Rattle.myi_btree.specs.Building.{page_for, AreKeys, IsWritten, AreLent, Lays}
 use Rattle.myi_btree.specs.Levels.{FitsPage}
 use Rattle.myi_btree.proofs.NodeLaws.{pairs_again, node_again}
@@ -27,7 +27,9 @@ use Rattle.myi_btree.proofs.FitCount.{one_fits, two_fit, entries-take}
 use Rattle.myi_btree.proofs.SplitLaws.{split_at}
 use Rattle.myi_btree.proofs.BodyLaws.{body, last, all_take, all_drop}
 use Rattle.myi_btree.proofs.LevelsLaws.{level_count, level_all, levels_step, upper, places_are, branches_above, multiple}
-use Rattle.myi_btree.proofs.LaidWalks.{level_lt, count_pos, length-places_from, laid_walks}
+use Rattle.myi_btree.specs.LaidOnce.{WalksOnce}
+use Rattle.myi_btree.proofs.LaidWalks.{level_lt, count_pos, length-places_from}
+use Rattle.myi_btree.proofs.LaidRanges.{walks_once}
 
 -- ---- how many entries a page takes
 
@@ -184,8 +186,8 @@ lent_stand place cache m first (node ∷ nodes) placed whole written lent = (
   lent_stand place cache m (first + place.block_length) nodes placed (omega (arith, placed.whole)) written.1 lent.1,
 )
 
-pub built_walk : (place : Place) (first : ℕ) (p : Pair) (ps : List Pair) (old new : Caching) (m n : Holding) → IsPlaced place → first % 1024 ≡ 0 → AreSized place (p ∷ ps) → AreKeys (p ∷ ps)
+pub built_once : (place : Place) (first : ℕ) (p : Pair) (ps : List Pair) (old new : Caching) (m n : Holding) → IsPlaced place → first % 1024 ≡ 0 → AreSized place (p ∷ ps) → AreKeys (p ∷ ps)
     → first + place.block_length * length (laid (fits_in place) place.block_length first (p ∷ ps)) < 2 ^ 64 → Lays place first (laid (fits_in place) place.block_length first (p ∷ ps)) old new m n
-    → IsRooted (node_lent place new n) place.block_length first (length (laid (fits_in place) place.block_length first (p ∷ ps))) (p ∷ ps)
-built_walk place first p ps old new m n placed whole sized keys small lays =
-    laid_walks (node_lent place new n) (fits_in place) place.block_length first p ps (lent_stand place new n first (laid (fits_in place) place.block_length first (p ∷ ps)) placed whole (laid_written place first (p ∷ ps) placed whole sized keys small) lays.there)
+    → WalksOnce (node_lent place new n) place.block_length first (length (laid (fits_in place) place.block_length first (p ∷ ps))) (p ∷ ps)
+built_once place first p ps old new m n placed whole sized keys small lays =
+    walks_once (node_lent place new n) (fits_in place) place.block_length first p ps (omega (arith, placed.least)) (lent_stand place new n first (laid (fits_in place) place.block_length first (p ∷ ps)) placed whole (laid_written place first (p ∷ ps) placed whole sized keys small) lays.there)

@@ -51,9 +51,9 @@ lays_both place first at xs ys old mid new m k n e name can one then =
       kept = λ p l kept. elim (two.kept p l kept) [
         | inl was ↦ elim (one.kept p l was) [
           | inl older ↦ inl older
-          | inr laid ↦ inr (laid.0, laid.1, omega (arith, laid.2, length-append xs ys), laid.3)
+          | inr put ↦ let s = put.1 in inr (put.0, (s.0, omega (arith, s.1, length-append xs ys), s.2))
         ]
-        | inr now ↦ inr (now.0, length xs + now.1, omega (arith, now.2, length-append xs ys), now.3 ∙ more now.1)
+        | inr now ↦ let s = now.1 in inr (now.0, (length xs + s.0, omega (arith, s.1, length-append xs ys), s.2 ∙ more s.0))
       ];
     }
   where

@@ -19,8 +19,15 @@ pub mod WalkLaws
 pub mod VisitSteps
 pub mod WalkFinds
 pub mod ServeLaws
-pub mod Within
-pub mod PathWithin
+pub mod Named
+pub mod Among
+pub mod ViewShape
+pub mod NodeShape
+pub mod LaidOnce
+pub mod LaidRanges
+pub mod BuildClear
+pub mod LaidRoot
+pub mod FewMet
 pub mod StartLaws
 pub mod CanLaws
 pub mod ClearLaws

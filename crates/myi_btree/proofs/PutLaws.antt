@@ -10,7 +10,8 @@ use Rattle.myi_keycache.specs.Caching.{pages_of, Caching, lends, contents, IsCur
 use Rattle.myi_keycache.proofs.CallerLemmas.{stays_start}
 use Rattle.myi_btree.specs.declared.place.Place.{Place}
 use Rattle.myi_btree.specs.Walk.{Node}
-use Rattle.myi_btree.specs.Building.{page_for, PutsPage, PutsNone, MayPut, NotPut, MayLay, NotLaid, AreLent, laid_over, EndBefore, CanLay, Spares, AddsLaid, Lays}
+use Rattle.myi_btree.specs.Building.{page_for, PutsPage, PutsNone, MayPut, NotPut, MayLay, NotLaid, AreLent, laid_over, EndBefore, CanLay, Spares, AddsLaid, Lays, PutsOnly, CountsPuts}
+use Rattle.myi_btree.proofs.ServeLaws.{rose_on}
 
 -- ranges that end before another begins have no byte of it
 apart_before : (p n at size : ℕ) → p + n ≤ at → are_apart (p, p + n) (at, at + size) ≡ true
@@ -42,7 +43,7 @@ pub ends : (place : Place) (first count : ℕ) (old new : List Page) → EndBefo
 ends place first count old new before adds p n kept =
     elim (adds p n kept) [
       | inl was ↦ let k = before p n was in omega (arith, times_le place.block_length count)
-      | inr laid ↦ let k = room place.block_length count laid.1 laid.2 in omega (arith, laid.0, laid.3)
+      | inr laid ↦ let s = laid.1 in let k = room place.block_length count s.0 s.1 in omega (arith, laid.0, s.2)
     ]
   where
     times_le : (b c : ℕ) → 0 ≤ b * c
@@ -79,8 +80,8 @@ lays_more place first at nodes node old mid new m k n len at_is name can lays pu
       there = lent_more place new n first at nodes node at_is (lent_still place mid new k n first at (page_for place node) nodes len at_is puts.0 lays.there) (subst (λ (t : ℕ). lends new n at t ≡ Some (page_for place node)) len puts.0.there);
       contents = puts.0.contents ∙ ap (overwritten at (page_for place node)) lays.contents ∙ sym (over_more place first at nodes node (contents old m) at_is);
       kept = λ p l kept. elim (adds p l kept) [
-        | inl was ↦ elim (lays.kept p l was) [ inl older ↦ inl older | inr laid ↦ inr (laid.0, laid.1, omega (arith, laid.2), laid.3) ]
-        | inr now ↦ inr (now.1 ∙ len, length nodes, omega arith, now.0 ∙ sym at_is)
+        | inl was ↦ elim (lays.kept p l was) [ inl older ↦ inl older | inr laid ↦ let s = laid.1 in inr (laid.0, (s.0, omega (arith, s.1), s.2)) ]
+        | inr now ↦ inr (now.1 ∙ len, (length nodes, omega arith, now.0 ∙ sym at_is))
       ];
     }
 
@@ -120,3 +121,19 @@ told_refused a b c place first nodes old mid new name done put =
 
 pub told_spares : (a b : Option Holding) (place : Place) (first : ℕ) (nodes : List Node) (old new : Caching) → Told a b (MayLay place first nodes old new) → Told a b (NotLaid first old new)
 told_spares a b place first nodes old new done = told_more a b _ _ done (λ m n held laid can. (laid can).spares)
+
+-- ---- what is counted
+
+pub puts_none : (a : Caching) → PutsOnly a a
+puts_none a = record { setup = refl; read_requests = refl; reads = refl; requests = (0, omega arith) }
+
+pub puts_on : (a b c : Caching) → PutsOnly a b → PutsOnly b c → PutsOnly a c
+puts_on a b c x y = record {
+  setup = y.setup ∙ x.setup;
+  read_requests = y.read_requests ∙ x.read_requests;
+  reads = y.reads ∙ x.reads;
+  requests = (x.requests.0 + y.requests.0, rose_on x.requests.0 y.requests.0 a.counters.write_requests b.counters.write_requests c.counters.write_requests x.requests.1 y.requests.1);
+}
+
+pub counts_both : (xs ys : List Node) (a b c : Caching) → CountsPuts (length xs) a b → CountsPuts (length ys) b c → CountsPuts (length (xs ++ ys)) a c
+counts_both xs ys a b c x y = subst (λ (n : ℕ). CountsPuts n a c) (sym (length-append xs ys)) (rose_on (length xs) (length ys) a.counters.write_requests b.counters.write_requests c.counters.write_requests x y)

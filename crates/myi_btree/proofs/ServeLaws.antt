@@ -1,5 +1,5 @@
 -- The cache serves a walk: what it lends at the places that may be asked for stays as it was.
-use Rattle.std.proofs.Common.{◌≡◌, ◌⊎◌, ℕ, ◌%◌, Bool, true, false, cond, eqb, Option, Some, None, List, refl, sym, ap, subst, ◌∙◌, inl, inr}
+use Rattle.std.proofs.Common.{◌≡◌, ◌⊎◌, ℕ, ◌+◌, ◌%◌, nat_cmp, length, arith, Bool, true, false, cond, eqb, Option, Some, None, List, refl, sym, ap, subst, ◌∙◌, inl, inr}
 use Rattle.std.proofs.lemmas.Option.{same_Some}
 use Rattle.myi_base.specs.Holding.{Holding, Told, bytes_of}
 use Rattle.myi_base.proofs.CallerLemmas.{told_same, told_then}
@@ -10,8 +10,12 @@ use Rattle.myi_keycache.proofs.CallerLemmas.{lends_file, stays_on}
 use Rattle.myi_btree.specs.declared.place.Place.{Place}
 use Rattle.myi_btree.specs.Walk.{◌>>=◌, Node}
 use Rattle.myi_btree.specs.Nodes.{node_in}
-use Rattle.myi_btree.specs.CachedTrees.{node_lent, ReadsOnly}
-use Rattle.myi_btree.specs.Serving.{View, nodes_at, Serves, CanAsk}
+use Rattle.myi_btree.specs.CachedTrees.{node_lent, RoseBy, ReadsOnly}
+use Rattle.myi_btree.specs.Serving.{View, nodes_at, Serves, GoesOn, CanAsk}
+use Rattle.myi_btree.specs.declared.visited.Visited.{Visited}
+use Rattle.myi_btree.specs.Visited.{CountsMet, ReadsMet}
+use Rattle.std.specs.List.{list_all}
+use Rattle.std.specs.List.Sorted.{IsStrictlySortedBy}
 use Rattle.myi_btree.proofs.Frames.{bind_some}
 
 -- ---- calls that put nothing
@@ -23,12 +27,19 @@ pub kept_on : {A : Type 0} (a b : Caching) → ChangesNone (pages_of a) (pages_o
 kept_on a b none (inl x) = inl x
 kept_on a b none (inr written) = inr (keeps_written a b none written)
 
+-- a counter that rose twice rose by the sum
+pub rose_on : (n k a b c : ℕ) → RoseBy n a b → RoseBy k b c → RoseBy (n + k) a c
+rose_on n k a b c x y = omega (arith, x, y)
+
 pub reads_none : (told : Option Holding) (cache : Caching) → ReadsOnly told told cache cache
-reads_none told cache = record { name = refl; unwritten = λ p n u. u; clean = λ written. refl; others = told_same told told _ refl (λ m held q other. refl) }
+reads_none told cache = record { name = refl; setup = refl; write_requests = refl; requests = (0, omega arith); unwritten = λ p n u. u; clean = λ written. refl; others = told_same told told _ refl (λ m held q other. refl) }
 
 pub reads_on : (one two three : Option Holding) (a b c : Caching) → ReadsOnly one two a b → ReadsOnly two three b c → ReadsOnly one three a c
 reads_on one two three a b c x y = record {
   name = y.name ∙ x.name;
+  setup = y.setup ∙ x.setup;
+  write_requests = y.write_requests ∙ x.write_requests;
+  requests = (x.requests.0 + y.requests.0, rose_on x.requests.0 y.requests.0 a.counters.read_requests b.counters.read_requests c.counters.read_requests x.requests.1 y.requests.1);
   unwritten = λ p n u. x.unwritten p n (y.unwritten p n u);
   clean = λ written. y.clean (keeps_written a b x.unwritten written) ∙ x.clean written;
   others = told_then one two three _ _ _ x.others y.others (λ m n k before then q other. then q (λ e. other (e ∙ x.name)) ∙ before q other);
@@ -74,6 +85,7 @@ serves_on place v told next old new at k r t adds =
     let s = k.serves in
     let n = t.told s.now s.held in
     record {
+      closed = s.closed;
       current = s.current;
       apart = s.apart;
       there = s.there;
@@ -88,3 +100,21 @@ serves_on place v told next old new at k r t adds =
       ];
       same = λ written. same_Some n.0 s.now (sym n.1 ∙ r.clean (keeps_written v.first old s.unwritten written) ∙ s.held) ∙ s.same written;
     }
+
+-- ---- what was met stays
+
+pub goes_same : (place : Place) (v : View) (told : Option Holding) (cache : Caching) (old new : Visited) → new.places.keys ≡ old.places.keys → GoesOn place v told cache old → GoesOn place v told cache new
+goes_same place v told cache old new same goes = record {
+  serves = goes.serves;
+  named = ap (list_all v.asked) same ∙ goes.named;
+  ascends = subst (IsStrictlySortedBy nat_cmp) (sym same) goes.ascends;
+}
+
+pub counts_on : (a b c : Caching) (one two three : List ℕ) → CountsMet a b one two → CountsMet b c two three → CountsMet a c one three
+counts_on a b c one two three x y = (x.0 + y.0, omega (arith, x.1, y.1), rose_on x.0 y.0 a.counters.read_requests b.counters.read_requests c.counters.read_requests x.2 y.2)
+
+pub counts_none : (a : Caching) (one two : List ℕ) → one ≡ two → CountsMet a a one two
+counts_none a one two same = (0, omega (arith, ap length same), omega arith)
+
+pub reads_more : (a b c : ℕ) (one two three : List ℕ) → ReadsMet a b one two → ReadsMet b c two three → ReadsMet a c one three
+reads_more a b c one two three x y = omega (arith, x, y)

@@ -34,10 +34,10 @@ node_len read h place (p ∷ ps) (c ∷ d ∷ cs) ws ih some len e =
 pub depth_bound : (read : ℕ → Option Node) (h place : ℕ) (w : Walked) → AreNodes read → walk_of read h place ≡ Some w → 2 ^ suc h ≤ length w.pairs + 1
 depth_bound read zero place w nodes e =
     let a = bind_some (read place) (λ node. as_leaf place node node.children) w e in
-    omega (arith, leaf_len place a.0 a.0.children w a.2, nodes.some place a.0 a.1)
+    omega (arith, leaf_len place a.0 a.0.children w a.2, (nodes place a.0 a.1).some)
 depth_bound read (suc h) place w nodes e =
     let a = bind_some (read place) (λ node. each (walk_of read h) node.children >>= λ ws. cond (ltb 0 (length node.children)) (Some (at_node place node ws)) None) w e in
     let b = bind_some (each (walk_of read h) a.0.children) (λ ws. cond (ltb 0 (length a.0.children)) (Some (at_node place a.0 ws)) None) w a.2 in
     let g = cond_some _ _ _ b.2 in
     subst (λ (t : Walked). 2 ^ suc (suc h) ≤ length t.pairs + 1) g.1
-    (omega (arith, node_len read h place a.0.pairs a.0.children b.0 (λ c v walks. depth_bound read h c v nodes walks) (nodes.some place a.0 a.1) (omega (arith, nodes.branching place a.0 a.1 (ltb-true _ _ g.0))) b.1))
+    (omega (arith, node_len read h place a.0.pairs a.0.children b.0 (λ c v walks. depth_bound read h c v nodes walks) ((nodes place a.0 a.1).some) (omega (arith, (nodes place a.0 a.1).branching (ltb-true _ _ g.0))) b.1))

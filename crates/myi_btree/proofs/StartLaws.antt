@@ -1,8 +1,8 @@
 -- The cache serves a walk of a tree that may be gone through.
-use Rattle.std.proofs.Common.{◌≡◌, ℕ, zero, suc, Bool, true, false, ◌||◌, eqb, cond, ltb, Option, Some, None, List, [], ◌∷◌, ◌++◌, length, refl, sym, ap, subst, ◌∙◌, inl, inr}
+use Rattle.std.proofs.Common.{◌≡◌, ℕ, zero, suc, nat_cmp, Bool, true, cond, ltb, Option, Some, None, List, [], ◌∷◌, ◌++◌, length, refl, sym, ap, subst, ◌∙◌, inl, inr}
 use Rattle.std.specs.List.{list_all, flat_map, AllByRecursion}
+use Rattle.std.specs.List.Sorted.{IsStrictlySortedBy}
 use Rattle.std.specs.Vec.Iter.{into_iter_items}
-use Rattle.std.proofs.lemmas.Bool.{and_parts, and_from, eq-eqb, eqb-true, cases_Bool}
 use Rattle.std.proofs.lemmas.Option.{same_Some, cond_some}
 use Rattle.myi_base.specs.Holding.{Holding, IfTold, Told}
 use Rattle.myi_keycache.specs.Kept.{is_kept, NoOtherMeets, AllWritten}
@@ -11,17 +11,16 @@ use Rattle.myi_keycache.proofs.CallerLemmas.{stays_start}
 use Rattle.myi_keycache.proofs.CallerLemmas.{unwritten_kept}
 use Rattle.myi_btree.specs.declared.place.Place.{Place}
 use Rattle.myi_btree.specs.Walk.{◌>>=◌, Node, Places, Walked, each, at_node, as_leaf, walk_of}
-use Rattle.myi_btree.specs.Visit.{visit, HasWalk}
-use Rattle.myi_btree.specs.CachedTrees.{node_lent, HasPages, IsClear, MayGet, CanWalk, AddsAmong, is_among, AddsItsOwn, ReadsOnly}
-use Rattle.myi_btree.specs.Serving.{View, view, nodes_at, Serves, IsWithin, VisitsWithin, CanClimb}
+use Rattle.myi_btree.specs.CachedTrees.{node_lent, IsClosed, IsRootNamed, IsClear, MayGet, CanWalk, is_among, AddsNamed, ReadsOnly}
+use Rattle.myi_btree.specs.Serving.{View, view, nodes_at, Serves, GoesOn, CanClimb}
 use Rattle.myi_btree.specs.Visited.{each_at, HasPlaces, Descends, places_of}
 use Rattle.myi_btree.specs.declared.visited.Visited.{Visited}
 use Rattle.myi_btree.specs.declared.visited.OpenPage.{OpenPage}
+use Rattle.myi_btree.proofs.Among.{in_all, all_in, all_true, all_is}
 use Rattle.myi_btree.proofs.Frames.{bind_some}
 use Rattle.myi_btree.proofs.VisitLaws.{leaf_pages}
-use Rattle.myi_btree.proofs.VisitWalks.{walks_found}
-use Rattle.myi_btree.proofs.Once.{one_walk}
-use Rattle.myi_btree.proofs.PathWithin.{down_within}
+use Rattle.myi_btree.proofs.ServeLaws.{goes_same}
+use Rattle.myi_btree.proofs.Named.{walk_named, walk_first, HasChildren, walk_children}
 use Rattle.myi_btree.proofs.WalkFinds.{below_leaf}
 
 -- ---- the pages of a walk
@@ -51,43 +50,23 @@ walk_nodes read (suc h) place w e =
     let g = cond_some _ _ _ b.2 in
     subst (λ (t : Walked). AllByRecursion (HasNode read) t.pages) g.1 ((a.0, a.1), each_nodes read h (walk_nodes read h) a.0.children b.0 b.1)
 
--- ---- whether a place is one of these
-
-pub in_all : (P : ℕ → Type 0) (xs : List ℕ) (p : ℕ) → AllByRecursion P xs → is_among xs p ≡ true → P p
-in_all P [] p all e = absurd cc
-in_all P (x ∷ xs) p all e = elim (cases_Bool (eqb x p)) [
-  | inl is ↦ subst P (eqb-true x p is) all.0
-  | inr other ↦ in_all P xs p all.1 (rw other at e)
-]
-
-pub or_true : (b : Bool) → (b || true) ≡ true
-or_true true = refl
-or_true false = refl
-
-all_weaker : (t u : ℕ → Bool) → ((p : ℕ) → t p ≡ true → u p ≡ true) → (xs : List ℕ) → list_all t xs ≡ true → list_all u xs ≡ true
-all_weaker t u f [] e = refl
-all_weaker t u f (x ∷ xs) e =
-    let k = and_parts (t x) (list_all t xs) e in
-    and_from (u x) (list_all u xs) (f x k.0) (all_weaker t u f xs k.1)
-
-all_in : (xs : List ℕ) → list_all (is_among xs) xs ≡ true
-all_in [] = refl
-all_in (x ∷ xs) =
-    let here : eqb x x ≡ true = eq-eqb x x refl in
-    and_from (eqb x x || is_among xs x) (list_all (is_among (x ∷ xs)) xs) (rw here refl) (all_weaker (is_among xs) (is_among (x ∷ xs)) (λ p e. rw e (or_true (eqb x p))) xs (all_in xs))
+-- the pages of a walk name all that is named from its root on
+pub pages_closed : (read : Places) (h root : ℕ) (w : Walked) → walk_of read h root ≡ Some w → IsClosed read (is_among w.pages)
+pages_closed read h root w walk = λ p node a r. in_all (HasChildren read (is_among w.pages)) w.pages p (walk_children read (is_among w.pages) h root w walk (all_in w.pages)) a node r
 
 -- ---- where a walk begins
 
 pub record Begins (place : Place) (told : Option Holding) (cache : Caching) (m : Holding) (root : ℕ) : Type 0 where
   pub asked : ℕ → Bool
   pub serves : Serves place (view cache m asked) told cache
-  pub height : ℕ
-  pub within : IsWithin asked (visit place.block_length (node_lent place cache m) height root [])
+  pub at : asked root ≡ true
 
-begins_written : (place : Place) (told : Option Holding) (cache : Caching) (m : Holding) (root : ℕ) → told ≡ Some m → IsCurrent cache m → AllWritten (pages_of cache) → Begins place told cache m root
-begins_written place told cache m root held current written = record {
-  asked = λ _. true;
+-- where all pages are written, any places may be asked for
+begins_written : (place : Place) (told : Option Holding) (cache : Caching) (m : Holding) (root : ℕ) (named : ℕ → Bool) → told ≡ Some m → IsCurrent cache m → AllWritten (pages_of cache) → named root ≡ true → IsClosed (node_lent place cache m) named → Begins place told cache m root
+begins_written place told cache m root named held current written at closed = record {
+  asked = named;
   serves = record {
+    closed = closed;
     current = current;
     apart = λ at a p n u. absurd (written p n u);
     there = inl written;
@@ -99,17 +78,17 @@ begins_written place told cache m root held current written = record {
     same = λ all. refl;
     added = λ p n kept. inl kept;
   };
-  height = 0;
-  within = inl (λ at. refl);
+  at = at;
 }
 
+-- those of its pages, where the tree is clear
 begins_clear : (place : Place) (told : Option Holding) (cache : Caching) (m : Holding) (root : ℕ) → told ≡ Some m → IsCurrent cache m → IsClear place cache m (Some root) → Begins place told cache m root
 begins_clear place told cache m root held current (w, walk, meets) =
     let read : Places = node_lent place cache m in
-    let found = walks_found place.block_length read root w walk in
     record {
       asked = is_among w.pages;
       serves = record {
+        closed = pages_closed read walk.height root w walk.walk;
         current = current;
         apart = λ at a p n u. in_all (λ at. NoOtherMeets (is_kept (pages_of cache)) at place.block_length) w.pages at meets a p n (unwritten_kept (pages_of cache) p n u);
         there = inr (λ at a. in_all (HasNode read) w.pages at (walk_nodes read walk.height root w walk.walk) a);
@@ -121,54 +100,32 @@ begins_clear place told cache m root held current (w, walk, meets) =
         same = λ all. refl;
         added = λ p n kept. inl kept;
       };
-      height = found.height;
-      within = inr (w, found.is, all_in w.pages);
+      at = walk_first read (is_among w.pages) walk.height root w walk.walk (all_in w.pages);
     }
 
 pub begins : (writable : Bool) (place : Place) (told : Option Holding) (cache : Caching) (m : Holding) (root : ℕ) → CanWalk writable told place cache → told ≡ Some m → IsCurrent cache m → place.root ≡ Some root → Begins place told cache m root
-begins writable place told cache m root (inl written) held current is = begins_written place told cache m root held current written
+begins writable place told cache m root (inl written) held current is = begins_written place told cache m root (λ _. true) held current written refl (λ at node a r. all_true node.children)
 begins writable place told cache m root (inr (w, f)) held current is = begins_clear place told cache m root held current (subst (λ (r : Option ℕ). IsClear place cache m r) is (f m held current))
 
 pub may_get : (writable : Bool) (place : Place) (told : Option Holding) (cache : Caching) → CanWalk writable told place cache → MayGet writable cache
 may_get writable place told cache (inl written) = inr written
 may_get writable place told cache (inr (w, f)) = inl w
 
--- ---- where a walk begins that stands
+-- ---- where a walk begins that goes into named places
 
--- the places that may be asked for are those of its pages
-pub record BeginsOn (place : Place) (told : Option Holding) (cache : Caching) (m : Holding) (root : ℕ) (pages : List ℕ) : Type 0 where
+pub record BeginsIn (place : Place) (told : Option Holding) (cache : Caching) (m : Holding) (root : ℕ) (named : ℕ → Bool) : Type 0 where
   pub begins : Begins place told cache m root
-  pub asked : begins.asked ≡ is_among pages
+  pub within : (p : ℕ) → begins.asked p ≡ true → named p ≡ true
 
-begins_here : (place : Place) (told : Option Holding) (cache : Caching) (m : Holding) (root : ℕ) (w : Walked) → told ≡ Some m → IsCurrent cache m → HasWalk place.block_length (node_lent place cache m) root w → AllWritten (pages_of cache) → Begins place told cache m root
-begins_here place told cache m root w held current walk written =
-    let found = walks_found place.block_length (node_lent place cache m) root w walk in
-    record {
-      asked = is_among w.pages;
-      serves = record {
-        current = current;
-        apart = λ at a p n u. absurd (written p n u);
-        there = inl written;
-        now = m;
-        held = held;
-        name = refl;
-        unwritten = λ p n u. u;
-        stays = stays_start cache m current;
-        same = λ all. refl;
-        added = λ p n kept. inl kept;
-      };
-      height = found.height;
-      within = inr (w, found.is, all_in w.pages);
-    }
-
-begins_on : (writable : Bool) (place : Place) (told : Option Holding) (cache : Caching) (m : Holding) (root : ℕ) (w : Walked) → CanWalk writable told place cache → told ≡ Some m → IsCurrent cache m → place.root ≡ Some root → HasWalk place.block_length (node_lent place cache m) root w
-    → BeginsOn place told cache m root w.pages
-unfolding begins_here begins_clear
-begins_on writable place told cache m root w (inl written) held current is walk = record { begins = begins_here place told cache m root w held current walk written; asked = refl }
-begins_on writable place told cache m root w (inr (may, f)) held current is walk =
+pub begins_in : (writable : Bool) (place : Place) (told : Option Holding) (cache : Caching) (m : Holding) (root : ℕ) (named : ℕ → Bool) → CanWalk writable told place cache → told ≡ Some m → IsCurrent cache m → place.root ≡ Some root → named root ≡ true → IsClosed (node_lent place cache m) named
+    → BeginsIn place told cache m root named
+unfolding begins_written begins_clear
+begins_in writable place told cache m root named (inl written) held current is at closed = record { begins = begins_written place told cache m root named held current written at closed; within = λ p a. a }
+begins_in writable place told cache m root named (inr (may, f)) held current is at closed =
     let clear : IsClear place cache m (Some root) = subst (λ (r : Option ℕ). IsClear place cache m r) is (f m held current) in
-    let same : clear.0 ≡ w = one_walk (node_lent place cache m) clear.1.height walk.height root clear.0 w clear.1.walk walk.walk in
-    record { begins = begins_clear place told cache m root held current clear; asked = ap (λ (w : Walked). is_among w.pages) same }
+    let w : Walked = clear.0 in
+    let all : list_all named w.pages ≡ true = walk_named (node_lent place cache m) named closed clear.1.height root w clear.1.walk at in
+    record { begins = begins_clear place told cache m root held current clear; within = λ p a. all_is named w.pages p all a }
 
 -- ---- what a walk that the cache served says of the cache
 
@@ -182,21 +139,29 @@ stays_told writable place told next old new root may is r serve = record {
 }
 
 pub added_told : (writable : Bool) (place : Place) (told next : Option Holding) (old new : Caching) (root : ℕ) → CanWalk writable told place old → place.root ≡ Some root
-    → ((m : Holding) (b : Begins place told old m root) → Serves place (view old m b.asked) next new) → IfTold told (λ m. IsCurrent old m → AddsItsOwn place old m new)
-added_told writable place told next old new root may is serve = λ m held current pages has. by m held current pages (subst (λ (r : Option ℕ). HasPages place old m r pages) is has)
-  where
-    by : (m : Holding) → told ≡ Some m → IsCurrent old m → (pages : List ℕ) → HasPages place old m (Some root) pages → AddsAmong place (is_among pages) (pages_of old) (pages_of new)
-    by m held current pages (w, walk, e) =
-        let b = begins_on writable place told old m root w may held current is walk in
-        let s = serve m b.begins in
-        subst (λ (t : ℕ → Bool). AddsAmong place t (pages_of old) (pages_of new)) (b.asked ∙ ap is_among (sym e)) s.added
+    → ((m : Holding) (b : Begins place told old m root) → Serves place (view old m b.asked) next new) → IfTold told (λ m. IsCurrent old m → AddsNamed place old m new)
+added_told writable place told next old new root may is serve = λ m held current named at closed p n kept.
+    let b = begins_in writable place told old m root named may held current is (subst (λ (r : Option ℕ). IsRootNamed r named) is at) closed in
+    elim ((serve m b.begins).added p n kept) [
+      | inl was ↦ inl was
+      | inr now ↦ inr (now.0, b.within p now.1)
+    ]
+
+-- a walk that has met no page
+pub first_goes : (place : Place) (v : View) (told : Option Holding) (cache : Caching) (visited : Visited) → Serves place v told cache → visited.places.keys ≡ [] → GoesOn place v told cache visited
+unfolding IsStrictlySortedBy
+first_goes place v told cache visited serves none = record {
+  serves = serves;
+  named = ap (list_all v.asked) none;
+  ascends = subst (IsStrictlySortedBy nat_cmp) (sym none) tt;
+}
 
 -- a walk that went down to the first leaf may go up again
-pub climbs : (place : Place) (v : View) (told : Option Holding) (cache : Caching) (height root : ℕ) (path : List OpenPage) (leaf : OpenPage) (old new : Visited) → Serves place v told cache → VisitsWithin place v height root []
+pub climbs : (place : Place) (v : View) (told : Option Holding) (cache : Caching) (root : ℕ) (path : List OpenPage) (leaf : OpenPage) (old new : Visited) → GoesOn place v told cache old → v.asked root ≡ true
     → Descends place.block_length (nodes_at place v) root path leaf → HasPlaces old.places.keys (places_of path ++ leaf.at ∷ []) → old.pairs.items ≡ []
     → new.pairs.items ≡ old.pairs.items ++ each_at leaf.at (into_iter_items leaf.pairs) → new.places ≡ old.places → CanClimb place v told cache root path new
-climbs place v told cache height root path leaf old new serves within down has none more places = record {
-  serves = serves;
-  within = down_within place.block_length (nodes_at place v) height root path leaf v.asked down within;
+climbs place v told cache root path leaf old new goes asked down has none more places = record {
+  goes = goes_same place v told cache old new (ap (λ t. t.keys) places) goes;
+  asked = asked;
   below = below_leaf place.block_length (nodes_at place v) root path leaf old new down has none more places;
 }

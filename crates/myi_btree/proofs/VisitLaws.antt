@@ -44,7 +44,7 @@ pub leaf_pages : (place : ℕ) (node : Node) (cs : List ℕ) (w : Walked) → as
 leaf_pages place node [] w e = ap (λ (w : Walked). w.pages) (sym (same_Some _ _ e))
 leaf_pages place node (c ∷ cs) w e = absurd cc
 
-leaf_none : (place : ℕ) (node : Node) (cs : List ℕ) (w : Walked) → as_leaf place node cs ≡ Some w → cs ≡ []
+pub leaf_none : (place : ℕ) (node : Node) (cs : List ℕ) (w : Walked) → as_leaf place node cs ≡ Some w → cs ≡ []
 leaf_none place node [] w e = refl
 leaf_none place node (c ∷ cs) w e = absurd cc
 

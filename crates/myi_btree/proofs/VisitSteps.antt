@@ -1,14 +1,12 @@
 -- Going through the children of a page one after the other.
-use Rattle.std.proofs.Common.{◌≡◌, ℕ, zero, suc, ◌<◌, Bool, Result, Ok, Err, List, [], ◌∷◌, ◌++◌, length, map, take, drop, append_assoc, append-nil, refl, sym, ap, subst, ◌∙◌, arith}
+use Rattle.std.proofs.Common.{◌≡◌, ℕ, zero, suc, ◌<◌, Result, Ok, Err, List, [], ◌∷◌, ◌++◌, length, map, take, drop, append_assoc, append-nil, refl, sym, ap, subst, ◌∙◌, arith}
 use Rattle.std.specs.List.{flat_map}
 use Rattle.myi_btree.specs.declared.pair.Pair.{Pair}
 use Rattle.myi_btree.specs.declared.visited.Visited.{Visited}
 use Rattle.myi_btree.specs.Walk.{Node, node_with, Places, Walked, between_pairs, at_node, as_leaf}
 use Rattle.myi_btree.specs.Visit.{◌>>>◌, found_at, entered, visit_each, as_node, visit}
 use Rattle.myi_btree.specs.Visited.{HasPlaces, Visits, VisitsEach, Breaks, BreaksEach}
-use Rattle.myi_btree.specs.Serving.{IsWithin, AreWithin}
 use Rattle.myi_btree.proofs.VisitLaws.{bind_ok, same_ok}
-use Rattle.myi_btree.proofs.Within.{first_within, rest_within}
 
 -- ---- children one after the other
 
@@ -72,40 +70,25 @@ maps_long : (ws : List Walked) → length (map (λ (w : Walked). w.pairs) ws) �
 maps_long [] = refl
 maps_long (x ∷ ws) = ap suc (maps_long ws)
 
-pub record IsOnWay (block : ℕ) (read : Places) (level place : ℕ) (pairs : List Pair) (done left met : List ℕ) (asked : ℕ → Bool) (old new : Visited) : Type 0 where
-  pub each : VisitsEach block read level place (node_with pairs done) met old new
-  pub within : AreWithin asked (visit_each (visit block read level) left (met ++ flat_map (λ (w : Walked). w.pages) each.walks))
-
-pub on_way : (block : ℕ) (read : Places) (level place : ℕ) (pairs : List Pair) (left met : List ℕ) (asked : ℕ → Bool) (old : Visited) → AreWithin asked (visit_each (visit block read level) left met) → HasPlaces old.places.keys met → IsOnWay block read level place pairs [] left met asked old old
-on_way block read level place pairs left met asked old within has = record {
-  each = record {
-    walks = [];
-    visited = refl;
-    pairs = sym (append-nil old.pairs.items);
-    met_all = subst (λ (t : List ℕ). HasPlaces old.places.keys t) (sym (append-nil met)) has;
-  };
-  within = subst (λ (t : List ℕ). AreWithin asked (visit_each (visit block read level) left t)) (sym (append-nil met)) within;
+-- none yet
+pub on_way : (block : ℕ) (read : Places) (level place : ℕ) (pairs : List Pair) (met : List ℕ) (old : Visited) → HasPlaces old.places.keys met → VisitsEach block read level place (node_with pairs []) met old old
+on_way block read level place pairs met old has = record {
+  walks = [];
+  visited = refl;
+  pairs = sym (append-nil old.pairs.items);
+  met_all = subst (λ (t : List ℕ). HasPlaces old.places.keys t) (sym (append-nil met)) has;
 }
 
-pub next_way : (block : ℕ) (read : Places) (level place : ℕ) (pairs : List Pair) (done all : List ℕ) (c : ℕ) (left met : List ℕ) (asked : ℕ → Bool) (old new : Visited) → all ≡ c ∷ left → IsOnWay block read level place pairs done all met asked old new → IsOnWay block read level place pairs done (c ∷ left) met asked old new
-next_way block read level place pairs done all c left met asked old new e o = subst (λ (t : List ℕ). IsOnWay block read level place pairs done t met asked old new) e o
-
-pub child_way : (block : ℕ) (read : Places) (level place : ℕ) (pairs : List Pair) (done : List ℕ) (c : ℕ) (left met : List ℕ) (asked : ℕ → Bool) (old new : Visited) → (o : IsOnWay block read level place pairs done (c ∷ left) met asked old new)
-    → IsWithin asked (visit block read level c (met ++ flat_map (λ (w : Walked). w.pages) o.each.walks))
-child_way block read level place pairs done c left met asked old new o = first_within (visit block read level) c left (met ++ flat_map (λ (w : Walked). w.pages) o.each.walks) asked o.within
-
-pub on_way_next : (block : ℕ) (read : Places) (level place : ℕ) (pairs : List Pair) (done : List ℕ) (c : ℕ) (left met : List ℕ) (asked : ℕ → Bool) (old mid next new : Visited) → (o : IsOnWay block read level place pairs done (c ∷ left) met asked old mid)
-    → Visits block read level c (met ++ flat_map (λ (w : Walked). w.pages) o.each.walks) mid next
+-- one more
+pub on_way_next : (block : ℕ) (read : Places) (level place : ℕ) (pairs : List Pair) (done : List ℕ) (c : ℕ) (met : List ℕ) (old mid next new : Visited) → (e : VisitsEach block read level place (node_with pairs done) met old mid)
+    → Visits block read level c (met ++ flat_map (λ (w : Walked). w.pages) e.walks) mid next
     → new.pairs.items ≡ next.pairs.items ++ map (λ (p : Pair). (p, place)) (take 1 (drop (length done) pairs)) → new.places ≡ next.places
-    → IsOnWay block read level place pairs (done ++ c ∷ []) left met asked old new
-on_way_next block read level place pairs done c left met asked old mid next new o v more places = let e = o.each in record {
-  each = record {
-    walks = e.walks ++ v.walked ∷ [];
-    visited = each_more (visit block read level) done met e.walks c v.walked e.visited v.visited;
-    pairs = pairs_more o.each;
-    met_all = subst (λ (t : List ℕ). HasPlaces new.places.keys t) (pages_all e.walks) (subst (λ t. HasPlaces t.keys ((met ++ pages_of e.walks) ++ v.walked.pages)) (sym places) v.met_all);
-  };
-  within = subst (λ (t : List ℕ). AreWithin asked (visit_each (visit block read level) left t)) (pages_all e.walks) (rest_within (visit block read level) c left (met ++ pages_of e.walks) asked v.walked v.visited o.within);
+    → VisitsEach block read level place (node_with pairs (done ++ c ∷ [])) met old new
+on_way_next block read level place pairs done c met old mid next new e v more places = record {
+  walks = e.walks ++ v.walked ∷ [];
+  visited = each_more (visit block read level) done met e.walks c v.walked e.visited v.visited;
+  pairs = pairs_more e;
+  met_all = subst (λ (t : List ℕ). HasPlaces new.places.keys t) (pages_all e.walks) (subst (λ t. HasPlaces t.keys ((met ++ pages_of e.walks) ++ v.walked.pages)) (sym places) v.met_all);
 }
   where
     pages_all : (ws : List Walked) → (met ++ pages_of ws) ++ v.walked.pages ≡ met ++ pages_of (ws ++ v.walked ∷ [])

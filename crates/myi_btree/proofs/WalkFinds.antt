@@ -13,7 +13,7 @@ use Rattle.myi_btree.proofs.VisitLaws.{same_ok, visit_depth}
 use Rattle.myi_btree.proofs.VisitSteps.{node_breaks, node_visits}
 
 pub none_met : (keys : List ℕ) → keys ≡ [] → HasPlaces keys []
-none_met keys e = λ test. ap (list_all test) e
+none_met keys e = (λ test. ap (list_all test) e, ap length e)
 
 -- ---- the path
 

@@ -1,5 +1,5 @@
 -- Loading a page, and whether it has a byte of one that was met.
-use Rattle.std.proofs.Common.{◌≡◌, ℕ, ◌+◌, ◌-◌, ◌%◌, ◌<◌, ◌≤◌, ◌||◌, ◌&&◌, Bool, true, false, leb, cond, nat_cmp, Option, Some, None, Result, Ok, Err, List, [], ◌∷◌, ◌++◌, map, refl, sym, ap, ◌∙◌, arith, inl, inr}
+use Rattle.std.proofs.Common.{◌≡◌, ℕ, suc, ◌+◌, ◌-◌, ◌%◌, ◌<◌, ◌≤◌, ◌||◌, ◌&&◌, Bool, true, false, leb, cond, nat_cmp, Option, Some, None, Result, Ok, Err, List, [], ◌∷◌, ◌++◌, length, map, refl, sym, ap, subst, ◌∙◌, arith, inl, inr}
 use Rattle.std.specs.Prelude.{IfErr}
 use Rattle.std.specs.List.{list_all, filter, AllByRecursion}
 use Rattle.std.specs.List.Sorted.{IsStrictlySortedBy}
@@ -10,7 +10,8 @@ use Rattle.std.specs.BTreeSet.{insert_key}
 use Rattle.std.specs.declared.ops.Bound.{Bound}
 use Rattle.std.specs.declared.cmp.Ordering.{Ordering}
 use Rattle.std.specs.declared.cmp.Ordering.TheVariants.{Less, Equal, Greater}
-use Rattle.std.proofs.lemmas.Bool.{cases_lt, le-leb, lt-leb, eq-eqb, ne_eqb}
+use Rattle.std.proofs.lemmas.Bool.{cases_lt, le-leb, lt-leb, eq-eqb, ne_eqb, and_parts, and_from}
+use Rattle.std.proofs.lemmas.List.{length-append}
 use Rattle.myi_base.specs.Ranges.{are_apart}
 use Rattle.myi_base.specs.Holding.{Holding}
 use Rattle.myi_keycache.specs.Kept.{AllWritten}
@@ -21,8 +22,7 @@ use Rattle.myi_btree.specs.declared.fault.TreeFault.{TreeFault}
 use Rattle.myi_btree.specs.declared.fault.TreeFault.TheVariants.{Damaged}
 use Rattle.myi_btree.specs.declared.place.Place.{Place}
 use Rattle.myi_btree.specs.Faults.{fault_of}
-use Rattle.myi_btree.specs.declared.pair.Pair.{Pair}
-use Rattle.myi_btree.specs.Walk.{Node, node_with, Places}
+use Rattle.myi_btree.specs.Walk.{Node, Places}
 use Rattle.myi_btree.specs.Nodes.{node_in}
 use Rattle.myi_btree.specs.CachedTrees.{node_lent}
 use Rattle.myi_btree.specs.Visit.{page_range, is_new, entered}
@@ -68,7 +68,7 @@ is_le-leb x y = elim (cases_lt x y) [
   ]
 ]
 
-less_is : (x y : ℕ) → nat_cmp x y ≡ Less → x < y
+pub less_is : (x y : ℕ) → nat_cmp x y ≡ Less → x < y
 less_is x y e = elim (cases_lt x y) [
   | inl lt ↦ lt
   | inr ge ↦ elim (cases_lt y x) [
@@ -152,7 +152,7 @@ all-map test f [] = refl
 all-map test f (x ∷ xs) = ap (λ (b : Bool). test (f x) && b) (all-map test f xs)
 
 new_is : (block at : ℕ) (keys met : List ℕ) (b : Bool) → HasPlaces keys met → b ≡ list_all (λ p. are_apart (page_range block at) (page_range block p)) keys → is_new block at met ≡ b
-new_is block at keys met b has e = all-map (λ s. are_apart (page_range block at) s) (page_range block) met ∙ sym (has (λ p. are_apart (page_range block at) (page_range block p))) ∙ sym e
+new_is block at keys met b has e = all-map (λ s. are_apart (page_range block at) s) (page_range block) met ∙ sym (has.0 (λ p. are_apart (page_range block at) (page_range block p))) ∙ sym e
 
 pub entered_ok : (block : ℕ) (read : Places) (at : ℕ) (keys met : List ℕ) (node : Node) (b : Bool) → HasPlaces keys met → b ≡ list_all (λ p. are_apart (page_range block at) (page_range block p)) keys → b ≡ true → read at ≡ Some node → entered block read at met ≡ Ok node
 entered_ok block read at keys met node b has e yes_it r = rw (new_is block at keys met b has e ∙ yes_it, r) refl
@@ -205,5 +205,33 @@ all_end : (test : ℕ → Bool) (met : List ℕ) (k : ℕ) → list_all test (me
 all_end test [] k = refl
 all_end test (x ∷ xs) k = ap (λ (b : Bool). test x && b) (all_end test xs k) ∙ and_turn (test x) (test k) (list_all test xs)
 
-pub met_more : (keys met new : List ℕ) (k : ℕ) → new ≡ insert_key nat_cmp keys k → HasPlaces keys met → HasPlaces new (met ++ k ∷ [])
-met_more keys met new k e has = λ test. ap (list_all test) e ∙ all_insert test keys k ∙ ap (λ (b : Bool). test k && b) (has test) ∙ sym (all_end test met k)
+-- a page has bytes of itself
+not_apart : (block at : ℕ) → 0 < block → are_apart (page_range block at) (page_range block at) ≡ true → ⊥
+not_apart block at some e =
+    let off : leb (at + block) at ≡ false = lt-leb _ _ (omega arith) in
+    let k : false ≡ true = rw off at e in
+    absurd cc
+
+-- so a place whose page is apart from those of all others is one more
+insert_long : (block : ℕ) (keys : List ℕ) (k : ℕ) → 0 < block → list_all (λ p. are_apart (page_range block k) (page_range block p)) keys ≡ true → length (insert_key nat_cmp keys k) ≡ suc (length keys)
+insert_long block [] k some apart = refl
+insert_long block (x ∷ xs) k some apart =
+    let parts = and_parts (are_apart (page_range block k) (page_range block x)) (list_all (λ p. are_apart (page_range block k) (page_range block p)) xs) apart in
+    by (nat_cmp k x) refl parts.0 (insert_long block xs k some parts.1)
+  where
+    by : (o : Ordering) → nat_cmp k x ≡ o → are_apart (page_range block k) (page_range block x) ≡ true → length (insert_key nat_cmp xs k) ≡ suc (length xs) → length (insert_key nat_cmp (x ∷ xs) k) ≡ suc (length (x ∷ xs))
+    by Less e a again = rw e refl
+    by Equal e a again = absurd (not_apart block k some (subst (λ (q : ℕ). are_apart (page_range block k) (page_range block q) ≡ true) (sym (equal_is k x e)) a))
+    by Greater e a again = rw e (ap suc again)
+
+pub more_keys : (block : ℕ) (keys new : List ℕ) (k : ℕ) (b : Bool) → 0 < block → b ≡ list_all (λ p. are_apart (page_range block k) (page_range block p)) keys → b ≡ true → new ≡ insert_key nat_cmp keys k → length new ≡ suc (length keys)
+more_keys block keys new k b some is yes_it e = ap length e ∙ insert_long block keys k some (sym is ∙ yes_it)
+
+pub met_more : (keys met new : List ℕ) (k : ℕ) → new ≡ insert_key nat_cmp keys k → length new ≡ suc (length keys) → HasPlaces keys met → HasPlaces new (met ++ k ∷ [])
+met_more keys met new k e long has = (
+  λ test. ap (list_all test) e ∙ all_insert test keys k ∙ ap (λ (b : Bool). test k && b) (has.0 test) ∙ sym (all_end test met k),
+  omega (arith, long, has.1, length-append met (k ∷ [])),
+)
+
+pub all_more : (keys new : List ℕ) (k : ℕ) (test : ℕ → Bool) → new ≡ insert_key nat_cmp keys k → test k ≡ true → list_all test keys ≡ true → list_all test new ≡ true
+all_more keys new k test e here all = ap (list_all test) e ∙ all_insert test keys k ∙ and_from (test k) (list_all test keys) here all

@@ -1,5 +1,5 @@
 -- What building a tree does to a key cache and the files.
-use Rattle.std.specs.Prelude.{◌≡◌, ◌⊎◌, ℕ, ◌+◌, ◌*◌, ◌<◌, ◌≤◌, true, List, [], ◌∷◌, length, Some}
+use Rattle.std.specs.Prelude.{◌≡◌, ◌⊎◌, ℕ, ◌+◌, ◌≤◌, true, List, [], ◌∷◌, length, Some}
 use Rattle.myi_base.specs.Holding.{Holding, overwritten, OthersStay}
 use Rattle.std.specs.List.{AllByRecursion}
 use Rattle.myi_keys.specs.Limits.{IsKey}
@@ -14,11 +14,16 @@ use Rattle.myi_btree.specs.declared.place.Place.{Place}
 use Rattle.myi_btree.specs.Walk.{Node}
 use Rattle.myi_btree.specs.Nodes.{page_of_node}
 use Rattle.myi_btree.specs.Sizes.{fits_in}
-use Rattle.myi_btree.specs.LaidPages.{laid}
+use Rattle.myi_btree.specs.CachedTrees.{RoseBy}
+use Rattle.myi_btree.specs.LaidPages.{IsLaidAt, laid, root_of}
 
 -- the pages that building puts for these pairs, from a place on
 abbrev pub laid_at : Place → ℕ → List Pair → List Node
 laid_at place first pairs = laid (fits_in place) place.block_length first pairs
+
+-- the tree of these pairs, built from a place on
+abbrev pub built_at : Place → ℕ → List Pair → Place
+built_at place first pairs = record place { root = root_of place.block_length first (laid_at place first pairs) }
 
 -- a page with zeros behind its used bytes
 abbrev pub whole_page : Place → IndexPage → List ℕ
@@ -59,6 +64,17 @@ MayPut at bytes old new m n = CanPut old m at (length bytes) → PutsPage at byt
 abbrev pub NotPut : Caching → Caching → Holding → Holding → Type 0
 NotPut old new m n = IsCurrent old m → PutsNone old new m n
 
+-- the setup of the cache and its counters of reads stay, and write requests may have risen
+pub record PutsOnly (old new : Caching) : Type 0 where
+  pub setup : new.setup ≡ old.setup
+  pub read_requests : new.counters.read_requests ≡ old.counters.read_requests
+  pub reads : new.counters.reads ≡ old.counters.reads
+  pub requests : (n : ℕ) × RoseBy n old.counters.write_requests new.counters.write_requests
+
+-- so many write requests were counted
+abbrev pub CountsPuts : ℕ → Caching → Caching → Type 0
+CountsPuts n old new = RoseBy n old.counters.write_requests new.counters.write_requests
+
 -- the pages of these nodes are lent, one behind the other from a place on
 abbrev pub AreLent : Place → Caching → Holding → ℕ → List Node → Type 0
 AreLent place cache m first [] = Unit {0}
@@ -86,7 +102,7 @@ pub record Spares (first : ℕ) (old new : Caching) (m n : Holding) : Type 0 whe
 
 -- each page that is kept was kept before, or is one of so many from a place on
 abbrev pub AddsLaid : Place → ℕ → ℕ → List Page → List Page → Type 0
-AddsLaid place first count old new = (p n : ℕ) → is_kept new p n ≡ true → (is_kept old p n ≡ true) ⊎ ((n ≡ place.block_length) × (i : ℕ) × (i < count) × (p ≡ first + place.block_length * i))
+AddsLaid place first count old new = (p n : ℕ) → is_kept new p n ≡ true → (is_kept old p n ≡ true) ⊎ ((n ≡ place.block_length) × IsLaidAt place.block_length first count p)
 
 -- the pages of these nodes were put from a place on, and nothing else
 pub record Lays (place : Place) (first : ℕ) (nodes : List Node) (old new : Caching) (m n : Holding) : Type 0 where

@@ -1,7 +1,7 @@
 -- The pages that building puts, level by level (this project's own). The lowest level has the pairs. A page takes from
 -- the left as many of its level's entries as fit, but does not leave exactly one; the next entry is set aside, and the
 -- next page begins behind it. The entries set aside are the level above, and the pages are its children.
-use Rattle.std.specs.Prelude.{◌≡◌, ℕ, zero, suc, ◌+◌, ◌-◌, ◌*◌, List, [], ◌∷◌, ◌++◌, length, take, drop, Bool, true, false, not, ◌&&◌, nat_lt, ◌==◌, Option, Some, None, if◌then◌else◌}
+use Rattle.std.specs.Prelude.{◌≡◌, ℕ, zero, suc, ◌+◌, ◌-◌, ◌*◌, ◌<◌, List, [], ◌∷◌, ◌++◌, length, take, drop, Bool, true, false, not, ◌&&◌, nat_lt, ◌==◌, Option, Some, None, if◌then◌else◌}
 use Rattle.myi_btree.specs.declared.pair.Pair.{Pair}
 use Rattle.myi_btree.specs.Walk.{Node, node_with, Places, Walked, walk_of, content}
 
@@ -58,6 +58,10 @@ levels_from (suc n) fits block first node entries children =
 abbrev pub laid : Fits → ℕ → ℕ → List Pair → List Node
 laid fits block first [] = []
 laid fits block first (p ∷ ps) = levels_from (length (p ∷ ps)) fits block first false (p ∷ ps) []
+
+-- one of so many places, one behind the other, of pages of so many bytes
+abbrev pub IsLaidAt : ℕ → ℕ → ℕ → ℕ → Type 0
+IsLaidAt block first total place = (i : ℕ) × (i < total) × (place ≡ first + block * i)
 
 -- the pages stand one behind the other from a place on
 abbrev pub Stands : Places → ℕ → ℕ → List Node → Type 0

@@ -4,6 +4,8 @@
 pub mod Walk
 -- the pages that building puts
 pub mod LaidPages
+-- the walk of laid pages
+pub mod LaidOnce
 -- nodes and pages
 pub mod Nodes
 -- pairs that can be laid on pages, and how many a page takes

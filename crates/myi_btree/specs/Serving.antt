@@ -1,16 +1,17 @@
 -- How the cache serves a walk: the places that it goes into show what they showed when it began.
-use Rattle.std.specs.Prelude.{◌≡◌, ◌⊎◌, ℕ, Bool, true, List, [], length, Option, Some, Result, Ok}
-use Rattle.std.specs.List.{list_all, flat_map}
+use Rattle.std.specs.Prelude.{◌≡◌, ◌⊎◌, ℕ, Bool, true, List, Option, Some}
+use Rattle.std.specs.List.{list_all}
+use Rattle.std.specs.List.Sorted.{IsStrictlySortedBy}
+use Rattle.std.specs.Ordering.{nat_cmp}
 use Rattle.myi_base.specs.Holding.{Holding}
 use Rattle.myi_keycache.specs.Kept.{is_unwritten, NoOtherMeets, ChangesNone, AllWritten}
 use Rattle.myi_keycache.specs.Caching.{pages_of, Caching, IsCurrent, Stays}
 use Rattle.myi_btree.specs.declared.place.Place.{Place}
 use Rattle.myi_btree.specs.declared.visited.Visited.{Visited}
 use Rattle.myi_btree.specs.declared.visited.OpenPage.{OpenPage}
-use Rattle.myi_btree.specs.Walk.{Node, Places, Walked}
-use Rattle.myi_btree.specs.Visit.{visit, visit_each}
+use Rattle.myi_btree.specs.Walk.{Node, Places}
 use Rattle.myi_btree.specs.Visited.{HasPlaces, IsBelow}
-use Rattle.myi_btree.specs.CachedTrees.{node_lent, AddsAmong}
+use Rattle.myi_btree.specs.CachedTrees.{node_lent, AddsAmong, IsClosed}
 
 -- the cache and the files as they were when a walk began, and the places that it may go into
 pub record View : Type 0 where
@@ -26,8 +27,10 @@ abbrev pub nodes_at : Place → View → Places
 nodes_at place v = node_lent place v.first v.start
 
 -- Now the cache lends at each of these places what it lent when the walk began. There is a node at each, or else the
--- cache kept no unwritten page. Each page that is kept was kept then, or is one of these.
+-- cache kept no unwritten page. The children of each page there may be asked for too. Each page that is kept was kept
+-- then, or is one of these.
 pub record Serves (place : Place) (v : View) (told : Option Holding) (cache : Caching) : Type 0 where
+  pub closed : IsClosed (nodes_at place v) v.asked
   pub current : IsCurrent v.first v.start
   pub apart : (at : ℕ) → v.asked at ≡ true → NoOtherMeets (is_unwritten (pages_of v.first)) at place.block_length
   pub there : AllWritten (pages_of v.first) ⊎ ((at : ℕ) → v.asked at ≡ true → (node : Node) × (nodes_at place v at ≡ Some node))
@@ -39,47 +42,31 @@ pub record Serves (place : Place) (v : View) (told : Option Holding) (cache : Ca
   pub added : AddsAmong place v.asked (pages_of v.first) (pages_of cache)
   pub same : AllWritten (pages_of v.first) → now ≡ v.start
 
--- all places may be asked for, or those of a walk that is found
-abbrev pub IsWithin : (ℕ → Bool) → Result Walked ℕ → Type 0
-IsWithin asked found = ((at : ℕ) → asked at ≡ true) ⊎ ((w : Walked) × (found ≡ Ok w) × (list_all asked w.pages ≡ true))
-
--- the same of walks
-abbrev pub AreWithin : (ℕ → Bool) → Result (List Walked) ℕ → Type 0
-AreWithin asked found = ((at : ℕ) → asked at ≡ true) ⊎ ((ws : List Walked) × (found ≡ Ok ws) × (list_all asked (flat_map (λ (w : Walked). w.pages) ws) ≡ true))
-
--- the places that a visit goes into may be asked for
-abbrev pub VisitsWithin : Place → View → ℕ → ℕ → List ℕ → Type 0
-VisitsWithin place v level at met = IsWithin v.asked (visit place.block_length (nodes_at place v) level at met)
-
--- those that visits of these children go into
-abbrev pub EachWithin : Place → View → ℕ → List ℕ → List ℕ → Type 0
-EachWithin place v level children met = AreWithin v.asked (visit_each (visit place.block_length (nodes_at place v) level) children met)
-
 -- a walk may ask for the page at a place
 pub record CanAsk (place : Place) (v : View) (told : Option Holding) (cache : Caching) (at : ℕ) : Type 0 where
   pub serves : Serves place v told cache
   pub asked : v.asked at ≡ true
 
+-- a walk that met these pages goes on: each of them may be asked for, and they stand in order
+pub record GoesOn (place : Place) (v : View) (told : Option Holding) (cache : Caching) (visited : Visited) : Type 0 where
+  pub serves : Serves place v told cache
+  pub named : list_all v.asked visited.places.keys ≡ true
+  pub ascends : IsStrictlySortedBy nat_cmp visited.places.keys
+
 -- a walk that went into these pages may go into the page at a place
 pub record CanEnter (place : Place) (v : View) (told : Option Holding) (cache : Caching) (at : ℕ) (seen : List ℕ) (visited : Visited) : Type 0 where
-  pub serves : Serves place v told cache
+  pub goes : GoesOn place v told cache visited
   pub asked : v.asked at ≡ true
   pub has : HasPlaces visited.places.keys seen
 
--- the same, with its leaves so many levels below it, and into the pages below
-pub record CanVisit (place : Place) (v : View) (told : Option Holding) (cache : Caching) (level at : ℕ) (seen : List ℕ) (visited : Visited) : Type 0 where
-  pub serves : Serves place v told cache
-  pub within : VisitsWithin place v level at seen
-  pub has : HasPlaces visited.places.keys seen
-
 -- the same of children, one after the other
-pub record CanVisitEach (place : Place) (v : View) (told : Option Holding) (cache : Caching) (level : ℕ) (children seen : List ℕ) (visited : Visited) : Type 0 where
-  pub serves : Serves place v told cache
-  pub within : EachWithin place v level children seen
+pub record CanEnterEach (place : Place) (v : View) (told : Option Holding) (cache : Caching) (children seen : List ℕ) (visited : Visited) : Type 0 where
+  pub goes : GoesOn place v told cache visited
+  pub asked : list_all v.asked children ≡ true
   pub has : HasPlaces visited.places.keys seen
 
 -- a walk that went down a path to the first leaf may go up again
 pub record CanClimb (place : Place) (v : View) (told : Option Holding) (cache : Caching) (root : ℕ) (path : List OpenPage) (visited : Visited) : Type 0 where
-  pub serves : Serves place v told cache
-  pub within : VisitsWithin place v (length path) root []
+  pub goes : GoesOn place v told cache visited
+  pub asked : v.asked root ≡ true
   pub below : IsBelow place.block_length (nodes_at place v) 0 root path visited

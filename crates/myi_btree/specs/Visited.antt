@@ -1,16 +1,26 @@
 -- What the code of a walk has met so far, which pages it has open, and what going into more pages does to it.
-use Rattle.std.specs.Prelude.{◌≡◌, ◌≢◌, ℕ, ◌++◌, ◌∷◌, Bool, List, [], map, Ok, Err}
+use Rattle.std.specs.Prelude.{◌≡◌, ◌≢◌, ℕ, ◌+◌, ◌≤◌, ◌++◌, ◌∷◌, Bool, List, [], length, map, Ok, Err}
 use Rattle.std.specs.List.{list_all, flat_map}
 use Rattle.std.specs.Vec.Iter.{into_iter_items}
+use Rattle.myi_keycache.specs.Caching.{Caching}
+use Rattle.myi_btree.specs.CachedTrees.{RoseBy}
 use Rattle.myi_btree.specs.declared.pair.Pair.{Pair}
 use Rattle.myi_btree.specs.declared.visited.Visited.{Visited}
 use Rattle.myi_btree.specs.declared.visited.OpenPage.{OpenPage}
 use Rattle.myi_btree.specs.Walk.{Node, node_with, Places, Walked, between_pairs}
 use Rattle.myi_btree.specs.Visit.{entered, visit, visit_each}
 
--- the set and the list have the same places: what holds of all of one holds of all of the other
+-- the set and the list have the same places, as many: what holds of all of one holds of all of the other
 abbrev pub HasPlaces : List ℕ → List ℕ → Type 0
-HasPlaces keys met = (test : ℕ → Bool) → list_all test keys ≡ list_all test met
+HasPlaces keys met = ((test : ℕ → Bool) → list_all test keys ≡ list_all test met) × (length keys ≡ length met)
+
+-- as many read requests were counted as pages were met
+abbrev pub CountsMet : Caching → Caching → List ℕ → List ℕ → Type 0
+CountsMet old new before after = (n : ℕ) × (length after ≡ length before + n) × RoseBy n old.counters.read_requests new.counters.read_requests
+
+-- no more pages were read than were met
+abbrev pub ReadsMet : ℕ → ℕ → List ℕ → List ℕ → Type 0
+ReadsMet before after old new = after + length old ≤ before + length new
 
 -- pairs, each with the place of their page
 abbrev pub each_at : ℕ → List Pair → List (Pair × ℕ)

@@ -56,7 +56,11 @@ content w = map (λ (x : Pair × ℕ). x.0) w.pairs
 abbrev pub Agree : Places → Places → List ℕ → Type 0
 Agree one two pages = AllByRecursion (λ p. one p ≡ two p) pages
 
--- each page has a pair, and no children or one more than pairs
-pub record AreNodes (read : Places) : Type 0 where
-  pub some : (place : ℕ) (node : Node) → read place ≡ Some node → 0 < length node.pairs
-  pub branching : (place : ℕ) (node : Node) → read place ≡ Some node → 0 < length node.children → length node.children ≡ length node.pairs + 1
+-- a page has a pair, and no children or one more than pairs
+pub record IsNode (node : Node) : Type 0 where
+  pub some : 0 < length node.pairs
+  pub branching : 0 < length node.children → length node.children ≡ length node.pairs + 1
+
+-- what a reading shows are such pages
+abbrev pub AreNodes : Places → Type 0
+AreNodes read = (place : ℕ) (node : Node) → read place ≡ Some node → IsNode node

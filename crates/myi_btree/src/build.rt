@@ -12,7 +12,7 @@ ghost use Rattle.myi_btree.specs.declared.fault.TreeFault.TheVariants.{File};
 ghost use Rattle.myi_btree.specs.declared.pair.Pair.{Pair};
 ghost use Rattle.myi_btree.specs.Faults.{IsFileOrMemory};
 ghost use Rattle.myi_btree.specs.Sizes.{IsPlaced, AreSized};
-ghost use Rattle.myi_btree.specs.Building.{page_made, laid_at, MayPut, NotPut, MayLay, NotLaid};
+ghost use Rattle.myi_btree.specs.Building.{page_made, laid_at, MayPut, NotPut, MayLay, NotLaid, PutsOnly, CountsPuts};
 ghost use Rattle.myi_btree.specs.Levels.{FitsPage, HasEntries, CanLevel, level_on, IsLevel};
 
 use crate::entries::Entries;
@@ -53,6 +53,8 @@ fn put_bytes<F: Files>(
         (NotPut cache.old cache.new)) }
     ensures added { AddsOnly at (length page.now) (pages_of cache.old) (pages_of cache.new) }
     ensures name { cache.new.name ≡ cache.old.name }
+    ensures puts { PutsOnly cache.old cache.new }
+    ensures counted { OnOk result (CountsPuts 1 cache.old cache.new) }
     ensures faults { IfErr result IsFileOrMemory }
     ensures cause { HasCause File (F.faults files.old) (F.faults files.new) result }
     ensures reads { F.reads files.new ≡ F.reads files.old }
@@ -80,6 +82,8 @@ fn put_page<F: Files>(
     ensures added { AddsOnly at (length (page_made setup.place entries.now children.now))
         (pages_of cache.old) (pages_of cache.new) }
     ensures name { cache.new.name ≡ cache.old.name }
+    ensures puts { PutsOnly cache.old cache.new }
+    ensures counted { OnOk result (CountsPuts 1 cache.old cache.new) }
     ensures faults { IfErr result IsFileOrMemory }
     ensures cause { HasCause File (F.faults files.old) (F.faults files.new) result }
     ensures reads { F.reads files.new ≡ F.reads files.old }
@@ -110,6 +114,9 @@ fn lay_level<F: Files>(
     ensures refused { OnErr result (Told (F.holds files.old) (F.holds files.new)
         (NotLaid below.end cache.old cache.new)) }
     ensures name { cache.new.name ≡ cache.old.name }
+    ensures puts { PutsOnly cache.old cache.new }
+    ensures counted { (all : List Pair) → HasEntries below pairs.now all → OnOk result
+        (CountsPuts (length (level_on setup.place below all).pages) cache.old cache.new) }
     ensures faults { IfErr result IsFileOrMemory }
     ensures cause { HasCause File (F.faults files.old) (F.faults files.new) result }
     ensures reads { F.reads files.new ≡ F.reads files.old }
@@ -156,6 +163,9 @@ pub(crate) fn lay_levels<F: Files>(
     ensures refused { OnErr result (Told (F.holds files.old) (F.holds files.new)
         (NotLaid first cache.old cache.new)) }
     ensures name { cache.new.name ≡ cache.old.name }
+    ensures puts { PutsOnly cache.old cache.new }
+    ensures counted { OnOk result
+        (CountsPuts (length (laid_at setup.place first pairs.now)) cache.old cache.new) }
     ensures faults { IfErr result IsFileOrMemory }
     ensures cause { HasCause File (F.faults files.old) (F.faults files.new) result }
     ensures reads { F.reads files.new ≡ F.reads files.old }

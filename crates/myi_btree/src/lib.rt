@@ -36,8 +36,9 @@ mod walk;
 
 pub use fault::TreeFault;
 pub use laws::{
-    built_trees_walk, laid_pages_are_written, laid_pages_walk, levels_are_laid, trees_are_shallow,
-    visits_find_walks, walks_depend_on_their_pages, walks_exist_once, walks_leave_trees_clear,
+    builds_leave_trees_clear, built_trees_walk, laid_pages_are_met_once, laid_pages_are_written,
+    laid_pages_walk, levels_are_laid, pages_are_nodes, trees_are_shallow, visits_find_walks,
+    walks_add_their_own, walks_depend_on_their_pages, walks_exist_once, walks_leave_trees_clear,
 };
 pub use pair::Pair;
 pub use place::{Place, Room};

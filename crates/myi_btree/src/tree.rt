@@ -4,10 +4,9 @@ ghost use Rattle.myi_base.specs.Holding.{IfTold, Told};
 ghost use Rattle.myi_base.specs.Causes.{HasCause};
 ghost use Rattle.myi_btree.specs.declared.fault.TreeFault.TheVariants.{File};
 ghost use Rattle.myi_btree.specs.Sizes.{IsPlaced, AreSized};
-ghost use Rattle.myi_btree.specs.LaidPages.{root_of};
-ghost use Rattle.myi_btree.specs.Building.{laid_at, CanLay, Spares, Lays};
+ghost use Rattle.myi_btree.specs.Building.{laid_at, built_at, CanLay, Spares, Lays, PutsOnly, CountsPuts};
 ghost use Rattle.myi_keycache.specs.Caching.{IsCurrent, Stays};
-ghost use Rattle.myi_btree.specs.CachedTrees.{node_lent, CanWalk, ReadsOnly, AddsItsOwn};
+ghost use Rattle.myi_btree.specs.CachedTrees.{node_lent, CanWalk, ReadsOnly, AddsNamed, ReadsOnce, CountsPages};
 ghost use Rattle.myi_btree.specs.Faults.{DamagedAt, IsFileOrMemory};
 ghost use Rattle.myi_btree.specs.Visit.{FindsPairs, FindsBad};
 
@@ -55,7 +54,8 @@ impl Tree {
     /// the first place on the walk's path where what stands is no page of the tree: no page, or its page has
     /// a byte of one that was met before, or it is a leaf above the depth of the first leaf, or a node at that
     /// depth. What is said of pairs and places holds where the file is as the last call of the cache left it.
-    /// Each page is read once, and the stack that a walk takes does not grow with the depth that a file says.
+    /// Each page is asked for once at most, and no place but those that are named from the root on. The stack
+    /// that a walk takes does not grow with the depth that a file says.
     /// The cache keeps no unwritten page, or the tree is whole and no other page that is kept meets one of it;
     /// then that holds afterwards too, of this tree and of others (`walks_leave_trees_clear`).
     pub fn walk<F: Files>(
@@ -75,14 +75,20 @@ impl Tree {
             IsCurrent cache.old m
             → FindsBad self.now.block_length (node_lent self.now cache.old m) self.now.root at))) }
 
-        // Nothing was put, the same is lent, and no page came to be kept but those of the walk.
+        // Nothing was put, the same is lent, and no page came to be kept but those named from the root on.
         ensures cache { ReadsOnly (F.holds files.old) (F.holds files.new) cache.old cache.new }
         ensures stays { Told (F.holds files.old) (F.holds files.new)
             (λ m n. IsCurrent cache.old m → Stays cache.old cache.new m n) }
         ensures added { IfTold (F.holds files.old) (λ m. IsCurrent cache.old m
-            → AddsItsOwn self.now cache.old m cache.new) }
+            → AddsNamed self.now cache.old m cache.new) }
         ensures cause { HasCause File (F.faults files.old) (F.faults files.new) result }
         ensures reads { F.reads files.old ≤ F.reads files.new }
+
+        // Each page is asked for once at most, and those of the walk are all that is counted.
+        ensures once { IfTold (F.holds files.old) (λ m. IsCurrent cache.old m
+            → ReadsOnce self.now cache.old m (F.reads files.old) (F.reads files.new)) }
+        ensures counted { OnOk result (IfTold (F.holds files.old) (λ m. IsCurrent cache.old m
+            → CountsPages self.now cache.old m cache.new)) }
     {
         let Some(root) = self.place.root else {
             return Ok(Vec::new(alloc));
@@ -99,9 +105,10 @@ impl Tree {
     }
 
     /// Puts the laid pages of sorted pairs into the room from its end on, and moves the end past them. The
-    /// root that `place` names is not looked at. After a refusal nothing before the room's end was changed,
-    /// and the room is as it was; what stands from its end on may be anything. A page may have no other
-    /// place than one below 2^64: past it the answer is `Memory`.
+    /// root that `place` names is not looked at. Then the tree is clear in the cache, and each tree before it
+    /// stays so (`builds_leave_trees_clear`). After a refusal nothing before the room's end was changed, and
+    /// the room is as it was; what stands from its end on may be anything. A page may have no other place than
+    /// one below 2^64: past it the answer is `Memory`.
     pub fn build<F: Files>(
         alloc: Global,
         files: &mut F,
@@ -120,9 +127,7 @@ impl Tree {
             CanLay cache.old m room.old.end
             → Lays place room.old.end (laid_at place room.old.end pairs.now)
             cache.old cache.new m n)) }
-        ensures root { IfOk result (λ tree. tree ≡ record place {
-          root = root_of place.block_length room.old.end (laid_at place room.old.end pairs.now);
-        }) }
+        ensures root { IfOk result (λ tree. tree ≡ built_at place room.old.end pairs.now) }
         ensures end { OnOk result (room.new.end ≡ room.old.end
             + place.block_length * length (laid_at place room.old.end pairs.now)) }
         ensures free { room.new.free ≡ room.old.free }
@@ -132,7 +137,11 @@ impl Tree {
             CanLay cache.old m room.old.end → Spares room.old.end cache.old cache.new m n)) }
         ensures room { OnErr result (room.new.end ≡ room.old.end) }
 
+        // The cache's setup and its counters of reads stay, and each page is a write request.
         ensures name { cache.new.name ≡ cache.old.name }
+        ensures puts { PutsOnly cache.old cache.new }
+        ensures counted { OnOk result (CountsPuts (length (laid_at place room.old.end pairs.now))
+            cache.old cache.new) }
         ensures faults { IfErr result IsFileOrMemory }
         ensures cause { HasCause File (F.faults files.old) (F.faults files.new) result }
         ensures reads { F.reads files.new ≡ F.reads files.old }

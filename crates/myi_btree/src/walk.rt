@@ -12,10 +12,10 @@ ghost use Rattle.myi_btree.specs.Walk.{Node};
 ghost use Rattle.myi_btree.specs.Nodes.{node_view};
 ghost use Rattle.myi_btree.specs.Sizes.{IsPlaced};
 ghost use Rattle.myi_btree.specs.Faults.{DamagedAt};
-ghost use Rattle.myi_btree.specs.CachedTrees.{MayGet, ReadsOnly};
-ghost use Rattle.myi_btree.specs.Serving.{View, nodes_at, Serves, CanAsk, CanEnter, CanVisit, CanVisitEach, CanClimb};
+ghost use Rattle.myi_btree.specs.CachedTrees.{MayGet, ReadsOnly, RoseBy};
+ghost use Rattle.myi_btree.specs.Serving.{View, nodes_at, GoesOn, CanAsk, CanEnter, CanEnterEach, CanClimb};
 ghost use Rattle.myi_btree.specs.Visit.{entered, Finds};
-ghost use Rattle.myi_btree.specs.Visited.{HasPlaces, Visits, VisitsEach, Breaks, BreaksEach, Descends, IsBelow, node_left, places_of};
+ghost use Rattle.myi_btree.specs.Visited.{HasPlaces, CountsMet, ReadsMet, Visits, VisitsEach, Breaks, BreaksEach, Descends, IsBelow, node_left, places_of};
 ghost use Rattle.std.specs.Vec.Iter.{into_iter_items};
 
 use crate::fault::TreeFault;
@@ -50,6 +50,9 @@ fn load_node<F: Files>(
     ensures cache { ReadsOnly (F.holds files.old) (F.holds files.new) cache.old cache.new }
     ensures cause { HasCause File (F.faults files.old) (F.faults files.new) result }
     ensures reads { F.reads files.old ≤ F.reads files.new }
+    ensures once { F.reads files.new ≤ F.reads files.old + 1 }
+    ensures counted { OnOk result (RoseBy 1 cache.old.counters.read_requests
+        cache.new.counters.read_requests) }
 {
     if at % 1024 != 0 {
         return Err(TreeFault::Damaged { at });
@@ -78,22 +81,26 @@ fn enter<F: Files>(
     ensures damaged { IfErr result (DamagedAt (λ p. (v : View) (seen : List ℕ)
         → CanEnter setup.place v (F.holds files.old) cache.old at seen visited.old
         → entered setup.place.block_length (nodes_at setup.place v) at seen ≡ Err p)) }
-    ensures served { (v : View) → CanAsk setup.place v (F.holds files.old) cache.old at
-        → Serves setup.place v (F.holds files.new) cache.new }
+    ensures served { (v : View) (seen : List ℕ)
+        → CanEnter setup.place v (F.holds files.old) cache.old at seen visited.old
+        → GoesOn setup.place v (F.holds files.new) cache.new visited.new }
     ensures met { OnOk result ((seen : List ℕ) → HasPlaces visited.old.places.keys seen
         → HasPlaces visited.new.places.keys (seen ++ at ∷ [])) }
     ensures pairs { visited.new.pairs ≡ visited.old.pairs }
     ensures cache { ReadsOnly (F.holds files.old) (F.holds files.new) cache.old cache.new }
     ensures cause { HasCause File (F.faults files.old) (F.faults files.new) result }
     ensures reads { F.reads files.old ≤ F.reads files.new }
+    ensures once { ReadsMet (F.reads files.old) (F.reads files.new)
+        visited.old.places.keys visited.new.places.keys }
+    ensures counted { OnOk result (CountsMet cache.old cache.new
+        visited.old.places.keys visited.new.places.keys) }
 {
     if !is_apart(&visited.places, at, setup.place.block_length) {
         return Err(TreeFault::Damaged { at });
     }
-    let node = load_node(setup, files, cache, at)?;
-    let page = node.open(at);
     visited.places.insert(at)?;
-    Ok(page)
+    let node = load_node(setup, files, cache, at)?;
+    Ok(node.open(at))
 }
 
 /// Goes down the first children from a place to the first leaf: the open pages above it, and the leaf.
@@ -106,21 +113,25 @@ pub(crate) fn descend<F: Files>(
 ) -> Result<(Vec<OpenPage>, OpenPage), TreeFault>
     requires placed { IsPlaced setup.place }
     requires kept { MayGet F.writable cache.old }
-    ensures path { IfOk result (λ found. (v : View) (height : ℕ)
-        → CanVisit setup.place v (F.holds files.old) cache.old height root [] visited.old
+    ensures path { IfOk result (λ found. (v : View)
+        → CanEnter setup.place v (F.holds files.old) cache.old root [] visited.old
         → Descends setup.place.block_length (nodes_at setup.place v) root found.0.items found.1) }
     ensures met { IfOk result (λ found. HasPlaces visited.old.places.keys []
         → HasPlaces visited.new.places.keys (places_of found.0.items ++ found.1.at ∷ [])) }
-    ensures damaged { IfErr result (DamagedAt (λ p. (v : View) (height : ℕ)
-        → CanVisit setup.place v (F.holds files.old) cache.old height root [] visited.old
+    ensures damaged { IfErr result (DamagedAt (λ p. (v : View)
+        → CanEnter setup.place v (F.holds files.old) cache.old root [] visited.old
         → Finds setup.place.block_length (nodes_at setup.place v) root (Err p))) }
-    ensures served { (v : View) (height : ℕ)
-        → CanVisit setup.place v (F.holds files.old) cache.old height root [] visited.old
-        → Serves setup.place v (F.holds files.new) cache.new }
+    ensures served { (v : View)
+        → CanEnter setup.place v (F.holds files.old) cache.old root [] visited.old
+        → GoesOn setup.place v (F.holds files.new) cache.new visited.new }
     ensures pairs { visited.new.pairs ≡ visited.old.pairs }
     ensures cache { ReadsOnly (F.holds files.old) (F.holds files.new) cache.old cache.new }
     ensures cause { HasCause File (F.faults files.old) (F.faults files.new) result }
     ensures reads { F.reads files.old ≤ F.reads files.new }
+    ensures once { ReadsMet (F.reads files.old) (F.reads files.new)
+        visited.old.places.keys visited.new.places.keys }
+    ensures counted { OnOk result (CountsMet cache.old cache.new
+        visited.old.places.keys visited.new.places.keys) }
 {
     let mut path = Vec::new(setup.alloc);
     let mut at = root;
@@ -149,18 +160,22 @@ fn visit<F: Files>(
     requires placed { IsPlaced setup.place }
     requires kept { MayGet F.writable cache.old }
     ensures ok { OnOk result ((v : View) (seen : List ℕ)
-        → CanVisit setup.place v (F.holds files.old) cache.old level at seen visited.old
+        → CanEnter setup.place v (F.holds files.old) cache.old at seen visited.old
         → Visits setup.place.block_length (nodes_at setup.place v) level at seen
         visited.old visited.new) }
     ensures damaged { IfErr result (DamagedAt (λ p. (v : View) (seen : List ℕ)
-        → CanVisit setup.place v (F.holds files.old) cache.old level at seen visited.old
+        → CanEnter setup.place v (F.holds files.old) cache.old at seen visited.old
         → Breaks setup.place.block_length (nodes_at setup.place v) level at seen p)) }
     ensures served { (v : View) (seen : List ℕ)
-        → CanVisit setup.place v (F.holds files.old) cache.old level at seen visited.old
-        → Serves setup.place v (F.holds files.new) cache.new }
+        → CanEnter setup.place v (F.holds files.old) cache.old at seen visited.old
+        → GoesOn setup.place v (F.holds files.new) cache.new visited.new }
     ensures cache { ReadsOnly (F.holds files.old) (F.holds files.new) cache.old cache.new }
     ensures cause { HasCause File (F.faults files.old) (F.faults files.new) result }
     ensures reads { F.reads files.old ≤ F.reads files.new }
+    ensures once { ReadsMet (F.reads files.old) (F.reads files.new)
+        visited.old.places.keys visited.new.places.keys }
+    ensures counted { OnOk result (CountsMet cache.old cache.new
+        visited.old.places.keys visited.new.places.keys) }
 {
     let page = enter(setup, files, cache, at, visited)?;
     if level == 0 {
@@ -187,22 +202,26 @@ fn visit_children<F: Files>(
     requires placed { IsPlaced setup.place }
     requires kept { MayGet F.writable cache.old }
     ensures ok { OnOk result ((v : View) (seen : List ℕ)
-        → CanVisitEach setup.place v (F.holds files.old) cache.old level
+        → CanEnterEach setup.place v (F.holds files.old) cache.old
         (into_iter_items page.children) seen visited.old
         → VisitsEach setup.place.block_length (nodes_at setup.place v) level page.at
         (node_left page) seen visited.old visited.new) }
     ensures damaged { IfErr result (DamagedAt (λ p. (v : View) (seen : List ℕ)
-        → CanVisitEach setup.place v (F.holds files.old) cache.old level
+        → CanEnterEach setup.place v (F.holds files.old) cache.old
         (into_iter_items page.children) seen visited.old
         → BreaksEach setup.place.block_length (nodes_at setup.place v) level
         (into_iter_items page.children) seen p)) }
     ensures served { (v : View) (seen : List ℕ)
-        → CanVisitEach setup.place v (F.holds files.old) cache.old level
+        → CanEnterEach setup.place v (F.holds files.old) cache.old
         (into_iter_items page.children) seen visited.old
-        → Serves setup.place v (F.holds files.new) cache.new }
+        → GoesOn setup.place v (F.holds files.new) cache.new visited.new }
     ensures cache { ReadsOnly (F.holds files.old) (F.holds files.new) cache.old cache.new }
     ensures cause { HasCause File (F.faults files.old) (F.faults files.new) result }
     ensures reads { F.reads files.old ≤ F.reads files.new }
+    ensures once { ReadsMet (F.reads files.old) (F.reads files.new)
+        visited.old.places.keys visited.new.places.keys }
+    ensures counted { OnOk result (CountsMet cache.old cache.new
+        visited.old.places.keys visited.new.places.keys) }
 {
     let at = page.at;
     let (mut pairs, children) = page.parts();
@@ -233,10 +252,14 @@ pub(crate) fn climb<F: Files>(
         → Breaks setup.place.block_length (nodes_at setup.place v) (length path.items) root [] p)) }
     ensures served { (v : View) (root : ℕ)
         → CanClimb setup.place v (F.holds files.old) cache.old root path.items visited.old
-        → Serves setup.place v (F.holds files.new) cache.new }
+        → GoesOn setup.place v (F.holds files.new) cache.new visited.new }
     ensures cache { ReadsOnly (F.holds files.old) (F.holds files.new) cache.old cache.new }
     ensures cause { HasCause File (F.faults files.old) (F.faults files.new) result }
     ensures reads { F.reads files.old ≤ F.reads files.new }
+    ensures once { ReadsMet (F.reads files.old) (F.reads files.new)
+        visited.old.places.keys visited.new.places.keys }
+    ensures counted { OnOk result (CountsMet cache.old cache.new
+        visited.old.places.keys visited.new.places.keys) }
 {
     let mut path = path;
     for level in 0..LEVELS {

@@ -6,7 +6,7 @@ pub use Rattle.myi_chain.proofs.BlockLemmas.{blocks_read}
 pub use Rattle.myi_chain.proofs.ReadableLemmas.{rest_fine}
 -- sound_files_are_read
 pub use Rattle.myi_chain.proofs.LaidLemmas.{laid_rows}
--- pieces_show_rows
-pub use Rattle.myi_chain.proofs.PieceLemmas.{shown_bytes}
+-- plain_scans_take_no_memory
+pub use Rattle.myi_chain.proofs.ScanLemmas.{plain_meets, plain_item, plain_row}
 -- fresh_scans_have_all
 pub use Rattle.myi_chain.proofs.ScanLemmas.{fresh_all, fresh_current, scan_ended, others_change}

@@ -1,8 +1,8 @@
 -- What is read from a place on depends on the used ranges only by what a scan can ask of them there.
-use Rattle.std.proofs.Common.{◌≡◌, ◌≢◌, ◌∙◌, ℕ, zero, suc, ◌+◌, ◌-◌, ◌<◌, ◌≤◌, max, Bool, true, false, cond, leb, eqb, List, [], ◌∷◌, ◌++◌, append_assoc, length, Option, Some, None, refl, sym, ap, subst, arith, inl, inr}
+use Rattle.std.proofs.Common.{◌≡◌, ◌∙◌, ℕ, zero, suc, ◌+◌, ◌-◌, ◌<◌, ◌≤◌, max, Bool, true, false, cond, leb, eqb, List, [], ◌∷◌, ◌++◌, append_assoc, length, Option, Some, None, refl, sym, ap, subst, arith, inl, inr}
 use Rattle.std.specs.Prelude.{◌&&◌, ◌||◌, nat_lt, option_and_then}
 use Rattle.std.proofs.lemmas.List.{append-nil}
-use Rattle.std.proofs.lemmas.Bool.{eq-eqb, ltb-true, le-leb, lt-leb, ne_eqb, cases_lt}
+use Rattle.std.proofs.lemmas.Bool.{ltb-true, le-leb, lt-leb, ne_eqb, cases_lt}
 use Rattle.myi_base.specs.Ranges.{Range, is_apart}
 use Rattle.myi_frames.specs.Block.{Block}
 use Rattle.myi_chain.specs.Chain.{Reading, IsReading, range_of, ranges, row_bytes, may_take, tail_step, tail_of, tail, head_step, chain_of}

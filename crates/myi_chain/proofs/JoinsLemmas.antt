@@ -1,8 +1,8 @@
 -- Ranges in a map, of which those that touch are joined: what a scan that goes on behind them can tell.
-use Rattle.std.proofs.Common.{◌≡◌, ℕ, zero, suc, ◌+◌, ◌<◌, ◌≤◌, max, Bool, true, false, cond, leb, eqb, List, [], ◌∷◌, ◌++◌, append_assoc, Option, Some, None, refl, sym, ap, subst, ◌∙◌, arith, ◌⊎◌, inl, inr}
+use Rattle.std.proofs.Common.{◌≡◌, ℕ, ◌+◌, ◌<◌, ◌≤◌, max, Bool, true, false, cond, eqb, List, [], ◌∷◌, ◌++◌, Option, Some, None, refl, sym, ap, subst, ◌∙◌, arith, ◌⊎◌, inl, inr}
 use Rattle.std.specs.Prelude.{◌&&◌, ◌||◌, ◌==◌, nat_lt, nat_le, Result, Ok, Err, OnOk, OnErr, is_ok}
 use Rattle.std.specs.Ordering.{nat_cmp}
-use Rattle.std.specs.declared.cmp.Ordering.TheVariants.{Less, Equal, Greater}
+use Rattle.std.specs.declared.cmp.Ordering.TheVariants.{Equal}
 use Rattle.std.specs.Map.{lookup, remove_entry}
 use Rattle.std.specs.BTreeMap.{is_at, insert_entry}
 use Rattle.std.proofs.lemmas.Bool.{le-leb, lt-leb, le-ltb, leb-true, eq-eqb, ne_eqb, cases_lt}
@@ -15,7 +15,7 @@ use Rattle.myi_chain.proofs.ChainLemmas.{both, both_again}
 use Rattle.myi_chain.proofs.SameLemmas.{is_apart-append, end_of-append, same_append, same_after}
 use Rattle.myi_chain.proofs.UsedLemmas.{lower, or_else, before-none, before-some, before-later}
 use Rattle.myi_chain.proofs.MapLemmas.{sides, cmp-less, cmp-equal, cmp-greater, IsPut, is_put, same_put, apart_less}
-use Rattle.myi_chain.proofs.JoinedLemmas.{from_same, from_then, from_append, grows, swap, one_end, front_apart, front_end, front_is}
+use Rattle.myi_chain.proofs.JoinedLemmas.{from_same, from_then, grows, swap, one_end, front_apart, front_end, front_is}
 
 -- ---- answers of calls that may fail
 

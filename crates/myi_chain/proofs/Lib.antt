@@ -6,9 +6,10 @@ pub mod ReadableLemmas
 pub mod LaidLemmas
 pub mod PartLemmas
 pub mod PlaceLemmas
+pub mod CoverLemmas
 pub mod CodeLemmas
 pub mod SameLemmas
-pub mod PieceLemmas
+pub mod OrderLemmas
 pub mod UsedLemmas
 pub mod MapLemmas
 pub mod NearLemmas

@@ -1,16 +1,18 @@
 -- A file that is read through a window: what one call leaves, and what it appends.
-use Rattle.std.proofs.Common.{◌≡◌, ◌∙◌, ℕ, ◌+◌, ◌-◌, ◌<◌, ◌≤◌, Bool, true, eqb, List, [], ◌++◌, length, take, drop, min, Option, Some, None, refl, sym, ap, subst, arith, append_assoc}
+use Rattle.std.proofs.Common.{◌≡◌, ◌∙◌, ℕ, ◌+◌, ◌-◌, ◌<◌, ◌≤◌, Bool, true, eqb, leb, List, [], ◌∷◌, ◌++◌, length, take, drop, min, Option, Some, None, refl, sym, ap, subst, arith, append_assoc}
 use Rattle.std.specs.Prelude.{replicate}
-use Rattle.std.proofs.lemmas.Bool.{eq-eqb}
+use Rattle.std.proofs.lemmas.Bool.{eq-eqb, le-leb}
 use Rattle.std.proofs.lemmas.List.{append-nil, length-append, length-take, length-take-le, length-drop, drop-drop, length-replicate, take_all, take_at, take-take, drop_all}
 use Rattle.myi_base.specs.Holding.{Holding, bytes_of, IfTold}
 use Rattle.myi_window.specs.Excerpt.{Excerpt, bytes_from, AreFront, StandsIn, EndsBy, IsFull}
 use Rattle.myi_window.specs.declared.window.TheConstants.{WINDOW}
-use Rattle.myi_window.proofs.CallerLemmas.{take_add, cut_at_end, front_drop, excerpt_front, excerpt_here, short_excerpt}
+use Rattle.myi_window.proofs.CallerLemmas.{take_add, cut_at_end, front_drop, excerpt_front, excerpt_here}
 use Rattle.myi_frames.specs.Block.{Block, block_of}
 use Rattle.myi_frames.specs.Seeing.{Heads, HeadsBlock, IsPartAt}
 use Rattle.myi_frames.specs.declared.head.Header.{Header}
 use Rattle.myi_frames.proofs.CallerLemmas.{block-stands}
+use Rattle.std.specs.List.{AllByRecursion}
+use Rattle.myi_chain.specs.ScanModel.{EndsInside, BeginsAt, AreBlocksAt}
 use Rattle.myi_chain.specs.Used.{IsRange}
 use Rattle.myi_chain.specs.Source.{SourceModel, read_bytes, read_blocks, IsReady, ReadsOn, IsHeader, IsKept, kept_bytes, range_by}
 
@@ -18,17 +20,43 @@ use Rattle.myi_chain.specs.Source.{SourceModel, read_bytes, read_blocks, IsReady
 pub reads_on : (holds : Option Holding) (s : SourceModel) (name file : List ℕ) (end : ℕ) (w v : Excerpt) → record { name = name; end = end; kept = w } ≡ s → file ≡ name → IfTold holds (IsReady s) → ((m : Holding) → holds ≡ Some m → StandsIn w (bytes_of file m) → StandsIn v (bytes_of file m)) → ReadsOn holds s (record { name = name; end = end; kept = v })
 reads_on holds s name file end w v view same ready stands = subst (λ (t : SourceModel). IfTold holds (IsReady t) → ReadsOn holds t (record { name = name; end = end; kept = v })) view (λ is. record {
   name = refl;
-  end = refl;
+  falls = omega arith;
+  end = λ m held. refl;
   ready = λ m held. record { kept = subst (λ n. StandsIn v (bytes_of n m)) same (stands m held (subst (λ n. StandsIn w (bytes_of n m)) (sym same) (is m held).kept)); long = (is m held).long };
 }) ready
 
 pub reads_same : (holds : Option Holding) (s : SourceModel) → IfTold holds (IsReady s) → ReadsOn holds s s
-reads_same holds s ready = record { name = refl; end = refl; ready = ready }
+reads_same holds s ready = record { name = refl; falls = omega arith; end = λ m held. refl; ready = ready }
 
--- a window that was slid to a place and shows too little met the file's end
-pub ends_before : (s : SourceModel) (m : Holding) (at size : ℕ) (v : Excerpt) → IsReady s m → v.from ≡ at → v.bytes ≡ take WINDOW (drop at (read_bytes s m)) → size ≤ WINDOW → length (bytes_from at v) < size → s.end < at + size
-ends_before s m at size v ready from bytes narrow short =
-    omega (arith, short_excerpt at s.end size v (bytes_of s.name m) from bytes narrow short, length-take-le s.end (bytes_of s.name m) ready.long)
+-- a window that was slid to a place holds the bytes from there on
+pub held_here : (at : ℕ) (v : Excerpt) → v.from ≡ at → bytes_from at v ≡ v.bytes
+held_here at v from =
+    let order : leb v.from at ≡ true = le-leb v.from at (omega (arith, from)) in
+    let none : at - v.from ≡ 0 = omega (arith, from) in
+    rw (order, none) refl
+
+-- a window that is not full holds all up to the end, where the file is long enough
+not_full : (at end : ℕ) (v : Excerpt) (d : List ℕ) → at ≤ end → end ≤ length d → v.from ≡ at → v.bytes ≡ take WINDOW (drop at (take end d)) → length (bytes_from at v) < WINDOW → at + length (bytes_from at v) ≡ end
+not_full at end v d order long from bytes few =
+    let count : length (bytes_from at v) ≡ min WINDOW (length (drop at (take end d))) = ap (λ (xs : List ℕ). length xs) (held_here at v from ∙ bytes) ∙ length-take WINDOW (drop at (take end d)) in
+    omega (arith, count, length-drop at (take end d), length-take-le end d long)
+
+-- the file is read on, and ends where fewer bytes came than a window can hold
+pub reads_cut : (holds : Option Holding) (s : SourceModel) (name file : List ℕ) (end now at : ℕ) (w v : Excerpt) → record { name = name; end = end; kept = w } ≡ s → file ≡ name → at ≤ end → IfTold holds (IsReady s) → ((m : Holding) → holds ≡ Some m → StandsIn w (bytes_of file m) → StandsIn v (bytes_of file m)) → v.from ≡ at
+    → ((m : Holding) → holds ≡ Some m → IsFull file at end w v m) → length (bytes_from at v) < WINDOW → EndsBy end v → now ≡ at + length (bytes_from at v) → ReadsOn holds s (record { name = name; end = now; kept = v })
+reads_cut holds s name file end now at w v view same order ready stands from full few inside is =
+    let on = reads_on holds s name file end w v view same ready stands in
+    let ends : s.end ≡ end = sym (ap (λ (t : SourceModel). t.end) view) in
+    let all : (m : Holding) → holds ≡ Some m → now ≡ s.end = λ m held.
+    let stood : StandsIn w (bytes_of file m) = subst (λ (t : SourceModel). StandsIn t.kept (bytes_of file m)) (sym view) (subst (λ n. StandsIn s.kept (bytes_of n m)) (ap (λ (t : SourceModel). t.name) (sym view) ∙ sym same) (ready m held).kept) in
+    let long : end ≤ length (bytes_of file m) = subst (λ n. end ≤ length (bytes_of n m)) (ap (λ (t : SourceModel). t.name) (sym view) ∙ sym same) (subst (λ e. e ≤ length (bytes_of s.name m)) ends (ready m held).long) in
+    is ∙ not_full at end v (bytes_of file m) order long from (full m held stood) few ∙ sym ends in
+    record {
+      name = on.name;
+      falls = omega (arith, is, ends, inside, ap (λ (xs : List ℕ). length xs) (held_here at v from), from);
+      end = all;
+      ready = λ m held. record { kept = (on.ready m held).kept; long = subst (λ e. e ≤ length (bytes_of name m)) (sym (all m held ∙ ends)) (on.ready m held).long };
+    }
 
 none_by : (d : List ℕ) (p : ℕ) (o : Option Block) → block_of d p ≡ o → length d < p + 20 → o ≡ None
 none_by d p None e h = refl
@@ -41,6 +69,15 @@ none_short s m at ready short = none_by (read_bytes s m) at (read_blocks s m at)
 -- what is kept from a place on is a part of the file there
 pub kept_part : (s : SourceModel) (m : Holding) (at : ℕ) (bytes : List ℕ) → IsReady s m → EndsBy s.end s.kept → at ≤ s.end → bytes ≡ bytes_from at s.kept → IsPartAt at bytes (read_bytes s m)
 kept_part s m at bytes ready inside order is = subst (λ (xs : List ℕ). IsPartAt at xs (read_bytes s m)) (sym is) (excerpt_here at s.end s.kept (bytes_of s.name m) order inside ready.kept)
+
+-- a block that ends before the file does, wherever that ends, has its header still
+pub header_still : (at end now : ℕ) (h : Header) → IsHeader at end h → at + h.head.size ≤ now → now ≤ end → IsHeader at now h
+header_still at end now h is inside falls = record {
+  here = is.here;
+  place = record { aligned = is.place.aligned; multiple = is.place.multiple; least = is.place.least; inside = inside };
+  inside = is.inside;
+  small = omega (arith, is.small, falls);
+}
 
 pub filled_behind : (start at count k : ℕ) (into new post d : List ℕ) → start ≤ length into → k ≡ length into - start → at + length into ≤ start + length d → post ≡ [] → count ≡ min (length (take k (drop start into))) (length (drop at d)) → new ≡ take (length (take k (drop start into))) (drop at d) ++ drop (length (drop at d)) (take k (drop start into))
     → (start + count ≡ length into) × (take start into ++ (new ++ post) ≡ take start into ++ take count (drop at d))
@@ -79,24 +116,29 @@ cut_inside p n end d inside =
 pub block_bytes : (s : SourceModel) (m : Holding) (h : Header) (b : Block) → Heads (read_bytes s m) h b → b.bytes ≡ take h.data_len (drop (h.head.at + h.start) (bytes_of s.name m))
 block_bytes s m h b heads = heads.bytes ∙ cut_inside (h.head.at + h.start) h.data_len s.end (bytes_of s.name m) heads.inside
 
-pub slid_short : (s : SourceModel) (name file : List ℕ) (end : ℕ) (w v : Excerpt) (m : Holding) (at size : ℕ) → record { name = name; end = end; kept = w } ≡ s → file ≡ name → IsReady s m → v.from ≡ at → IsFull file at end w v m → size ≤ WINDOW → length (bytes_from at v) < size → s.end < at + size
-slid_short s name file end w v m at size view same ready from full narrow short = subst (λ (t : SourceModel). IsReady t m → t.end < at + size) view (λ is.
-    let bytes = subst (λ n. StandsIn w (bytes_of n m) → v.bytes ≡ take WINDOW (drop at (take end (bytes_of n m)))) same full is.kept in
-    ends_before (record { name = name; end = end; kept = w }) m at size v is from bytes narrow short) ready
-
 -- the same bytes are read
-pub same_bytes : (holds : Option Holding) (old new : SourceModel) (m : Holding) → ReadsOn holds old new → read_bytes new m ≡ read_bytes old m
-same_bytes holds old new m on = ap (λ n. take n (bytes_of new.name m)) on.end ∙ ap (λ n. take old.end (bytes_of n m)) on.name
+pub same_bytes : (holds : Option Holding) (old new : SourceModel) (m : Holding) → holds ≡ Some m → ReadsOn holds old new → read_bytes new m ≡ read_bytes old m
+same_bytes holds old new m held on = ap (λ n. take n (bytes_of new.name m)) (on.end m held) ∙ ap (λ n. take old.end (bytes_of n m)) on.name
 
 pub reads_then : (h k : Option Holding) (old mid new : SourceModel) → k ≡ h → ReadsOn h old mid → ReadsOn k mid new → ReadsOn h old new
-reads_then h k old mid new same a b = record { name = b.name ∙ a.name; end = b.end ∙ a.end; ready = λ m held. b.ready m (same ∙ held) }
+reads_then h k old mid new same a b = record { name = b.name ∙ a.name; falls = omega (arith, a.falls, b.falls); end = λ m held. b.end m (same ∙ held) ∙ a.end m held; ready = λ m held. b.ready m (same ∙ held) }
 
 pub long_bytes : (s : SourceModel) (m : Holding) → IsReady s m → length (read_bytes s m) ≡ s.end
 long_bytes s m ready = length-take-le s.end (bytes_of s.name m) ready.long
 
+-- the header by the bytes that are kept from a place on is that of the block there
+pub heads_kept : (h : Option Holding) (old s : SourceModel) (name : List ℕ) (end : ℕ) (w : Excerpt) (at : ℕ) (bytes : List ℕ) (o p : Option Header) (m : Holding) → h ≡ Some m → ReadsOn h old s → record { name = name; end = end; kept = w } ≡ s → EndsBy end w → at ≤ end → bytes ≡ bytes_from at w
+    → ((d : List ℕ) → length d ≡ end → IsPartAt at bytes d → HeadsBlock d o (block_of d at)) → o ≡ p → HeadsBlock (read_bytes old m) p (read_blocks old m at)
+heads_kept h old s name end w at bytes o p m held on view inside order is block same =
+    let now : IsReady s m = on.ready m held in
+    let ends : end ≡ s.end = ap (λ (t : SourceModel). t.end) view in
+    let kept : w ≡ s.kept = ap (λ (t : SourceModel). t.kept) view in
+    let part = kept_part s m at bytes now (subst (λ (t : SourceModel). EndsBy t.end t.kept) view inside) (omega (arith, ends, order)) (is ∙ ap (λ k. bytes_from at k) kept) in
+    subst (λ q. HeadsBlock (read_bytes old m) q (read_blocks old m at)) same (subst (λ (x : List ℕ). HeadsBlock x o (block_of x at)) (same_bytes h old s m held on) (block (read_bytes s m) (long_bytes s m now ∙ sym ends) part))
+
 -- a header of the file as it was read before is one of the file
 pub heads_still : (h k : Option Holding) (old mid : SourceModel) (at : ℕ) (o : Option Header) → k ≡ h → ReadsOn h old mid → IfTold k (λ m. HeadsBlock (read_bytes mid m) o (read_blocks mid m at)) → (m : Holding) → h ≡ Some m → HeadsBlock (read_bytes old m) o (read_blocks old m at)
-heads_still h k old mid at o same on told m held = subst (λ (x : List ℕ). HeadsBlock x o (block_of x at)) (same_bytes h old mid m on) (told m (same ∙ held))
+heads_still h k old mid at o same on told m held = subst (λ (x : List ℕ). HeadsBlock x o (block_of x at)) (same_bytes h old mid m held on) (told m (same ∙ held))
 
 -- the file is ready for the next call
 pub ready_still : (h k : Option Holding) (old mid : SourceModel) → k ≡ h → ReadsOn h old mid → IfTold k (IsReady mid)
@@ -152,3 +194,23 @@ appends_rest s file m h b xs n rest whole old mid new same ready is few all grow
     let front : mid ≡ old ++ take n (drop at d) = grown ∙ ap (λ (ys : List ℕ). old ++ ys) (kept_front s m at n xs ready is few) in
     let both : take n (drop at d) ++ take rest (drop (at + n) d) ≡ b.bytes = ap (λ (ys : List ℕ). take n (drop at d) ++ take rest ys) (turn n at d) ∙ sym (take_add n rest (drop at d)) ∙ ap (λ k. take k (drop at d)) all ∙ sym (block_bytes s m h b heads) in
     (t.0, t.1 ∙ ap (λ (ys : List ℕ). ys ++ take rest (drop (at + n) d)) front ∙ append_assoc old (take n (drop at d)) (take rest (drop (at + n) d)) ∙ ap (λ (ys : List ℕ). old ++ ys) both)
+
+-- ---- where the blocks of a row lie
+
+-- the block with a header ends in the file
+pub lies_block : (at end : ℕ) (h : Header) → IsHeader at end h → EndsInside end (h.head.at, h.head.size)
+lies_block at end h is = (omega (arith, is.here, is.place.inside), omega (arith, is.here, is.place.inside, is.small))
+
+pub lies_one : (end : ℕ) (h : Header) → IsHeader h.head.at end h → AreBlocksAt h.head.at end ((h.head.at, h.head.size) ∷ [])
+lies_one end h is = (refl, (lies_block h.head.at end h is, tt))
+
+pub lies_more : (p at end : ℕ) (h : Header) (old new : List (ℕ × ℕ)) → IsHeader at end h → new ≡ old ++ (h.head.at, h.head.size) ∷ [] → AreBlocksAt p end old → AreBlocksAt p end new
+lies_more p at end h old new is grown lies = subst (AreBlocksAt p end) (sym grown) (first old lies, each old lies.1)
+  where
+    first : (bs : List (ℕ × ℕ)) → AreBlocksAt p end bs → BeginsAt p (bs ++ (h.head.at, h.head.size) ∷ [])
+    first [] l = absurd l.0
+    first (b ∷ bs) l = l.0
+
+    each : (bs : List (ℕ × ℕ)) → AllByRecursion (EndsInside end) bs → AllByRecursion (EndsInside end) (bs ++ (h.head.at, h.head.size) ∷ [])
+    each [] l = (lies_block at end h is, tt)
+    each (b ∷ bs) l = (l.0, each bs l.1)

@@ -2,7 +2,7 @@
 use Rattle.std.proofs.Common.{◌≡◌, ◌∙◌, ℕ, zero, suc, ◌+◌, ◌-◌, ◌<◌, ◌≤◌, min, max, Bool, true, false, List, [], ◌∷◌, ◌++◌, append_assoc, length, Option, Some, None, Result, Ok, Err, refl, sym, ap, subst, arith, inl, inr}
 use Rattle.std.specs.Prelude.{nat_lt, ◌==◌, option_to_list, IfErr, IfSome}
 use Rattle.std.specs.Option.{option_map}
-use Rattle.std.proofs.lemmas.Bool.{lt-ltb, le-ltb, le-leb, eq-eqb, cases_lt}
+use Rattle.std.proofs.lemmas.Bool.{leb-true, lt-ltb, le-ltb, le-leb, eq-eqb, cases_lt}
 use Rattle.std.proofs.lemmas.List.{append-nil}
 use Rattle.myi_base.specs.Holding.{Holding, IfTold}
 use Rattle.myi_base.specs.Ranges.{Range, is_apart}
@@ -10,6 +10,7 @@ use Rattle.myi_frames.specs.declared.head.Header.{Header}
 use Rattle.myi_frames.specs.Block.{Block, block_of}
 use Rattle.myi_frames.specs.Seeing.{Heads, HeadsBlock}
 use Rattle.myi_window.specs.Excerpt.{Excerpt}
+use Rattle.myi_window.specs.declared.window.TheConstants.{WINDOW}
 use Rattle.myi_chain.specs.declared.chain.Link.{Link}
 use Rattle.myi_chain.specs.declared.chain.Link.TheVariants.{Broken, Last, More}
 use Rattle.myi_chain.specs.declared.step.FoundRow.{FoundRow}
@@ -21,9 +22,9 @@ use Rattle.myi_chain.specs.Chain.{range_of, ranges, row_bytes, first_link, chain
 use Rattle.myi_chain.specs.Readable.{Row, Item, row, free, Step, end_of, skip_by, free_by, past, row_at, row_step, step_of, rows_of}
 use Rattle.myi_chain.specs.Used.{joined, SameFrom, AddsBlocks, NeedsMemory}
 use Rattle.myi_chain.specs.Chain.{placed, ranges_at}
-use Rattle.myi_chain.specs.ScanModel.{MeetsShort, FirstRow}
-use Rattle.myi_chain.specs.Source.{SourceModel, IsReady, ReadsOn, read_bytes, read_blocks, AreRead, first_by}
-use Rattle.myi_chain.specs.Found.{is_short, found_at, found_bytes, found_blocks, found_row, found_items, met_from, NoRowAt, FindsRow, IsPassed, IsFree, HoldsItem, met_at, MeetsShortAt}
+use Rattle.myi_chain.specs.ScanModel.{MeetsShort, IsBehind, FirstRow}
+use Rattle.myi_chain.specs.Source.{SourceModel, IsHeader, IsReady, ReadsOn, read_bytes, read_blocks, AreRead, first_by}
+use Rattle.myi_chain.specs.Found.{is_short, found_at, found_bytes, found_blocks, found_row, found_items, met_from, NoRowAt, FindsRow, IsPassed, IsBlockOf, IsFree, LiesItem, HoldsItem, met_at, MeetsShortAt, FindsShort, FindsShortAt}
 use Rattle.myi_chain.proofs.BlockLemmas.{blocks_read}
 use Rattle.myi_chain.proofs.CodeLemmas.{placed_ranges}
 use Rattle.myi_chain.proofs.ChainLemmas.{chain_sound}
@@ -31,7 +32,7 @@ use Rattle.myi_chain.proofs.ReadableLemmas.{first_block, rest_step, rest_end}
 use Rattle.myi_chain.proofs.JoinedLemmas.{front_apart, front_end, rest_from}
 use Rattle.myi_chain.proofs.FollowLemmas.{first_is, chain_last, first_place}
 use Rattle.myi_chain.proofs.JoinLemmas.{chain_read}
-use Rattle.myi_chain.proofs.SourceLemmas.{same_bytes, long_bytes}
+use Rattle.myi_chain.proofs.SourceLemmas.{same_bytes, long_bytes, lies_block}
 
 -- ---- the row that starts with a block
 
@@ -39,6 +40,11 @@ last_by : (l : Link) (h : Header) → is_short l h ≡ true → l ≡ Last
 last_by Broken h e = absurd cc
 last_by Last h e = refl
 last_by More h e = absurd cc
+
+pub short_size : (l : Link) (h : Header) → is_short l h ≡ true → h.head.size ≤ WINDOW
+short_size Broken h e = absurd cc
+short_size Last h e = leb-true _ _ e
+short_size More h e = absurd cc
 
 module _ (x : List ℕ) (used : List Range) (h : Header) (here : HeadsBlock x (Some h) (block_of x h.head.at)) where
   pub short_row : (l : Link) (bytes : List ℕ) → l ≡ first_by h used → is_short l h ≡ true → here.0.bytes ≡ bytes
@@ -209,7 +215,18 @@ module _ (x : List ℕ) (accepts : List ℕ → Bool) (p : ℕ) (used : List Ran
   pub short_needs : (r : FoundRow) (e : Excerpt) (taken : List (ℕ × ℕ)) (bytes : List ℕ) → FindsRow accepts e taken bytes (chain_of (block_of x) p used) (Some r) → NeedsMemory used (found_blocks taken r) → ⊥
   short_needs r e taken bytes finds needs = subst (NeedsMemory used) (found_one r e taken bytes finds) needs old_joined refl
 
+-- the place behind a block, by its header
+pub behind_block : (x : List ℕ) (p next : ℕ) (h : Header) → HeadsBlock x (Some h) (block_of x p) → next ≡ p + h.head.size → IsBehind (block_of x) p next
+behind_block x p next h here to b e =
+    let one : here.0 ≡ b = let s : Some here.0 ≡ Some b = sym here.1 ∙ e in cc in
+    let size : b.size ≡ h.head.size = subst (λ (c : Block). c.size ≡ h.head.size) one (ap (λ k. k.size) here.2.head) in
+    omega (arith, to, size)
+
 -- ---- what a call told, said of the file as it was read before
+
+pub finds_same : (h : Option Holding) (old mid : SourceModel) (m : Holding) → h ≡ Some m → ReadsOn h old mid → (p q r : Position) (f : Option Found) → q ≡ p → FindsShortAt mid m q f r → FindsShortAt old m p f r
+finds_same h old mid m held on p q r f same finds =
+    subst (λ (x : List ℕ). FindsShort (block_of x) p.place f r.place r.used) (same_bytes h old mid m held on) (subst (λ (s : Position). FindsShort (block_of (read_bytes mid m)) s.place f r.place r.used) same finds)
 
 pub if_err : {T E : Type 0} (r : Result T E) (P : E → Type 0) → ((e : E) → P e) → IfErr r P
 if_err (Ok v) P each = tt
@@ -217,27 +234,35 @@ if_err (Err e) P each = each e
 
 pub heads_now : (h k : Option Holding) (old mid : SourceModel) (at : ℕ) (o : Option Header) (b : Header) → k ≡ h → ReadsOn h old mid → o ≡ Some b → b.head.at ≡ at → IfTold h (λ m. HeadsBlock (read_bytes old m) o (read_blocks old m at)) → IfTold k (λ m. HeadsBlock (read_bytes mid m) (Some b) (read_blocks mid m b.head.at))
 heads_now h k old mid at o b same on is here told m held =
-    subst (λ p. HeadsBlock (read_bytes mid m) (Some b) (read_blocks mid m p)) (sym here) (subst (λ o. HeadsBlock (read_bytes mid m) o (read_blocks mid m at)) is (subst (λ (x : List ℕ). HeadsBlock x o (block_of x at)) (sym (same_bytes h old mid m on)) (told m (sym same ∙ held))))
+    subst (λ p. HeadsBlock (read_bytes mid m) (Some b) (read_blocks mid m p)) (sym here) (subst (λ o. HeadsBlock (read_bytes mid m) o (read_blocks mid m at)) is (subst (λ (x : List ℕ). HeadsBlock x o (block_of x at)) (sym (same_bytes h old mid m (sym same ∙ held) on)) (told m (sym same ∙ held))))
 
-pub finds_here : (h : Option Holding) (old mid : SourceModel) (m : Holding) (at p : ℕ) (used : List Range) (accepts : List ℕ → Bool) (e : Excerpt) (taken : List (ℕ × ℕ)) (bytes : List ℕ) (f g : Option FoundRow) → ReadsOn h old mid → at ≡ p → f ≡ g → FindsRow accepts e taken bytes (chain_of (read_blocks mid m) at used) f → FindsRow accepts e taken bytes (chain_of (block_of (read_bytes old m)) p used) g
-finds_here h old mid m at p used accepts e taken bytes f g on here is told =
-    subst (λ (x : List ℕ). FindsRow accepts e taken bytes (chain_of (block_of x) p used) g) (same_bytes h old mid m on) (subst (λ q. FindsRow accepts e taken bytes (chain_of (read_blocks mid m) q used) g) here (subst (λ f. FindsRow accepts e taken bytes (chain_of (read_blocks mid m) at used) f) is told))
+pub finds_here : (h : Option Holding) (old mid : SourceModel) (m : Holding) → h ≡ Some m → (at p : ℕ) (used : List Range) (accepts : List ℕ → Bool) (e : Excerpt) (taken : List (ℕ × ℕ)) (bytes : List ℕ) (f g : Option FoundRow) → ReadsOn h old mid → at ≡ p → f ≡ g → FindsRow accepts e taken bytes (chain_of (read_blocks mid m) at used) f → FindsRow accepts e taken bytes (chain_of (block_of (read_bytes old m)) p used) g
+finds_here h old mid m held at p used accepts e taken bytes f g on here is told =
+    subst (λ (x : List ℕ). FindsRow accepts e taken bytes (chain_of (block_of x) p used) g) (same_bytes h old mid m held on) (subst (λ q. FindsRow accepts e taken bytes (chain_of (read_blocks mid m) q used) g) here (subst (λ f. FindsRow accepts e taken bytes (chain_of (read_blocks mid m) at used) f) is told))
 
 pub free_held : (accepts : List ℕ → Bool) (s : SourceModel) (r : RowBuffer) (f : Option Found) → IfSome f IsFree → IfSome f (HoldsItem accepts s r)
 free_held accepts s r None is = tt
 free_held accepts s r (Some (found.Row q)) is = absurd is
 free_held accepts s r (Some (found.Free at size)) is = tt
 
+-- a deleted block that is passed lies in the file
+pub free_lies : (at : ℕ) (s : SourceModel) (r : RowBuffer) (h : Header) (f : Option Found) → IsHeader at s.end h → IfSome f (IsBlockOf h) → IfSome f (LiesItem s r)
+free_lies at s r h None place is = tt
+free_lies at s r h (Some (found.Row q)) place is = absurd is
+free_lies at s r h (Some (found.Free p size)) place is =
+    let lies = lies_block at s.end h place in
+    (omega (arith, is.0, is.1, lies.0), omega (arith, is.0, is.1, lies.1))
+
 -- nothing is met at the end
 pub met_end : (extend : Bool) (accepts : List ℕ → Bool) (s : SourceModel) (p : Position) (m : Holding) → IsReady s m → s.end ≤ p.place → met_at extend accepts s p m ≡ []
 met_end extend accepts s p m ready ended = rest_end (read_blocks s m) (length (read_bytes s m)) (blocks_read (read_bytes s m)) extend accepts p.place p.used (omega (arith, long_bytes s m ready))
 
 -- the same is met in the file that is read on
-pub met_same : (h : Option Holding) (extend : Bool) (accepts : List ℕ → Bool) (old mid : SourceModel) (p : Position) (m : Holding) → ReadsOn h old mid → met_at extend accepts mid p m ≡ met_at extend accepts old p m
-met_same h extend accepts old mid p m on = ap (λ x. met_from extend accepts x p.place p.used) (same_bytes h old mid m on)
+pub met_same : (h : Option Holding) (extend : Bool) (accepts : List ℕ → Bool) (old mid : SourceModel) (p : Position) (m : Holding) → h ≡ Some m → ReadsOn h old mid → met_at extend accepts mid p m ≡ met_at extend accepts old p m
+met_same h extend accepts old mid p m held on = ap (λ x. met_from extend accepts x p.place p.used) (same_bytes h old mid m held on)
 
-pub meets_same : (h : Option Holding) (accepts : List ℕ → Bool) (old mid : SourceModel) (p : Position) (m : Holding) → ReadsOn h old mid → MeetsShortAt accepts old p m → MeetsShortAt accepts mid p m
-meets_same h accepts old mid p m on meets = subst (λ x. MeetsShort accepts x p.place p.used) (sym (same_bytes h old mid m on)) meets
+pub meets_same : (h : Option Holding) (accepts : List ℕ → Bool) (old mid : SourceModel) (p : Position) (m : Holding) → h ≡ Some m → ReadsOn h old mid → MeetsShortAt accepts old p m → MeetsShortAt accepts mid p m
+meets_same h accepts old mid p m held on meets = subst (λ x. MeetsShort accepts x p.place p.used) (sym (same_bytes h old mid m held on)) meets
 
 -- no short row is met at the end
 pub short_ended : (accepts : List ℕ → Bool) (s : SourceModel) (p : Position) (m : Holding) → IsReady s m → s.end ≤ p.place → MeetsShortAt accepts s p m → ⊥

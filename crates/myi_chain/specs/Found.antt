@@ -14,13 +14,13 @@ use Rattle.myi_chain.specs.declared.step.Found.{Found}
 use Rattle.myi_chain.specs.declared.step.Found.TheVariants as found
 use Rattle.myi_chain.specs.declared.step.Position.{Position}
 use Rattle.myi_chain.specs.declared.step.RowBuffer.{RowBuffer}
-use Rattle.myi_chain.specs.Chain.{row_bytes}
+use Rattle.myi_chain.specs.Chain.{Reading, row_bytes}
 use Rattle.myi_chain.specs.Readable.{Row, Item, row, free, rest, skip_by, free_by}
 use Rattle.myi_chain.specs.Pieces.{is_lent}
 use Rattle.myi_chain.specs.Used.{joined}
-use Rattle.myi_chain.specs.ScanModel.{MeetsShort, FirstItem, FirstRow, NoRow}
+use Rattle.myi_chain.specs.ScanModel.{MeetsShort, IsBehind, EndsInside, AreBlocksAt, FirstItem, FirstRow, NoRow}
 use Rattle.myi_chain.specs.Chain.{placed, ranges_at}
-use Rattle.myi_chain.specs.Source.{SourceModel, read_bytes, IsKept, kept_bytes}
+use Rattle.myi_chain.specs.Source.{SourceModel, read_bytes, read_blocks, IsKept, kept_bytes}
 
 -- what is met from a place on in a file of these bytes, where these ranges are used
 abbrev pub met_from : Bool → (List ℕ → Bool) → List ℕ → ℕ → List Range → List Item
@@ -76,6 +76,14 @@ abbrev pub IsHeldItem : (List ℕ → Bool) → Excerpt → List (ℕ × ℕ) �
 IsHeldItem accepts e taken bytes (found.Row r) = IsHeld accepts e taken bytes r
 IsHeldItem accepts e taken bytes (found.Free at size) = Unit {0}
 
+-- where what was found lies in the file, whatever that tells
+abbrev pub LiesRow : SourceModel → RowBuffer → FoundRow → Type 0
+LiesRow s r f = AreBlocksAt (found_at f) s.end (found_blocks r.chain.taken f)
+
+abbrev pub LiesItem : SourceModel → RowBuffer → Found → Type 0
+LiesItem s r (found.Row f) = LiesRow s r f
+LiesItem s r (found.Free at size) = EndsInside s.end (at, size)
+
 -- how far it is over a block at which no row starts, and the deleted block that is passed
 abbrev pub IsPassed : Bool → Header → ℕ → Option Found → Type 0
 IsPassed extend h skip found = (b : Block) → head_of b ≡ h.head → (skip ≡ skip_by extend (Some b))
@@ -86,6 +94,11 @@ abbrev pub IsFree : Found → Type 0
 IsFree (found.Row r) = ⊥
 IsFree (found.Free at size) = Unit {0}
 
+-- it is the block with a header
+abbrev pub IsBlockOf : Header → Found → Type 0
+IsBlockOf h (found.Row r) = ⊥
+IsBlockOf h (found.Free at size) = (at ≡ h.head.at) × (size ≡ h.head.size)
+
 -- no row starts where this chain or none does
 abbrev pub NoRowAt : (List ℕ → Bool) → Option (List Block) → Type 0
 NoRowAt accepts None = Unit {0}
@@ -95,11 +108,15 @@ abbrev pub FindsRow : (List ℕ → Bool) → Excerpt → List (ℕ × ℕ) → 
 FindsRow accepts e taken bytes o None = NoRowAt accepts o
 FindsRow accepts e taken bytes o (Some r) = (bs : List Block) × (o ≡ Some bs) × (placed bs ≡ found_blocks taken r) × (row_bytes bs ≡ found_bytes e bytes r)
 
--- the row was found, and all before the place behind it is one used range
-abbrev pub FindsShort : Option Found → ℕ → List Range → Type 0
-FindsShort None p used = ⊥
-FindsShort (Some (found.Row r)) p used = used ≡ joined p
-FindsShort (Some (found.Free at size)) p used = ⊥
+-- from a place the scan went on behind the block there, and all before is one used range
+abbrev pub WentPlain : Reading → ℕ → ℕ → List Range → Type 0
+WentPlain read from to used = IsBehind read from to × (used ≡ joined to)
+
+-- the row in the block at a place was found
+abbrev pub FindsShort : Reading → ℕ → Option Found → ℕ → List Range → Type 0
+FindsShort read from None to used = ⊥
+FindsShort read from (Some (found.Row r)) to used = WentPlain read from to used
+FindsShort read from (Some (found.Free at size)) to used = ⊥
 
 -- ---- with where a scan stands, its file and its row buffer
 
@@ -125,8 +142,8 @@ HoldsItem accepts s r f = IsHeldItem accepts s.kept r.chain.taken r.joined.items
 abbrev pub MeetsShortAt : (List ℕ → Bool) → SourceModel → Position → Holding → Type 0
 MeetsShortAt accepts s p m = MeetsShort accepts (read_bytes s m) p.place p.used
 
-abbrev pub FindsShortAt : Option Found → Position → Type 0
-FindsShortAt f p = FindsShort f p.place p.used
+abbrev pub FindsShortAt : SourceModel → Holding → Position → Option Found → Position → Type 0
+FindsShortAt s m p f q = FindsShort (read_blocks s m) p.place f q.place q.used
 
 -- this is the first item of those that were to come, and the others are to come
 abbrev pub FindsItem : SourceModel → RowBuffer → List Item → List Item → Option Found → Type 0
@@ -144,10 +161,10 @@ KeepsUsed old new None = new ≡ old
 KeepsUsed old new (Some (found.Free at size)) = new ≡ old
 KeepsUsed old new (Some (found.Row r)) = Unit {0}
 
--- the row was found, and all before the place behind it is one used range
-abbrev pub FindsShortRowAt : Option FoundRow → Position → Type 0
-FindsShortRowAt None p = ⊥
-FindsShortRowAt (Some f) p = p.used ≡ joined p.place
+-- the row in the block at a place was found
+abbrev pub FindsShortRowAt : SourceModel → Holding → Position → Option FoundRow → Position → Type 0
+FindsShortRowAt s m p None q = ⊥
+FindsShortRowAt s m p (Some f) q = WentPlain (read_blocks s m) p.place q.place q.used
 
 -- where a call ends that goes from a place up to an end: behind it where something was found, and else at the end
 abbrev pub Rises : {X : Type 0} → ℕ → ℕ → ℕ → Option X → Type 0

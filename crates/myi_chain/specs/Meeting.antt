@@ -35,6 +35,12 @@ abbrev pub AreRising : ℕ → List Row → Type 0
 AreRising low [] = Unit {0}
 AreRising low (r ∷ rs) = (low ≤ r.at) × AreRising (r.at + 1) rs
 
+-- rows and deleted blocks stand in order of their places, from a place on, each behind the deleted block before it
+abbrev pub ItemsRise : ℕ → List Item → Type 0
+ItemsRise low [] = Unit {0}
+ItemsRise low (row r ∷ is) = (low ≤ r.at) × ItemsRise (r.at + 1) is
+ItemsRise low (free a ∷ is) = (low ≤ a.0) × ItemsRise a.1 is
+
 -- no chain at a place packs a row
 abbrev pub HasNoRow : Reading → (List ℕ → Bool) → ℕ → List Range → Type 0
 HasNoRow read accepts p used = (bs : List Block) → IsChain read p used bs → accepts (row_bytes bs) ≡ false

@@ -1,6 +1,6 @@
 -- A data file whose blocks follow one another and are those of rows and deleted blocks, as a server and
 -- this project leave it.
-use Rattle.std.specs.Prelude.{◌≡◌, ℕ, ◌+◌, ◌⊎◌, Bool, true, List, [], ◌∷◌, ◌++◌, Some}
+use Rattle.std.specs.Prelude.{◌≡◌, ℕ, ◌+◌, ◌⊎◌, ◌&&◌, nat_le, nat_lt, Bool, true, List, [], ◌∷◌, ◌++◌, Some}
 use Rattle.std.specs.List.{AllByRecursion}
 use Rattle.myi_base.specs.Ranges.{Range, is_apart}
 use Rattle.myi_frames.specs.declared.form.FrameKind.TheVariants.{Deleted, Middle, End}
@@ -54,3 +54,7 @@ pub record IsMadeOf (read : Reading) (accepts : List ℕ → Bool) (len : ℕ) (
   pub follow : Follow len 0 parts
   pub each : AllByRecursion (IsPart read accepts (row_ranges parts)) parts
   pub apart : AreApart [] (row_ranges parts)
+
+-- the byte at a place is one of the range
+abbrev pub has_byte : ℕ → Range → Bool
+has_byte p r = nat_le r.0 p && nat_lt p r.1

@@ -1,5 +1,5 @@
 -- A data file that is read through a window, and a row of it while its blocks are followed.
-use Rattle.std.specs.Prelude.{◌≡◌, ◌+◌, ◌-◌, ◌<◌, ◌≤◌, ◌^◌, ◌==◌, ℕ, Bool, true, false, ◌&&◌, nat_lt, nat_le, if◌then◌else◌, List, [], ◌∷◌, ◌++◌, length, take, drop, Option, Some, None}
+use Rattle.std.specs.Prelude.{◌≡◌, ◌⊎◌, ◌+◌, ◌-◌, ◌<◌, ◌≤◌, ◌^◌, ◌==◌, ℕ, Bool, true, false, ◌&&◌, nat_lt, if◌then◌else◌, List, [], ◌∷◌, ◌++◌, length, take, drop, Option, Some, None}
 use Rattle.std.specs.Option.{option_map}
 use Rattle.std.specs.List.{AllByRecursion}
 use Rattle.myi_base.specs.Holding.{Holding, bytes_of, IfTold}
@@ -8,9 +8,11 @@ use Rattle.myi_frames.specs.declared.head.Header.{Header}
 use Rattle.myi_frames.specs.Block.{Block, IsPlace, block_of}
 use Rattle.myi_frames.specs.Seeing.{HeadsBlock}
 use Rattle.myi_window.specs.Excerpt.{Excerpt, bytes_from, StandsIn}
+use Rattle.myi_window.specs.declared.window.TheConstants.{WINDOW}
 use Rattle.myi_chain.specs.declared.chain.Link.{Link}
 use Rattle.myi_chain.specs.declared.chain.Link.TheVariants.{Broken, Last, More}
 use Rattle.myi_chain.specs.Chain.{Reading, by_kind, AreApart}
+use Rattle.myi_chain.specs.ScanModel.{AreBlocksAt}
 use Rattle.myi_chain.specs.Used.{IsRange}
 use Rattle.myi_chain.specs.Chain.{placed, ranges_at}
 
@@ -33,15 +35,17 @@ pub record IsReady (s : SourceModel) (m : Holding) : Type 0 where
   pub kept : StandsIn s.kept (bytes_of s.name m)
   pub long : s.end ≤ length (bytes_of s.name m)
 
--- the same file is read on
+-- The same file is read on. Its end falls where it gave fewer bytes than that said, as no file does that tells what it
+-- holds and is long enough.
 pub record ReadsOn (holds : Option Holding) (old new : SourceModel) : Type 0 where
   pub name : new.name ≡ old.name
-  pub end : new.end ≡ old.end
+  pub falls : new.end ≤ old.end
+  pub end : IfTold holds (λ m. new.end ≡ old.end)
   pub ready : IfTold holds (IsReady new)
 
--- at a place, so many bytes before the end that a header may stand there, fewer are kept
-abbrev pub is_cut : ℕ → SourceModel → Bool
-is_cut at s = nat_le 20 (s.end - at) && nat_lt (length (bytes_from at s.kept)) 20
+-- from a place on a whole window is kept, or all up to the end
+abbrev pub IsFilledAt : ℕ → SourceModel → Type 0
+IsFilledAt at s = (WINDOW ≤ length (bytes_from at s.kept)) ⊎ (s.end ≡ at + length (bytes_from at s.kept))
 
 -- a header stands at a place of a file of this length, and its row bytes lie in its block
 pub record IsHeader (at len : ℕ) (h : Header) : Type 0 where
@@ -61,6 +65,10 @@ kept_bytes h e = take h.data_len (drop h.start (bytes_from h.head.at e))
 -- the block with a header is kept whole
 abbrev pub IsKept : Header → Excerpt → Type 0
 IsKept h e = (h.start + h.data_len ≤ h.head.size) × (h.head.size ≤ length (bytes_from h.head.at e))
+
+-- if a window can hold the block with a header, it is kept whole
+abbrev pub HoldsShort : Header → Excerpt → Type 0
+HoldsShort h e = h.head.size ≤ WINDOW → h.head.size ≤ length (bytes_from h.head.at e)
 
 -- ---- a row whose blocks are followed
 
@@ -125,3 +133,7 @@ pub record CanAdd (used : List Range) (taken : List (ℕ × ℕ)) : Type 0 where
 -- each of these blocks is read at its place
 abbrev pub AreRead : Reading → List Block → Type 0
 AreRead read bs = AllByRecursion (λ b. read b.at ≡ Some b) bs
+
+-- if blocks were those of a row at a place, in a file up to an end, these are
+abbrev pub LiesOn : ℕ → List (ℕ × ℕ) → List (ℕ × ℕ) → Type 0
+LiesOn end old new = (at : ℕ) → AreBlocksAt at end old → AreBlocksAt at end new

@@ -12,7 +12,7 @@ ghost use Rattle.myi_chain.specs.declared.piece.ScanFault.TheVariants.{File};
 ghost use Rattle.myi_chain.specs.Chain.{tail, row_bytes};
 ghost use Rattle.myi_chain.specs.Used.{IsRange};
 ghost use Rattle.myi_chain.specs.Chain.{placed, ranges_at};
-ghost use Rattle.myi_chain.specs.Source.{read_blocks, IsReady, range_by, first_by, next_by, with_rest, HasFollowed, CanAdd, AreRead};
+ghost use Rattle.myi_chain.specs.Source.{read_blocks, IsReady, range_by, first_by, next_by, with_rest, HasFollowed, CanAdd, LiesOn, AreRead};
 
 use crate::piece::ScanFault;
 use crate::ranges::Ranges;
@@ -239,6 +239,8 @@ pub(crate) fn follow<F: Files>(
     ensures can { IfOk result (λ found. found ≡ true → CanAdd used.now chain.new.taken) }
     ensures many { IfOk result (λ found. found ≡ true
         → length chain.old.taken < length chain.new.taken) }
+    ensures lies { IfOk result (λ found. found ≡ true
+        → LiesOn source.now.end chain.old.taken chain.new.taken) }
     ensures holds { F.holds files.new ≡ F.holds files.old }
     ensures cause { HasCause File (F.faults files.old) (F.faults files.new) result }
 {

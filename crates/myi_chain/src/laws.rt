@@ -1,21 +1,23 @@
 //! Laws over the definitions of this crate. Each is the contract of a function that does nothing, so
 //! that it is proved with the crate and stands for the crates above.
-ghost use Rattle.std.specs.Prelude.{◌≡◌, ◌⊎◌, ℕ, ◌+◌, ◌/◌, ◌<◌, ◌≤◌, Bool, List, [], ◌∷◌, ◌++◌, length, map, Some, None, true, false};
-ghost use Rattle.std.specs.List.{AllByRecursion};
-ghost use Rattle.myi_base.specs.Holding.{Holding, bytes_of};
+ghost use Rattle.std.specs.Prelude.{◌≡◌, ◌≢◌, ◌⊎◌, ℕ, ◌+◌, ◌/◌, ◌<◌, ◌≤◌, Bool, List, [], ◌∷◌, ◌++◌, length, map, take, Option, Some, None, Result, Ok, true, false};
+ghost use Rattle.std.specs.List.{AllByRecursion, list_any};
+ghost use Rattle.myi_base.specs.Holding.{Holding, bytes_of, IfTold};
 ghost use Rattle.myi_base.specs.Ranges.{Range};
 ghost use Rattle.myi_frames.specs.declared.form.FrameKind.TheVariants.{Deleted, Whole, Start, Middle, End};
 ghost use Rattle.myi_frames.specs.Block.{Block, block_of};
 ghost use Rattle.myi_chain.specs.Chain.{Reading, IsReading, AreApart, IsChain, range_of, ranges, row_bytes, chain_of};
 ghost use Rattle.myi_chain.specs.Readable.{Row, row, free, row_at, end_of, items, places, rest, rows_of, readable, items_in};
-ghost use Rattle.myi_chain.specs.Meeting.{IsItemOf, IsRowOf, ranges_of, AreRising, HasNoRow};
+ghost use Rattle.myi_chain.specs.Meeting.{IsItemOf, IsRowOf, IsDeletedOf, ranges_of, AreRising, ItemsRise, HasNoRow};
 ghost use Rattle.myi_chain.specs.Laid.{AreLaid, whole_row};
-ghost use Rattle.myi_chain.specs.Parts.{Part, IsMadeOf, parts_met};
-ghost use Rattle.myi_chain.specs.Pieces.{shown, IsPiece};
-ghost use Rattle.myi_chain.specs.ScanModel.{Scanning, scanned, items_left, IsCurrent};
+ghost use Rattle.myi_chain.specs.Parts.{Part, IsMadeOf, parts_met, has_byte};
+ghost use Rattle.myi_chain.specs.ScanModel.{Scanning, scanned, fresh_scan, items_left, IsCurrent, MeetsPlain, ScansPlain, AfterItem, AfterRow};
 ghost use Rattle.myi_chain.specs.Used.{joined, SameFrom};
 ghost use Rattle.myi_chain.specs.declared.piece.Piece.{Piece};
+ghost use Rattle.myi_chain.specs.declared.piece.Item.{Item};
+ghost use Rattle.myi_chain.specs.declared.piece.ScanFault.{ScanFault};
 ghost use Rattle.myi_window.specs.Excerpt.{nothing};
+ghost use Rattle.myi_window.specs.declared.window.TheConstants.{WINDOW};
 
 use crate::piece::Accepts;
 
@@ -36,9 +38,10 @@ pub fn chains_are_found()
 {}
 
 /// What is met in a file of any bytes. The recursion stands at no more places than one for each four
-/// bytes, and one, and more steps change nothing. The rows stand in order of their places; each is the
-/// bytes of a chain, and they pack a row; no byte belongs to two blocks of rows. Each deleted block that
-/// is passed is one of the file.
+/// bytes, and one, and more steps change nothing. What is met stands in order of the places (`in_order`), so
+/// that no byte belongs to two deleted blocks, and so do the rows alone (`rising`). Each row is the bytes
+/// of a chain, and they pack a row; no byte belongs to two blocks of rows. Each deleted block that is passed
+/// is one of the file.
 pub fn rows_are_met()
     ensures few { (extend : Bool) (read : Reading) (len : ℕ) (accepts : List ℕ → Bool)
         → IsReading read len
@@ -55,6 +58,9 @@ pub fn rows_are_met()
         → IsReading read len
         → (p : ℕ) (used : List Range)
         → AreApart used (ranges_of (rows_of (rest extend read len accepts p used))) }
+    ensures in_order { (extend : Bool) (read : Reading) (len : ℕ) (accepts : List ℕ → Bool)
+        → IsReading read len
+        → (p : ℕ) (used : List Range) → ItemsRise p (rest extend read len accepts p used) }
     ensures rising { (extend : Bool) (read : Reading) (len : ℕ) (accepts : List ℕ → Bool)
         → IsReading read len
         → (p : ℕ) (used : List Range)
@@ -110,8 +116,10 @@ pub fn each_place_is_read()
 {}
 
 /// What stands in a sound file is what is read: a file that is only whole blocks of rows, one after the
-/// other, has exactly these rows, whether every place is tried or not; and a file of rows in any blocks
-/// and of deleted blocks has exactly these rows and deleted blocks, in order of their places.
+/// other, has exactly these rows, whether every place is tried or not; and where not every place is tried, a
+/// file of rows in any blocks and of deleted blocks has exactly these, in order of their places. A file is
+/// such a one if each of its bytes belongs to a block of a row or to a deleted block, of which no two have a
+/// byte in common, in whichever order they stand (`covered`).
 pub fn sound_files_are_read()
     ensures laid { (extend : Bool) (accepts : List ℕ → Bool) (d : List ℕ) (bs : List Block)
         → AreLaid (block_of d) accepts (length d) 0 bs
@@ -119,11 +127,11 @@ pub fn sound_files_are_read()
     ensures parts { (accepts : List ℕ → Bool) (d : List ℕ) (parts : List Part)
         → IsMadeOf (block_of d) accepts (length d) parts
         → items_in false accepts d ≡ parts_met parts }
-{}
-
-/// The bytes that a piece shows are those of the row that it is a piece of.
-pub fn pieces_show_rows()
-    ensures { (r : Row) (p : Piece) → IsPiece r p → shown p ≡ r.bytes }
+    ensures covered { (read : Reading) (len : ℕ) (accepts : List ℕ → Bool) → IsReading read len
+        → (rows : List Row) (frees : List Range) → AllByRecursion (IsRowOf read accepts) rows
+        → AllByRecursion (IsDeletedOf read) frees → AreApart [] (ranges_of rows ++ frees)
+        → ((p : ℕ) → p < len → list_any (has_byte p) (ranges_of rows ++ frees) ≡ true)
+        → (parts : List Part) × IsMadeOf read accepts len parts }
 {}
 
 /// Used ranges are told apart by a scan only in what it can ask of them from where it stands on. So one
@@ -134,6 +142,28 @@ pub fn joined_ranges_serve()
         → IsReading read len
         → (place p : ℕ) (u v : List Range) → place ≤ p → SameFrom place u v
         → rest extend read len accepts p u ≡ rest extend read len accepts p v }
+{}
+
+/// A scan of a file that is nothing but rows in one block each, of at most 131,072 bytes, one directly after
+/// the other, takes no memory. It is one that `ScansPlain` speaks of at first (`begin`) and, whatever a call
+/// answers but the end, ever after (`items`, `rows`); so it stands before such a row or at its end
+/// (`meets`), and there no call answers that there is no memory.
+pub fn plain_scans_take_no_memory<A: Accepts>()
+    ensures begin { (name : List ℕ) (test : A) (extend : Bool) (end : ℕ) (m : Holding)
+        → (bs : List Block) → AreLaid (block_of (take end (bytes_of name m)))
+        (A.accepts_gives test) (length (take end (bytes_of name m))) 0 bs
+        → AllByRecursion (λ b. b.size ≤ WINDOW) bs
+        → ScansPlain A.accepts_gives (fresh_scan name test extend end) m }
+    ensures meets { (s : Scanning A) (m : Holding) → IsCurrent s m
+        → ScansPlain A.accepts_gives s m → MeetsPlain A.accepts_gives s m }
+    ensures items { (h : Option Holding) (old new : Scanning A)
+        (r : Result (Option Item) ScanFault) → r ≢ Ok None → IfTold h (IsCurrent old)
+        → AfterItem A.accepts_gives h old r new
+        → IfTold h (λ m. ScansPlain A.accepts_gives old m → ScansPlain A.accepts_gives new m) }
+    ensures rows { (h : Option Holding) (old new : Scanning A)
+        (r : Result (Option (ℕ × Piece)) ScanFault) → r ≢ Ok None → IfTold h (IsCurrent old)
+        → AfterRow A.accepts_gives h old r new
+        → IfTold h (λ m. ScansPlain A.accepts_gives old m → ScansPlain A.accepts_gives new m) }
 {}
 
 /// A scan of which nothing was read has all rows and deleted blocks of its file left, and one that stands

@@ -24,7 +24,8 @@ pub trait Accepts {
 pub struct ScanSetup {
     /// Whether every place is tried, also those in blocks in which no row starts.
     pub extend: bool,
-    /// The length of the file in bytes. What stands behind it is not read.
+    /// The length of the file in bytes. What stands behind it is not read. A file that turns out to be
+    /// shorter where the scan stands ends for it where its bytes end.
     pub file_len: u64,
 }
 
@@ -39,11 +40,11 @@ pub enum Piece<'w> {
 
 impl<'w> Piece<'w> {
     ghost use Rattle.std.specs.Prelude.{◌≡◌};
-    ghost use Rattle.myi_chain.specs.Pieces.{shown};
+    ghost use Rattle.myi_chain.specs.Pieces.{piece_bytes};
 
     /// The bytes of the row.
     pub fn bytes(&self) -> &'w [u8]
-        ensures { result.now ≡ shown self.now }
+        ensures { result.now ≡ piece_bytes self.now }
     {
         match self {
             Piece::Lent(bytes) | Piece::Joined(bytes) => bytes,

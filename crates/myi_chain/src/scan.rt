@@ -157,8 +157,9 @@ impl<A: Accepts> Scan<A> {
     }
 
     /// The next row or deleted block, and None where none is left. The bytes of a row pass the test. After
-    /// an error the same is left. While only rows in one block of at most 131,072 bytes are met, one
-    /// directly after the other from the file's start on, no memory is taken, and the answer is not Memory.
+    /// an error the same is left. Where the files tell what they hold: while only rows in one block of at
+    /// most 131,072 bytes are met, one directly after the other from the file's start on, the answer is not
+    /// Memory.
     pub fn next_item<F: Files>(&mut self, files: &mut F) -> Result<Option<Item<'_>>, ScanFault>
         requires current { IfTold (F.holds files.old) (IsCurrent self.old) }
         ensures packs { IfOk result (λ found. IfSome found
@@ -238,7 +239,8 @@ impl<A: Accepts> Scan<A> {
     }
 
     /// The blocks of the row that was answered last, each by its place and its size in bytes, in the
-    /// order of its chain. Before the first row there are none.
+    /// order of its chain. The first stands at the row's position, and each ends in the file as far as it
+    /// is scanned. Before the first row there are none.
     pub fn blocks(&self) -> &[(u64, u32)]
         ensures { result.now ≡ self.now.blocks }
     {

@@ -1,9 +1,10 @@
 //! `Source`: a data file whose blocks are read through a window.
 //!
-//! `slide_to` goes to a place with the window, and answers what the header of the block there says.
-//! `header` answers it for any other place, and leaves the window where it is. A block that the window
-//! can hold is brought into it whole by `ready`, and `row_bytes` lends its row bytes; those of other
-//! blocks are appended to a buffer by `append`.
+//! `slide_to` goes to a place with the window, and answers what the header of the block there says; a block
+//! that the window can hold is then in it whole, and `row_bytes` lends its row bytes. `header` answers it for
+//! any other place, and leaves the window where it is. The row bytes of other blocks are appended to a
+//! buffer by `append`. Where the file gives the window fewer bytes than its end says, it ends behind them from
+//! then on; what a window cannot hold, and the further blocks of a chain, count as that end allows.
 ghost use Rattle.std.specs.Prelude.{◌≡◌, ◌≤◌, ◌+◌, ◌++◌, ℕ, true, length, take, drop, IfOk, IfErr, IfSome};
 ghost use Rattle.myi_base.specs.Holding.{IfTold, bytes_of};
 ghost use Rattle.myi_base.specs.Causes.{HasCause};
@@ -16,7 +17,7 @@ ghost use Rattle.myi_chain.specs.Source.{IsHeader};
 use crate::piece::ScanFault;
 use myi_frames::{Header, LEAST_SIZE, header_at};
 use myi_io::{FileErr, Files};
-use myi_window::Window;
+use myi_window::{WINDOW, Window};
 use std::alloc::{AllocError, Global};
 use std::marker::Model;
 
@@ -117,7 +118,7 @@ impl Model for Source {
 }
 
 impl Source {
-    ghost use Rattle.std.specs.Prelude.{◌≡◌, ◌≤◌, ◌<◌, ◌+◌, ◌++◌, ℕ, true, false, Some, length, take, drop, IfOk, IfErr, IfSome};
+    ghost use Rattle.std.specs.Prelude.{◌≡◌, ◌≤◌, ◌<◌, ◌+◌, ◌++◌, ℕ, true, false, Some, length, take, drop, IfOk, IfErr, IfSome, OnOk};
     ghost use Rattle.myi_base.specs.Holding.{IfTold, bytes_of};
     ghost use Rattle.myi_base.specs.Causes.{HasCause};
     ghost use Rattle.myi_io.specs.declared.files.FileErr.TheVariants.{Failed};
@@ -126,7 +127,7 @@ impl Source {
     ghost use Rattle.myi_window.specs.declared.window.TheConstants.{WINDOW};
     ghost use Rattle.myi_window.specs.Excerpt.{nothing, bytes_from};
     ghost use Rattle.myi_chain.specs.declared.piece.ScanFault.TheVariants.{File};
-    ghost use Rattle.myi_chain.specs.Source.{read_bytes, read_blocks, IsReady, ReadsOn, IsHeader, kept_bytes, IsKept, is_cut};
+    ghost use Rattle.myi_chain.specs.Source.{read_bytes, read_blocks, IsReady, ReadsOn, IsFilledAt, IsHeader, HoldsShort, kept_bytes, IsKept};
 
     /// The file of a name up to an end, of which nothing is read yet. Its window takes its memory here.
     pub(crate) fn new(alloc: Global, name: &str, end: u64) -> Result<Source, AllocError>
@@ -144,21 +145,37 @@ impl Source {
         self.end
     }
 
+    // Slides the window to a place. Where fewer bytes come than it can hold, the file ends behind them.
+    fn slide<F: Files>(&mut self, files: &mut F, at: u64) -> Result<(), FileErr>
+        requires order { at ≤ self.old.end }
+        requires ready { IfTold (F.holds files.old) (IsReady self.old) }
+        ensures full { OnOk result (IsFilledAt at self.new) }
+        ensures behind { at ≤ self.new.end }
+        ensures reads { ReadsOn (F.holds files.old) self.old self.new }
+        ensures failed { IfErr result (λ e. e ≡ Failed) }
+        ensures holds { F.holds files.new ≡ F.holds files.old }
+        ensures cause { HasCause Failed (F.faults files.old) (F.faults files.new) result }
+    {
+        self.window.slide(files, self.name.as_str(), at, self.end)?;
+        let count = self.window.bytes_from(at).len();
+        if WINDOW <= count {
+            return Ok(());
+        }
+        self.end = at + count as u64;
+        Ok(())
+    }
+
     /// Whether the window holds so many bytes from a place on, once it is there. If not, the file ends
     /// before them.
-    pub(crate) fn ready<F: Files>(
-        &mut self,
-        files: &mut F,
-        at: u64,
-        size: usize,
-    ) -> Result<bool, FileErr>
+    fn ready<F: Files>(&mut self, files: &mut F, at: u64, size: usize) -> Result<bool, FileErr>
         requires order { at ≤ self.old.end }
         requires narrow { size ≤ WINDOW }
         requires ready { IfTold (F.holds files.old) (IsReady self.old) }
         ensures shown { IfOk result (λ is. is ≡ true
             → size ≤ length (bytes_from at self.new.kept)) }
-        ensures short { IfOk result (λ is. is ≡ false
-            → IfTold (F.holds files.old) (λ m. self.old.end < at + size)) }
+        ensures inside { IfOk result (λ is. is ≡ true → at + size ≤ self.new.end) }
+        ensures short { IfOk result (λ is. is ≡ false → self.new.end < at + size) }
+        ensures behind { at ≤ self.new.end }
         ensures reads { ReadsOn (F.holds files.old) self.old self.new }
         ensures failed { IfErr result (λ e. e ≡ Failed) }
         ensures holds { F.holds files.new ≡ F.holds files.old }
@@ -170,42 +187,63 @@ impl Source {
         if size <= self.window.bytes_from(at).len() {
             return Ok(true);
         }
-        self.window.slide(files, self.name.as_str(), at, self.end)?;
+        self.slide(files, at)?;
         Ok(size <= self.window.bytes_from(at).len())
     }
 
-    /// The header of the block at a place, to which the window goes, and None where no block is.
-    pub(crate) fn slide_to<F: Files>(
-        &mut self,
-        files: &mut F,
-        at: u64,
-    ) -> Result<Option<Header>, FileErr>
+    // Whether a block that a window can hold is in it, once it is there. If not, the file ends before the
+    // block does.
+    fn hold<F: Files>(&mut self, files: &mut F, block: &Header) -> Result<bool, FileErr>
+        requires block { IsHeader block.now.head.at self.old.end block.now }
         requires ready { IfTold (F.holds files.old) (IsReady self.old) }
-        ensures told { IfOk result (λ found. IfTold (F.holds files.old) (λ m.
-            HeadsBlock (read_bytes self.old m) found (read_blocks self.old m at))) }
-        ensures place { IfOk result (λ found. IfSome found (IsHeader at self.old.end)) }
-        ensures long { IfOk result (λ found. IfTold (F.holds files.old) (λ m.
-            is_cut at self.new ≡ false)) }
+        ensures held { IfOk result (λ is. is ≡ true → HoldsShort block.now self.new.kept) }
+        ensures inside { IfOk result (λ is. is ≡ true
+            → IsHeader block.now.head.at self.new.end block.now) }
+        ensures short { IfOk result (λ is. is ≡ false
+            → self.new.end < block.now.head.at + block.now.head.size) }
+        ensures behind { block.now.head.at ≤ self.new.end }
         ensures reads { ReadsOn (F.holds files.old) self.old self.new }
         ensures failed { IfErr result (λ e. e ≡ Failed) }
         ensures holds { F.holds files.new ≡ F.holds files.old }
         ensures cause { HasCause Failed (F.faults files.old) (F.faults files.new) result }
     {
-        if self.end < at {
-            return Ok(None);
+        let size = block.head.size as usize;
+        if WINDOW < size {
+            return Ok(true);
         }
+        let there = self.ready(files, block.head.at, size)?;
+        Ok(there)
+    }
+
+    /// The header of the block at a place, to which the window goes, and None where no block is. If the
+    /// window can hold the block, it does.
+    pub(crate) fn slide_to<F: Files>(
+        &mut self,
+        files: &mut F,
+        at: u64,
+    ) -> Result<Option<Header>, FileErr>
+        requires order { at ≤ self.old.end }
+        requires ready { IfTold (F.holds files.old) (IsReady self.old) }
+        ensures told { IfOk result (λ found. IfTold (F.holds files.old) (λ m.
+            HeadsBlock (read_bytes self.old m) found (read_blocks self.old m at))) }
+        ensures place { IfOk result (λ found. IfSome found (IsHeader at self.new.end)) }
+        ensures held { IfOk result (λ found. IfSome found (λ h. HoldsShort h self.new.kept)) }
+        ensures behind { at ≤ self.new.end }
+        ensures reads { ReadsOn (F.holds files.old) self.old self.new }
+        ensures failed { IfErr result (λ e. e ≡ Failed) }
+        ensures holds { F.holds files.new ≡ F.holds files.old }
+        ensures cause { HasCause Failed (F.faults files.old) (F.faults files.new) result }
+    {
         if !self.ready(files, at, LEAST_SIZE)? {
             return Ok(None);
         }
-        Ok(header_at(self.window.bytes_from(at), at, self.end))
-    }
-
-    /// Whether the file gave fewer bytes at a place than its end says, once the window went there.
-    pub(crate) fn is_cut(&self, at: u64) -> bool
-        requires { at ≤ self.now.end }
-        ensures { result ≡ is_cut at self.now }
-    {
-        self.end - at >= LEAST_SIZE as u64 && self.window.bytes_from(at).len() < LEAST_SIZE
+        let Some(block) = header_at(self.window.bytes_from(at), at, self.end) else {
+            return Ok(None);
+        };
+        if !self.hold(files, &block)? {
+            return Ok(None);
+        }
+        Ok(Some(block))
     }
 
     /// The header of the block at a place, and None where no block is. The window stays where it is.

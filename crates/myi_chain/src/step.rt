@@ -5,7 +5,7 @@
 //! deleted block, a `Found`, and `advance_row` up to the next row, a `FoundRow`. `Rules` says what packs
 //! a row and how the file is scanned, `Position` where the scan stands, and a `RowBuffer` holds a row
 //! of several blocks while it is looked for.
-ghost use Rattle.std.specs.Prelude.{◌≡◌, ℕ, ◌+◌, ◌<◌, ◌≤◌, ◌++◌, true, false, List, OnOk, OnErr, IfOk, IfErr, IfSome, Some};
+ghost use Rattle.std.specs.Prelude.{◌≡◌, ℕ, ◌+◌, ◌-◌, ◌<◌, ◌≤◌, ◌++◌, true, false, List, OnOk, OnErr, IfOk, IfErr, IfSome, Some};
 ghost use Rattle.std.specs.Option.{option_map};
 ghost use Rattle.myi_base.specs.Holding.{IfTold};
 ghost use Rattle.myi_base.specs.Causes.{HasCause};
@@ -17,10 +17,11 @@ ghost use Rattle.myi_chain.specs.declared.piece.ScanFault.TheVariants.{File, Mem
 ghost use Rattle.myi_chain.specs.Chain.{row_bytes, chain_of};
 ghost use Rattle.myi_chain.specs.Readable.{skip_by, free_by, rows_of};
 ghost use Rattle.myi_chain.specs.Pieces.{is_lent};
+ghost use Rattle.myi_chain.specs.ScanModel.{AreBlocksAt};
 ghost use Rattle.myi_chain.specs.Used.{AddsBlocks, NeedsMemory};
 ghost use Rattle.myi_chain.specs.Chain.{placed, ranges_at};
-ghost use Rattle.myi_chain.specs.Source.{read_bytes, read_blocks, IsReady, ReadsOn, IsHeader, IsKept, kept_bytes, first_by, HasFollowed, CanAdd, AreRead, StandsThere};
-ghost use Rattle.myi_chain.specs.Found.{is_short, found_at, found_blocks, FindsRow, IsPassed, IsFree, met_at, items_at, HoldsItem, HoldsRow, MeetsShortAt, FindsShortAt, FindsShortRowAt, FindsItem, FindsNextRow, KeepsUsed, Rises};
+ghost use Rattle.myi_chain.specs.Source.{read_bytes, read_blocks, IsReady, ReadsOn, IsHeader, HoldsShort, IsKept, kept_bytes, first_by, HasFollowed, CanAdd, AreRead, StandsThere};
+ghost use Rattle.myi_chain.specs.Found.{is_short, found_at, found_blocks, LiesRow, LiesItem, FindsRow, IsPassed, IsBlockOf, IsFree, met_at, items_at, HoldsItem, HoldsRow, MeetsShortAt, FindsShortAt, FindsShortRowAt, FindsItem, FindsNextRow, KeepsUsed, Rises};
 
 use crate::chain::{Chain, Link, first_link, follow, join};
 use crate::piece::{Accepts, ScanFault};
@@ -89,6 +90,7 @@ const STEP: u64 = 4;
 fn past(block: &Header, extend: bool) -> (u64, Option<Found>)
     requires { 20 ≤ block.now.head.size }
     ensures passed { IsPassed extend block.now result.0 result.1 }
+    ensures here { IfSome result.1 (IsBlockOf block.now) }
     ensures rises { 0 < result.0 }
     ensures free { IfSome result.1 IsFree }
 {
@@ -112,31 +114,12 @@ fn is_short(link: Link, block: &Header) -> bool
     }
 }
 
-/// Brings a block into the window, and says whether its row bytes pack a row.
-fn keeps_row<A: Accepts, F: Files>(
-    files: &mut F,
-    test: &A,
-    source: &mut Source,
-    block: &Header,
-) -> Result<bool, FileErr>
-    requires block { IsHeader block.now.head.at source.old.end block.now }
-    requires short { block.now.head.size ≤ WINDOW }
-    requires ready { IfTold (F.holds files.old) (IsReady source.old) }
-    ensures kept { IfOk result (λ is. is ≡ true → IsKept block.now source.new.kept
-        × (A.accepts_gives test.now (kept_bytes block.now source.new.kept) ≡ true)) }
-    ensures told { IfOk result (λ is. IfTold (F.holds files.old) (λ m.
-        (b : Block) → Heads (read_bytes source.old m) block.now b
-        → (is ≡ A.accepts_gives test.now b.bytes)
-        × (b.bytes ≡ kept_bytes block.now source.new.kept))) }
-    ensures reads { ReadsOn (F.holds files.old) source.old source.new }
-    ensures failed { IfErr result (λ e. e ≡ Failed) }
-    ensures holds { F.holds files.new ≡ F.holds files.old }
-    ensures cause { HasCause Failed (F.faults files.old) (F.faults files.new) result }
+/// Whether the row bytes of a block that the window holds whole pack a row.
+fn keeps_row<A: Accepts>(test: &A, source: &Source, block: &Header) -> bool
+    requires { IsKept block.now source.now.kept }
+    ensures { result ≡ A.accepts_gives test.now (kept_bytes block.now source.now.kept) }
 {
-    if !source.ready(files, block.head.at, block.head.size as usize)? {
-        return Ok(false);
-    }
-    Ok(test.accepts(source.row_bytes(block)))
+    test.accepts(source.row_bytes(block))
 }
 
 /// Follows the chain that starts with a block, which is this in it, and says whether there is one.
@@ -156,6 +139,8 @@ fn chain_from<F: Files>(
         StandsThere source.now block.now m → HasFollowed found chain.new.taken
         (option_map placed (chain_of (read_blocks source.now m) block.now.head.at used.now)))) }
     ensures can { IfOk result (λ found. found ≡ true → CanAdd used.now chain.new.taken) }
+    ensures lies { IfOk result (λ found. found ≡ true
+        → AreBlocksAt block.now.head.at source.now.end chain.new.taken) }
     ensures long { IfOk result (λ found. found ≡ true → is_short link block.now ≡ false
         → is_lent (ranges_at chain.new.taken) ≡ false) }
     ensures holds { F.holds files.new ≡ F.holds files.old }
@@ -203,30 +188,31 @@ fn joins_row<A: Accepts, F: Files>(
 fn row_at<A: Accepts, F: Files>(
     files: &mut F,
     test: &A,
-    source: &mut Source,
+    source: &Source,
     used: &Used,
     block: &Header,
     row: &mut RowBuffer,
 ) -> Result<Option<FoundRow>, ScanFault>
-    requires block { IsHeader block.now.head.at source.old.end block.now }
-    requires ready { IfTold (F.holds files.old) (IsReady source.old) }
-    requires here { IfTold (F.holds files.old) (StandsThere source.old block.now) }
+    requires block { IsHeader block.now.head.at source.now.end block.now }
+    requires whole { HoldsShort block.now source.now.kept }
+    requires ready { IfTold (F.holds files.old) (IsReady source.now) }
+    requires here { IfTold (F.holds files.old) (StandsThere source.now block.now) }
     ensures told { IfOk result (λ found. IfTold (F.holds files.old) (λ m.
-        FindsRow (A.accepts_gives test.now) source.new.kept row.new.chain.taken row.new.joined.items
-        (chain_of (read_blocks source.old m) block.now.head.at used.now) found)) }
+        FindsRow (A.accepts_gives test.now) source.now.kept row.new.chain.taken row.new.joined.items
+        (chain_of (read_blocks source.now m) block.now.head.at used.now) found)) }
     ensures held { IfOk result (λ found. IfSome found
-        (HoldsRow (A.accepts_gives test.now) source.new row.new)) }
+        (HoldsRow (A.accepts_gives test.now) source.now row.new)) }
     ensures can { IfOk result (λ found. IfSome found (λ r. (found_at r ≡ block.now.head.at)
         × CanAdd used.now (found_blocks row.new.chain.taken r))) }
+    ensures lies { IfOk result (λ found. IfSome found (LiesRow source.now row.new)) }
     ensures never { IfErr result (λ e. e ≡ Memory
         → is_short (first_by block.now used.now) block.now ≡ false) }
-    ensures reads { ReadsOn (F.holds files.old) source.old source.new }
     ensures holds { F.holds files.new ≡ F.holds files.old }
     ensures cause { HasCause File (F.faults files.old) (F.faults files.new) result }
 {
     let link = first_link(block, used);
     if is_short(link, block) {
-        if keeps_row(files, test, source, block)? {
+        if keeps_row(test, source, block) {
             return Ok(Some(FoundRow::Kept(*block)));
         }
         return Ok(None);
@@ -270,13 +256,19 @@ fn step<A: Accepts, F: Files>(
         ++ met_at rules.now.extend (A.accepts_gives rules.now.test) source.old position.new m)) }
     ensures held { IfOk result (λ found. IfSome found
         (HoldsItem (A.accepts_gives rules.now.test) source.new row.new)) }
-    ensures rises { OnOk result ((position.old.place < position.new.place)
-        × (position.new.place ≤ source.old.end)) }
+    ensures lies { IfOk result (λ found. IfSome found (LiesItem source.new row.new)) }
+    ensures rises { IfOk result (λ found. IfSome found (λ _.
+        position.old.place < position.new.place)) }
+    ensures within { OnOk result ((position.old.place ≤ position.new.place)
+        × (position.new.place ≤ source.new.end)) }
+    ensures nearer { OnOk result (source.new.end - position.new.place
+        < source.old.end - position.old.place) }
+    ensures room { position.old.place ≤ source.new.end }
     ensures err { OnErr result (position.new ≡ position.old) }
     ensures kept { IfOk result (KeepsUsed position.old.used position.new.used) }
     ensures short { IfOk result (λ found. IfTold (F.holds files.old) (λ m.
         MeetsShortAt (A.accepts_gives rules.now.test) source.old position.old m
-        → FindsShortAt found position.new)) }
+        → FindsShortAt source.old m position.old found position.new)) }
     ensures never { IfErr result (λ e. e ≡ Memory → IfTold (F.holds files.old) (λ m.
         MeetsShortAt (A.accepts_gives rules.now.test) source.old position.old m → ⊥)) }
     ensures reads { ReadsOn (F.holds files.old) source.old source.new }
@@ -291,11 +283,7 @@ fn step<A: Accepts, F: Files>(
         return Ok(None);
     }
     let Some(block) = source.slide_to(files, at)? else {
-        if source.is_cut(at) {
-            position.place = end;
-            return Ok(None);
-        }
-        position.place = at + STEP.min(end - at);
+        position.place = at + STEP.min(source.end() - at);
         return Ok(None);
     };
     if let Some(found) = row_at(files, &rules.test, source, &position.used, &block, row)? {
@@ -304,7 +292,7 @@ fn step<A: Accepts, F: Files>(
         return Ok(Some(Found::Row(found)));
     }
     let (skip, found) = past(&block, rules.extend);
-    position.place = at + skip.min(end - at);
+    position.place = at + skip.min(source.end() - at);
     Ok(found)
 }
 
@@ -325,26 +313,29 @@ pub(crate) fn advance<A: Accepts, F: Files>(
         found)) }
     ensures held { IfOk result (λ found. IfSome found
         (HoldsItem (A.accepts_gives rules.now.test) source.new row.new)) }
-    ensures rises { IfOk result (Rises position.old.place position.new.place source.old.end) }
+    ensures lies { IfOk result (λ found. IfSome found (LiesItem source.new row.new)) }
+    ensures rises { IfOk result (Rises position.old.place position.new.place source.new.end) }
     ensures later { position.old.place ≤ position.new.place }
-    ensures within { position.new.place ≤ source.old.end }
+    ensures within { position.new.place ≤ source.new.end }
     ensures err { OnErr result (IfTold (F.holds files.old) (λ m.
         met_at rules.now.extend (A.accepts_gives rules.now.test) source.old position.new m
         ≡ met_at rules.now.extend (A.accepts_gives rules.now.test) source.old position.old m)) }
     ensures kept { IfOk result (KeepsUsed position.old.used position.new.used) }
     ensures same { OnErr result (position.new.used ≡ position.old.used) }
+    ensures stays { OnErr result (IfTold (F.holds files.old) (λ m.
+        MeetsShortAt (A.accepts_gives rules.now.test) source.old position.old m
+        → position.new ≡ position.old)) }
     ensures some { OnErr result (position.old.place < source.old.end) }
     ensures short { IfOk result (λ found. IfTold (F.holds files.old) (λ m.
         MeetsShortAt (A.accepts_gives rules.now.test) source.old position.old m
-        → FindsShortAt found position.new)) }
+        → FindsShortAt source.old m position.old found position.new)) }
     ensures never { IfErr result (λ e. e ≡ Memory → IfTold (F.holds files.old) (λ m.
         MeetsShortAt (A.accepts_gives rules.now.test) source.old position.old m → ⊥)) }
     ensures reads { ReadsOn (F.holds files.old) source.old source.new }
     ensures holds { F.holds files.new ≡ F.holds files.old }
     ensures cause { HasCause File (F.faults files.old) (F.faults files.new) result }
 {
-    let end = source.end();
-    while position.place < end {
+    while position.place < source.end() {
         if let Some(found) = step(files, rules, source, position, row)? {
             return Ok(Some(found));
         }
@@ -369,13 +360,14 @@ pub(crate) fn advance_row<A: Accepts, F: Files>(
         found)) }
     ensures held { IfOk result (λ found. IfSome found
         (HoldsRow (A.accepts_gives rules.now.test) source.new row.new)) }
-    ensures rises { IfOk result (Rises position.old.place position.new.place source.old.end) }
-    ensures within { position.new.place ≤ source.old.end }
+    ensures lies { IfOk result (λ found. IfSome found (LiesRow source.new row.new)) }
+    ensures rises { IfOk result (Rises position.old.place position.new.place source.new.end) }
+    ensures within { position.new.place ≤ source.new.end }
     ensures err { OnErr result (position.new ≡ position.old) }
     ensures some { OnErr result (position.old.place < source.old.end) }
     ensures short { IfOk result (λ found. IfTold (F.holds files.old) (λ m.
         MeetsShortAt (A.accepts_gives rules.now.test) source.old position.old m
-        → FindsShortRowAt found position.new)) }
+        → FindsShortRowAt source.old m position.old found position.new)) }
     ensures never { IfErr result (λ e. e ≡ Memory → IfTold (F.holds files.old) (λ m.
         MeetsShortAt (A.accepts_gives rules.now.test) source.old position.old m → ⊥)) }
     ensures reads { ReadsOn (F.holds files.old) source.old source.new }

@@ -11,7 +11,7 @@ use Rattle.myi_chain.specs.declared.piece.Item.{Item as Answer}
 use Rattle.myi_chain.specs.declared.piece.Item.TheVariants as item
 use Rattle.myi_chain.specs.declared.piece.ScanFault.{ScanFault}
 use Rattle.myi_chain.specs.Readable.{Item}
-use Rattle.myi_chain.specs.ScanModel.{scanned, FirstItem, NoItem, FirstRow, NoRow, IsItem, IsRow, LendsItem, LendsRow, Leaves}
+use Rattle.myi_chain.specs.ScanModel.{scanned, FirstItem, NoItem, FirstRow, NoRow, IsItem, IsRow, StandsItem, StandsRow, Leaves}
 use Rattle.myi_chain.specs.ScanModel as blocks
 use Rattle.myi_data.specs.Readable.{packs}
 use Rattle.myi_data.specs.Scanning.{TableScan, left_by, items_ahead, IsAsKnown, MeetsPlainRow, IsSlotItem, IsSlotRow, AfterTableItem, AfterTableRow}
@@ -30,12 +30,13 @@ module _ (h : Option Holding) (old : TableScan) (dynamic : old.test.format ≡ D
   known_to m c = record { kept = c.kept; long = c.long dynamic }
 
   -- what a call leaves of blocks is what it leaves of the table
-  module _ {X Found : Type 0} (First : X → List Item → List Item → Type 0) (NoneLeft : List Item → Type 0) (Is : X → Found → List (ℕ × ℕ) → List (ℕ × ℕ) → Type 0) (Lends : Found → List (ℕ × ℕ) → Type 0) where
-    leaves_of : (r : Result (Option Found) ScanFault) (new : TableScan) → Leaves (blocks.items_left packs) First NoneLeft Is Lends blocks.IsCurrent h old r new → Leaves items_ahead First NoneLeft Is Lends IsAsKnown h old r new
+  module _ {X Found : Type 0} (First : X → List Item → List Item → Type 0) (NoneLeft : List Item → Type 0) (Is : X → Found → List (ℕ × ℕ) → List (ℕ × ℕ) → Type 0) (Stands : Found → TableScan → TableScan → Type 0) where
+    leaves_of : (r : Result (Option Found) ScanFault) (new : TableScan) → Leaves (blocks.items_left packs) First NoneLeft Is Stands blocks.IsCurrent h old r new → Leaves items_ahead First NoneLeft Is Stands IsAsKnown h old r new
     leaves_of (Err e) new k = record {
       same = k.same;
       later = k.later;
       within = k.within;
+      whole = k.whole;
       blocks = k.blocks;
       told = λ m held. sym (same_items new k.same.test m) ∙ k.told m held ∙ same_items old refl m;
       current = λ m held. known_of new k.same.test m (k.current m held);
@@ -43,6 +44,7 @@ module _ (h : Option Holding) (old : TableScan) (dynamic : old.test.format ≡ D
     leaves_of (Ok None) new k = record {
       same = k.same;
       ended = k.ended;
+      whole = k.whole;
       blocks = k.blocks;
       told = λ m held. (subst NoneLeft (same_items old refl m) (k.told m held).0, sym (same_items new k.same.test m) ∙ (k.told m held).1);
       current = λ m held. known_of new k.same.test m (k.current m held);
@@ -51,7 +53,8 @@ module _ (h : Option Holding) (old : TableScan) (dynamic : old.test.format ≡ D
       same = k.same;
       rises = k.rises;
       within = k.within;
-      lends = k.lends;
+      whole = k.whole;
+      stands = k.stands;
       told = λ m held.
           let t = k.told m held in
           (t.0, subst (First t.0 (items_ahead old m)) (same_items new k.same.test m) (subst (λ (is : List Item). First t.0 is (blocks.items_left packs new m)) (same_items old refl m) t.1), t.2);
@@ -59,10 +62,10 @@ module _ (h : Option Holding) (old : TableScan) (dynamic : old.test.format ≡ D
     }
 
   pub item_after : (r : Result (Option Answer) ScanFault) (new : TableScan) → blocks.AfterItem packs h old r new → AfterTableItem h old r new
-  item_after r new l = (leaves_of FirstItem NoItem IsItem LendsItem r new l.0, λ e. l.1)
+  item_after r new l = (leaves_of FirstItem NoItem IsItem StandsItem r new l.0, λ e. l.1)
 
   pub row_after : (r : Result (Option (ℕ × Piece)) ScanFault) (new : TableScan) → blocks.AfterRow packs h old r new → AfterTableRow h old r new
-  row_after r new l = (leaves_of FirstRow NoRow IsRow LendsRow r new l.0, λ e. l.1)
+  row_after r new l = (leaves_of FirstRow NoRow IsRow StandsRow r new l.0, λ e. l.1)
 
   -- where no memory is taken of blocks, none is of the table
   pub plain_to : {Found : Type 0} (r : Result (Option Found) ScanFault) → IfErr r (λ e. e ≡ Memory → IfTold h (λ m. blocks.MeetsPlain packs old m → ⊥)) → IfErr r (λ e. e ≡ Memory → IfTold h (λ m. MeetsPlainRow old m → ⊥))

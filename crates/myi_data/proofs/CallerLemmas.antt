@@ -4,10 +4,12 @@
 pub use Rattle.myi_data.proofs.RowsLemmas.{rows_apart}
 -- stored_files_are_read
 pub use Rattle.myi_data.proofs.StoredLemmas.{stored_read}
+-- rows_stand_alone
+pub use Rattle.myi_data.proofs.AloneLemmas.{size_alone, bytes_alone, group_alone, stored_alone, length_alone, group_one, size_one, stored_one, stored_sized}
 -- rows_have_keys
 pub use Rattle.myi_data.proofs.KeyLemmas.{can_weigh, key_is, key_is_at, segments_at, values_fit}
 pub use Rattle.myi_data.proofs.SpellingLemmas.{spelling_some}
 -- scans_begin_with_all
-pub use Rattle.myi_data.proofs.FreshScans.{fresh_ahead, fresh_known, ahead_same, known_same, items_known, rows_known, rows_first}
+pub use Rattle.myi_data.proofs.FreshScans.{fresh_ahead, fresh_known, ahead_ended, ahead_same, known_same, items_known, rows_known, rows_first}
 -- This goes by the cases of a slot for any fact, which no clause can say.
 pub use Rattle.myi_data.proofs.RowsLemmas.{slot_cases}

@@ -1,19 +1,22 @@
 -- A scan of which nothing was read, and what a change of other files leaves of a scan.
-use Rattle.std.proofs.Common.{◌≡◌, ◌∙◌, ◌≤◌, ℕ, Bool, List, [], ◌∷◌, ◌++◌, length, take, Option, Some, None, Result, Ok, Err, refl, sym, ap, subst}
+use Rattle.std.proofs.Common.{◌≡◌, ◌∙◌, ◌≤◌, ℕ, Bool, List, [], ◌∷◌, ◌++◌, length, take, Option, Some, None, Result, Ok, Err, refl, sym, ap, subst, arith}
 use Rattle.myi_base.specs.Holding.{Holding, IfTold, bytes_of}
 use Rattle.myi_defs.specs.declared.types.RowFormat.{RowFormat}
 use Rattle.myi_defs.specs.declared.types.RowFormat.TheVariants.{Static, Dynamic}
 use Rattle.myi_defs.specs.declared.types.Defs.{Defs}
 use Rattle.myi_chain.specs.Readable.{Row, rows_of}
 use Rattle.myi_chain.specs.Readable as chains
-use Rattle.myi_chain.specs.ScanModel.{fresh_scan, FirstRow}
+use Rattle.myi_chain.specs.ScanModel.{fresh_scan, scanned, FirstRow}
+use Rattle.myi_chain.proofs.CallerLemmas.{scan_ended}
 use Rattle.myi_window.specs.Excerpt.{StandsIn}
 use Rattle.myi_data.specs.Readable.{packs, items_at, items_by, items_in}
 use Rattle.myi_chain.specs.declared.piece.Piece.{Piece}
 use Rattle.myi_chain.specs.declared.piece.Item.{Item}
 use Rattle.myi_chain.specs.declared.piece.ScanFault.{ScanFault}
 use Rattle.myi_data.specs.Scanning.{TableScan, left_by, items_ahead, IsAsKnown, AfterTableItem, AfterTableRow}
+use Rattle.myi_defs.specs.Sound.{IsSound}
 use Rattle.myi_data.proofs.SlotLaws.{drop_none}
+use Rattle.myi_data.proofs.NextSlotLemmas.{end_left}
 
 all_left : (f : RowFormat) (d : Defs) (extend : Bool) (x : List ℕ) → left_by f d extend 0 [] x ≡ items_by f d extend x
 unfolding chains.items_in
@@ -26,6 +29,14 @@ fresh_ahead name d extend end m = all_left d.format d extend (take end (bytes_of
 
 pub fresh_known : (name : List ℕ) (d : Defs) (extend : Bool) (end : ℕ) (m : Holding) → (d.format ≡ Dynamic → end ≤ length (bytes_of name m)) → IsAsKnown (fresh_scan name d extend end) m
 fresh_known name d extend end m long = record { kept = refl; long = long }
+
+-- at its end a scan has nothing ahead
+pub ahead_ended : (s : TableScan) (m : Holding) → IsSound s.test → s.end ≤ s.place → items_ahead s m ≡ []
+ahead_ended s m sound order = by s.test.format refl
+  where
+    by : (f : RowFormat) → s.test.format ≡ f → left_by f s.test s.extend s.place s.used (scanned s m) ≡ []
+    by Static e = end_left (packs s.test) s.test.slot_length s.end s.place (bytes_of s.name m) (omega (arith, sound.slot_pointer e)) order
+    by Dynamic e = scan_ended packs s m order
 
 pub ahead_same : (s : TableScan) (m n : Holding) → bytes_of s.name n ≡ bytes_of s.name m → items_ahead s n ≡ items_ahead s m
 ahead_same s m n same = ap (λ (x : List ℕ). left_by s.test.format s.test s.extend s.place s.used (take s.end x)) same

@@ -176,3 +176,24 @@ key_made d row n fs keys segs i parts k sound fit fields is_keys inside is same 
     let whole : parts ≡ map (seg_of d.fields row) k.segments = made ∙ ap (map (seg_of fs row)) (take_all i segs all ∙ same) ∙ ap (λ (gs : List Field). map (seg_of gs row) k.segments) fields in
     let found : segments_of d.keys n ≡ k.segments = segments_at d.keys n k inside.0 inside.1 ∙ ap (λ (x : Key). x.segments) (sym here) in
     (subst IsKey (sym whole) (key_is d.format d.fields d.rec_ref row k (values_fit d row fit) good), whole ∙ ap (map (seg_of d.fields row)) (sym found))
+
+-- ---- the code of the key
+
+-- the segments of the row's key, all of them
+pub key_whole : (d : Defs) (row : Values) (n : ℕ) (fs : List Field) (keys : List Key) (segs : List Segment) (k : Key) → IsSound d → fits d row ≡ true → fs ≡ d.fields → keys ≡ d.keys → IsKeyNumber d n → k ≡ get_or keys (n - 1) k → segs ≡ k.segments
+    → IsKey (map (seg_of fs row) segs) × (map (seg_of fs row) segs ≡ key_of d n row)
+key_whole d row n fs keys segs k sound fit fields is_keys inside is same =
+    key_made d row n fs keys segs (length segs) (map (seg_of fs row) segs) k sound fit fields is_keys inside is same (omega arith) (ap (map (seg_of fs row)) (sym (take_all (length segs) segs (omega arith))))
+
+all_at : (f : Segment → KeySeg) (segs : List Segment) (i : ℕ) (d : Segment) → AllByRecursion IsSeg (map f segs) → i < length segs → IsSeg (f (get_or segs i d))
+all_at f [] i d are inside = absurd (omega arith)
+all_at f (s ∷ segs) zero d are inside = are.0
+all_at f (s ∷ segs) (suc i) d are inside = all_at f segs i d are.1 (omega arith)
+
+pub seg_short : (fs : List Field) (row here : Values) (segs : List Segment) (i : ℕ) (d : Segment) → here ≡ row → IsKey (map (seg_of fs row) segs) → i < length segs → IsSeg (seg_of fs here (get_or segs i d))
+seg_short fs row here segs i d same is inside =
+    subst (λ (vs : Values). IsSeg (seg_of fs vs (get_or segs i d))) (sym same) (all_at (seg_of fs row) segs i d (recursion_from_All IsSeg (map (seg_of fs row) segs) is.1) inside)
+
+-- the part that is taken is the content in the row
+pub part_is : (fs : List Field) (vs : Values) (s : Segment) (start : ℕ) (v part : List ℕ) → start ≡ start_of fs s.field → get_or vs s.field [] ≡ v → part ≡ part_of s start v → part ≡ content fs vs s
+part_is fs vs s start v part at value is = is ∙ ap (part_of s start) (sym value) ∙ ap (λ n. part_of s n (get_or vs s.field [])) at

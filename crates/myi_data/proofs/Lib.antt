@@ -3,10 +3,12 @@ pub mod SlotLaws
 pub mod RowsLemmas
 pub mod PlainLaws
 pub mod SpellingLemmas
+pub mod AloneLemmas
 pub mod StoredLemmas
 pub mod KeyLemmas
 pub mod PlaceLemmas
 pub mod SlotLemmas
+pub mod SlotCases
 pub mod NextSlotLemmas
 pub mod ScanLaws
 pub mod FreshScans

@@ -1,5 +1,5 @@
 -- What a scan of slots leaves, from what was found between two places of its file.
-use Rattle.std.proofs.Common.{◌≡◌, ◌∙◌, ◌+◌, ◌<◌, ◌≤◌, ℕ, Bool, true, List, [], ◌∷◌, length, take, drop, sym, ap, subst, arith, refl, Option, Some, None, Ok, Err}
+use Rattle.std.proofs.Common.{◌≡◌, ◌∙◌, ◌+◌, ◌^◌, ◌<◌, ◌≤◌, ℕ, Bool, true, List, [], ◌∷◌, length, take, drop, sym, ap, subst, arith, refl, Option, Some, None, Ok, Err}
 use Rattle.std.proofs.lemmas.Bool.{le-leb, lt-leb}
 use Rattle.std.proofs.lemmas.List.{length-take-le}
 use Rattle.myi_base.specs.Holding.{Holding, bytes_of}
@@ -14,8 +14,8 @@ use Rattle.myi_chain.specs.declared.piece.Item.TheVariants as item
 use Rattle.myi_chain.specs.declared.piece.ScanFault.TheVariants.{File}
 use Rattle.myi_chain.specs.Readable.{Item, row, free}
 use Rattle.myi_chain.specs.Chain.{ranges_at}
-use Rattle.myi_chain.specs.Pieces.{shown}
-use Rattle.myi_chain.specs.ScanModel.{IsSameScan, FirstItem, NoItem, FirstRow, NoRow, IsItem, IsRow, LendsBlock, LendsItem, LendsRow, HasEnded, Keeps}
+use Rattle.myi_chain.specs.Pieces.{piece_bytes}
+use Rattle.myi_chain.specs.ScanModel.{IsSameScan, FirstItem, NoItem, FirstRow, NoRow, IsItem, IsRow, LendsBlock, EndsInside, StandsItem, StandsRow, HasEnded, Keeps}
 use Rattle.myi_data.specs.Readable.{packs}
 use Rattle.myi_data.specs.SlotBytes.{IsFormOf}
 use Rattle.myi_data.specs.NextSlot.{row_in_slot, items_from, IsSlotBetween}
@@ -47,20 +47,22 @@ pub record Went (holds : Option Holding) (old : TableScan) (name : List ℕ) (te
   pub some : 0 < size
   pub later : from ≤ to
   pub within : to ≤ end
+  pub small : end < 2 ^ 64
   pub inside : EndsBy end v
   pub current : (m : Holding) → holds ≡ Some m → IsAsKnown old m
   pub stands : (m : Holding) → holds ≡ Some m → StandsIn w (bytes_of name m) → StandsIn v (bytes_of name m)
 
 -- so it did, where a call that looks for the next slot has found what it says
 pub went : (holds : Option Holding) (old : TableScan) (name told : List ℕ) (test : Defs) (extend : Bool) (end from to : ℕ) (blocks : List (ℕ × ℕ)) (w v : Excerpt) (size : ℕ) → name ≡ told → slot_scan told test extend end from blocks w ≡ old → test.format ≡ Static → 0 < test.slot_length → size ≡ test.slot_length
-    → from ≤ to → to ≤ end → EndsBy end v → ((m : Holding) → holds ≡ Some m → IsAsKnown old m) → ((m : Holding) → holds ≡ Some m → StandsIn w (bytes_of name m) → StandsIn v (bytes_of name m)) → Went holds old name test extend end from to blocks w v size
-went holds old name told test extend end from to blocks w v size same view static some sized later within inside current stands = record {
+    → from ≤ to → to ≤ end → end < 2 ^ 64 → EndsBy end v → ((m : Holding) → holds ≡ Some m → IsAsKnown old m) → ((m : Holding) → holds ≡ Some m → StandsIn w (bytes_of name m) → StandsIn v (bytes_of name m)) → Went holds old name test extend end from to blocks w v size
+went holds old name told test extend end from to blocks w v size same view static some sized later within small inside current stands = record {
   view = ap (λ n. slot_scan n test extend end from blocks w) same ∙ view;
   static = static;
   sized = sized;
   some = omega (arith, some, sized);
   later = later;
   within = within;
+  small = small;
   inside = inside;
   current = current;
   stands = stands;
@@ -89,7 +91,7 @@ module _ (holds : Option Holding) (old : TableScan) (name : List ℕ) (test : De
   left_before m = subst (λ (s : TableScan). items_ahead s m ≡ left m from) k.view (left_at from blocks w m)
 
   same_scan : (place : ℕ) (blocks_now : List (ℕ × ℕ)) (e : Excerpt) → IsSameScan old (slot_scan name test extend end place blocks_now e)
-  same_scan place blocks_now e = subst (λ (o : TableScan). IsSameScan o (slot_scan name test extend end place blocks_now e)) k.view (record { name = refl; test = refl; extend = refl; end = refl })
+  same_scan place blocks_now e = subst (λ (o : TableScan). IsSameScan o (slot_scan name test extend end place blocks_now e)) k.view (record { name = refl; test = refl; extend = refl; end = omega arith })
 
   old_place : old.place ≡ from
   old_place = sym (ap (λ (s : TableScan). s.place) k.view)
@@ -97,15 +99,21 @@ module _ (holds : Option Holding) (old : TableScan) (name : List ℕ) (test : De
   old_end : old.end ≡ end
   old_end = sym (ap (λ (s : TableScan). s.end) k.view)
 
+  whole_scan : (m : Holding) → holds ≡ Some m → end ≡ old.end
+  whole_scan m held = sym old_end
+
   old_static : old.test.format ≡ Static
   old_static = sym (ap (λ (s : TableScan). s.test.format) k.view) ∙ k.static
 
   old_blocks : old.blocks ≡ blocks
   old_blocks = sym (ap (λ (s : TableScan). s.blocks) k.view)
 
+  slot_inside : (at : ℕ) → IsSlotBetween size from to end at → EndsInside end (at, size)
+  slot_inside at placed = (omega (arith, placed.1, placed.2), omega (arith, placed.1, placed.2, k.small))
+
   -- the slot of the row at a place is answered
-  slot_here : (at : ℕ) (p : Piece) (m : Holding) → holds ≡ Some m → at ≤ end → size ≤ length (bytes_from at v) → shown p ≡ take size (bytes_from at v)
-      → (shown p ≡ (row_in_slot size (file m) at).bytes) × (ranges_at ((at, size) ∷ []) ≡ (row_in_slot size (file m) at).blocks)
+  slot_here : (at : ℕ) (p : Piece) (m : Holding) → holds ≡ Some m → at ≤ end → size ≤ length (bytes_from at v) → piece_bytes p ≡ take size (bytes_from at v)
+      → (piece_bytes p ≡ (row_in_slot size (file m) at).bytes) × (ranges_at ((at, size) ∷ []) ≡ (row_in_slot size (file m) at).blocks)
   slot_here at p m held order few is =
       let front : AreFront (bytes_from at v) (drop at (file m)) = excerpt_here at end v (bytes_of name m) order k.inside (stands m held) in
       let same : take size (drop at (file m)) ≡ take size (bytes_from at v) = front_cut size (bytes_from at v) (drop at (file m)) front few in
@@ -116,15 +124,16 @@ module _ (holds : Option Holding) (old : TableScan) (name : List ℕ) (test : De
   ahead : {X : Type 0} (First : X → List Item → List Item → Type 0) (x : X) (blocks_now : List (ℕ × ℕ)) (m : Holding) → First x (left m from) (left m to) → First x (items_ahead old m) (items_ahead (slot_scan name test extend end to blocks_now v) m)
   ahead First x blocks_now m is = subst (First x (items_ahead old m)) (sym (left_at to blocks_now v m)) (subst (λ (is : List Item). First x is (left m to)) (sym (left_before m)) is)
 
-  pub row_answered : (at : ℕ) (p : Piece) → IsSlotBetween size from to end at → size ≤ length (bytes_from at v) → shown p ≡ take size (bytes_from at v) → IsFormOf size p
+  pub row_answered : (at : ℕ) (p : Piece) → IsSlotBetween size from to end at → size ≤ length (bytes_from at v) → piece_bytes p ≡ take size (bytes_from at v) → IsFormOf size p
       → ((m : Holding) → holds ≡ Some m → StandsIn w (bytes_of name m) → FirstRow (row_in_slot size (file m) at) (left m from) (left m to))
       → AfterTableRow holds old (Ok (Some (at, p))) (slot_scan name test extend end to ((at, size) ∷ []) v)
   row_answered at p placed few is form told = (
     record {
       same = same_scan to ((at, size) ∷ []) v;
       rises = omega (arith, old_place, placed.0, placed.1, k.some);
-      within = omega (arith, old_end, k.within);
-      lends = lends_slot size at p form;
+      within = k.within;
+      whole = whole_scan;
+      stands = (lends_slot size at p form, (refl, (slot_inside at placed, tt)));
       told = λ m held.
           let here = slot_here at p m held (omega (arith, placed.1, placed.2)) few is in
           (row_in_slot size (file m) at, ahead FirstRow (row_in_slot size (file m) at) ((at, size) ∷ []) m (told m held (stood m held)), (refl, here.0, here.1));
@@ -133,15 +142,16 @@ module _ (holds : Option Holding) (old : TableScan) (name : List ℕ) (test : De
     λ e. not_dynamic old.test.format old_static e,
   )
 
-  pub item_answered : (at : ℕ) (p : Piece) → IsSlotBetween size from to end at → size ≤ length (bytes_from at v) → shown p ≡ take size (bytes_from at v) → IsFormOf size p
+  pub item_answered : (at : ℕ) (p : Piece) → IsSlotBetween size from to end at → size ≤ length (bytes_from at v) → piece_bytes p ≡ take size (bytes_from at v) → IsFormOf size p
       → ((m : Holding) → holds ≡ Some m → StandsIn w (bytes_of name m) → FirstItem (row (row_in_slot size (file m) at)) (left m from) (left m to))
       → AfterTableItem holds old (Ok (Some (item.Row at p))) (slot_scan name test extend end to ((at, size) ∷ []) v)
   item_answered at p placed few is form told = (
     record {
       same = same_scan to ((at, size) ∷ []) v;
       rises = omega (arith, old_place, placed.0, placed.1, k.some);
-      within = omega (arith, old_end, k.within);
-      lends = lends_slot size at p form;
+      within = k.within;
+      whole = whole_scan;
+      stands = (lends_slot size at p form, (refl, (slot_inside at placed, tt)));
       told = λ m held.
           let here = slot_here at p m held (omega (arith, placed.1, placed.2)) few is in
           (row (row_in_slot size (file m) at), ahead FirstItem (row (row_in_slot size (file m) at)) ((at, size) ∷ []) m (told m held (stood m held)), (refl, here.0, here.1));
@@ -157,45 +167,48 @@ module _ (holds : Option Holding) (old : TableScan) (name : List ℕ) (test : De
     record {
       same = same_scan to blocks v;
       rises = omega (arith, old_place, placed.0, placed.1, k.some);
-      within = omega (arith, old_end, k.within);
-      lends = tt;
+      within = k.within;
+      whole = whole_scan;
+      stands = (sym old_blocks, slot_inside at placed);
       told = λ m held. (free (at, at + size), ahead FirstItem (free (at, at + size)) blocks m (told m held (stood m held)), (refl, sym old_blocks));
       current = known_now blocks;
     },
     λ e. not_dynamic old.test.format old_static e,
   )
 
-  module _ {X Found : Type 0} (First : X → List Item → List Item → Type 0) (NoneLeft : List Item → Type 0) (Is : X → Found → List (ℕ × ℕ) → List (ℕ × ℕ) → Type 0) (Lends : Found → List (ℕ × ℕ) → Type 0) where
-    ended : to ≡ end → ((m : Holding) → holds ≡ Some m → StandsIn w (bytes_of name m) → NoneLeft (left m from)) → HasEnded items_ahead First NoneLeft Is Lends IsAsKnown holds old (slot_scan name test extend end to blocks v)
+  module _ {X Found : Type 0} (First : X → List Item → List Item → Type 0) (NoneLeft : List Item → Type 0) (Is : X → Found → List (ℕ × ℕ) → List (ℕ × ℕ) → Type 0) (Stands : Found → TableScan → TableScan → Type 0) where
+    ended : to ≡ end → ((m : Holding) → holds ≡ Some m → StandsIn w (bytes_of name m) → NoneLeft (left m from)) → HasEnded items_ahead First NoneLeft Is Stands IsAsKnown holds old (slot_scan name test extend end to blocks v)
     ended last told = record {
       same = same_scan to blocks v;
-      ended = last ∙ sym old_end;
+      ended = last;
+      whole = whole_scan;
       blocks = sym old_blocks;
       told = λ m held. (subst NoneLeft (sym (left_before m)) (told m held (stood m held)), left_at to blocks v m ∙ end_left (packs test) size end to (bytes_of name m) k.some (omega arith));
       current = known_now blocks;
     }
 
-    kept : ((m : Holding) → holds ≡ Some m → StandsIn w (bytes_of name m) → left m to ≡ left m from) → Keeps items_ahead First NoneLeft Is Lends IsAsKnown holds old (slot_scan name test extend end to blocks v)
+    kept : ((m : Holding) → holds ≡ Some m → StandsIn w (bytes_of name m) → left m to ≡ left m from) → Keeps items_ahead First NoneLeft Is Stands IsAsKnown holds old (slot_scan name test extend end to blocks v)
     kept told = record {
       same = same_scan to blocks v;
       later = omega (arith, old_place, k.later);
-      within = omega (arith, old_end, k.within);
+      within = k.within;
+      whole = whole_scan;
       blocks = sym old_blocks;
       told = λ m held. left_at to blocks v m ∙ told m held (stood m held) ∙ sym (left_before m);
       current = known_now blocks;
     }
 
   pub items_ended : to ≡ end → ((m : Holding) → holds ≡ Some m → StandsIn w (bytes_of name m) → NoItem (left m from)) → AfterTableItem holds old (Ok None) (slot_scan name test extend end to blocks v)
-  items_ended last told = (ended FirstItem NoItem IsItem LendsItem last told, λ e. tt)
+  items_ended last told = (ended FirstItem NoItem IsItem StandsItem last told, λ e. tt)
 
   pub rows_ended : to ≡ end → ((m : Holding) → holds ≡ Some m → StandsIn w (bytes_of name m) → NoRow (left m from)) → AfterTableRow holds old (Ok None) (slot_scan name test extend end to blocks v)
-  rows_ended last told = (ended FirstRow NoRow IsRow LendsRow last told, λ e. tt)
+  rows_ended last told = (ended FirstRow NoRow IsRow StandsRow last told, λ e. tt)
 
   pub items_kept : ((m : Holding) → holds ≡ Some m → StandsIn w (bytes_of name m) → left m to ≡ left m from) → AfterTableItem holds old (Err File) (slot_scan name test extend end to blocks v)
-  items_kept told = (kept FirstItem NoItem IsItem LendsItem told, λ e. tt)
+  items_kept told = (kept FirstItem NoItem IsItem StandsItem told, λ e. not_dynamic old.test.format old_static e)
 
   pub rows_kept : to ≡ from → AfterTableRow holds old (Err File) (slot_scan name test extend end to blocks v)
-  rows_kept same = (kept FirstRow NoRow IsRow LendsRow (λ m held stood. ap (left m) same), λ e. tt)
+  rows_kept same = (kept FirstRow NoRow IsRow StandsRow (λ m held stood. ap (left m) same), λ e. not_dynamic old.test.format old_static e)
 
   pub some_ahead : from < end → old.place < old.end
   some_ahead some = omega (arith, old_place, old_end, some)
@@ -210,9 +223,9 @@ module _ (holds : Option Holding) (old : TableScan) (name : List ℕ) (test : De
   old_size : old.test.slot_length ≡ size
   old_size = sym (ap (λ (s : TableScan). s.test.slot_length) k.view) ∙ sym k.sized
 
-  pub row_slot : (at : ℕ) (p : Piece) → IsSlotBetween size from to end at → size ≤ length (bytes_from at v) → shown p ≡ take size (bytes_from at v) → IsSlotAt old at (length (shown p))
+  pub row_slot : (at : ℕ) (p : Piece) → IsSlotBetween size from to end at → size ≤ length (bytes_from at v) → piece_bytes p ≡ take size (bytes_from at v) → IsSlotAt old at (length (piece_bytes p))
   row_slot at p placed few is static =
-      let long : length (shown p) ≡ size = ap (λ (xs : List ℕ). length xs) is ∙ length-take-le size (bytes_from at v) few in
+      let long : length (piece_bytes p) ≡ size = ap (λ (xs : List ℕ). length xs) is ∙ length-take-le size (bytes_from at v) few in
       (long ∙ sym old_size, omega (arith, old_size, old_end, placed.1, placed.2))
 
   pub free_slot : (at : ℕ) → IsSlotBetween size from to end at → IsSlotAt old at size

@@ -12,7 +12,7 @@ use Rattle.myi_chain.specs.declared.piece.Item.TheVariants as item
 use Rattle.myi_chain.specs.declared.piece.ScanFault.{ScanFault}
 use Rattle.myi_chain.specs.Readable.{Row, rows_of, rest}
 use Rattle.myi_chain.specs.Readable as chains
-use Rattle.myi_chain.specs.Pieces.{shown}
+use Rattle.myi_chain.specs.Pieces.{piece_bytes}
 use Rattle.myi_chain.specs.ScanModel.{Scanning, scanned, KeptStands, Passes, PassesRow, MeetsPlain, GoesOnPlain, LeavesItemsOf, LeavesRowsOf}
 use Rattle.myi_data.specs.Readable.{packs, items_at}
 
@@ -51,11 +51,11 @@ IsSlotAt s at size = s.test.format ≡ Static → (size ≡ s.test.slot_length) 
 
 -- what is answered of a static table is a slot of the file
 abbrev pub IsSlotItem : TableScan → Item → Type 0
-IsSlotItem s (item.Row at p) = IsSlotAt s at (length (shown p))
+IsSlotItem s (item.Row at p) = IsSlotAt s at (length (piece_bytes p))
 IsSlotItem s (item.Free at size) = IsSlotAt s at size
 
 abbrev pub IsSlotRow : TableScan → ℕ × Piece → Type 0
-IsSlotRow s found = IsSlotAt s found.0 (length (shown found.1))
+IsSlotRow s found = IsSlotAt s found.0 (length (piece_bytes found.1))
 
 -- in a dynamic table a row is met, as were all before it, for which no memory is taken
 abbrev pub MeetsPlainRow : TableScan → Holding → Type 0

@@ -1,23 +1,27 @@
 //! The key of a row, read from the row's slices.
 //!
-//! `key_of` goes over the segments of a key: `is_absent` asks the row's null bits, and `seg_weights`
-//! weighs the segment's part of a field. Both find fields by their numbers, `byte_at` that of a place.
-ghost use Rattle.std.specs.Prelude.{◌≡◌, ◌≢◌, ℕ, ◌-◌, ◌<◌, ◌≤◌, true, [], length, slice_index, slice_index_or, HoldsAt, All, Some, IfOk, OnOk, IsTrue, nat_le};
+//! `key_code_into` goes over the segments of a key: `is_absent` asks the row's null bits, and
+//! `append_value` weighs the segment's part of a field. Both find fields by their numbers, `byte_at` that
+//! of a place. The code stands in a buffer that may live as long as a scan; `key_of` makes a key of it.
+ghost use Rattle.std.specs.Prelude.{◌≡◌, ◌≢◌, ℕ, ◌-◌, ◌<◌, ◌≤◌, true, [], length, slice_index};
+ghost use Rattle.std.specs.Prelude.{slice_index_or, HoldsAt, All, Some, IfOk, OnOk, IsTrue, nat_le};
 ghost use Rattle.myi_defs.specs.Kinds.{is_variable, is_plain_at};
 ghost use Rattle.myi_defs.specs.Sound.{IsSound, IsSoundSegment, StartFrom};
 ghost use Rattle.myi_pack.specs.Spelling.{fits};
 ghost use Rattle.myi_pack.specs.Views.{field_value};
-ghost use Rattle.myi_keys.specs.Limits.{IsKey};
+ghost use Rattle.myi_keys.specs.Limits.{IsSeg, IsKey};
+ghost use Rattle.myi_keys.specs.Codes.{key_code, Gains};
 ghost use Rattle.myi_keys.specs.Weights.{weights, CanWeigh};
-ghost use Rattle.myi_data.specs.Keys.{AreValues, IsPlainPlace, byte_at, is_absent, part_of, start_of, content, seg_of, IsKeyNumber, key_of};
+ghost use Rattle.myi_keys.specs.declared.values.KeySeg.TheVariants.{Weights};
+ghost use Rattle.myi_data.specs.Keys.{AreValues, IsPlainPlace, byte_at, is_absent, part_of};
+ghost use Rattle.myi_data.specs.Keys.{start_of, content, seg_of, IsKeyNumber, key_of};
 
 use myi_defs::{Defs, Field, SegType, Segment};
-use myi_keys::{KeySeg, KeyVal, WeightList, weigh};
-use myi_pack::{FieldView, NumberedFields, RowView, value_of};
+use myi_keys::{KeyVal, append_absent, append_weighed};
+use myi_pack::{FieldView, NumberedFields, RowView, value_into};
 use std::alloc::{AllocError, Global};
 
 /// The key of the row for the key of that number, from 1. The view was made with these definitions.
-#[tactic(auto, unfolding(crate::specs::Keys::key_of))]
 pub fn key_of(
     alloc: Global,
     defs: &Defs,
@@ -29,33 +33,85 @@ pub fn key_of(
     requires row { fits defs.now view.now ≡ true }
     ensures { IfOk result (λ k. k ≡ key_of defs.now key view.now) }
 {
-    let fields = defs.fields.as_slice();
-    let segments = defs.keys.as_slice()[key - 1].segments.as_slice();
+    let mut code = Vec::new(alloc);
+    let mut scratch = Vec::new(alloc);
     let mut row = view.numbered(alloc);
-    let mut parts = Vec::with_capacity(alloc, segments.len())?;
-    for segment in segments {
-        parts.push(seg_of(alloc, fields, segment, &mut row)?)?;
-    }
-    Ok(KeyVal::new(parts))
+    key_code_into(&mut code, &mut scratch, defs, key, &mut row)?;
+    Ok(KeyVal::of_code(code))
 }
 
-fn seg_of(
-    alloc: Global,
+/// Writes the code of the row's key for the key of that number, from 1, in place of what the buffer
+/// held. The second buffer is for one value at a time. The row is that of a view that was made with these
+/// definitions; its fields may serve for all keys.
+pub fn key_code_into(
+    code: &mut Vec<u8>,
+    scratch: &mut Vec<u8>,
+    defs: &Defs,
+    key: usize,
+    row: &mut NumberedFields<'_>,
+) -> Result<(), AllocError>
+    requires sound { IsSound defs.now }
+    requires key { IsKeyNumber defs.now key }
+    requires row { fits defs.now row.old ≡ true }
+    ensures same { OnOk result (row.new ≡ row.old) }
+    ensures written { OnOk result (code.new.items ≡ key_code (key_of defs.now key row.old)) }
+    ensures key { IsKey (key_of defs.now key row.old) }
+{
+    let fields = defs.fields.as_slice();
+    let segments = defs.keys.as_slice()[key - 1].segments.as_slice();
+    code.clear();
+    for segment in segments {
+        append_seg(code, scratch, fields, segment, row)?;
+    }
+    Ok(())
+}
+
+// Appends the code of the row's segment.
+fn append_seg(
+    code: &mut Vec<u8>,
+    scratch: &mut Vec<u8>,
     fields: &[Field],
     segment: &Segment,
     row: &mut NumberedFields<'_>,
-) -> Result<KeySeg, AllocError>
+) -> Result<(), AllocError>
     requires sound { IsSoundSegment fields.now segment.now }
     requires starts { StartFrom 0 fields.now }
     requires row { AreValues fields.now row.old }
+    requires short { IsSeg (seg_of fields.now row.old segment.now) }
     ensures same { OnOk result (row.new ≡ row.old) }
-    ensures segment { IfOk result (λ s. s ≡ seg_of fields.now row.old segment.now) }
+    ensures segment { OnOk result
+        (Gains code.old.items code.new.items (seg_of fields.now row.old segment.now)) }
 {
     if is_absent(fields, segment, row)? {
-        return Ok(KeySeg::Absent);
+        return append_absent(code);
     }
-    let weights = seg_weights(alloc, fields, segment, row)?;
-    Ok(KeySeg::Weights(WeightList::new(weights)))
+    append_value(code, scratch, fields, segment, row)
+}
+
+// Appends the code of the segment's content in the row.
+fn append_value(
+    code: &mut Vec<u8>,
+    scratch: &mut Vec<u8>,
+    fields: &[Field],
+    segment: &Segment,
+    row: &mut NumberedFields<'_>,
+) -> Result<(), AllocError>
+    requires sound { IsSoundSegment fields.now segment.now }
+    requires row { AreValues fields.now row.old }
+    requires short { IsSeg
+        (Weights (weights segment.now (content fields.now row.old segment.now))) }
+    ensures same { OnOk result (row.new ≡ row.old) }
+    ensures weights { OnOk result
+        (Gains code.old.items code.new.items
+        (Weights (weights segment.now (content fields.now row.old segment.now)))) }
+{
+    let start = start_of(fields, segment.field as usize);
+    let (length, shown) = row.field(segment.field as usize)?;
+    if let FieldView::Plain(value) = shown {
+        return append_weighed(code, segment, part_of(segment, start, value));
+    }
+    value_into(scratch, length as usize, shown)?;
+    append_weighed(code, segment, part_of(segment, start, scratch))
 }
 
 // Whether the row has no value in the segment.
@@ -123,28 +179,6 @@ fn byte_or(bytes: &[u8], i: usize, other: u8) -> u8
     ensures { result ≡ slice_index_or bytes.now i other }
 {
     bytes.get(i).copied().unwrap_or(other)
-}
-
-// The weights of the segment's content in the row.
-fn seg_weights(
-    alloc: Global,
-    fields: &[Field],
-    segment: &Segment,
-    row: &mut NumberedFields<'_>,
-) -> Result<Vec<u8>, AllocError>
-    requires sound { IsSoundSegment fields.now segment.now }
-    requires row { AreValues fields.now row.old }
-    ensures same { OnOk result (row.new ≡ row.old) }
-    ensures weights { IfOk result (λ w.
-        w.items ≡ weights segment.now (content fields.now row.old segment.now)) }
-{
-    let start = start_of(fields, segment.field as usize);
-    let (length, shown) = row.field(segment.field as usize)?;
-    if let FieldView::Plain(value) = shown {
-        return weigh(alloc, segment, part_of(segment, start, value));
-    }
-    let value = value_of(alloc, length as usize, shown)?;
-    weigh(alloc, segment, part_of(segment, start, value.as_slice()))
 }
 
 fn start_of(fields: &[Field], i: usize) -> u32

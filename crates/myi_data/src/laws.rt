@@ -1,14 +1,14 @@
 //! Laws over the definitions of this crate. Each is the contract of a function that does nothing, so
 //! that it is proved with the crate and stands for the crates above.
-ghost use Rattle.std.specs.Prelude.{◌≡◌, ◌≢◌, ◌-◌, ◌<◌, ◌≤◌, ℕ, Bool, true, false};
-ghost use Rattle.std.specs.Prelude.{List, [], ◌∷◌, All, HoldsAt, length, map, take, get_or, Option, Some, Result};
-ghost use Rattle.std.specs.List.{AllByRecursion};
+ghost use Rattle.std.specs.Prelude.{◌≡◌, ◌≢◌, ◌-◌, ◌^◌, ◌<◌, ◌≤◌, ℕ, Bool, true, false};
+ghost use Rattle.std.specs.Prelude.{List, [], ◌∷◌, All, HoldsAt, length, map, take, get_or, slice_index, Option, Some, Result};
+ghost use Rattle.std.specs.List.{AllByRecursion, flat_map};
 ghost use Rattle.myi_base.specs.Holding.{Holding, IfTold, bytes_of};
 ghost use Rattle.myi_base.specs.Numbers.{AreBytes};
 ghost use Rattle.myi_base.specs.Ranges.{is_apart};
 ghost use Rattle.myi_defs.specs.declared.types.Defs.{Defs};
 ghost use Rattle.myi_defs.specs.declared.types.RowFormat.{RowFormat};
-ghost use Rattle.myi_defs.specs.declared.types.RowFormat.TheVariants.{Dynamic};
+ghost use Rattle.myi_defs.specs.declared.types.RowFormat.TheVariants.{Static, Dynamic};
 ghost use Rattle.myi_defs.specs.declared.types.Field.{Field};
 ghost use Rattle.myi_defs.specs.declared.types.Segment.{Segment};
 ghost use Rattle.myi_defs.specs.declared.types.Key.{Key};
@@ -27,13 +27,16 @@ ghost use Rattle.myi_chain.specs.declared.piece.ScanFault.{ScanFault};
 ghost use Rattle.myi_chain.specs.ScanModel.{fresh_scan, FirstRow};
 ghost use Rattle.myi_chain.specs.Readable.{Row, rows_of};
 ghost use Rattle.myi_chain.specs.Readable as chains;
-ghost use Rattle.myi_data.specs.Readable.{items_in, readable, deleted};
+ghost use Rattle.myi_data.specs.Slots.{Slot, slots_in};
+ghost use Rattle.myi_data.specs.Readable.{packs, slot_range, slot_row, slot_items, items_in, readable, deleted};
 ghost use Rattle.myi_data.specs.Scanning.{TableScan, items_ahead, IsAsKnown, AfterTableItem, AfterTableRow};
 ghost use Rattle.myi_data.specs.Plain.{IsPlain, plain_rows};
-ghost use Rattle.myi_data.specs.Stored.{PackARow, IsStorable, stored_file, stored_rows};
+ghost use Rattle.myi_data.specs.Stored.{SizedRow, PackARow, IsStorable, own_block, group_by, stored_by};
+ghost use Rattle.myi_data.specs.Stored.{stored_size, stored, stored_file, stored_rows};
 
 /// The readable rows of any bytes, in both formats. Each packs a row; they come in order of their
-/// positions; no byte belongs to two of their slots or blocks, nor to one of them and to a deleted block.
+/// positions; no byte belongs to two of their slots or blocks. Where not every position is tried, no byte
+/// belongs to one of them and to a deleted block.
 pub fn rows_are_readable()
     ensures packed { (d : Defs) (extend : Bool) (x : List ℕ) → IsSound d → AreBytes x
         → AllByRecursion (λ r. PackARow d r.bytes) (readable d extend x) }
@@ -45,11 +48,39 @@ pub fn rows_are_readable()
         → AllByRecursion (λ a. is_apart a (ranges_of (readable d false x)) ≡ true) (deleted d x) }
 {}
 
-/// What is stored is what is read: a file that is only rows, one after the other, in one block of the
-/// least size or one slot each, has exactly these rows, whether every place is tried or not.
+/// What is stored is what is read: a file that is only rows that can be stored, one after the other, has
+/// exactly these rows, whether every place is tried or not.
 pub fn stored_files_are_read()
-    ensures { (d : Defs) (extend : Bool) (vs : List Values) → IsSound d → All (IsStorable d) vs
-        → readable d extend (stored_file d vs) ≡ stored_rows d 0 vs }
+    ensures { (d : Defs) (extend : Bool) (rows : List SizedRow) → IsSound d
+        → All (IsStorable d) rows
+        → readable d extend (stored_file d rows) ≡ stored_rows d 0 rows }
+{}
+
+/// A row takes the bytes that its slot or its blocks have. A row of fewer than 2^24 bytes stands alone, in
+/// one slot or one block of the least size, whatever held it and wherever it stands.
+pub fn rows_stand_alone()
+    ensures sized { (d : Defs) (at : ℕ) (row : SizedRow) → IsSound d → IsStorable d row
+        → length (stored d at row) ≡ stored_size d row }
+    ensures one { (f : RowFormat) (sizes : List ℕ) (n : ℕ) → (f ≡ Dynamic → n < 2 ^ 24)
+        → length (group_by f sizes n) ≡ 1 }
+    ensures slot { (at : ℕ) (sizes b : List ℕ) → stored_by Static at sizes b ≡ b }
+    ensures block { (at : ℕ) (sizes b : List ℕ) → length b < 2 ^ 24
+        → stored_by Dynamic at sizes b ≡ own_block b }
+    ensures size { (d : Defs) (row : SizedRow) → IsSound d → IsStorable d row
+        → stored_size d row ≡ length (stored_by d.format 0 row.sizes (spelling d row.values)) }
+{}
+
+/// What is met in the data file of a static table is what each of its slots is, slot after slot: a deleted
+/// slot where its first byte is 0; else a row where its bytes pack one; and else nothing.
+pub fn slots_are_read()
+    ensures slots { (d : Defs) (extend : Bool) (x : List ℕ) → d.format ≡ Static
+        → items_in d extend x ≡ flat_map (slot_items (packs d)) (slots_in 0 d.slot_length x) }
+    ensures deleted { (d : Defs) (s : Slot) → slice_index s.bytes 0 ≡ 0
+        → slot_items (packs d) s ≡ chains.free (slot_range s) ∷ [] }
+    ensures row { (d : Defs) (s : Slot) → slice_index s.bytes 0 ≢ 0 → packs d s.bytes ≡ true
+        → slot_items (packs d) s ≡ chains.row (slot_row s) ∷ [] }
+    ensures neither { (d : Defs) (s : Slot) → slice_index s.bytes 0 ≢ 0 → packs d s.bytes ≡ false
+        → slot_items (packs d) s ≡ [] }
 {}
 
 /// The readable rows of a static table whose fields are all NORMAL are its slots whose first byte is
@@ -87,9 +118,10 @@ pub fn null_bits_tell()
 {}
 
 /// A scan of which nothing was read has all of its file ahead, and knows of it only how long it is at
-/// least. What is ahead, and whether the file is as the scan knows it, hangs on that file's bytes alone;
-/// after a call of the scan the file is as the scan knows it then. A row that comes first of what is ahead
-/// is the first of the rows.
+/// least. At its end a scan has nothing ahead, so that a new scan of an empty file has ended. What is
+/// ahead, and whether the file is as the scan knows it, hangs on that file's bytes alone; after a call of
+/// the scan the file is as the scan knows it then. A row that comes first of what is ahead is the first of
+/// the rows.
 pub fn scans_begin_with_all()
     ensures fresh { (name : List ℕ) (d : Defs) (extend : Bool) (end : ℕ) (m : Holding)
         → items_ahead (fresh_scan name d extend end) m
@@ -97,6 +129,8 @@ pub fn scans_begin_with_all()
     ensures known { (name : List ℕ) (d : Defs) (extend : Bool) (end : ℕ) (m : Holding)
         → (d.format ≡ Dynamic → end ≤ length (bytes_of name m))
         → IsAsKnown (fresh_scan name d extend end) m }
+    ensures ended { (s : TableScan) (m : Holding) → IsSound s.test → s.end ≤ s.place
+        → items_ahead s m ≡ [] }
     ensures ahead { (s : TableScan) (m n : Holding) → bytes_of s.name n ≡ bytes_of s.name m
         → items_ahead s n ≡ items_ahead s m }
     ensures stays { (s : TableScan) (m n : Holding) → bytes_of s.name n ≡ bytes_of s.name m

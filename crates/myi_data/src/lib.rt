@@ -7,7 +7,8 @@
 //! A `DataFile` stands for the data file of one table. Its `scan` makes a `DataScan`: `next_item`
 //! answers rows and deleted blocks in order of their places, `next_row` the rows alone, and `blocks`
 //! the blocks of the row answered last. The file is read through a window, once from front to back; a
-//! row is lent from there where it can be. `key_of` gives the key of a row that is viewed in its bytes.
+//! row is lent from there where it can be. `key_of` gives the key of a row that is viewed in its bytes, and
+//! `key_code_into` the code of that key, into a buffer.
 //! The laws over the definitions are in `laws`.
 //!
 //! ```
@@ -31,9 +32,9 @@ mod slot_bytes;
 mod slots;
 
 pub use data_file::DataFile;
-pub use keys::key_of;
+pub use keys::{key_code_into, key_of};
 pub use laws::{
     null_bits_tell, plain_tables_are_read, rows_are_readable, rows_have_keys, scans_begin_with_all,
-    stored_files_are_read,
+    slots_are_read, stored_files_are_read,
 };
 pub use scan::DataScan;

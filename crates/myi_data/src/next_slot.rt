@@ -7,7 +7,7 @@ ghost use Rattle.myi_base.specs.Holding.{IfTold};
 ghost use Rattle.myi_base.specs.Causes.{HasCause};
 ghost use Rattle.myi_io.specs.declared.files.FileErr.TheVariants.{Failed};
 ghost use Rattle.myi_window.specs.Excerpt.{bytes_from, EndsBy, GoesOnStanding};
-ghost use Rattle.myi_chain.specs.Pieces.{shown};
+ghost use Rattle.myi_chain.specs.Pieces.{piece_bytes};
 ghost use Rattle.myi_data.specs.Readable.{packs};
 ghost use Rattle.myi_data.specs.SlotBytes.{IsFormOf};
 ghost use Rattle.myi_data.specs.NextSlot.{IsFirst, IsPlaced, IsHeld, Finds, IsRowPlaced, IsRowHeld, FindsRow, MeetsSame};
@@ -164,7 +164,7 @@ pub(crate) fn next_row_slot<F: Files>(
 /// The slot at a place, as it is answered: one that is longer than a window was read into a buffer.
 pub(crate) fn slot_at(bytes: &SlotBytes, at: u64, size: usize) -> Piece<'_>
     requires { size ≤ length (bytes_from at bytes.now.held) }
-    ensures shown { shown result ≡ take size (bytes_from at bytes.now.held) }
+    ensures shown { piece_bytes result ≡ take size (bytes_from at bytes.now.held) }
     ensures form { IsFormOf size result }
 {
     let slot = &bytes.bytes_from(at)[..size];

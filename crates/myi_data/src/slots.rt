@@ -48,7 +48,7 @@ impl Drop for SlotScan {
 }
 
 impl Model for SlotScan {
-    ghost use Rattle.std.specs.Prelude.{◌≡◌, ◌≤◌, ◌<◌, [], string_bytes, option_to_list};
+    ghost use Rattle.std.specs.Prelude.{◌≡◌, ◌≤◌, ◌<◌, ◌^◌, [], string_bytes, option_to_list};
     ghost use Rattle.myi_defs.specs.declared.types.RowFormat.TheVariants.{Static};
     ghost use Rattle.myi_window.specs.Excerpt.{EndsBy};
     ghost use Rattle.myi_data.specs.Scanning.{TableScan};
@@ -67,7 +67,8 @@ impl Model for SlotScan {
     } };
 
     ghost invariant = { λ s. (s.test.format ≡ Static) × (0 < s.test.slot_length)
-        × (s.bytes.size ≡ s.test.slot_length) × (s.place ≤ s.end) × EndsBy s.end s.bytes.held };
+        × (s.bytes.size ≡ s.test.slot_length) × (s.place ≤ s.end) × EndsBy s.end s.bytes.held
+        × (s.end < 2 ^ 64) };
 }
 
 impl SlotScan {

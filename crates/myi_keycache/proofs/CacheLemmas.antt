@@ -70,7 +70,7 @@ part_at front x back file bytes differ u le good =
     keeping_then _ _ _ file file (overwritten x.at bytes file) a (keeping_then _ _ _ file (overwritten x.at bytes file) (overwritten x.at bytes file) b c)
 
 -- the file after a write
-after_write : (name new : List ℕ) (n : Holding) → n name ≡ Some new → bytes_of name n ≡ new
+pub after_write : (name new : List ℕ) (n : Holding) → n name ≡ Some new → bytes_of name n ≡ new
 after_write name new n e = ap (λ (o : Option (List ℕ)). unwrap_or o []) e
 
 parted : (o : Order) (i : ℕ) (s : Split o.pages i) → contents_of o.pages ≡ contents_of s.front ++ s.page.page ∷ contents_of s.back

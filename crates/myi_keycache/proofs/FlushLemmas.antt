@@ -116,13 +116,13 @@ unwritten_at (x ∷ pages) q n u = elim (cases_Bool (is_page q n x && x.unwritte
 ]
 
 -- the page at an index is written
-at_other : (front : List Page) (x y : Page) (back : List Page) (i : ℕ) → (i ≡ length front → ⊥) → slice_get (front ++ y ∷ back) i ≡ slice_get (front ++ x ∷ back) i
+pub at_other : (front : List Page) (x y : Page) (back : List Page) (i : ℕ) → (i ≡ length front → ⊥) → slice_get (front ++ y ∷ back) i ≡ slice_get (front ++ x ∷ back) i
 at_other [] x y back zero ne = absurd (ne refl)
 at_other [] x y back (suc i) ne = refl
 at_other (f ∷ front) x y back zero ne = refl
 at_other (f ∷ front) x y back (suc i) ne = at_other front x y back i (λ e. ne (ap suc e))
 
-at_here : (front : List Page) (y : Page) (back : List Page) (i : ℕ) → i ≡ length front → slice_get (front ++ y ∷ back) i ≡ Some y
+pub at_here : (front : List Page) (y : Page) (back : List Page) (i : ℕ) → i ≡ length front → slice_get (front ++ y ∷ back) i ≡ Some y
 at_here [] y back zero e = refl
 at_here [] y back (suc i) e = absurd (omega arith)
 at_here (f ∷ front) y back zero e = absurd (omega arith)
@@ -231,7 +231,7 @@ writing_start o found perm = record {
   same = λ q n all. refl;
 }
 
-drop_one : (found : List (ℕ × ℕ)) (i : ℕ) → i < length found → drop i found ≡ get_or found i (0, 0) ∷ drop (i + 1) found
+pub drop_one : (found : List (ℕ × ℕ)) (i : ℕ) → i < length found → drop i found ≡ get_or found i (0, 0) ∷ drop (i + 1) found
 drop_one [] i lt = absurd (omega arith)
 drop_one (f ∷ found) zero lt = refl
 drop_one (f ∷ found) (suc i) lt = let n : suc i + 1 ≡ suc (i + 1) = omega arith in drop_one found i (omega arith) ∙ ap (λ (k : ℕ). get_or found i (0, 0) ∷ drop k (f ∷ found)) (sym n)
@@ -268,7 +268,7 @@ writing_next o now new found i lt w one =
       same = λ q n all. let a = take_all_one _ found i lt all in others_same (contents_of now.pages) (contents_of new.pages) f.0 f.1 q n one places.0 a.1 ∙ w.same q n a.0;
     }
 
-no_more : (found : List (ℕ × ℕ)) (i : ℕ) → length found ≤ i → drop i found ≡ []
+pub no_more : (found : List (ℕ × ℕ)) (i : ℕ) → length found ≤ i → drop i found ≡ []
 no_more [] zero le = refl
 no_more [] (suc i) le = refl
 no_more (f ∷ found) zero le = absurd (omega arith)
@@ -339,6 +339,12 @@ flush_told before after name text o new c d cache is same written_all told =
     let k = s current in
     let all : AllWritten (pages_of (cache_of name new d)) = subst AllWritten (sym (pages_eq name new d)) written_all in
     record { current = k.current; lent = k.lent; file = sym (all_written (pages_of (cache_of name new d)) (bytes_of name n) all) ∙ k.contents })))
+
+pub refused_told : (before after : Option Holding) (name text : List ℕ) (o new : Order) (c d : Counters) (cache : Caching) → cache_of name o c ≡ cache → name ≡ text
+    → Told before after (λ m n. IsCurrent (cache_of name o c) m → Stays (cache_of name o c) (cache_of name new d) m n) → Told before after (λ m n. IsCurrent cache m → Stays cache (cache_of text new d) m n)
+refused_told before after name text o new c d cache is same told =
+    subst (λ k. Told before after (λ m n. IsCurrent k m → Stays k (cache_of text new d) m n)) is
+    (subst (λ t. Told before after (λ m n. IsCurrent (cache_of name o c) m → Stays (cache_of name o c) (cache_of t new d) m n)) same told)
 
 pub no_order : (setup : CacheSetup) (es : List (PageName × Block)) → es ≡ [] → IsSetup setup → AllByRecursion IsStored es × IsOrdered (record { setup = setup; pages = map page_in es; warm = 0; accesses = 0 })
 unfolding Pairs

@@ -1,6 +1,6 @@
 -- The cache after a get.
-use Rattle.std.proofs.Common.{◌≡◌, ℕ, zero, suc, ◌^◌, ◌<◌, true, false, List, [], ◌∷◌, ◌++◌, length, slice_get, position, Option, None, Some, Ok, Err, refl, sym, ap, subst, ◌∙◌, arith, inl}
-use Rattle.std.specs.Prelude.{is_some, IfSome, if◌then◌else◌}
+use Rattle.std.proofs.Common.{◌≡◌, ℕ, zero, suc, ◌^◌, ◌<◌, true, false, List, [], ◌∷◌, ◌++◌, length, slice_get, position, Option, None, Some, Ok, Err, refl, sym, ap, subst, ◌∙◌, arith, inl, inr}
+use Rattle.std.specs.Prelude.{◌⊎◌, is_some, IfSome, MatchOption, if◌then◌else◌}
 use Rattle.std.specs.List.{AllByRecursion}
 use Rattle.std.specs.Option.{option_len}
 use Rattle.std.proofs.lemmas.Bool.{and_parts, eqb-true}
@@ -8,11 +8,13 @@ use Rattle.std.proofs.lemmas.Option.{same_Some}
 use Rattle.myi_base.specs.Holding.{Holding, bytes_of, IfTold, Told}
 use Rattle.myi_base.proofs.CallerLemmas.{told_same, told_more}
 use Rattle.myi_keycache.specs.declared.setup.Counters.{Counters}
-use Rattle.myi_keycache.specs.Kept.{Page, KeptPage, kept, is_kept, is_unwritten, unwritten_count, NoOtherMeets, AddsOnly, SameKept, ChangesNone}
-use Rattle.myi_keycache.specs.Lent.{bytes_at, lent}
+use Rattle.myi_keycache.specs.declared.setup.CacheFault.{CacheFault}
+use Rattle.myi_keycache.specs.declared.setup.CacheFault.TheVariants.{Short, File, Memory}
+use Rattle.myi_keycache.specs.Kept.{Page, KeptPage, kept, is_kept, is_unwritten, unwritten_count, NoOtherMeets, AddsOnly, SameKept, KeepsBytes, ChangesNone}
+use Rattle.myi_keycache.specs.Lent.{bytes_at, Has, lent}
 use Rattle.myi_keycache.specs.Counts.{raised, writes_after, flushes_counted}
 use Rattle.myi_keycache.specs.Midpoint.{midpoint}
-use Rattle.myi_keycache.specs.Caching.{Caching, pages_of, CanGet, IsLent, Stays, Gets}
+use Rattle.myi_keycache.specs.Caching.{Caching, pages_of, CanGet, IsLent, Stays, Gets, IsRead}
 use Rattle.myi_keycache.specs.Order.{Order, contents_of, lists_in, has_name, page_of, room_in, due_in, counts_one, Pairs, Differ, Alike, PagesStay, WritesOnly, cache_of}
 use Rattle.myi_keycache.proofs.LentLemmas.{stays_on}
 use Rattle.myi_keycache.proofs.StaysLemmas.{keeping_alike, lent_kept}
@@ -22,6 +24,7 @@ use Rattle.myi_keycache.proofs.MidpointLemmas.{named}
 use Rattle.myi_keycache.proofs.HitLemmas.{contents_at}
 use Rattle.myi_keycache.proofs.CacheLemmas.{pages_eq, stays_of}
 use Rattle.myi_keycache.proofs.LoadLemmas.{Room, loaded, read_lent, read_none, adds_only, changes_none, count_taken, not_kept}
+use Rattle.myi_keycache.proofs.OthersLemmas.{same_bytes, taken_bytes, taken_there}
 use Rattle.myi_keycache.proofs.OneLemmas.{due_is, due_hit}
 
 -- what holds of the pages in one order holds of the pages of the cache
@@ -36,6 +39,8 @@ refused_gets before after name o mid c k at len e stay w = record {
   setup = stay.setup;
   access = stay.lists;
   added = of_pages (AddsOnly at len) name o mid c k (λ p n found. inl (ap is_some (sym (stay.kept p n)) ∙ found));
+  there = tt;
+  bytes = of_pages KeepsBytes name o mid c k (same_bytes (contents_of o.pages) (contents_of mid.pages) stay.kept);
   unwritten = of_pages ChangesNone name o mid c k stay.unwritten;
   refused = of_pages SameKept name o mid c k stay.kept;
   counters = w.counters;
@@ -44,8 +49,26 @@ refused_gets before after name o mid c k at len e stay w = record {
   told = told_more before after _ _ w.told (λ m n held s can. s can.current);
 }
 
+pub not_short : (fault : CacheFault) (p : ℕ) → (fault ≡ File) ⊎ (fault ≡ Memory) → fault ≡ Short p → ⊥
+not_short fault p (inl is) short = let both : File ≡ Short p = sym is ∙ short in absurd cc
+not_short fault p (inr is) short = let both : Memory ≡ Short p = sym is ∙ short in absurd cc
+
+pub memory_not_short : (fault : CacheFault) (p : ℕ) → fault ≡ Memory → fault ≡ Short p → ⊥
+memory_not_short fault p is short = not_short fault p (inr is) short
+
 pub short_lent : (before : Option Holding) (name : List ℕ) (o : Order) (c : Counters) (at len : ℕ) → position (has_name at len) o.pages ≡ None → IfTold before (λ m. bytes_at (bytes_of name m) at len ≡ None) → IfTold before (IsLent (cache_of name o c) at len None)
 short_lent before name o c at len none short m held can = ap (λ l. lent l (bytes_of name m) at len) (pages_eq name o c) ∙ read_none o.pages (bytes_of name m) at len none (short m held)
+
+-- what is read of a page that is not kept, and of one that is
+pub read_missing : (before : Option Holding) (name : List ℕ) (o : Order) (c : Counters) (at len : ℕ) (bytes : Option (List ℕ)) → position (has_name at len) o.pages ≡ None → IfTold before (λ m. bytes_at (bytes_of name m) at len ≡ bytes) → IsRead before (cache_of name o c) at len bytes
+read_missing before name o c at len bytes none told =
+    let k : kept (pages_of (cache_of name o c)) at len ≡ None = ap (λ l. kept l at len) (pages_eq name o c) ∙ not_kept at len o.pages none in
+    subst (λ (q : Option (List ℕ)). MatchOption q (IfTold before (Has name at len bytes)) (λ x. bytes ≡ Some x)) (sym k) told
+
+pub read_kept : (before : Option Holding) (name : List ℕ) (o : Order) (c : Counters) (at len : ℕ) (bytes : List ℕ) → kept (contents_of o.pages) at len ≡ Some bytes → IsRead before (cache_of name o c) at len (Some bytes)
+read_kept before name o c at len bytes is =
+    let k : kept (pages_of (cache_of name o c)) at len ≡ Some bytes = ap (λ l. kept l at len) (pages_eq name o c) ∙ is in
+    subst (λ (q : Option (List ℕ)). MatchOption q (IfTold before (Has name at len (Some bytes))) (λ x. Some bytes ≡ Some x)) (sym k) refl
 
 -- ---- a page that was read
 
@@ -81,8 +104,8 @@ load_counts name o mid new c k d at bytes x y none r alike =
 
 pub load_gets : {T E : Type 0} (before after : Option Holding) (name : List ℕ) (o mid new : Order) (c k d : Counters) (at len : ℕ) (bytes : List ℕ) (answer : T) → length bytes ≡ len → PagesStay o mid → WritesOnly before after (cache_of name o c) (cache_of name mid k)
     → position (has_name at len) o.pages ≡ None → Room o mid at len → new.setup ≡ mid.setup → lists_in new ≡ midpoint mid.setup (lists_in mid) at (length bytes) → Alike (page_of at bytes false ∷ room_in mid) (contents_of new.pages)
-    → d ≡ record k { read_requests = raised 1 k.read_requests; reads = raised 1 k.reads } → k ≡ counts_one (due_in o) c → IfTold before (IsLent (cache_of name o c) at len (Some bytes)) → Gets {T = T} {E = E} before after at len (Ok answer) (cache_of name o c) (cache_of name new d)
-load_gets {T} {E} before after name o mid new c k d at len bytes answer long stay w none room setup lists alike counted one shown =
+    → d ≡ record k { read_requests = raised 1 k.read_requests; reads = raised 1 k.reads } → k ≡ counts_one (due_in o) c → IfTold before (IsLent (cache_of name o c) at len (Some bytes)) → IsRead before (cache_of name o c) at len (Some bytes) → Gets {T = T} {E = E} before after at len (Ok answer) (cache_of name o c) (cache_of name new d)
+load_gets {T} {E} before after name o mid new c k d at len bytes answer long stay w none room setup lists alike counted one shown read =
     subst (λ n. Gets {T = T} {E = E} before after at n (Ok answer) (cache_of name o c) (cache_of name new d)) long (
     let none1 = subst (λ n. position (has_name at n) o.pages ≡ None) (sym long) none in
     let r : Room o mid at (length bytes) = subst (Room o mid at) (sym long) room in
@@ -91,6 +114,9 @@ load_gets {T} {E} before after name o mid new c k d at len bytes answer long sta
       setup = setup ∙ stay.setup;
       access = lists ∙ (λ i. midpoint (stay.setup i) (stay.lists i) at (length bytes));
       added = of_pages (AddsOnly at (length bytes)) name o new c d (adds_only o mid new at bytes false r alike);
+      there = subst (λ (q : Option (List ℕ)). IsRead before (cache_of name o c) at (length bytes) q) (sym (ap (λ l. kept l at (length bytes)) (pages_eq name new d) ∙ taken_there o mid new at bytes false r alike))
+          (subst (λ n. IsRead before (cache_of name o c) at n (Some bytes)) (sym long) read);
+      bytes = of_pages KeepsBytes name o new c d (taken_bytes o mid new at bytes false r alike);
       unwritten = of_pages ChangesNone name o new c d (changes_none o mid new at bytes r alike);
       refused = tt;
       counters = load_counts name o mid new c k d at bytes w.counters counted none1 r alike;
@@ -132,6 +158,8 @@ hit_gets before after name o new c d index at len answer lt e same differ small 
       setup = setup;
       access = lists;
       added = of_pages (AddsOnly at len) name o new c d (λ p n found. inl (ap is_some (sym (alike.kept differ p n)) ∙ found));
+      there = subst (λ (q : Option (List ℕ)). IsRead before (cache_of name o c) at len q) (sym (ap (λ l. kept l at len) (pages_eq name new d) ∙ alike.kept differ at len ∙ h.3)) (read_kept before name o c at len h.0.bytes h.3);
+      bytes = of_pages KeepsBytes name o new c d (same_bytes (contents_of o.pages) (contents_of new.pages) (alike.kept differ));
       unwritten = of_pages ChangesNone name o new c d (λ p n u. sym (alike.unwritten p n) ∙ u);
       refused = tt;
       counters = counted ∙ (λ i. record { read_requests = raised 1 c.read_requests; reads = raised (if sym kept_is i then 0 else 1) c.reads; write_requests = c.write_requests; writes = w i });
@@ -164,6 +192,8 @@ gets_ok {T} {U} {E} {F} before after at len x y old new old1 new1 a b g =
       setup = g.setup;
       access = g.access;
       added = g.added;
+      there = g.there;
+      bytes = g.bytes;
       unwritten = g.unwritten;
       refused = tt;
       counters = g.counters;
@@ -179,6 +209,8 @@ gets_err {T} {U} {E} {F} before after at len e f old new old1 new1 a b g =
       setup = g.setup;
       access = g.access;
       added = g.added;
+      there = tt;
+      bytes = g.bytes;
       unwritten = g.unwritten;
       refused = g.refused;
       counters = g.counters;

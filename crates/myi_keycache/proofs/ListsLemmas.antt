@@ -11,7 +11,7 @@ use Rattle.myi_keycache.specs.Midpoint.{Listed, Lists, is_named, listed, without
 
 -- ---- how often a page stands on a list
 
-times_first : (p n : ℕ) (x : Listed) (xs : List Listed) → times p n (x ∷ xs) ≡ cond {A = ℕ} (is_named p n x) 1 0 + times p n xs
+pub times_first : (p n : ℕ) (x : Listed) (xs : List Listed) → times p n (x ∷ xs) ≡ cond {A = ℕ} (is_named p n x) 1 0 + times p n xs
 times_first p n x xs = sum_by-cons (λ (y : Listed). cond {A = ℕ} (is_named p n y) 1 0) x xs
 
 times_last : (p n : ℕ) (xs : List Listed) (x : Listed) → times p n (xs ++ x ∷ []) ≡ times p n xs + cond {A = ℕ} (is_named p n x) 1 0
@@ -26,12 +26,12 @@ times_rest p n [] = omega arith
 times_rest p n (x ∷ xs) = omega (arith, times_first p n x xs)
 
 -- a page that is on a list, and the list without it
-record Taken (at len : ℕ) (xs : List Listed) (page : Listed) : Type 0 where
-  named : is_named at len page ≡ true
-  times_is : (p n : ℕ) → times p n xs ≡ cond {A = ℕ} (is_named p n page) 1 0 + times p n (without page.at page.len xs)
-  long : length xs ≡ 1 + length (without page.at page.len xs)
+pub record Taken (at len : ℕ) (xs : List Listed) (page : Listed) : Type 0 where
+  pub named : is_named at len page ≡ true
+  pub times_is : (p n : ℕ) → times p n xs ≡ cond {A = ℕ} (is_named p n page) 1 0 + times p n (without page.at page.len xs)
+  pub long : length xs ≡ 1 + length (without page.at page.len xs)
 
-same_Some : {A : Type 0} (x y : A) → Some x ≡ Some y → x ≡ y
+pub same_Some : {A : Type 0} (x y : A) → Some x ≡ Some y → x ≡ y
 same_Some {A} x y e = ap (λ (o : Option A). option_map_or (λ z. z) o x) e
 
 self_named : (x : Listed) → is_named x.at x.len x ≡ true
@@ -43,7 +43,7 @@ self_named x = both (x.at == x.at) (x.len == x.len) (same x.at) (same x.len)
     both : (a b : Bool) → a ≡ true → b ≡ true → (a && b) ≡ true
     both a b e f = rw (e, f) refl
 
-taken : (at len : ℕ) (xs : List Listed) (page : Listed) → listed at len xs ≡ Some page → Taken at len xs page
+pub taken : (at len : ℕ) (xs : List Listed) (page : Listed) → listed at len xs ≡ Some page → Taken at len xs page
 unfolding without
 taken at len [] page e = absurd cc
 taken at len (x ∷ xs) page e = elim (cases_Bool (is_named at len x)) [
@@ -148,7 +148,7 @@ hot_same at len page lists found = record {
 
 -- ---- a page is taken in
 
-nonempty : (x : Listed) (xs : List Listed) → (length (x ∷ xs) == 0) ≡ false
+pub nonempty : (x : Listed) (xs : List Listed) → (length (x ∷ xs) == 0) ≡ false
 nonempty x xs = elim (cases_Bool (length (x ∷ xs) == 0)) [
   | inl empty ↦ let e : length (x ∷ xs) ≡ 0 = eqb-true _ _ empty in absurd (omega (arith, e))
   | inr some ↦ some
@@ -214,7 +214,7 @@ new_lists setup at len lists some cold cool l = by (is_full setup lists) refl
 
 -- ---- an access
 
-asked_lists : (setup : CacheSetup) (at len : ℕ) (lists : Lists) → 1 ≤ setup.blocks → AreLists setup lists → AreLists setup (asked setup at len lists)
+pub asked_lists : (setup : CacheSetup) (at len : ℕ) (lists : Lists) → 1 ≤ setup.blocks → AreLists setup lists → AreLists setup (asked setup at len lists)
 asked_lists setup at len lists some l = warm_by (listed at len lists.warm) refl
   where
     hot_by : (o : Option Listed) → listed at len lists.hot ≡ o → listed at len lists.warm ≡ None → AreLists setup (option_map_or (λ page. hit_hot page lists) o (taken_in setup at len lists))

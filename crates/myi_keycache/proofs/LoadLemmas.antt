@@ -16,7 +16,7 @@ use Rattle.myi_keycache.proofs.TakeLemmas.{not_there, others_differ}
 
 -- ---- the pages without the first, or all
 
-abbrev rest : Bool → List Page → List Page
+abbrev pub rest : Bool → List Page → List Page
 rest b pages = if b then drop 1 pages else pages
 
 rest_all : (P : Page → Type 0) (b : Bool) (pages : List Page) → AllByRecursion P pages → AllByRecursion P (rest b pages)
@@ -24,7 +24,7 @@ rest_all P false pages all = all
 rest_all P true [] all = tt
 rest_all P true (x ∷ pages) all = all.1
 
-rest_differ : (b : Bool) (pages : List Page) → Pairs Differ pages → Pairs Differ (rest b pages)
+pub rest_differ : (b : Bool) (pages : List Page) → Pairs Differ pages → Pairs Differ (rest b pages)
 unfolding Pairs
 rest_differ false pages d = d
 rest_differ true [] d = tt
@@ -38,7 +38,7 @@ rest_kept true (x ∷ pages) p n k = elim (cases_Bool (is_page p n x)) [
   | inr other ↦ ap is_some (kept_later x pages p n other) ∙ k
 ]
 
-rest_unwritten : (b : Bool) (pages : List Page) (p n : ℕ) → is_unwritten (rest b pages) p n ≡ true → is_unwritten pages p n ≡ true
+pub rest_unwritten : (b : Bool) (pages : List Page) (p n : ℕ) → is_unwritten (rest b pages) p n ≡ true → is_unwritten pages p n ≡ true
 unfolding is_unwritten
 rest_unwritten false pages p n u = u
 rest_unwritten true [] p n u = u
@@ -114,7 +114,7 @@ room_is o mid at len differ none stay first = record { differ = stay.differ diff
 rest_not_kept : (o mid : Order) (at len : ℕ) → Room o mid at len → kept (room_in mid) at len ≡ None
 rest_not_kept o mid at len r = none_of_kept _ (λ k. kept_false (contents_of mid.pages) at len (not_kept at len mid.pages r.none) (rest_kept (nat_le mid.setup.blocks (length mid.pages)) (contents_of mid.pages) at len k))
 
-rest_others : (o mid : Order) (at : ℕ) (bytes : List ℕ) (unwritten : Bool) → Room o mid at (length bytes) → AllByRecursion (Differ (page_of at bytes unwritten)) (room_in mid)
+pub rest_others : (o mid : Order) (at : ℕ) (bytes : List ℕ) (unwritten : Bool) → Room o mid at (length bytes) → AllByRecursion (Differ (page_of at bytes unwritten)) (room_in mid)
 rest_others o mid at bytes unwritten r =
     rest_all _ (nat_le mid.setup.blocks (length mid.pages)) (contents_of mid.pages) (others_differ at bytes unwritten mid.pages (not_there (has_name at (length bytes)) mid.pages r.none))
 

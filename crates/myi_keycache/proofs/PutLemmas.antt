@@ -10,10 +10,10 @@ use Rattle.myi_base.specs.Ranges.{are_apart}
 use Rattle.myi_base.specs.Holding.{Holding, bytes_of, overwritten}
 use Rattle.myi_base.proofs.CallerLemmas.{told_same, told_more}
 use Rattle.myi_keycache.specs.declared.setup.Counters.{Counters}
-use Rattle.myi_keycache.specs.Kept.{Page, KeptPage, is_page, is_kept, is_unwritten, unwritten_count, NoOtherMeets, AddsOnly, SameKept}
+use Rattle.myi_keycache.specs.Kept.{Page, KeptPage, is_page, kept, is_kept, is_unwritten, unwritten_count, NoOtherMeets, AddsOnly, SameKept, KeepsOthers, ChangesNone}
 use Rattle.myi_keycache.specs.Counts.{raised, writes_after}
 use Rattle.myi_keycache.specs.Midpoint.{midpoint}
-use Rattle.myi_keycache.specs.Caching.{Caching, pages_of, listed_as, IsCurrent, Stays, Puts}
+use Rattle.myi_keycache.specs.Caching.{Caching, pages_of, listed_as, IsCurrent, Stays, Puts, due, WritesOne}
 use Rattle.myi_keycache.specs.Order.{Order, Split, with_page, with_bytes, contents_of, lists_in, has_name, page_of, room_in, due_in, counts_one, Pairs, Differ, Alike, PagesStay, WritesOnly, Stores, cache_of}
 use Rattle.myi_keycache.proofs.KeptLemmas.{unwritten_kept, kept_first, kept_later}
 use Rattle.myi_keycache.proofs.FrontLemmas.{unwritten_count_out, unwritten_out}
@@ -22,24 +22,30 @@ use Rattle.myi_keycache.proofs.OrderLemmas.{same_length, differ_with}
 use Rattle.myi_keycache.proofs.MidpointLemmas.{named}
 use Rattle.myi_keycache.proofs.CacheLemmas.{pages_eq, good_in, current_of}
 use Rattle.myi_keycache.proofs.LoadLemmas.{Room, put_in, adds_only, count_taken, not_kept}
-use Rattle.myi_keycache.proofs.OneLemmas.{due_is, due_hit}
+use Rattle.myi_keycache.proofs.OthersLemmas.{taken_there, taken_to_write, taken_keeps, renewed_there, renewed_to_write, renewed_keeps}
+use Rattle.myi_keycache.proofs.OneLemmas.{due_is, due_hit, one_none, one_ok, one_err}
 use Rattle.myi_keycache.proofs.GetLemmas.{of_pages}
 
 -- ---- a put that was refused
 
 pub refused_stores : {T E : Type 0} (before after : Option Holding) (name : List ℕ) (o mid : Order) (c k : Counters) (at : ℕ) (bytes : List ℕ) (e : E) → PagesStay o mid → WritesOnly before after (cache_of name o c) (cache_of name mid k)
-    → Stores {T = T} {E = E} before after at bytes (Err e) (cache_of name o c) (cache_of name mid k)
-refused_stores before after name o mid c k at bytes e stay w = record {
+    → WritesOne {T = T} {E = E} before after name (due (cache_of name o c) at (length bytes)) (Err e) → Stores {T = T} {E = E} before after at bytes (Err e) (cache_of name o c) (cache_of name mid k)
+refused_stores before after name o mid c k at bytes e stay w part = record {
   ok = tt;
   err = w.told;
   others = w.others;
   kept = of_pages SameKept name o mid c k stay.kept;
   added = of_pages (AddsOnly at (length bytes)) name o mid c k (λ p n found. inl (ap is_some (sym (stay.kept p n)) ∙ found));
+  there = tt;
+  to_write = tt;
+  keeps = of_pages (KeepsOthers at (length bytes)) name o mid c k (record { bytes = λ p n x other e. sym (stay.kept p n) ∙ e; unwritten = λ p n other u. stay.unwritten p n u });
+  unwritten = of_pages ChangesNone name o mid c k stay.unwritten;
   name = refl;
   setup = stay.setup;
   access = stay.lists;
   counters = w.counters;
   written = tt;
+  one = part;
 }
 
 -- ---- the file with a put
@@ -64,8 +70,8 @@ stays_puts at bytes a b c m n k one two = record {
 
 pub store_stores : {T E : Type 0} (before after : Option Holding) (name : List ℕ) (o mid new : Order) (c k d : Counters) (at : ℕ) (bytes : List ℕ) (answer : T) → PagesStay o mid → WritesOnly before after (cache_of name o c) (cache_of name mid k)
     → position (has_name at (length bytes)) o.pages ≡ None → Room o mid at (length bytes) → new.setup ≡ mid.setup → lists_in new ≡ midpoint mid.setup (lists_in mid) at (length bytes) → Alike (page_of at bytes true ∷ room_in mid) (contents_of new.pages)
-    → d ≡ record k { write_requests = raised 1 k.write_requests } → k ≡ counts_one (due_in o) c → Stores {T = T} {E = E} before after at bytes (Ok answer) (cache_of name o c) (cache_of name new d)
-store_stores before after name o mid new c k d at bytes answer stay w none r setup lists alike counted one =
+    → d ≡ record k { write_requests = raised 1 k.write_requests } → k ≡ counts_one (due_in o) c → WritesOne {T = T} {E = E} before after name (due (cache_of name o c) at (length bytes)) (Ok answer) → Stores {T = T} {E = E} before after at bytes (Ok answer) (cache_of name o c) (cache_of name new d)
+store_stores before after name o mid new c k d at bytes answer stay w none r setup lists alike counted one whole =
     let x = w.counters in
     let never : is_unwritten (pages_of (cache_of name o c)) at (length bytes) ≡ false = ap (λ l. is_unwritten l at (length bytes)) (pages_eq name o c) ∙ not_unwritten (is_unwritten (contents_of o.pages) at (length bytes)) refl in
     let a = ap unwritten_count (pages_eq name mid k) in
@@ -81,6 +87,10 @@ store_stores before after name o mid new c k d at bytes answer stay w none r set
       others = w.others;
       kept = tt;
       added = of_pages (AddsOnly at (length bytes)) name o new c d (adds_only o mid new at bytes true r alike);
+      there = ap (λ l. kept l at (length bytes)) (pages_eq name new d) ∙ taken_there o mid new at bytes true r alike;
+      to_write = ap (λ l. is_unwritten l at (length bytes)) (pages_eq name new d) ∙ taken_to_write mid new at bytes alike;
+      keeps = of_pages (KeepsOthers at (length bytes)) name o new c d (taken_keeps o mid new at bytes true r alike);
+      unwritten = tt;
       name = refl;
       setup = setup ∙ stay.setup;
       access = lists ∙ (λ i. midpoint (stay.setup i) (stay.lists i) at (length bytes));
@@ -90,6 +100,7 @@ store_stores before after name o mid new c k d at bytes answer stay w none r set
           ∙ (λ i. record { read_requests = c.read_requests; reads = c.reads; write_requests = raised 1 c.write_requests; writes = v i })
           ∙ (λ i. record { read_requests = c.read_requests; reads = c.reads; write_requests = raised 1 c.write_requests; writes = writes_after (if sym never i then 0 else 1) (pages_of (cache_of name o c)) (pages_of (cache_of name new d)) c.writes });
       written = ap (λ (t : Counters). t.writes) counted ∙ ap (λ (t : Counters). t.writes) one ∙ ap (λ (p : Option Page). raised (option_len p) c.writes) (sym (due_is name o c at (length bytes) none));
+      one = whole;
     }
   where
     not_unwritten : (b : Bool) → is_unwritten (contents_of o.pages) at (length bytes) ≡ b → b ≡ false
@@ -112,7 +123,10 @@ pub record Renewed (o o1 : Order) (index at : ℕ) (bytes : List ℕ) : Type 0 w
   pub lists : lists_in o1 ≡ lists_in o
   pub found : position (has_name at (length bytes)) o1.pages ≡ Some index
   pub differ : Pairs Differ (contents_of o1.pages)
+  pub there : kept (contents_of o1.pages) at (length bytes) ≡ Some bytes
+  pub to_write : is_unwritten (contents_of o1.pages) at (length bytes) ≡ true
   pub kept : (p n : ℕ) → is_kept (contents_of o1.pages) p n ≡ is_kept (contents_of o.pages) p n
+  pub keeps : KeepsOthers at (length bytes) (contents_of o.pages) (contents_of o1.pages)
   pub count : unwritten_count (contents_of o.pages) + (if is_unwritten (contents_of o.pages) at (length bytes) then 0 else 1) ≡ unwritten_count (contents_of o1.pages)
   pub puts : (file : List ℕ) → NoOtherMeets (is_kept (contents_of o.pages)) at (length bytes) → Good (contents_of o.pages) file → Putting at bytes (contents_of o.pages) (contents_of o1.pages) file file
 
@@ -172,6 +186,7 @@ renewed o o1 index at bytes s differ found is =
     let now : contents_of (with_page s q) ≡ front ++ y ∷ back = map-append _ s.front (q ∷ s.back) in
     let differ1 = subst (Pairs Differ) (parted o index s) differ in
     let out = (to_front front x back).differ differ1 in
+    let differ_now : Pairs Differ (front ++ y ∷ back) = subst (Pairs Differ) now (differ_with o.pages index s q refl (sym long) differ) in
     let unwritten_is : is_unwritten (contents_of o.pages) at (length bytes) ≡ x.unwritten = ap (λ l. is_unwritten l at (length bytes)) (parted o index s) ∙ unwritten_out front x back at (length bytes) ∙ unwritten_here x (front ++ back) at (length bytes) out.0 n.here in
     subst (λ (t : Order). Renewed o t index at bytes) (sym is) (record {
       setup = refl;
@@ -190,6 +205,10 @@ renewed o o1 index at bytes s differ found is =
           (λ j. cond (nat_lt (before j) (same_length o.pages index s q j)) (Some (before j)) None) ∙ found;
       differ = differ_with o.pages index s q refl (sym long) differ;
       kept = λ p k. ap (λ l. is_kept l p k) now ∙ kept_names front x y back p k refl (sym long) ∙ ap (λ l. is_kept l p k) (sym (parted o index s));
+      there = subst (λ (t : ℕ). kept (contents_of (with_page s q)) t (length bytes) ≡ Some bytes) at_is (ap (λ l. kept l x.at (length bytes)) now ∙ renewed_there front y back differ_now);
+      to_write = subst (λ (t : ℕ). is_unwritten (contents_of (with_page s q)) t (length bytes) ≡ true) at_is (ap (λ l. is_unwritten l x.at (length bytes)) now ∙ renewed_to_write front y back refl);
+      keeps = subst (λ (t : ℕ). KeepsOthers t (length bytes) (contents_of o.pages) (contents_of (with_page s q))) at_is
+          (subst (λ l. KeepsOthers x.at (length bytes) l (contents_of (with_page s q))) (sym (parted o index s)) (subst (λ l. KeepsOthers x.at (length bytes) (front ++ x ∷ back) l) (sym now) (renewed_keeps front x y back refl (sym long) differ1 differ_now)));
       count =
           let a = ap unwritten_count (parted o index s) ∙ unwritten_count_out front x back in
           let b = ap unwritten_count now ∙ unwritten_count_out front y back in
@@ -226,6 +245,10 @@ hit_stores before after name o o1 new c d index at bytes answer same r there sma
       err = tt;
       others = told_same before after _ same (λ m held q ne. refl);
       kept = tt;
+      there = ap (λ l. kept l at (length bytes)) (pages_eq name new d) ∙ alike.kept r.differ at (length bytes) ∙ r.there;
+      to_write = ap (λ l. is_unwritten l at (length bytes)) (pages_eq name new d) ∙ alike.unwritten at (length bytes) ∙ r.to_write;
+      keeps = of_pages (KeepsOthers at (length bytes)) name o new c d (record { bytes = λ p n x other e. r.keeps.bytes p n x other (sym (alike.kept r.differ p n) ∙ e); unwritten = λ p n other u. r.keeps.unwritten p n other (sym (alike.unwritten p n) ∙ u) });
+      unwritten = tt;
       added = of_pages (AddsOnly at (length bytes)) name o new c d (λ p n found. inl (sym (r.kept p n) ∙ ap is_some (sym (alike.kept r.differ p n)) ∙ found));
       name = refl;
       setup = setup ∙ r.setup;
@@ -234,6 +257,7 @@ hit_stores before after name o o1 new c d index at bytes answer same r there sma
       written =
           let same_writes : c.writes ≡ raised 0 c.writes = omega (arith, small) in
           ap (λ (t : Counters). t.writes) counted ∙ same_writes ∙ ap (λ (p : Option Page). raised (option_len p) c.writes) (sym (due_hit name o c at (length bytes) there));
+      one = one_none before after name (due (cache_of name o c) at (length bytes)) (Ok answer) (due_hit name o c at (length bytes) there) same;
     }
 
 pub stores_on : {T U E F : Type 0} (before after : Option Holding) (at : ℕ) (bytes : List ℕ) (x : T) (y : U) (old new old1 new1 : Caching) → old ≡ old1 → new ≡ new1 → Stores {T = T} {E = E} before after at bytes (Ok x) old new → Stores {T = U} {E = F} before after at bytes (Ok y) old1 new1
@@ -244,11 +268,16 @@ stores_on {T} {U} {E} {F} before after at bytes x y old new old1 new1 a b g =
       others = g.others;
       kept = tt;
       added = g.added;
+      there = g.there;
+      to_write = g.to_write;
+      keeps = g.keeps;
+      unwritten = tt;
       name = g.name;
       setup = g.setup;
       access = g.access;
       counters = g.counters;
       written = g.written;
+      one = one_ok before after old.name (due old at (length bytes)) x y g.one;
     }))
 
 pub refused_on : {T U E F : Type 0} (before after : Option Holding) (at : ℕ) (bytes : List ℕ) (e : E) (f : F) (old new old1 new1 : Caching) → old ≡ old1 → new ≡ new1 → Stores {T = T} {E = E} before after at bytes (Err e) old new → Stores {T = U} {E = F} before after at bytes (Err f) old1 new1
@@ -259,9 +288,14 @@ refused_on {T} {U} {E} {F} before after at bytes e f old new old1 new1 a b g =
       others = g.others;
       kept = g.kept;
       added = g.added;
+      there = tt;
+      to_write = tt;
+      keeps = g.keeps;
+      unwritten = g.unwritten;
       name = g.name;
       setup = g.setup;
       access = g.access;
       counters = g.counters;
       written = tt;
+      one = one_err before after old.name (due old at (length bytes)) e f g.one;
     }))

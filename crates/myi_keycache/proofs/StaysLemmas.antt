@@ -103,7 +103,7 @@ keeping_alike old new file differ alike good = record {
 }
 
 -- what is lent of a page and others
-not_named : (x : Page) (pages : List Page) (p n : ℕ) → AllByRecursion (Differ x) pages → is_page p n x ≡ true → kept pages p n ≡ None
+pub not_named : (x : Page) (pages : List Page) (p n : ℕ) → AllByRecursion (Differ x) pages → is_page p n x ≡ true → kept pages p n ≡ None
 unfolding kept
 not_named x [] p n all is = refl
 not_named x (q ∷ pages) p n all is =

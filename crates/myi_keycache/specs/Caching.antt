@@ -1,13 +1,13 @@
 -- A key cache over one file, what the files hold beside it, and how a call changes both.
-use Rattle.std.specs.Prelude.{◌≡◌, ◌⊎◌, ◌||◌, ◌+◌, ℕ, true, false, nat_lt, List, ◌++◌, length, map, slice_get, All, AllPairs, Option, Some, None, IfSome, Result, Ok, Err, OnOk, OnErr, if◌then◌else◌}
+use Rattle.std.specs.Prelude.{◌≡◌, ◌⊎◌, ◌||◌, ◌+◌, ℕ, true, false, nat_lt, List, ◌++◌, length, map, slice_get, All, AllPairs, Option, Some, None, IfSome, MatchOption, Result, Ok, Err, OnOk, OnErr, if◌then◌else◌}
 use Rattle.std.specs.Option.{option_len}
 use Rattle.myi_base.specs.Ranges.{are_apart}
-use Rattle.myi_base.specs.Holding.{Holding, bytes_of, overwritten, Told, Writes, WritesPart, OthersStay}
+use Rattle.myi_base.specs.Holding.{Holding, bytes_of, overwritten, IfTold, Told, Writes, WritesPart, OthersStay}
 use Rattle.myi_keycache.specs.declared.setup.CacheSetup.{CacheSetup}
 use Rattle.myi_keycache.specs.declared.setup.Counters.{Counters}
 use Rattle.myi_keycache.specs.Midpoint.{Listed, Lists, midpoint}
-use Rattle.myi_keycache.specs.Kept.{Page, KeptPage, range_of, is_kept, is_unwritten, NoOtherMeets, AddsOnly, SameKept, ChangesNone}
-use Rattle.myi_keycache.specs.Lent.{bytes_at, lent, flushed}
+use Rattle.myi_keycache.specs.Kept.{Page, KeptPage, range_of, kept, is_kept, is_unwritten, NoOtherMeets, AddsOnly, SameKept, KeepsBytes, ChangesNone}
+use Rattle.myi_keycache.specs.Lent.{bytes_at, Has, lent, flushed}
 use Rattle.myi_keycache.specs.Counts.{raised, gets_counted}
 
 -- a key cache: the name of its file, its setup, the pages that it keeps on two lists, the number of accesses, and its counters
@@ -89,6 +89,11 @@ pub record CanGet (cache : Caching) (m : Holding) (at len : ℕ) : Type 0 where
 abbrev pub IsLent : Caching → ℕ → ℕ → Option (List ℕ) → Holding → Type 0
 IsLent cache at len page m = CanGet cache m at len → lends cache m at len ≡ page
 
+-- What is read of a range, whatever the file is: the bytes of its page where that is kept, else what the file has, where it is
+-- told.
+abbrev pub IsRead : Option Holding → Caching → ℕ → ℕ → Option (List ℕ) → Type 0
+IsRead told cache at len bytes = MatchOption (kept (pages_of cache) at len) (IfTold told (Has cache.name at len bytes)) (λ x. bytes ≡ Some x)
+
 -- where the files hold this, a page may be put there: no other page that is kept has a part of the range
 pub record CanPut (cache : Caching) (m : Holding) (at len : ℕ) : Type 0 where
   pub current : IsCurrent cache m
@@ -122,12 +127,15 @@ pub record Flushes (old new : Caching) (m n : Holding) : Type 0 where
   pub lent : SameLent old m new n
   pub file : bytes_of old.name n ≡ contents old m
 
--- The cache after a call of get. No page became unwritten, and after a refusal the same pages are kept.
+-- The cache after a call of get. The page is kept as it was read, no page has other bytes or became unwritten, and after a
+-- refusal the same pages are kept.
 pub record Gets {T E : Type 0} (before after : Option Holding) (at len : ℕ) (result : Result T E) (old new : Caching) : Type 0 where
   pub name : new.name ≡ old.name
   pub setup : new.setup ≡ old.setup
   pub access : IsAccess result at len old new
   pub added : AddsOnly at len (pages_of old) (pages_of new)
+  pub there : OnOk result (IsRead before old at len (kept (pages_of new) at len))
+  pub bytes : KeepsBytes (pages_of old) (pages_of new)
   pub unwritten : ChangesNone (pages_of old) (pages_of new)
   pub refused : OnErr result (SameKept (pages_of old) (pages_of new))
   pub counters : new.counters ≡ gets_counted result at len (pages_of old) (pages_of new) old.counters

@@ -1,6 +1,6 @@
 -- The pages that a key cache keeps (MySQL Reference Manual, "The MyISAM Key Cache": blocks that were read,
 -- and blocks that were changed and that the index file has yet to get).
-use Rattle.std.specs.Prelude.{◌≡◌, ◌==◌, ◌&&◌, ◌⊎◌, ◌+◌, ◌<◌, ℕ, Bool, true, false, List, length, find, count_by, Option, option_map, is_some}
+use Rattle.std.specs.Prelude.{◌≡◌, ◌==◌, ◌&&◌, ◌⊎◌, ◌+◌, ◌<◌, ℕ, Bool, true, false, List, length, find, count_by, Option, Some, option_map, is_some}
 use Rattle.std.specs.List.{list_any}
 use Rattle.myi_base.specs.Ranges.{Range, are_apart}
 
@@ -44,6 +44,20 @@ NoOtherMeets test at len = (p n : ℕ) → test p n ≡ true → ((p ≡ at) × 
 -- each page that is kept was kept before, or is the one of this place and length
 abbrev pub AddsOnly : ℕ → ℕ → List Page → List Page → Type 0
 AddsOnly at len old new = (p n : ℕ) → is_kept new p n ≡ true → (is_kept old p n ≡ true) ⊎ ((p ≡ at) × (n ≡ len))
+
+-- a page has another place than this one, or another length
+abbrev pub AreOthers : ℕ → ℕ → ℕ → ℕ → Type 0
+AreOthers p n at len = p ≡ at → n ≡ len → ⊥
+
+-- a page that is kept before and after has the bytes that it had
+abbrev pub KeepsBytes : List Page → List Page → Type 0
+KeepsBytes old new = (p n : ℕ) (x y : List ℕ) → kept old p n ≡ Some x → kept new p n ≡ Some y → y ≡ x
+
+-- Of the pages but the one of this place and length: each that is kept was kept with the same bytes, and each unwritten one was
+-- unwritten.
+pub record KeepsOthers (at len : ℕ) (old new : List Page) : Type 0 where
+  pub bytes : (p n : ℕ) (x : List ℕ) → AreOthers p n at len → kept new p n ≡ Some x → kept old p n ≡ Some x
+  pub unwritten : (p n : ℕ) → AreOthers p n at len → is_unwritten new p n ≡ true → is_unwritten old p n ≡ true
 
 -- the same pages are kept, with the same bytes
 abbrev pub SameKept : List Page → List Page → Type 0

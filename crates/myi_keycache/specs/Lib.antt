@@ -14,6 +14,8 @@ pub mod Lent
 pub mod Counts
 -- what each call does to a cache and its file
 pub mod Caching
+-- what a flush writes
+pub mod Flushing
 -- what serves private contracts
 
 -- the pages in one order, and other orders of the same pages

@@ -2,7 +2,7 @@
 -- from the beginning of the warm list, and a page that is asked for often goes to the hot list. That the age of a page counts
 -- all accesses, also those of pages that were not kept, is this project's own.
 use Rattle.std.specs.Prelude.{◌≡◌, ◌⊎◌, ◌==◌, ◌&&◌, ◌||◌, ◌≤◌, ◌+◌, ◌-◌, ◌*◌, ◌/◌, ℕ, Bool, nat_le, nat_lt, List, [], ◌∷◌, ◌++◌, length, drop, find, count_by, slice_get, Option, Some, None, is_some, if◌then◌else◌}
-use Rattle.std.specs.Option.{option_map_or}
+use Rattle.std.specs.Option.{option_or, option_map_or}
 use Rattle.myi_keycache.specs.declared.setup.CacheSetup.{CacheSetup}
 use Rattle.myi_keycache.specs.Counts.{raised}
 
@@ -68,6 +68,19 @@ asked setup at len lists =
     option_map_or (λ page. hit_warm setup page lists) (listed at len lists.warm)
     (option_map_or (λ page. hit_hot page lists) (listed at len lists.hot) (taken_in setup at len lists))
 
+-- the lists after an access, before the age is looked at
+abbrev pub accessed : CacheSetup → Lists → ℕ → ℕ → Lists
+accessed setup lists at len = asked setup at len (record lists { accesses = raised 1 lists.accesses })
+
+-- the page that was asked for, as it stands on a list afterwards: a warm page has one hit more, and a page that was not there none
+abbrev pub asked_page : Lists → ℕ → ℕ → Listed
+asked_page lists at len = record {
+  at = at;
+  len = len;
+  hits = option_map_or (λ page. raised 1 page.hits) (listed at len lists.warm) (option_map_or (λ page. page.hits) (listed at len lists.hot) 0);
+  last = raised 1 lists.accesses;
+}
+
 -- how many accesses may follow the last one to a hot page before it is old
 abbrev pub age_limit : CacheSetup → ℕ
 age_limit setup = (setup.blocks * setup.age) / 100
@@ -80,7 +93,11 @@ aged setup lists =
 
 -- the lists after one access to the page of that place and length
 unfoldable pub midpoint : CacheSetup → Lists → ℕ → ℕ → Lists
-midpoint setup lists at len = aged setup (asked setup at len (record lists { accesses = raised 1 lists.accesses }))
+midpoint setup lists at len = aged setup (accessed setup lists at len)
+
+-- the page of that name, on whichever list it is
+abbrev pub on_lists : ℕ → ℕ → Lists → Option Listed
+on_lists at len lists = option_or (listed at len lists.warm) (listed at len lists.hot)
 
 -- the page of that place and length is on a list
 abbrev pub is_listed : Lists → ℕ → ℕ → Bool

@@ -1,5 +1,5 @@
 -- The pages of a key cache in one order: the warm list, and behind it the hot list.
-use Rattle.std.specs.Prelude.{◌≡◌, ◌≤◌, ◌+◌, ◌-◌, ◌*◌, ◌&&◌, ◌||◌, ℕ, suc, Bool, true, false, nat_le, nat_lt, List, [], ◌∷◌, ◌++◌, length, map, take, drop, position, slice_get, Option, Some, None, IfSome, Result, OnOk, OnErr, if◌then◌else◌}
+use Rattle.std.specs.Prelude.{◌≡◌, ◌≤◌, ◌+◌, ◌-◌, ◌*◌, ◌&&◌, ◌||◌, ℕ, suc, Bool, true, false, nat_le, nat_lt, List, [], ◌∷◌, ◌++◌, length, map, take, drop, position, slice_get, Option, Some, None, IfSome, Result, IfOk, IfErr, OnOk, OnErr, if◌then◌else◌}
 use Rattle.std.specs.List.{AllByRecursion}
 use Rattle.std.specs.Option.{option_len}
 use Rattle.myi_keycache.specs.declared.setup.CacheSetup.{CacheSetup}
@@ -10,9 +10,9 @@ use Rattle.myi_keycache.specs.declared.blocks.PageName.{PageName}
 use Rattle.myi_keycache.specs.declared.blocks.Block.{Block}
 use Rattle.myi_keycache.specs.Setup.{IsSetup}
 use Rattle.myi_base.specs.Holding.{Holding, IfTold, Told, OthersStay}
-use Rattle.myi_keycache.specs.Kept.{Page, KeptPage, is_page, SameKept, SameUnwritten, AddsOnly, ChangesNone, AllWritten, unwritten_count}
+use Rattle.myi_keycache.specs.Kept.{Page, KeptPage, is_page, kept, is_unwritten, SameKept, SameUnwritten, AddsOnly, KeepsOthers, ChangesNone, AllWritten, unwritten_count}
 use Rattle.myi_keycache.specs.Lent.{meets_unwritten, flushed}
-use Rattle.myi_keycache.specs.Caching.{Caching, pages_of, listed_as, if_unwritten, due, IsClean, ArePlaced, IsAccess, IsCurrent, IsLent, CanPut, Puts, Stays}
+use Rattle.myi_keycache.specs.Caching.{Caching, pages_of, listed_as, if_unwritten, due, WritesOne, IsClean, ArePlaced, IsAccess, IsCurrent, IsLent, IsRead, CanPut, Puts, Stays, Gets}
 use Rattle.myi_keycache.specs.Counts.{raised, puts_counted, flushes_counted}
 use Rattle.myi_keycache.specs.Midpoint.{Lists}
 
@@ -160,32 +160,45 @@ pub record WritesOnly (before after : Option Holding) (old new : Caching) : Type
 abbrev pub IsFirstWritten : List Page → Type 0
 IsFirstWritten pages = IfSome (slice_get pages 0) (λ p. p.unwritten ≡ false)
 
--- the page could not be read: the file ends before its end
-abbrev pub IsShort : Option Holding → ℕ → ℕ → Caching → CacheFault → Type 0
-IsShort told at len old fault = (p : ℕ) → fault ≡ Short p → (p ≡ at) × IfTold told (IsLent old at len None)
-
--- the file ends before its end, and nothing was written
-abbrev pub IsReadFirst : Option Holding → Option Holding → CacheFault → Type 0
-IsReadFirst before after fault = (p : ℕ) → fault ≡ Short p → after ≡ before
+-- the page could not be read: it is not kept, the file ends before its end, and nothing was written
+pub record IsShort (before after : Option Holding) (at len : ℕ) (old : Caching) : Type 0 where
+  pub lent : IfTold before (IsLent old at len None)
+  pub read : IsRead before old at len None
+  pub same : after ≡ before
 
 -- what a get answers: a page of this length, which the cache lent of the range
-abbrev pub IsAnswer : Option Holding → ℕ → ℕ → Caching → Option Page → Type 0
-IsAnswer told at len old page = (p : Page) × (page ≡ Some p) × (length p.bytes ≡ len) × IfTold told (IsLent old at len (Some p.bytes))
+pub record IsAnswer (before : Option Holding) (at len : ℕ) (old : Caching) (bytes : List ℕ) : Type 0 where
+  pub long : length bytes ≡ len
+  pub lent : IfTold before (IsLent old at len (Some bytes))
+  pub read : IsRead before old at len (Some bytes)
+
+-- a get that answers the index of its page
+pub record Finds (before after : Option Holding) (at len : ℕ) (result : Result ℕ CacheFault) (old new : Caching) : Type 0 where
+  pub there : IfOk result (λ index. (p : Page) × (slice_get (pages_of new) index ≡ Some p) × IsAnswer before at len old p.bytes)
+  pub short : IfErr result (λ e. (p : ℕ) → e ≡ Short p → (p ≡ at) × IsShort before after at len old)
+  pub clean : AllWritten (pages_of old) → after ≡ before
+  pub one : WritesOne before after old.name (due old at len) result
+  pub gets : Gets before after at len result old new
 
 -- the places of the unwritten pages, each with its index counted from a number on
 abbrev pub unwritten_from : ℕ → List Page → List (ℕ × ℕ)
 unwritten_from i [] = []
 unwritten_from i (p ∷ ps) = if p.unwritten then (p.at, i) ∷ unwritten_from (suc i) ps else unwritten_from (suc i) ps
 
--- the cache after a call of put
+-- the cache after a call of put, and what was written
 pub record Stores {T E : Type 0} (before after : Option Holding) (at : ℕ) (bytes : List ℕ) (result : Result T E) (old new : Caching) : Type 0 where
   pub ok : OnOk result (Told before after (λ m n. CanPut old m at (length bytes) → Puts at bytes old new m n))
   pub err : OnErr result (Told before after (λ m n. IsCurrent old m → Stays old new m n))
   pub others : Told before after (OthersStay old.name)
+  pub there : OnOk result (kept (pages_of new) at (length bytes) ≡ Some bytes)
+  pub to_write : OnOk result (is_unwritten (pages_of new) at (length bytes) ≡ true)
   pub kept : OnErr result (SameKept (pages_of old) (pages_of new))
   pub added : AddsOnly at (length bytes) (pages_of old) (pages_of new)
+  pub keeps : KeepsOthers at (length bytes) (pages_of old) (pages_of new)
+  pub unwritten : OnErr result (ChangesNone (pages_of old) (pages_of new))
   pub name : new.name ≡ old.name
   pub setup : new.setup ≡ old.setup
   pub access : IsAccess result at (length bytes) old new
   pub counters : new.counters ≡ puts_counted result at (length bytes) (pages_of old) (pages_of new) old.counters
   pub written : OnOk result (new.counters.writes ≡ raised (option_len (due old at (length bytes))) old.counters.writes)
+  pub one : WritesOne before after old.name (due old at (length bytes)) result

@@ -138,6 +138,13 @@ impl Blocks {
         }
     }
 
+    /// Each page is there once, and there are no more than may be kept.
+    pub(crate) fn are_ordered(&self)
+        ensures { IsOrdered self.now }
+    {
+        let _ = &self.pages;
+    }
+
     /// The index of the page of that name.
     pub(crate) fn index_of(&self, name: PageName) -> Option<usize>
         ensures index { result ≡ position (has_name name.at name.size) self.now.pages }

@@ -4,16 +4,17 @@
 //! there is read into a buffer, then the page that is to leave is written, and only then is the new one taken in,
 //! so that a refusal leaves the lists.
 ghost use Rattle.std.specs.Prelude.{◌≡◌, ◌≤◌, ◌<◌, ◌⊎◌, ◌+◌, ◌^◌, ℕ, true, Some, None, length, position};
-ghost use Rattle.std.specs.Prelude.{slice_get, nat_le, vec_len, IfOk, IfErr, OnOk, OnErr, IsOk, IsTrue};
+ghost use Rattle.std.specs.Prelude.{nat_le, vec_len, IfErr, OnOk, OnErr, IsOk, IsTrue};
 ghost use Rattle.myi_base.specs.Holding.{IfTold};
 ghost use Rattle.myi_base.specs.Causes.{HasCause};
 ghost use Rattle.myi_keycache.specs.declared.setup.CacheFault.TheVariants.{Short, File, Memory};
 ghost use Rattle.myi_keycache.specs.Kept.{is_kept, AllWritten, WrittenUpTo};
 ghost use Rattle.myi_keycache.specs.Lent.{Has};
-ghost use Rattle.myi_keycache.specs.Caching.{Gets, due, WritesOne};
+ghost use Rattle.myi_keycache.specs.Caching.{due, WritesOne};
+ghost use Rattle.myi_keycache.specs.Flushing.{FlushWrites};
 ghost use Rattle.myi_keycache.specs.Order.{contents_of, unwritten_at, due_in, counts_one, has_name, cache_of};
 ghost use Rattle.myi_keycache.specs.Order.{Pairs, Differ, Split, with_page, as_written, IsFirstWritten};
-ghost use Rattle.myi_keycache.specs.Order.{IsAnswer, IsShort, IsReadFirst, PagesStay, WritesOnly, Stores};
+ghost use Rattle.myi_keycache.specs.Order.{PagesStay, WritesOnly, Finds, Stores};
 
 use crate::blocks::{Blocks, PageName};
 use crate::setup::{CacheFault, CacheSetup, Counters};
@@ -143,17 +144,7 @@ fn load<F: Files>(
     requires differ { Pairs Differ (contents_of blocks.old.pages) }
     requires writable { IsTrue F.writable ⊎ AllWritten (contents_of blocks.old.pages) }
     requires writes { counters.old.writes < 2 ^ 64 }
-    ensures there { IfOk result (λ index. IsAnswer (F.holds files.old) page.at page.size
-        (cache_of name.now blocks.old counters.old)
-        (slice_get (contents_of blocks.new.pages) index)) }
-    ensures short { IfErr result (IsShort (F.holds files.old) page.at page.size
-        (cache_of name.now blocks.old counters.old)) }
-    ensures clean { AllWritten (contents_of blocks.old.pages)
-        → F.holds files.new ≡ F.holds files.old }
-    ensures one { WritesOne (F.holds files.old) (F.holds files.new) name.now
-        (due (cache_of name.now blocks.old counters.old) page.at page.size) result }
-    ensures read_first { IfErr result (IsReadFirst (F.holds files.old) (F.holds files.new)) }
-    ensures gets { Gets (F.holds files.old) (F.holds files.new) page.at page.size result
+    ensures finds { Finds (F.holds files.old) (F.holds files.new) page.at page.size result
         (cache_of name.now blocks.old counters.old) (cache_of name.now blocks.new counters.new) }
     ensures cause { HasCause File (F.faults files.old) (F.faults files.new) result }
     ensures reads { F.reads files.old ≤ F.reads files.new }
@@ -178,27 +169,16 @@ fn find<F: Files>(
     requires limit { page.size ≤ 16384 }
     requires writable { IsTrue F.writable ⊎ AllWritten (contents_of blocks.old.pages) }
     requires writes { counters.old.writes < 2 ^ 64 }
-    ensures there { IfOk result (λ index. IsAnswer (F.holds files.old) page.at page.size
-        (cache_of name.now blocks.old counters.old)
-        (slice_get (contents_of blocks.new.pages) index)) }
-    ensures short { IfErr result (IsShort (F.holds files.old) page.at page.size
-        (cache_of name.now blocks.old counters.old)) }
-    ensures clean { AllWritten (contents_of blocks.old.pages)
-        → F.holds files.new ≡ F.holds files.old }
-    ensures one { WritesOne (F.holds files.old) (F.holds files.new) name.now
-        (due (cache_of name.now blocks.old counters.old) page.at page.size) result }
-    ensures read_first { IfErr result (IsReadFirst (F.holds files.old) (F.holds files.new)) }
+    ensures finds { Finds (F.holds files.old) (F.holds files.new) page.at page.size result
+        (cache_of name.now blocks.old counters.old) (cache_of name.now blocks.new counters.new) }
     ensures hit { is_kept (contents_of blocks.old.pages) page.at page.size ≡ true
         → IsOk result × (files.new ≡ files.old) }
-    ensures gets { Gets (F.holds files.old) (F.holds files.new) page.at page.size result
-        (cache_of name.now blocks.old counters.old) (cache_of name.now blocks.new counters.new) }
     ensures cause { HasCause File (F.faults files.old) (F.faults files.new) result }
     ensures reads { F.reads files.old ≤ F.reads files.new }
     ensures once { F.reads files.new ≤ F.reads files.old + 1 }
 {
     let Some(index) = blocks.index_of(page) else {
-        let index = load(files, name, blocks, buffer, counters, page)?;
-        return Ok(index);
+        return load(files, name, blocks, buffer, counters, page);
     };
     let now = blocks.hit(index);
     counters.count_get(false);
@@ -218,8 +198,6 @@ fn store<F: Files>(
     requires differ { Pairs Differ (contents_of blocks.old.pages) }
     requires writable { IsTrue F.writable }
     requires writes { counters.old.writes < 2 ^ 64 }
-    ensures one { WritesOne (F.holds files.old) (F.holds files.new) name.now
-        (due (cache_of name.now blocks.old counters.old) at (length buffer.old.items)) result }
     ensures quiet { due (cache_of name.now blocks.old counters.old) at
         (length buffer.old.items) ≡ None → files.new ≡ files.old }
     ensures stores { Stores (F.holds files.old) (F.holds files.new) at buffer.old.items result
@@ -249,6 +227,9 @@ fn write_all<F: Files>(
     ensures stay { PagesStay blocks.old blocks.new }
     ensures writes { WritesOnly (F.holds files.old) (F.holds files.new)
         (cache_of name.now blocks.old counters.old) (cache_of name.now blocks.new counters.new) }
+    ensures turns { FlushWrites (F.holds files.old) (F.holds files.new) result
+        (cache_of name.now blocks.old counters.old) (cache_of name.now blocks.new counters.new) }
+    ensures quiet { AllWritten (contents_of blocks.old.pages) → files.new ≡ files.old }
     ensures faults { IfErr result (λ e. (e ≡ File) ⊎ (e ≡ Memory)) }
     ensures cause { HasCause File (F.faults files.old) (F.faults files.new) result }
     ensures reads { F.reads files.new ≡ F.reads files.old }
@@ -301,7 +282,7 @@ impl Model for KeyCache {
 }
 
 impl KeyCache {
-    ghost use Rattle.std.specs.Prelude.{◌≡◌, ◌≤◌, ◌⊎◌, ◌+◌, ◌++◌, ℕ, [], Some, None, true, length};
+    ghost use Rattle.std.specs.Prelude.{◌≡◌, ◌≤◌, ◌⊎◌, ◌+◌, ℕ, [], Some, None, true, length};
     ghost use Rattle.std.specs.Prelude.{IfOk, IfErr, IsOk, IsTrue, OnOk, OnErr};
     ghost use Rattle.std.specs.Option.{option_len};
     ghost use Rattle.std.specs.Borrow.{sem};
@@ -310,10 +291,13 @@ impl KeyCache {
     ghost use Rattle.myi_base.specs.Causes.{HasCause};
     ghost use Rattle.myi_keycache.specs.declared.setup.CacheFault.TheVariants.{Short, File, Memory};
     ghost use Rattle.myi_keycache.specs.Setup.{IsSetup};
-    ghost use Rattle.myi_keycache.specs.Kept.{is_kept, AddsOnly, SameKept, AllWritten, WrittenUpTo};
+    ghost use Rattle.myi_keycache.specs.Kept.{kept, is_kept, is_unwritten, AddsOnly, SameKept};
+    ghost use Rattle.myi_keycache.specs.Kept.{KeepsOthers, ChangesNone, AllWritten, WrittenUpTo};
     ghost use Rattle.myi_keycache.specs.Counts.{raised, puts_counted, flushes_counted};
-    ghost use Rattle.myi_keycache.specs.Caching.{Caching, pages_of, lists_of, IsAccess, IsLent, IsCurrent};
+    ghost use Rattle.myi_keycache.specs.Midpoint.{AreLists};
+    ghost use Rattle.myi_keycache.specs.Caching.{pages_of, lists_of, IsAccess, IsLent, IsRead, IsCurrent};
     ghost use Rattle.myi_keycache.specs.Caching.{CanPut, Puts, Stays, Flushes, Gets, due, WritesOne};
+    ghost use Rattle.myi_keycache.specs.Flushing.{FlushWrites};
     ghost use Rattle.myi_keycache.specs.contracts.cache.KeyCache.{the_row};
 
     /// A cache of the file of that name, which keeps no page yet. Any file is current for it.
@@ -339,10 +323,11 @@ impl KeyCache {
         })
     }
 
-    /// The page of a place and a length in bytes, lent as the file with all earlier puts has it. `Short`
-    /// says that it is not kept, and that the file ends before its end. After a refusal the same is lent
-    /// as before, and nothing was counted but what was written. All that is said of bytes holds where the
-    /// file is as the last call of this cache left it and no other unwritten page meets the range.
+    /// The page of a place and a length in bytes, lent as the file with all earlier puts has it: the bytes that
+    /// are kept for it, or else those that the file has. `Short` says that it is not kept, and that the file
+    /// ends before its end. After a refusal the same is lent as before, and nothing was counted but what was
+    /// written. What is said of bytes that are lent holds where the file is as the last call of this cache left
+    /// it and no other unwritten page meets the range.
     pub fn get<F: Files>(
         &mut self,
         files: &mut F,
@@ -356,6 +341,10 @@ impl KeyCache {
         ensures long { IfOk result (λ page. length page.now ≡ size) }
         ensures short { IfErr result (λ e. (p : ℕ) → e ≡ Short p
             → (p ≡ at) × IfTold (F.holds files.old) (IsLent self.old at size None)) }
+        ensures read { IfOk result (λ page.
+            IsRead (F.holds files.old) self.old at size (Some page.now)) }
+        ensures ended { IfErr result (λ e. (p : ℕ) → e ≡ Short p
+            → IsRead (F.holds files.old) self.old at size None) }
         ensures clean { AllWritten (pages_of self.old) → F.holds files.new ≡ F.holds files.old }
         ensures hit { is_kept (pages_of self.old) at size ≡ true
             → IsOk result × (files.new ≡ files.old) }
@@ -380,9 +369,10 @@ impl KeyCache {
         Ok(self.blocks.page(index).1)
     }
 
-    /// Puts these bytes as the page of a place, whose length is theirs. After a refusal the same is lent as
-    /// before, and the same pages are kept. What is said of bytes holds where the file is as the last call of
-    /// this cache left it and no other page that is kept meets the range.
+    /// Puts these bytes as the page of a place, whose length is theirs, and keeps it. Of other pages no bytes
+    /// change, and none becomes unwritten. After a refusal the same is lent as before, and the same pages are
+    /// kept. What is said of bytes that are lent holds where the file is as the last call of this cache left it
+    /// and no other page that is kept meets the range.
     pub fn put<F: Files>(&mut self, files: &mut F, at: u64, bytes: &[u8]) -> Result<(), CacheFault>
         requires limit { length bytes.now ≤ 16384 }
         requires writable { IsTrue F.writable }
@@ -394,6 +384,13 @@ impl KeyCache {
         ensures others { Told (F.holds files.old) (F.holds files.new) (OthersStay self.old.name) }
         ensures kept { OnErr result (SameKept (pages_of self.old) (pages_of self.new)) }
         ensures added { AddsOnly at (length bytes.now) (pages_of self.old) (pages_of self.new) }
+        ensures there { OnOk result
+            (kept (pages_of self.new) at (length bytes.now) ≡ Some bytes.now) }
+        ensures to_write { OnOk result
+            (is_unwritten (pages_of self.new) at (length bytes.now) ≡ true) }
+        ensures keeps { KeepsOthers at (length bytes.now)
+            (pages_of self.old) (pages_of self.new) }
+        ensures unwritten { OnErr result (ChangesNone (pages_of self.old) (pages_of self.new)) }
         ensures name { self.new.name ≡ self.old.name }
         ensures setup { self.new.setup ≡ self.old.setup }
         ensures access { IsAccess result at (length bytes.now) self.old self.new }
@@ -430,9 +427,10 @@ impl KeyCache {
         Ok(())
     }
 
-    /// Writes all unwritten pages in order of place, so that the file has what was put. After a refusal the
-    /// same is lent as before, the pages are still kept, and those behind some place are still unwritten. What
-    /// is said of bytes holds where the file is as the last call of this cache left it.
+    /// Writes all unwritten pages in order of place and nothing else, so that the file has what was put. After a
+    /// refusal a first part of them is written and no more than a part of the next, the pages are still kept, and
+    /// the rest is still unwritten. That the same is lent, and that the file has all that was put, holds where the
+    /// file is as the last call of this cache left it.
     pub fn flush<F: Files>(&mut self, files: &mut F) -> Result<(), CacheFault>
         requires writable { IsTrue F.writable }
         ensures ok { OnOk result (Told (F.holds files.old) (F.holds files.new)
@@ -442,7 +440,11 @@ impl KeyCache {
         ensures others { Told (F.holds files.old) (F.holds files.new) (OthersStay self.old.name) }
         ensures written { OnOk result (AllWritten (pages_of self.new)) }
         ensures in_order { OnErr result (WrittenUpTo (pages_of self.old) (pages_of self.new)) }
+        ensures writes { FlushWrites (F.holds files.old) (F.holds files.new) result
+            self.old self.new }
+        ensures quiet { AllWritten (pages_of self.old) → files.new ≡ files.old }
         ensures kept { SameKept (pages_of self.old) (pages_of self.new) }
+        ensures unwritten { ChangesNone (pages_of self.old) (pages_of self.new) }
         ensures lists { lists_of self.new ≡ lists_of self.old }
         ensures clean { AllWritten (pages_of self.old) → F.holds files.new ≡ F.holds files.old }
         ensures name { self.new.name ≡ self.old.name }
@@ -462,11 +464,14 @@ impl KeyCache {
         Ok(())
     }
 
-    /// How often the cache was asked, and how often it went to the file.
+    /// How often the cache was asked, and how often it went to the file. On the lists of a cache no page stands
+    /// twice, and there are no more than it may keep.
     pub fn counters(&self) -> Counters
         ensures counters { result ≡ self.now.counters }
         ensures fewer { result.reads ≤ result.read_requests }
+        ensures lists { AreLists self.now.setup (lists_of self.now) }
     {
+        self.blocks.are_ordered();
         self.counters
     }
 }

@@ -1,20 +1,23 @@
 //! Laws over the definitions of this crate. Each is the contract of a function that does nothing, so
 //! that it is proved with the crate and stands for the crates above.
-ghost use Rattle.std.specs.Prelude.{◌≡◌, ◌≤◌, ◌<◌, ◌⊎◌, ◌+◌, ◌++◌, ◌∷◌};
-ghost use Rattle.std.specs.Prelude.{ℕ, List, [], Some, length, true, false};
+ghost use Rattle.std.specs.Prelude.{◌≡◌, ◌≤◌, ◌<◌, ◌⊎◌, ◌+◌, ◌-◌, ◌++◌, ◌∷◌};
+ghost use Rattle.std.specs.Prelude.{ℕ, List, [], Some, None, length, slice_get, option_map, true, false};
 ghost use Rattle.myi_base.specs.Ranges.{are_apart};
 ghost use Rattle.myi_base.specs.Holding.{Holding, bytes_of, overwritten};
 ghost use Rattle.myi_keycache.specs.Kept.{Page, is_kept, is_unwritten};
-ghost use Rattle.myi_keycache.specs.Kept.{NoOtherMeets, AddsOnly, AllWritten};
+ghost use Rattle.myi_keycache.specs.Kept.{AreOthers, NoOtherMeets, AddsOnly, AllWritten};
 ghost use Rattle.myi_keycache.specs.declared.setup.CacheSetup.{CacheSetup};
 ghost use Rattle.myi_keycache.specs.Setup.{IsSetup};
 ghost use Rattle.myi_keycache.specs.Counts.{raised};
 ghost use Rattle.myi_keycache.specs.Midpoint.{Listed, Lists, listed, without, keeps_share, asked};
-ghost use Rattle.myi_keycache.specs.Midpoint.{aged, midpoint, goes, AreLists, IsFirst};
+ghost use Rattle.myi_keycache.specs.Midpoint.{accessed, asked_page, age_limit, midpoint, on_lists, goes};
+ghost use Rattle.myi_keycache.specs.Midpoint.{AreLists, IsFirst};
 ghost use Rattle.myi_keycache.specs.WorkedRun.{four_blocks, page_at, after_accesses};
 ghost use Rattle.myi_keycache.specs.Lent.{bytes_at};
-ghost use Rattle.myi_keycache.specs.Caching.{Caching, pages_of, lends, contents};
+ghost use Rattle.myi_keycache.specs.Caching.{Caching, pages_of, lists_of, leaving, lends, contents};
 ghost use Rattle.myi_keycache.specs.Caching.{IsCurrent, Stays, Puts};
+ghost use Rattle.myi_keycache.specs.Flushing.{after_writes};
+ghost use Rattle.myi_keycache.specs.Order.{page_of};
 
 /// What is lent of a range is what the file with all puts has there, and has the range's length. Where all
 /// pages are written, that is the file, and the same is lent as it has; also where no page is kept.
@@ -55,6 +58,17 @@ pub fn ranges_are_read()
     ensures end { (file x : List ℕ) → overwritten (length file) x file ≡ file ++ x }
 {}
 
+/// A file of three bytes after two pages were written to it, one after the other: where they meet, the bytes of the
+/// later one stand; between the file's end and a page behind it stand zeros.
+pub fn pages_written_in_turn()
+    ensures over { after_writes
+        (page_of 1 (7 ∷ 8 ∷ 9 ∷ []) true ∷ page_of 3 (5 ∷ []) true ∷ []) (1 ∷ 2 ∷ 3 ∷ [])
+        ≡ 1 ∷ 7 ∷ 8 ∷ 5 ∷ [] }
+    ensures apart { after_writes
+        (page_of 1 (7 ∷ []) true ∷ page_of 5 (9 ∷ []) true ∷ []) (1 ∷ 2 ∷ 3 ∷ [])
+        ≡ 1 ∷ 7 ∷ 3 ∷ 0 ∷ 0 ∷ 9 ∷ [] }
+{}
+
 /// Which pages are kept: an unwritten page is kept. That no other page meets a range holds where no page
 /// is kept, or where all are written; it still holds once a page was added that does not meet it.
 pub fn pages_stay_apart()
@@ -73,8 +87,7 @@ pub fn pages_stay_apart()
 
 /// The two lists, whatever stands on them. After an access no page stands there twice, and no more than the cache
 /// may keep, if so before. The page that goes is the first warm one, or the first hot one where none is warm. A
-/// warm page goes to the hot list not before its third hit, and only where the warm list keeps its share. The
-/// age is looked at in each access.
+/// warm page goes to the hot list not before its third hit, and only where the warm list keeps its share.
 pub fn lists_hold_each_page_once()
     ensures none { (setup : CacheSetup) → IsSetup setup
         → AreLists setup (record { warm = []; hot = []; accesses = 0 }) }
@@ -89,8 +102,57 @@ pub fn lists_hold_each_page_once()
         → listed at len lists.warm ≡ Some page
         → keeps_share setup (without page.at page.len lists.warm) ≡ false
         → (asked setup at len lists).hot ≡ lists.hot }
-    ensures age { (setup : CacheSetup) (lists : Lists) (at len : ℕ) → midpoint setup lists at len
-        ≡ aged setup (asked setup at len (record lists { accesses = raised 1 lists.accesses })) }
+{}
+
+/// Which page goes in an access, and which stay. The page that goes is the one that `leaving` names, and is on
+/// neither list afterwards. Each other page, and where none goes each, stays on a list with its hits and its last
+/// access, until the age is looked at; then it still does, but that the first hot page may lose its hits. The page
+/// that was asked for stands on a list, this access is its last, and a warm page has one hit more.
+pub fn one_page_goes()
+    ensures leaving { (cache : Caching) (at len : ℕ)
+        → option_map {U = ℕ × ℕ} (λ page. (page.at, length page.bytes)) (leaving cache at len)
+        ≡ option_map {U = ℕ × ℕ} (λ page. (page.at, page.len))
+        (goes cache.setup (lists_of cache) at len) }
+    ensures gone { (setup : CacheSetup) (lists : Lists) (at len : ℕ) (page : Listed)
+        → AreLists setup lists → goes setup lists at len ≡ Some page
+        → on_lists page.at page.len (midpoint setup lists at len) ≡ None }
+    ensures stay { (setup : CacheSetup) (lists : Lists) (at len p n : ℕ) (page : Listed)
+        → goes setup lists at len ≡ Some page
+        → AreOthers p n page.at page.len → AreOthers p n at len
+        → on_lists p n (accessed setup lists at len) ≡ on_lists p n lists }
+    ensures leaves { (setup : CacheSetup) (lists : Lists) (at len p n : ℕ)
+        → goes setup lists at len ≡ None → AreOthers p n at len
+        → on_lists p n (accessed setup lists at len) ≡ on_lists p n lists }
+    ensures aged { (setup : CacheSetup) (lists : Lists) (at len p n : ℕ) (page : Listed)
+        → IsSetup setup → AreLists setup lists
+        → on_lists p n (accessed setup lists at len) ≡ Some page
+        → (on_lists p n (midpoint setup lists at len) ≡ Some page)
+        ⊎ ((slice_get (accessed setup lists at len).hot 0 ≡ Some page)
+        × (on_lists p n (midpoint setup lists at len) ≡ Some (record page { hits = 0 }))) }
+    ensures asked { (setup : CacheSetup) (lists : Lists) (at len : ℕ)
+        → IsSetup setup → AreLists setup lists
+        → on_lists at len (midpoint setup lists at len) ≡ Some (asked_page lists at len) }
+{}
+
+/// The age. At the end of each access, whatever it was to, the first hot page goes to the warm beginning with no
+/// hits exactly where more accesses than the setup's age allows came since its last one, and no other page moves.
+/// Where no page is hot, none does.
+pub fn hot_pages_age()
+    ensures old { (setup : CacheSetup) (lists : Lists) (at len : ℕ)
+        (first : Listed) (hot : List Listed) → (accessed setup lists at len).hot ≡ first ∷ hot
+        → age_limit setup < raised 1 lists.accesses - first.last
+        → midpoint setup lists at len ≡ record {
+          warm = record first { hits = 0 } ∷ (accessed setup lists at len).warm;
+          hot = hot;
+          accesses = raised 1 lists.accesses;
+        } }
+    ensures young { (setup : CacheSetup) (lists : Lists) (at len : ℕ)
+        (first : Listed) (hot : List Listed) → (accessed setup lists at len).hot ≡ first ∷ hot
+        → raised 1 lists.accesses - first.last ≤ age_limit setup
+        → midpoint setup lists at len ≡ accessed setup lists at len }
+    ensures none { (setup : CacheSetup) (lists : Lists) (at len : ℕ)
+        → (accessed setup lists at len).hot ≡ []
+        → midpoint setup lists at len ≡ accessed setup lists at len }
 {}
 
 /// The lists of a key cache of 4 blocks, division 50 and age 100, after accesses to the pages A B C D A A A E C D

@@ -28,7 +28,7 @@ mod setup;
 
 pub use cache::KeyCache;
 pub use laws::{
-    calls_follow, files_show_what_is_lent, lists_hold_each_page_once, lists_of_four_blocks,
-    pages_stay_apart, ranges_are_read,
+    calls_follow, files_show_what_is_lent, hot_pages_age, lists_hold_each_page_once,
+    lists_of_four_blocks, one_page_goes, pages_stay_apart, pages_written_in_turn, ranges_are_read,
 };
 pub use setup::{CacheFault, CacheSetup, Counters};

@@ -1,5 +1,6 @@
 -- What the crates above cite. Each lemma states a clause of a law in src/laws.rt: `one_key` and `key_read` of
--- codes_read_back, `seg_size` of codes_fit, `weights_short` and `weights_few` of weights_fit.
+-- codes_read_back, `front_again`, `code_is` and `prefix_less`
+-- of codes_stand_for_keys, `seg_size` of codes_fit, `weights_short` and `weights_few` of weights_fit.
 use Rattle.std.proofs.Common.{◌≡◌, ◌≤◌, ℕ, List, length, max, Some, Ok, refl}
 use Rattle.myi_defs.specs.declared.types.Segment.{Segment}
 use Rattle.myi_defs.specs.Kinds.{int_size}
@@ -11,6 +12,7 @@ use Rattle.myi_keys.specs.Weights.{weights, CanWeigh}
 use Rattle.myi_keys.proofs.Decoded.{key_again}
 use Rattle.myi_keys.proofs.WeightSizes.{fits_by, few_by}
 pub use Rattle.myi_keys.proofs.Codings.{one_key}
+pub use Rattle.myi_keys.proofs.Fronts.{code_is, front_again, prefix_less}
 pub use Rattle.myi_keys.proofs.CodeSizes.{seg_size}
 
 pub key_read : (key : List KeySeg) → IsKey key → key_at (key_code key) ≡ Ok key

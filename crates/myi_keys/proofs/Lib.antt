@@ -9,3 +9,4 @@ pub mod TextCuts
 pub mod Tables
 pub mod WeightSizes
 pub mod CodeSizes
+pub mod Fronts

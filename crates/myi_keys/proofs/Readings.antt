@@ -135,7 +135,7 @@ regroup : (front : List KeySeg) (seg : KeySeg) (read : Result (List KeySeg) KeyF
 regroup front seg (Ok x) = ap (λ (segs : List KeySeg). Ok segs) (sym (append_assoc front (seg ∷ []) x))
 regroup front seg (Err f) = refl
 
-no_front : (read : Result (List KeySeg) KeyFault) → read ≡ with_front [] read
+pub no_front : (read : Result (List KeySeg) KeyFault) → read ≡ with_front [] read
 no_front (Ok x) = refl
 no_front (Err f) = refl
 

@@ -1,7 +1,8 @@
--- What a reader of the contracts has to believe: keys, their order and codes, faults, weights, integers.
+-- What a reader of the contracts has to believe: keys, their order and codes, codes compared, faults, weights, integers.
 pub mod Limits
 pub mod Order
 pub mod Codes
+pub mod Comparing
 pub mod Faults
 pub mod Collations
 pub mod Weights

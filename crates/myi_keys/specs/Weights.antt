@@ -48,10 +48,13 @@ abbrev pub blanks_stripped : Collation → List ℕ → List ℕ
 blanks_stripped collations.Binary bytes = bytes
 blanks_stripped _ bytes = without_blanks bytes
 
--- the first bytes of the content, cut at a character, without trailing blanks, each by its weight
+-- what of a text's content is weighed: its first bytes, cut at a character, without trailing blanks
+abbrev pub weighed_part : Collation → ℕ → List ℕ → List ℕ
+weighed_part collation limit content = blanks_stripped collation (character_prefix (character_width collation) limit (take limit content))
+
+-- each byte of that part by its weight
 abbrev pub weights_in : Collation → ℕ → List ℕ → List ℕ
-weights_in collation limit content =
-    map (weight collation) (blanks_stripped collation (character_prefix (character_width collation) limit (take limit content)))
+weights_in collation limit content = map (weight collation) (weighed_part collation limit content)
 
 -- a text has weights in the seven collations only
 abbrev pub text_weights : Option Collation → ℕ → List ℕ → List ℕ

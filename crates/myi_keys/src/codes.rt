@@ -2,21 +2,23 @@
 //!
 //! A number in a code is one byte below 255, or 255 and two bytes, high byte first, from 255 on. A
 //! segment is the number 0 where it is absent, or the number of its weights plus 1 and the weights; a
-//! key is its segments one after the other. `encode` writes this form and `decode` takes no other, so
-//! that a key has one code and a code one key.
+//! key is its segments one after the other. A `KeyVal` keeps this form, `key_with` makes it of segments,
+//! and `decode` takes no other, so that a key has one code and a code one key.
 ghost use Rattle.std.specs.Prelude.{◌≡◌, ◌≢◌, ◌<◌, ◌≤◌, ◌++◌, List, length, IfOk, OnOk, IfErr};
+ghost use Rattle.std.specs.Option.{option_copied};
 ghost use Rattle.myi_keys.specs.Limits.{IsSeg, IsKey};
-ghost use Rattle.myi_keys.specs.Codes.{number_code, seg_code, key_code};
-ghost use Rattle.myi_keys.specs.Decoding.{Gives, number_at, weights_at, seg_at, key_at};
+ghost use Rattle.myi_keys.specs.Codes.{number_code, seg_code, key_code, Gains};
+ghost use Rattle.myi_keys.specs.Comparing.{seg_with};
+ghost use Rattle.myi_keys.specs.Decoding.{Gives, Fails, number_at, weights_at, seg_at, key_at};
 ghost use Rattle.myi_keys.specs.Faults.{BreaksOff};
 ghost use Rattle.myi_keys.specs.declared.values.KeySeg.{KeySeg};
 
-use crate::values::{KeySeg, KeyVal, MOST_SEGMENTS, MOST_WEIGHTS, WeightList};
+use crate::values::{KeySeg, KeyVal, MOST_SEGMENTS, MOST_WEIGHTS};
 use std::alloc::{AllocError, AllocFailed, Global};
 use thiserror::Error;
 
 /// The first byte of a number of three bytes.
-const WIDE: u8 = 255;
+pub(crate) const WIDE: u8 = 255;
 
 /// The least number that takes three bytes.
 const LEAST_WIDE: usize = 255;
@@ -60,18 +62,19 @@ impl<T: Drop> From<AllocFailed<T>> for KeyFault {
 pub fn encode(alloc: Global, key: &KeyVal) -> Result<Vec<u8>, AllocError>
     ensures { IfOk result (λ code. code.items ≡ key_code key.now) }
 {
-    encode_segments(alloc, key.segments())
+    Vec::from_slice(alloc, key.code())
 }
 
-fn encode_segments(alloc: Global, segs: &[KeySeg]) -> Result<Vec<u8>, AllocError>
+/// The key of these segments.
+pub fn key_with(alloc: Global, segs: &[KeySeg]) -> Result<KeyVal, AllocError>
     requires { IsKey segs.now }
-    ensures { IfOk result (λ code. code.items ≡ key_code segs.now) }
+    ensures { IfOk result (λ key. key ≡ segs.now) }
 {
     let mut code = Vec::with_capacity(alloc, code_length(segs))?;
     for seg in segs {
         append_segment(&mut code, seg)?;
     }
-    Ok(code)
+    Ok(KeyVal::of_code(code))
 }
 
 fn code_length(segs: &[KeySeg]) -> usize
@@ -105,7 +108,7 @@ fn segment_length(seg: &KeySeg) -> usize
 
 fn append_segment(code: &mut Vec<u8>, seg: &KeySeg) -> Result<(), AllocError>
     requires { IsSeg seg.now }
-    ensures { OnOk result (code.new.items ≡ code.old.items ++ seg_code seg.now) }
+    ensures { OnOk result (Gains code.old.items code.new.items seg.now) }
 {
     match seg {
         KeySeg::Absent => code.push(0)?,
@@ -117,7 +120,7 @@ fn append_segment(code: &mut Vec<u8>, seg: &KeySeg) -> Result<(), AllocError>
     Ok(())
 }
 
-fn append_number(code: &mut Vec<u8>, number: usize) -> Result<(), AllocError>
+pub(crate) fn append_number(code: &mut Vec<u8>, number: usize) -> Result<(), AllocError>
     requires { number < 65536 }
     ensures { OnOk result (code.new.items ≡ code.old.items ++ number_code number) }
 {
@@ -150,39 +153,46 @@ pub fn decode(alloc: Global, bytes: &[u8]) -> Result<KeyVal, KeyFault>
     // The answer is that of reading from left to right.
     ensures exact { result ≢ Err KeyFault.Memory → result ≡ key_at bytes.now }
 {
-    let segs = segments_of(alloc, bytes)?;
-    Ok(KeyVal::new(segs))
+    test_code(bytes)?;
+    let code = Vec::from_slice(alloc, bytes)?;
+    Ok(KeyVal::of_code(code))
 }
 
-fn segments_of(alloc: Global, bytes: &[u8]) -> Result<Vec<KeySeg>, KeyFault>
-    ensures { Gives (λ segs. segs.items) result (key_at bytes.now) }
+// Refuses bytes that are no key's code.
+fn test_code(bytes: &[u8]) -> Result<(), KeyFault>
+    ensures taken { OnOk result ((key : List KeySeg) × (key_at bytes.now ≡ Ok key)) }
+    ensures refused { IfErr result (λ fault. Fails fault (key_at bytes.now)) }
 {
-    let mut segs = Vec::new(alloc);
     let mut rest = bytes;
-    while !rest.is_empty() {
-        if segs.len() == MOST_SEGMENTS {
-            return Err(KeyFault::TooLong);
+    for _turn in 0..MOST_SEGMENTS {
+        if rest.is_empty() {
+            return Ok(());
         }
-        let (seg, after) = segment_of(alloc, rest)?;
-        segs.push(seg)?;
+        let (_, after) = segment_of(rest)?;
         rest = after;
     }
-    Ok(segs)
+    if rest.is_empty() {
+        Ok(())
+    } else {
+        Err(KeyFault::TooLong)
+    }
 }
 
+// The weights of the first segment, where it has any, and the bytes behind it.
 #[tactic(auto, unfolding(crate::specs::Decoding::seg_at))]
-fn segment_of(alloc: Global, bytes: &[u8]) -> Result<(KeySeg, &[u8]), KeyFault>
-    ensures { Gives (λ x. (x.0, x.1.now)) result (seg_at bytes.now) }
+fn segment_of(bytes: &[u8]) -> Result<(Option<&[u8]>, &[u8]), KeyFault>
+    ensures { Gives (λ x. (seg_with (option_copied x.0), x.1.now)) result (seg_at bytes.now) }
 {
     let (number, rest) = number_of(bytes)?;
     if number == 0 {
-        return Ok((KeySeg::Absent, rest));
+        return Ok((None, rest));
     }
-    weights_of(alloc, number - 1, rest)
+    weights_of(number - 1, rest)
 }
 
-fn weights_of(alloc: Global, count: usize, bytes: &[u8]) -> Result<(KeySeg, &[u8]), KeyFault>
-    ensures { Gives (λ x. (x.0, x.1.now)) result (weights_at count bytes.now) }
+fn weights_of(count: usize, bytes: &[u8]) -> Result<(Option<&[u8]>, &[u8]), KeyFault>
+    ensures { Gives (λ x. (seg_with (option_copied x.0), x.1.now))
+        result (weights_at count bytes.now) }
 {
     if count > MOST_WEIGHTS {
         return Err(KeyFault::TooLong);
@@ -191,8 +201,7 @@ fn weights_of(alloc: Global, count: usize, bytes: &[u8]) -> Result<(KeySeg, &[u8
         return Err(KeyFault::Short);
     }
     let (weights, rest) = bytes.split_at(count);
-    let weights = WeightList::new(Vec::from_slice(alloc, weights)?);
-    Ok((KeySeg::Weights(weights), rest))
+    Ok((Some(weights), rest))
 }
 
 #[tactic(auto, unfolding(crate::specs::Decoding::number_at))]

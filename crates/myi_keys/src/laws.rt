@@ -7,7 +7,7 @@ ghost use Rattle.std.specs.List.{range_with_len};
 ghost use Rattle.std.specs.Char.{to_ascii_uppercase};
 ghost use Rattle.std.specs.Ordering.{nat_cmp, int_cmp};
 ghost use Rattle.std.specs.declared.cmp.Ordering.{Ordering};
-ghost use Rattle.std.specs.declared.cmp.Ordering.TheVariants.{Equal};
+ghost use Rattle.std.specs.declared.cmp.Ordering.TheVariants.{Less, Equal};
 ghost use Rattle.std.specs.Cmp.{IsTotalOrder};
 ghost use Rattle.std.specs.Cmp.Lexicographic.{slice_cmp};
 ghost use Rattle.myi_base.specs.Numbers.{AreBytes};
@@ -19,6 +19,7 @@ ghost use Rattle.myi_keys.specs.declared.collations.Collation.TheVariants.{Latin
 ghost use Rattle.myi_keys.specs.Limits.{IsKey};
 ghost use Rattle.myi_keys.specs.Order.{key_cmp};
 ghost use Rattle.myi_keys.specs.Codes.{seg_code, key_code, HasBytes};
+ghost use Rattle.myi_keys.specs.Comparing.{key_front, code_cmp, key_prefix, IsCode, AreAlike};
 ghost use Rattle.myi_keys.specs.Decoding.{key_at};
 ghost use Rattle.myi_keys.specs.Faults.{BreaksOff};
 ghost use Rattle.myi_keys.specs.Collations.{weight, letters_with_accents};
@@ -55,6 +56,22 @@ pub fn codes_read_back()
         → AreBytes bytes → key_at bytes ≡ Ok key → bytes ≡ key_code key }
     ensures limits { (bytes : List ℕ) (key : List KeySeg) → AreBytes bytes → key_at bytes ≡ Ok key
         → IsKey key }
+{}
+
+/// The code of a key stands for the key, and is a code. Codes compare as their keys do. The order of all
+/// bytes by the keys that they stand for is total. Where no segment is absent and both keys have segments
+/// of the same lengths, codes stand in byte order. A lesser number of first weights is a lesser code.
+pub fn codes_stand_for_keys()
+    ensures again { (key : List KeySeg) → IsKey key → key_front (key_code key) ≡ key }
+    ensures code { (key : List KeySeg) → IsKey key → IsCode (key_code key) }
+    ensures order { (one other : List KeySeg) → IsKey one → IsKey other
+        → code_cmp (key_code one) (key_code other) ≡ key_cmp one other }
+    ensures total { IsTotalOrder code_cmp }
+    ensures alike { (one other : List KeySeg) → AreAlike one other
+        → slice_cmp nat_cmp (key_code one) (key_code other) ≡ key_cmp one other }
+    ensures prefixes { (one other : List ℕ) → AreBytes one → AreBytes other
+        → key_prefix (key_front one) < key_prefix (key_front other)
+        → code_cmp one other ≡ Less }
 {}
 
 /// The code of a key whose weights are bytes is bytes, and a segment's code is longer than its weights

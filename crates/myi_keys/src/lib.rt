@@ -4,18 +4,20 @@
 //! is the list of its segments: keys are compared by their weights, and each key has one code, the
 //! bytes that stand for it in an index page. The definitions are in `specs/`: the weights of a
 //! segment's content (`Weights`, with the collations of `Collations`), the order (`Order`), the codes
-//! (`Codes`) and what is wrong with other bytes (`Faults`).
+//! (`Codes`), how codes are compared as they stand (`Comparing`) and what is wrong with other bytes
+//! (`Faults`).
 //!
 //! - `weigh` gives the weights of a segment's content.
 //! - `KeyVal` is a key value; `KeyVal::compare` is the order.
-//! - `encode` gives a key's code, and `decode` the key of a code.
+//! - `key_with` makes a key of segments, `encode` copies a key's code, `decode` tests one.
+//! - `compare_codes` compares keys by their codes, `is_complete_code` and `code_prefix` read them, and
+//!   `first_segment` takes them apart.
+//! - `append_weighed` and `append_absent` write a key's code, segment by segment, with no weights apart.
 //! - The rest are laws over the definitions.
 //!
 //! ```
-//! let mut segments = Vec::new(alloc);
-//! segments.push(KeySeg::Weights(WeightList::new(weights)))?;
-//! segments.push(KeySeg::Absent)?;
-//! let key = KeyVal::new(segments);
+//! let weights = WeightList::new(weights);
+//! let key = key_with(alloc, &[KeySeg::Weights(weights), KeySeg::Absent])?;
 //! let code = encode(alloc, &key)?;
 //! ```
 //!
@@ -24,15 +26,19 @@
 
 mod codes;
 mod collations;
+mod comparing;
 mod laws;
 mod values;
 mod weights;
+mod writing;
 
-pub use codes::{KeyFault, decode, encode};
-pub use collations::{Collation, LATIN1_SWEDISH_CI};
+pub use codes::{KeyFault, decode, encode, key_with};
+pub use collations::Collation;
+pub use comparing::{code_prefix, compare_codes, first_segment, is_complete_code};
 pub use laws::{
-    blanks_taken_off, characters_cut, codes_fit, codes_read_back, faults_at_first_place,
-    integers_in_order, keys_totally_ordered, swedish_table, weights_fit,
+    blanks_taken_off, characters_cut, codes_fit, codes_read_back, codes_stand_for_keys,
+    faults_at_first_place, integers_in_order, keys_totally_ordered, swedish_table, weights_fit,
 };
 pub use values::{KeySeg, KeyVal, MOST_SEGMENTS, MOST_WEIGHTS, WeightList};
 pub use weights::weigh;
+pub use writing::{append_absent, append_weighed};

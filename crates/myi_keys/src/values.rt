@@ -1,12 +1,15 @@
 //! Key values and their order.
 //!
-//! A `KeyVal` is a list of `KeySeg`, one for each segment of the key, and a `KeySeg` that is there has
-//! a `WeightList`. Contracts see a key value as the list of its segments and a list of weights as the
-//! list of its bytes, so that keys are equal where their segments and weights are.
+//! A key has a `KeySeg` for each segment, and a `KeySeg` that is there has a `WeightList`. A `KeyVal`
+//! keeps the key's code in one buffer. Contracts see a key value as the list of its segments and a list
+//! of weights as the list of its bytes, so that keys are equal where their segments and weights are.
 ghost use Rattle.std.specs.Prelude.{◌≡◌};
-ghost use Rattle.myi_keys.specs.Limits.{IsKey, is_present, is_complete};
+ghost use Rattle.myi_keys.specs.Limits.{IsKey, is_complete};
 ghost use Rattle.myi_keys.specs.Order.{key_cmp};
+ghost use Rattle.myi_keys.specs.Codes.{key_code};
+ghost use Rattle.myi_keys.specs.Comparing.{IsCode};
 
+use crate::comparing::{compare_codes, is_complete_code};
 use std::cmp::Ordering;
 use std::marker::Model;
 
@@ -59,15 +62,6 @@ pub enum KeySeg {
     /// The row has no value here.
     Absent,
     Weights(WeightList),
-}
-
-impl KeySeg {
-    /// Whether the row has a value here.
-    fn is_present(&self) -> bool
-        ensures { result ≡ is_present self.now }
-    {
-        matches!(self, KeySeg::Weights(_))
-    }
 }
 
 impl PartialEq for KeySeg {
@@ -134,62 +128,61 @@ impl Ord for KeySeg {
     }
 }
 
-/// A key value: at most 16 segments, each of at most 1000 weights.
+/// A key value: at most 16 segments, each of at most 1000 weights. It keeps its code, and nothing else.
 #[derive(Debug)]
 pub struct KeyVal {
-    segs: Vec<KeySeg>,
+    code: Vec<u8>,
 }
 
 impl Drop for KeyVal {
     fn drop(self) {
-        let KeyVal { segs: _ } = self;
+        let KeyVal { code: _ } = self;
     }
 }
 
 impl Model for KeyVal {
     ghost use Rattle.std.specs.Prelude.{List};
     ghost use Rattle.myi_keys.specs.declared.values.KeySeg.{KeySeg};
+    ghost use Rattle.myi_keys.specs.Comparing.{key_front, IsCode};
 
     ghost Value = { List KeySeg };
 
-    ghost use Rattle.myi_keys.specs.Limits.{IsKey};
+    ghost view = { λ k. key_front k.code.items };
 
-    ghost view = { λ k. k.segs.items };
-
-    ghost invariant = { λ k. IsKey k.segs.items };
+    ghost invariant = { λ k. IsCode k.code.items };
 }
 
 impl KeyVal {
-    /// The key of these segments. It takes no memory.
-    pub fn new(segs: Vec<KeySeg>) -> Self
-        requires { IsKey segs.items }
-        ensures { result ≡ segs.items }
+    /// The key of a code. It takes no memory.
+    pub fn of_code(code: Vec<u8>) -> Self
+        requires { IsCode code.items }
+        ensures { code.items ≡ key_code result }
     {
-        KeyVal { segs }
+        KeyVal { code }
     }
 
-    /// The segments, in their order.
-    pub fn segments(&self) -> &[KeySeg]
-        ensures value { result.now ≡ self.now }
+    /// The code of the key.
+    pub fn code(&self) -> &[u8]
+        ensures value { result.now ≡ key_code self.now }
         ensures key { IsKey self.now }
     {
-        &self.segs
+        &self.code
     }
 
-    /// Gives the segments back. It takes no memory.
-    pub fn into_vec(self) -> Vec<KeySeg>
-        ensures value { result.items ≡ self }
+    /// Gives the code back. It takes no memory.
+    pub fn into_code(self) -> Vec<u8>
+        ensures value { result.items ≡ key_code self }
         ensures key { IsKey self }
     {
-        let KeyVal { segs } = self;
-        segs
+        let KeyVal { code } = self;
+        code
     }
 
     /// Whether each segment is there. Only complete keys can repeat in a unique key.
     pub fn is_complete(&self) -> bool
         ensures { result ≡ is_complete self.now }
     {
-        self.segments().iter().all(KeySeg::is_present)
+        is_complete_code(&self.code)
     }
 
     /// Which of two keys is first. An absent segment is before all weights, weights are compared byte
@@ -197,7 +190,7 @@ impl KeyVal {
     pub fn compare(&self, other: &KeyVal) -> Ordering
         ensures { result ≡ key_cmp self.now other.now }
     {
-        self.segments().cmp(&other.segments())
+        compare_codes(&self.code, &other.code)
     }
 }
 

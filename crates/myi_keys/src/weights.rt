@@ -6,7 +6,7 @@ ghost use Rattle.std.specs.Prelude.{◌≡◌, take, map, reverse, IfOk};
 ghost use Rattle.myi_keys.specs.Collations.{weight};
 ghost use Rattle.myi_keys.specs.Weights.{weights, CanWeigh, sign_inverted};
 ghost use Rattle.myi_keys.specs.Weights.{begins_character, first_characters};
-ghost use Rattle.myi_keys.specs.Weights.{without_blanks, blanks_stripped, weights_in};
+ghost use Rattle.myi_keys.specs.Weights.{without_blanks, blanks_stripped, weighed_part, weights_in};
 
 use crate::collations::Collation;
 use myi_defs::{SegType, Segment};
@@ -16,7 +16,7 @@ use std::alloc::{AllocError, Global};
 const BLANK: u8 = 0x20;
 
 /// The topmost bit of a byte, the sign of a number whose bytes stand high byte first.
-const SIGN: u8 = 0x80;
+pub(crate) const SIGN: u8 = 0x80;
 
 /// The weights of a segment's content, by the segment's type:
 ///
@@ -71,12 +71,19 @@ fn text_weights(
 ) -> Result<Vec<u8>, AllocError>
     ensures { IfOk result (λ v. v.items ≡ weights_in collation length content.now) }
 {
+    mapped(alloc, collation, text_content(collation, length, content))
+}
+
+/// What of a text's content is weighed: its first bytes, cut at a character, without trailing blanks.
+pub(crate) fn text_content(collation: Collation, length: usize, content: &[u8]) -> &[u8]
+    ensures { result.now ≡ weighed_part collation length content.now }
+{
     let content = first_bytes(content, length);
     let content = match collation.character_width() {
         Some(width) => first_characters(content, length / width),
         None => content,
     };
-    mapped(alloc, collation, stripped(collation, content))
+    stripped(collation, content)
 }
 
 fn mapped(alloc: Global, collation: Collation, content: &[u8]) -> Result<Vec<u8>, AllocError>
@@ -91,7 +98,7 @@ fn mapped(alloc: Global, collation: Collation, content: &[u8]) -> Result<Vec<u8>
     }
 }
 
-fn first_bytes(content: &[u8], length: usize) -> &[u8]
+pub(crate) fn first_bytes(content: &[u8], length: usize) -> &[u8]
     ensures { result.now ≡ take length content.now }
 {
     &content[..length.min(content.len())]

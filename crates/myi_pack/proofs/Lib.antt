@@ -10,3 +10,4 @@ pub mod RowSpelling
 pub mod WidthLaws
 pub mod WinningLaws
 pub mod PackedLemmas
+pub mod SpellLemmas

@@ -5,11 +5,11 @@
 //! may have several packings; the one that is written is its `spelling`, and none is shorter.
 //!
 //! `view` finds the row in its bytes and takes no memory (`view_packed` where they are known to pack one):
-//! a `RowView` lends each field as a slice of
-//! the bytes, one by one (`fields`) or by its number (`field`). `unpack` copies the row that is viewed,
-//! and `value_of` one field of it.
-//! `fits` decides whether a row has the form that the definitions of the table ask for, and `pack`
-//! writes the spelling of such a row. The laws over the definitions are in `laws`.
+//! a `RowView` lends each field as a slice of the bytes, one by one (`fields`) or by its number
+//! (`field`). `unpack` copies the row that is viewed, and `value_of` one field of it, or `value_into`
+//! into a buffer. `fits` decides whether a row has the form that the definitions of the table ask for,
+//! and `pack` writes the spelling of such a row, or `spell_into` that of a row that is viewed, into a
+//! buffer. The laws over the definitions are in `laws`.
 //!
 //! ```
 //! match view(&defs, &bytes) {
@@ -29,10 +29,12 @@ mod fields;
 mod laws;
 mod packing;
 mod row;
+mod spell;
 mod values;
 
 pub use fields::FieldView;
 pub use laws::{packings_are_read, shorter_forms_win, spellings_are_shortest, views_go_on};
 pub use packing::{fits, pack};
 pub use row::{NumberedFields, RowFields, RowView, view, view_packed};
-pub use values::{Row, Value, unpack, value_of};
+pub use spell::spell_into;
+pub use values::{Row, Value, unpack, value_into, value_of};

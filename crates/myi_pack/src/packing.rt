@@ -203,7 +203,7 @@ fn push_fields(out: &mut Vec<u8>, fields: &[Field], values: &[Value]) -> Result<
     Ok(())
 }
 
-fn set_flag(out: &mut Vec<u8>, k: usize, bit: bool)
+pub(crate) fn set_flag(out: &mut Vec<u8>, k: usize, bit: bool)
     requires { bit ≡ true → k / 8 < length out.old.items }
     ensures { out.new.items ≡ with_flag out.old.items k bit }
 {
@@ -213,7 +213,7 @@ fn set_flag(out: &mut Vec<u8>, k: usize, bit: bool)
 }
 
 // Writes a field of a static row, with zeros behind a VARCHAR's content.
-fn push_slot(out: &mut Vec<u8>, field: &Field, value: &[u8]) -> Result<(), AllocError>
+pub(crate) fn push_slot(out: &mut Vec<u8>, field: &Field, value: &[u8]) -> Result<(), AllocError>
     requires length { IsLengthOf RowFormat.Static field.now.kind field.now.length }
     requires fits { fits_field RowFormat.Static field.now.kind field.now.length value.now ≡ true }
     ensures { OnOk result
@@ -231,7 +231,7 @@ fn push_slot(out: &mut Vec<u8>, field: &Field, value: &[u8]) -> Result<(), Alloc
 }
 
 // Writes a field of a dynamic row, and tells whether its flag is set.
-fn push_field(out: &mut Vec<u8>, field: &Field, value: &[u8]) -> Result<bool, AllocError>
+pub(crate) fn push_field(out: &mut Vec<u8>, field: &Field, value: &[u8]) -> Result<bool, AllocError>
     requires length { IsLengthOf RowFormat.Dynamic field.now.kind field.now.length }
     requires fits { fits_field RowFormat.Dynamic field.now.kind field.now.length value.now ≡ true }
     ensures flag { IfOk result (λ flag.

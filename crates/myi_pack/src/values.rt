@@ -35,21 +35,31 @@ pub fn value_of(alloc: Global, field: usize, view: FieldView<'_>) -> Result<Valu
     ensures { IfOk result (λ value. value ≡ field_value field view.entry) }
 {
     let mut bytes = Vec::new(alloc);
+    value_into(&mut bytes, field, view)?;
+    Ok(Sequence::new(bytes))
+}
+
+/// Writes the value that a view shows of a field of so many bytes, in place of what the buffer held.
+pub fn value_into(bytes: &mut Vec<u8>, field: usize, view: FieldView<'_>) -> Result<(), AllocError>
+    requires { field < 65536 }
+    ensures { OnOk result (bytes.new.items ≡ field_value field view.entry) }
+{
+    bytes.clear();
     match view {
         FieldView::Plain(value) => bytes.extend_from_slice(value)?,
         FieldView::Padded(content) => {
             bytes.reserve_exact(field)?;
             bytes.extend_from_slice(content)?;
-            push_repeated(&mut bytes, b' ', field.saturating_sub(content.len()))?;
+            push_repeated(bytes, b' ', field.saturating_sub(content.len()))?;
         }
         FieldView::Led(content) => {
             bytes.reserve_exact(field)?;
-            push_repeated(&mut bytes, b' ', field.saturating_sub(content.len()))?;
+            push_repeated(bytes, b' ', field.saturating_sub(content.len()))?;
             bytes.extend_from_slice(content)?;
         }
-        FieldView::Zeros => push_repeated(&mut bytes, 0, field)?,
+        FieldView::Zeros => push_repeated(bytes, 0, field)?,
     }
-    Ok(Sequence::new(bytes))
+    Ok(())
 }
 
 pub(crate) fn push_repeated(out: &mut Vec<u8>, byte: u8, count: usize) -> Result<(), AllocError>

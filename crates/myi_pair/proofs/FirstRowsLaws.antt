@@ -16,32 +16,33 @@ use Rattle.myi_keys.specs.OrderLaws.{key_exact, key_equal}
 use Rattle.myi_keys.specs.Codes.{key_code}
 use Rattle.myi_keys.proofs.CallerLemmas.{one_key}
 use Rattle.myi_data.specs.Keys.{key_of}
+use Rattle.myi_data.specs.Stored.{SizedRow, values_in}
 use Rattle.myi_pair.specs.FirstRows.{key_numbers, is_unique, repeats_key, repeats, first_after, first_rows, AreDistinct, has_code, repeats_code}
 
 -- what is kept is distinct
 
-distinct_next : (d : Defs) (kept rows : List Values) (row : Values) (b : Bool) → list_any (repeats d row) kept ≡ b → AreDistinct d kept (first_after d kept rows) → AreDistinct d (kept ++ row ∷ []) (first_after d (kept ++ row ∷ []) rows)
-    → AreDistinct d kept (cond b (first_after d kept rows) (row ∷ first_after d (kept ++ row ∷ []) rows))
-distinct_next d kept rows row true is dropped added = dropped
-distinct_next d kept rows row false is dropped added = (is, added)
+distinct_next : (d : Defs) (kept : List Values) (row : SizedRow) (rows : List SizedRow) (b : Bool) → list_any (repeats d row.values) kept ≡ b → AreDistinct d kept (values_in (first_after d kept rows)) → AreDistinct d (kept ++ row.values ∷ []) (values_in (first_after d (kept ++ row.values ∷ []) rows))
+    → AreDistinct d kept (values_in (cond b (first_after d kept rows) (row ∷ first_after d (kept ++ row.values ∷ []) rows)))
+distinct_next d kept row rows true is dropped added = dropped
+distinct_next d kept row rows false is dropped added = (is, added)
 
-pub distinct_after : (d : Defs) (kept rows : List Values) → AreDistinct d kept (first_after d kept rows)
+pub distinct_after : (d : Defs) (kept : List Values) (rows : List SizedRow) → AreDistinct d kept (values_in (first_after d kept rows))
 distinct_after d kept [] = tt
-distinct_after d kept (row ∷ rows) = distinct_next d kept rows row (list_any (repeats d row) kept) refl (distinct_after d kept rows) (distinct_after d (kept ++ row ∷ []) rows)
+distinct_after d kept (row ∷ rows) = distinct_next d kept row rows (list_any (repeats d row.values) kept) refl (distinct_after d kept rows) (distinct_after d (kept ++ row.values ∷ []) rows)
 
-pub distinct : (d : Defs) (rows : List Values) → AreDistinct d [] (first_rows d rows)
+pub distinct : (d : Defs) (rows : List SizedRow) → AreDistinct d [] (values_in (first_rows d rows))
 unfolding first_rows
 distinct d rows = distinct_after d [] rows
 
 -- distinct rows are all kept
 
-pub all_after : (d : Defs) (kept rows : List Values) → AreDistinct d kept rows → first_after d kept rows ≡ rows
+pub all_after : (d : Defs) (kept : List Values) (rows : List SizedRow) → AreDistinct d kept (values_in rows) → first_after d kept rows ≡ rows
 all_after d kept [] are = refl
 all_after d kept (row ∷ rows) are =
-    ap (λ (b : Bool). cond b (first_after d kept rows) (row ∷ first_after d (kept ++ row ∷ []) rows)) are.0
-    ∙ ap (λ rs. row ∷ rs) (all_after d (kept ++ row ∷ []) rows are.1)
+    ap (λ (b : Bool). cond b (first_after d kept rows) (row ∷ first_after d (kept ++ row.values ∷ []) rows)) are.0
+    ∙ ap (λ rs. row ∷ rs) (all_after d (kept ++ row.values ∷ []) rows are.1)
 
-pub all_kept : (d : Defs) (rows : List Values) → AreDistinct d [] rows → first_rows d rows ≡ rows
+pub all_kept : (d : Defs) (rows : List SizedRow) → AreDistinct d [] (values_in rows) → first_rows d rows ≡ rows
 unfolding first_rows
 all_kept d rows are = all_after d [] rows are
 

@@ -53,21 +53,22 @@ key_map_fits : (keys : ℕ) → keys ≤ 64 → 2 ^ keys - 1 < 256 ^ 8
 key_map_fits keys few = let below : 2 ^ keys ≤ 2 ^ 64 = pow_mono few in omega (arith, below, pow_pos keys)
 
 -- what a state after a repair is made of, and that its numbers fit
-pub record AreFew (d : Defs) (rows data_length index_length now : ℕ) (roots : List (Option ℕ)) : Type 0 where
+pub record AreFew (d : Defs) (rows blocks data_length index_length now : ℕ) (roots : List (Option ℕ)) : Type 0 where
   pub raw : AreBytes d.raw
   pub few_rows : rows < 256 ^ 8
+  pub few_blocks : blocks < 256 ^ 8
   pub short_data : data_length < 256 ^ 8
   pub short_index : index_length < 256 ^ 8
   pub early : now < 256 ^ 8
   pub count : length roots ≡ length d.keys
   pub fit : AllByRecursion RootFits roots
 
-abbrev pub repaired : Defs → ℕ → ℕ → ℕ → ℕ → List (Option ℕ) → State
-repaired d rows data_length index_length now roots = new_state d (state_of d d.raw) rows rows data_length roots index_length now
+abbrev pub repaired : Defs → ℕ → ℕ → ℕ → ℕ → ℕ → List (Option ℕ) → State
+repaired d rows blocks data_length index_length now roots = new_state d (state_of d d.raw) rows blocks data_length roots index_length now
 
-pub numbers_fit : (d : Defs) (rows data_length index_length now : ℕ) (roots : List (Option ℕ)) → IsSound d → AreFew d rows data_length index_length now roots → FitsWidths (repaired d rows data_length index_length now roots)
+pub numbers_fit : (d : Defs) (rows blocks data_length index_length now : ℕ) (roots : List (Option ℕ)) → IsSound d → AreFew d rows blocks data_length index_length now roots → FitsWidths (repaired d rows blocks data_length index_length now roots)
 unfolding state_of
-numbers_fit d rows data_length index_length now roots s few = record {
+numbers_fit d rows blocks data_length index_length now roots s few = record {
   counts = (
     omega arith,
     (
@@ -79,7 +80,7 @@ numbers_fit d rows data_length index_length now roots s few = record {
           (
             omega arith,
             (
-              few.few_rows,
+              few.few_blocks,
               (
                 omega arith,
                 (few.short_index, (few.short_data, (omega arith, (omega arith, (num-below 8 (drop 92 d.raw) (bytes-drop 92 d.raw few.raw), tt))))),
@@ -96,13 +97,13 @@ numbers_fit d rows data_length index_length now roots s few = record {
 }
 
 -- the state can be held
-pub held : (d : Defs) (rows data_length index_length now : ℕ) (roots : List (Option ℕ)) → IsSound d → AreFew d rows data_length index_length now roots → IsStored d (repaired d rows data_length index_length now roots)
-held d rows data_length index_length now roots s few = record {
+pub held : (d : Defs) (rows blocks data_length index_length now : ℕ) (roots : List (Option ℕ)) → IsSound d → AreFew d rows blocks data_length index_length now roots → IsStored d (repaired d rows blocks data_length index_length now roots)
+held d rows blocks data_length index_length now roots s few = record {
   roots = few.count;
   rest = new_rest d s;
   dellink = λ e. cc;
   places = All-from_recursion IsPlace roots (roots_places roots few.fit);
-  fits = numbers_fit d rows data_length index_length now roots s few;
+  fits = numbers_fit d rows blocks data_length index_length now roots s few;
 }
 
 -- what a new index file shows
@@ -111,9 +112,9 @@ pub record IsNewIndex (d : Defs) (s : State) (x : List ℕ) : Type 0 where
   pub marked : has_mark d x ≡ true
   pub elsewhere : AgreeOutsideState d.raw x
 
-pub new_header : (d : Defs) (rows data_length index_length now : ℕ) (roots : List (Option ℕ)) (t : List ℕ) → IsSound d → AreFew d rows data_length index_length now roots
-    → IsNewIndex d (repaired d rows data_length index_length now roots) (header_of d (repaired d rows data_length index_length now roots) ++ t)
-new_header d rows data_length index_length now roots t s few =
-    let state : State = repaired d rows data_length index_length now roots in
-    let is : IsStored d state = held d rows data_length index_length now roots s few in
+pub new_header : (d : Defs) (rows blocks data_length index_length now : ℕ) (roots : List (Option ℕ)) (t : List ℕ) → IsSound d → AreFew d rows blocks data_length index_length now roots
+    → IsNewIndex d (repaired d rows blocks data_length index_length now roots) (header_of d (repaired d rows blocks data_length index_length now roots) ++ t)
+new_header d rows blocks data_length index_length now roots t s few =
+    let state : State = repaired d rows blocks data_length index_length now roots in
+    let is : IsStored d state = held d rows blocks data_length index_length now roots s few in
     record { state = header-state d state t s is; marked = header-marked d state t s is; elsewhere = header-elsewhere d state t s is }

@@ -1,5 +1,5 @@
 -- A laid file is covered by its rows, one range each, and no deleted block is left in it.
-use Rattle.std.proofs.Common.{◌≡◌, ℕ, suc, ◌+◌, ◌<◌, ◌≤◌, Bool, true, false, cond, ◌&&◌, ◌||◌, List, [], ◌∷◌, length, map, filter, nat_le, nat_lt, unwrap_or, Option, refl, ap, ◌∙◌, arith}
+use Rattle.std.proofs.Common.{◌≡◌, ℕ, suc, ◌+◌, ◌<◌, ◌≤◌, Bool, true, false, cond, ◌&&◌, ◌||◌, List, [], ◌∷◌, ◌++◌, length, length-append, map, filter, nat_le, nat_lt, unwrap_or, Option, refl, sym, ap, ◌∙◌, arith}
 use Rattle.std.specs.List.{list_any, AllByRecursion}
 use Rattle.std.proofs.lemmas.Bool.{and_from, and_left, and_right, or_left, or_right, or_cases, or_from, le-leb, lt-leb, leb-true, ltb-true, ltb-false, and_parts}
 use Rattle.std.proofs.Common.{◌⊎◌, inl, inr}
@@ -16,7 +16,8 @@ use Rattle.myi_pack.proofs.CallerLemmas.{row-reads}
 use Rattle.myi_chain.specs.Readable.{frees_of}
 use Rattle.myi_chain.specs.Meeting.{ranges_of}
 use Rattle.myi_data.specs.Readable.{items_in, readable, deleted}
-use Rattle.myi_data.specs.Stored.{stored, stored_rows, IsStorable}
+use Rattle.myi_data.specs.Stored.{SizedRow, Share, group, stored_size, block_count, ranges_from, stored_rows, IsStorable}
+use Rattle.myi_data.proofs.CallerLemmas.{group_one, size_one}
 use Rattle.std.proofs.lemmas.List.Sums.{sum_by-cons}
 use Rattle.myi_pair.specs.KeyList.{PlacedRow}
 use Rattle.myi_pair.specs.Clean.{placed_row, covers}
@@ -25,23 +26,31 @@ use Rattle.myi_pair.proofs.ReadLaws.{IsInFile, frees_fine}
 use Rattle.myi_pair.proofs.SizedLaws.{IsNear}
 use Rattle.myi_pair.proofs.ShorterLaws.{stored_length, length-slot, length-own}
 
-step_length : (d : Defs) (v : Values) (vs : List Values) → stored_length d (v ∷ vs) ≡ length (stored d v) + stored_length d vs
-step_length d v vs = sum_by-cons (λ w. length (stored d w)) v vs
+step_length : (d : Defs) (r : SizedRow) (rs : List SizedRow) → stored_length d (r ∷ rs) ≡ stored_size d r + stored_length d rs
+step_length d r rs = sum_by-cons (λ q. stored_size d q) r rs
+
+-- the range of a row
+row_range : (d : Defs) (at : ℕ) (r : SizedRow) → IsSound d → IsStorable d r → ranges_from at (group d r) ≡ (at, at + stored_size d r) ∷ []
+row_range d at r s can = ap (ranges_from at) (group_one d r s can.fits) ∙ ap (λ n. (at, at + n) ∷ []) (sym (size_one d r s can.fits))
+
+rows_ranges : (d : Defs) (at : ℕ) (r : SizedRow) (rs : List SizedRow) → IsSound d → IsStorable d r → ranges_of (stored_rows d at (r ∷ rs)) ≡ (at, at + stored_size d r) ∷ ranges_of (stored_rows d (at + stored_size d r) rs)
+unfolding stored_rows
+rows_ranges d at r rs s can = ap (λ b. b ++ ranges_of (stored_rows d (at + stored_size d r) rs)) (row_range d at r s can)
 
 -- every byte belongs to a row
 
-pub laid_covered : (d : Defs) (at p : ℕ) (vs : List Values) → at ≤ p → p < at + stored_length d vs → list_any (covers p) (ranges_of (stored_rows d at vs)) ≡ true
-unfolding stored_rows
-laid_covered d at p [] low high = absurd (omega arith)
-laid_covered d at p (v ∷ vs) low high =
-    by (nat_lt p (at + length (stored d v))) refl (λ past. laid_covered d (at + length (stored d v)) p vs past (omega (arith, step_length d v vs)))
+pub laid_covered : (d : Defs) (at p : ℕ) (rs : List SizedRow) → IsSound d → AllByRecursion (IsStorable d) rs → at ≤ p → p < at + stored_length d rs → list_any (covers p) (ranges_of (stored_rows d at rs)) ≡ true
+laid_covered d at p [] s all low high = absurd (omega arith)
+laid_covered d at p (r ∷ rs) s all low high =
+    ap (list_any (covers p)) (rows_ranges d at r rs s all.0)
+    ∙ by (nat_lt p (at + stored_size d r)) refl (λ past. laid_covered d (at + stored_size d r) p rs s all.1 past (omega (arith, step_length d r rs)))
   where
     others : List Range
-    others = ranges_of (stored_rows d (at + length (stored d v)) vs)
+    others = ranges_of (stored_rows d (at + stored_size d r) rs)
 
-    by : (b : Bool) → nat_lt p (at + length (stored d v)) ≡ b → (at + length (stored d v) ≤ p → list_any (covers p) others ≡ true) → (covers p (at, at + length (stored d v)) || list_any (covers p) others) ≡ true
-    by true is again = or_left (covers p (at, at + length (stored d v))) (list_any (covers p) others) (and_from (nat_le at p) (nat_lt p (at + length (stored d v))) (le-leb at p low) is)
-    by false is again = or_right (covers p (at, at + length (stored d v))) (list_any (covers p) others) (again (ltb-false p (at + length (stored d v)) is))
+    by : (b : Bool) → nat_lt p (at + stored_size d r) ≡ b → (at + stored_size d r ≤ p → list_any (covers p) others ≡ true) → (covers p (at, at + stored_size d r) || list_any (covers p) others) ≡ true
+    by true is again = or_left (covers p (at, at + stored_size d r)) (list_any (covers p) others) (and_from (nat_le at p) (nat_lt p (at + stored_size d r)) (le-leb at p low) is)
+    by false is again = or_right (covers p (at, at + stored_size d r)) (list_any (covers p) others) (again (ltb-false p (at + stored_size d r) is))
 
 -- so no deleted block is apart from them
 
@@ -67,41 +76,55 @@ pub none_deleted : (d : Defs) (x : List ℕ) → IsSound d → ((p : ℕ) → p 
 unfolding deleted
 none_deleted d x s covered = none_left (length x) (ranges_of (readable d false x)) (frees_of (items_in d false x)) (frees_fine d false x s) covered
 
--- one range a row
+-- the blocks of all rows
 
-pub laid_count : (d : Defs) (at : ℕ) (vs : List Values) → length (stored_rows d at vs) ≡ length vs
+pub laid_count : (d : Defs) (at : ℕ) (rs : List SizedRow) → length (stored_rows d at rs) ≡ length rs
 unfolding stored_rows
 laid_count d at [] = refl
-laid_count d at (v ∷ vs) = ap suc (laid_count d (at + length (stored d v)) vs)
+laid_count d at (r ∷ rs) = ap suc (laid_count d (at + stored_size d r) rs)
 
-pub laid_split : (d : Defs) (at : ℕ) (vs : List Values) → length (ranges_of (stored_rows d at vs)) ≡ length vs
+ranges_count : (at : ℕ) (g : List Share) → length (ranges_from at g) ≡ length g
+ranges_count at [] = refl
+ranges_count at (s ∷ g) = ap suc (ranges_count (at + s.size) g)
+
+pub laid_split : (d : Defs) (at : ℕ) (rs : List SizedRow) → length (ranges_of (stored_rows d at rs)) ≡ block_count d rs
 unfolding stored_rows
 laid_split d at [] = refl
-laid_split d at (v ∷ vs) = ap suc (laid_split d (at + length (stored d v)) vs)
+laid_split d at (r ∷ rs) =
+    length-append (ranges_from at (group d r)) (ranges_of (stored_rows d (at + stored_size d r) rs))
+    ∙ omega (arith, ranges_count at (group d r), laid_split d (at + stored_size d r) rs)
+    ∙ sym (sum_by-cons (λ (q : SizedRow). length (group d q)) r rs)
+
+-- as long as each row stands alone
+pub few_blocks : (d : Defs) (rs : List SizedRow) → IsSound d → AllByRecursion (IsStorable d) rs → block_count d rs ≡ length rs
+few_blocks d [] s all = refl
+few_blocks d (r ∷ rs) s all =
+    sum_by-cons (λ (q : SizedRow). length (group d q)) r rs
+    ∙ omega (arith, ap (λ (g : List Share). length g) (group_one d r s all.0.fits), few_blocks d rs s all.1)
 
 -- the rows with their places
 
-pub laid_placed : (d : Defs) (at : ℕ) (vs : List Values) → IsSound d → AllByRecursion (IsStorable d) vs → map (placed_row d) (stored_rows d at vs) ≡ placed_from d at vs
+pub laid_placed : (d : Defs) (at : ℕ) (rs : List SizedRow) → IsSound d → AllByRecursion (IsStorable d) rs → map (placed_row d) (stored_rows d at rs) ≡ placed_from d at rs
 unfolding stored_rows
 laid_placed d at [] s all = refl
-laid_placed d at (v ∷ vs) s all =
-    let first : unwrap_or (row_of d (spelling d v)) [] ≡ v = ap (λ (o : Option Values). unwrap_or o []) (row-reads d v s all.0.fits) in
-    let next : ℕ = at + length (stored d v) in
-    ap (λ w. (at, w) ∷ map (placed_row d) (stored_rows d next vs)) first ∙ ap (λ (rs : List PlacedRow). (at, v) ∷ rs) (laid_placed d next vs s all.1)
+laid_placed d at (r ∷ rs) s all =
+    let first : unwrap_or (row_of d (spelling d r.values)) [] ≡ r.values = ap (λ (o : Option Values). unwrap_or o []) (row-reads d r.values s all.0.fits) in
+    let next : ℕ = at + stored_size d r in
+    ap (λ w. (at, w) ∷ map (placed_row d) (stored_rows d next rs)) first ∙ ap (λ (ps : List PlacedRow). (at, r.values) ∷ ps) (laid_placed d next rs s all.1)
 
-pub near_from : (d : Defs) (at len : ℕ) (vs : List Values) → AllByRecursion (IsStorable d) vs → at + stored_length d vs ≤ len → AllByRecursion (IsNear d len) (placed_from d at vs)
+pub near_from : (d : Defs) (at len : ℕ) (rs : List SizedRow) → AllByRecursion (IsStorable d) rs → at + stored_length d rs ≤ len → AllByRecursion (IsNear d len) (placed_from d at rs)
 near_from d at len [] all inside = tt
-near_from d at len (v ∷ vs) all inside = ((omega arith, all.0.fits), near_from d (at + length (stored d v)) len vs all.1 (omega (arith, step_length d v vs)))
+near_from d at len (r ∷ rs) all inside = ((omega arith, all.0.fits), near_from d (at + stored_size d r) len rs all.1 (omega (arith, step_length d r rs)))
 
 -- no more rows than bytes
 
-some_bytes : (d : Defs) (v : Values) → IsSound d → IsStorable d v → 0 < length (stored d v)
-some_bytes d v s can = of_format d.format refl
+some_bytes : (d : Defs) (r : SizedRow) → IsSound d → IsStorable d r → 0 < stored_size d r
+some_bytes d r s can = of_format d.format refl
   where
-    of_format : (f : RowFormat) → d.format ≡ f → 0 < length (stored d v)
-    of_format Static is = omega (arith, length-slot d v s is can, s.slot_pointer is)
-    of_format Dynamic is = omega (arith, length-own d v is can, (least-sized (length (spelling d v))).least)
+    of_format : (f : RowFormat) → d.format ≡ f → 0 < stored_size d r
+    of_format Static is = omega (arith, length-slot d r s is can, s.slot_pointer is)
+    of_format Dynamic is = omega (arith, length-own d r s is can, (least-sized (length (spelling d r.values))).least)
 
-pub few_rows : (d : Defs) (vs : List Values) → IsSound d → AllByRecursion (IsStorable d) vs → length vs ≤ stored_length d vs
+pub few_rows : (d : Defs) (rs : List SizedRow) → IsSound d → AllByRecursion (IsStorable d) rs → length rs ≤ stored_length d rs
 few_rows d [] s all = omega arith
-few_rows d (v ∷ vs) s all = omega (arith, step_length d v vs, some_bytes d v s all.0, few_rows d vs s all.1)
+few_rows d (r ∷ rs) s all = omega (arith, step_length d r rs, some_bytes d r s all.0, few_rows d rs s all.1)

@@ -5,8 +5,8 @@ pub mod ReadLaws
 pub mod KeptLaws
 pub mod SizedLaws
 pub mod ShorterLaws
-pub mod LaidPages
 pub mod PageRanges
+pub mod NodesAt
 pub mod TreesLaws
 pub mod HeaderLaws
 pub mod FewPages

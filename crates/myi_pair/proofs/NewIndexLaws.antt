@@ -11,8 +11,7 @@ use Rattle.myi_defs.proofs.CallerLemmas.{sound}
 use Rattle.myi_header.specs.declared.state.State.{State}
 use Rattle.myi_header.specs.Layout.{first_page_of}
 use Rattle.myi_header.specs.HeaderOf.{header_of}
-use Rattle.myi_pack.specs.Packed.{Values}
-use Rattle.myi_data.specs.Stored.{stored, stored_file, IsStorable}
+use Rattle.myi_data.specs.Stored.{SizedRow, stored_size, stored_file, block_count, IsStorable}
 use Rattle.myi_btree.specs.declared.pair.Pair.{Pair}
 use Rattle.myi_btree.specs.Walk.{Node}
 use Rattle.myi_btree.specs.Sizes.{IsPlaced, fits_in}
@@ -26,7 +25,7 @@ use Rattle.myi_pair.specs.Recovered.{IsRepairable}
 use Rattle.myi_pair.proofs.SizedLaws.{placed}
 use Rattle.myi_pair.proofs.KeptLaws.{kept_each}
 use Rattle.myi_pair.proofs.ShorterLaws.{stored_length, length-laid, new_reached, shorter}
-use Rattle.myi_pair.proofs.LaidLaws.{near_from, few_rows}
+use Rattle.myi_pair.proofs.LaidLaws.{near_from, few_rows, few_blocks}
 use Rattle.myi_pair.proofs.TreesLaws.{trees_of, first_le_end, AreThere, trees_there}
 use Rattle.myi_pair.proofs.FewPages.{trees_short, first_short}
 use Rattle.myi_header.proofs.CallerLemmas.{header-long}
@@ -72,20 +71,20 @@ roots_fit d first (k ∷ ks) (pairs ∷ lists) s inside small =
 
 -- the new trees
 
-abbrev pub rows_placed : Defs → List Values → List PlacedRow
+abbrev pub rows_placed : Defs → List SizedRow → List PlacedRow
 rows_placed d rows = placed_from d 0 rows
 
-pub trees_are : (d : Defs) (rows : List Values) → new_trees d rows ≡ trees_of d (first_page_of d) (key_numbers d) (rows_placed d rows)
+pub trees_are : (d : Defs) (rows : List SizedRow) → new_trees d rows ≡ trees_of d (first_page_of d) (key_numbers d) (rows_placed d rows)
 unfolding new_trees
 trees_are d rows = refl
 
-new_roots_count : (d : Defs) (rows : List Values) → length (new_trees d rows).roots ≡ length d.keys
+new_roots_count : (d : Defs) (rows : List SizedRow) → length (new_trees d rows).roots ≡ length d.keys
 new_roots_count d rows =
     ap (λ (t : LaidTrees). length t.roots) (trees_are d rows)
     ∙ roots_count d (first_page_of d) (key_numbers d) (map (λ k. key_list d k (rows_placed d rows)) (key_numbers d)) (length-map (key_numbers d) (λ k. key_list d k (rows_placed d rows)))
     ∙ numbers_count 1 (length d.keys)
 
-new_roots_fit : (d : Defs) (rows : List Values) → IsSound d → (new_trees d rows).end < 2 ^ 64 → AllByRecursion RootFits (new_trees d rows).roots
+new_roots_fit : (d : Defs) (rows : List SizedRow) → IsSound d → (new_trees d rows).end < 2 ^ 64 → AllByRecursion RootFits (new_trees d rows).roots
 new_roots_fit d rows s small =
     let is = trees_are d rows in
     subst (λ (t : LaidTrees). AllByRecursion RootFits t.roots) (sym is)
@@ -95,20 +94,20 @@ whole_first : (d : Defs) → first_page_of d % 1024 ≡ 0
 whole_first d = omega arith
 
 -- the trees stand in each file whose bytes from the first page place on are theirs
-new_there : (d : Defs) (x : List ℕ) (rows : List Values) → IsSound d → AllByRecursion (IsStorable d) rows → is_addressable d (length (stored_file d rows)) ≡ true → (new_trees d rows).end < 2 ^ 64 → drop (first_page_of d) x ≡ (new_trees d rows).bytes
+new_there : (d : Defs) (x : List ℕ) (rows : List SizedRow) → IsSound d → AllByRecursion (IsStorable d) rows → is_addressable d (length (stored_file d rows)) ≡ true → (new_trees d rows).end < 2 ^ 64 → drop (first_page_of d) x ≡ (new_trees d rows).bytes
     → AreThere d x (rows_placed d rows) ((0, first_page_of d) ∷ []) (first_page_of d) (key_numbers d)
 new_there d x rows s all reached small is =
     let same = trees_are d rows in
     let first : ℕ = first_page_of d in
     let there : drop first x ≡ (trees_of d first (key_numbers d) (rows_placed d rows)).bytes ++ [] = is ∙ ap (λ (t : LaidTrees). t.bytes) same ∙ sym (append-nil _) in
     trees_there d (length (stored_file d rows)) x (rows_placed d rows) ((0, first) ∷ []) first (key_numbers d) [] s reached
-    (near_from d 0 (length (stored_file d rows)) rows all (omega (arith, length-laid d rows)))
+    (near_from d 0 (length (stored_file d rows)) rows all (omega (arith, length-laid d rows s all)))
     (numbers_of_keys d) (whole_first d) (omega arith, tt)
     (subst (λ (t : LaidTrees). t.end < 2 ^ 64) same small) there
 
-placed_count : (d : Defs) (at : ℕ) (vs : List Values) → length (placed_from d at vs) ≡ length vs
+placed_count : (d : Defs) (at : ℕ) (rs : List SizedRow) → length (placed_from d at rs) ≡ length rs
 placed_count d at [] = refl
-placed_count d at (v ∷ vs) = ap suc (placed_count d (at + length (stored d v)) vs)
+placed_count d at (r ∷ rs) = ap suc (placed_count d (at + stored_size d r) rs)
 
 -- the new index file
 
@@ -117,7 +116,7 @@ unfolding is_addressable
 short_file d n reached = leb-true n (2 ^ 40) (and_parts (nat_le n (2 ^ 40)) _ reached).0
 
 module _ (d : Defs) (extend : Bool) (x : List ℕ) (now : ℕ) (can : IsRepairable d x now) where
-  the_rows : List Values
+  the_rows : List SizedRow
   the_rows = kept d extend x
 
   is_sound : IsSound d
@@ -131,29 +130,30 @@ module _ (d : Defs) (extend : Bool) (x : List ℕ) (now : ℕ) (can : IsRepairab
   data_is = refl
 
   pub data_long : length (new_data d extend x) ≡ stored_length d (kept d extend x)
-  data_long = ap (λ (b : List ℕ). length b) data_is ∙ length-laid d (kept d extend x)
+  data_long = ap (λ (b : List ℕ). length b) data_is ∙ length-laid d (kept d extend x) is_sound all_stored
 
   new_near : is_addressable d (length (stored_file d (kept d extend x))) ≡ true
   new_near = ap (λ (b : List ℕ). is_addressable d (length b)) (sym data_is) ∙ new_reached d extend x can.defined can.bytes can.reached
 
   pub room : (new_trees d (kept d extend x)).end < 2 ^ 64
   room =
-      let rows : List Values = kept d extend x in
+      let rows : List SizedRow = kept d extend x in
       let less = shorter d extend x can.defined can.bytes in
       let most = short_file d (length x) can.reached in
       let len : ℕ = length (stored_file d rows) in
       let few : length (rows_placed d rows) ≤ 2 ^ 40 = omega (arith, placed_count d 0 rows, less, most, data_long, few_rows d rows is_sound all_stored) in
-      let short = trees_short d len (first_page_of d) (key_numbers d) (rows_placed d rows) is_sound new_near (near_from d 0 len rows all_stored (omega (arith, length-laid d rows)))
+      let short = trees_short d len (first_page_of d) (key_numbers d) (rows_placed d rows) is_sound new_near (near_from d 0 len rows all_stored (omega (arith, length-laid d rows is_sound all_stored)))
       (numbers_of_keys d) (omega (arith, numbers_count 1 (length d.keys), is_sound.few_keys)) few (first_short d is_sound can.header) in
       subst (λ (t : LaidTrees). t.end < 2 ^ 64) (sym (trees_are d rows)) short
 
-  pub are_few : AreFew d (length (kept d extend x)) (length (new_data d extend x)) (new_trees d (kept d extend x)).end now (new_trees d (kept d extend x)).roots
+  pub are_few : AreFew d (length (kept d extend x)) (block_count d (kept d extend x)) (length (new_data d extend x)) (new_trees d (kept d extend x)).end now (new_trees d (kept d extend x)).roots
   are_few =
       let less = shorter d extend x can.defined can.bytes in
       let most = short_file d (length x) can.reached in
       record {
         raw = can.header;
         few_rows = omega (arith, less, most, data_long, few_rows d (kept d extend x) is_sound all_stored);
+        few_blocks = omega (arith, less, most, data_long, few_rows d (kept d extend x) is_sound all_stored, few_blocks d (kept d extend x) is_sound all_stored);
         short_data = omega (arith, less, most);
         short_index = room;
         early = can.time;
@@ -162,7 +162,7 @@ module _ (d : Defs) (extend : Bool) (x : List ℕ) (now : ℕ) (can : IsRepairab
       }
 
   abbrev the_state : State
-  the_state = repaired d (length (kept d extend x)) (length (new_data d extend x)) (new_trees d (kept d extend x)).end now (new_trees d (kept d extend x)).roots
+  the_state = repaired d (length (kept d extend x)) (block_count d (kept d extend x)) (length (new_data d extend x)) (new_trees d (kept d extend x)).end now (new_trees d (kept d extend x)).roots
 
   pub index_is : new_index d extend x now ≡ header_of d the_state ++ (new_trees d (kept d extend x)).bytes
   unfolding new_index
@@ -185,4 +185,4 @@ module _ (d : Defs) (extend : Bool) (x : List ℕ) (now : ℕ) (can : IsRepairab
 
   pub index_shows : IsNewIndex d (recovered_state d extend x now) (new_index d extend x now)
   index_shows =
-      subst (IsNewIndex d the_state) (sym index_is) (new_header d (length (kept d extend x)) (length (new_data d extend x)) (new_trees d (kept d extend x)).end now (new_trees d (kept d extend x)).roots (new_trees d (kept d extend x)).bytes is_sound are_few)
+      subst (IsNewIndex d the_state) (sym index_is) (new_header d (length (kept d extend x)) (block_count d (kept d extend x)) (length (new_data d extend x)) (new_trees d (kept d extend x)).end now (new_trees d (kept d extend x)).roots (new_trees d (kept d extend x)).bytes is_sound are_few)

@@ -1,6 +1,6 @@
 -- The two files that a repair leaves are recovered.
 use Rattle.std.proofs.Common.{◌≡◌, ℕ, zero, suc, ◌+◌, ◌*◌, ◌/◌, ◌<◌, ◌≤◌, Bool, true, false, Option, None, List, [], ◌∷◌, ◌++◌, length, map, take, bytes_eq, Ok, refl, sym, ap, subst, ◌∙◌, arith, append-nil}
-use Rattle.std.specs.List.{list_any, flat_map}
+use Rattle.std.specs.List.{list_any, AllByRecursion}
 use Rattle.std.proofs.lemmas.List.{length-take-le}
 use Rattle.std.proofs.lemmas.List.Sorted.{IsPermutation-refl}
 use Rattle.std.specs.Prelude.{IsPermutation}
@@ -23,15 +23,15 @@ use Rattle.myi_pack.specs.Packed.{Values}
 use Rattle.myi_chain.specs.Readable.{Row}
 use Rattle.myi_chain.specs.Meeting.{ranges_of}
 use Rattle.myi_data.specs.Readable.{readable, deleted}
-use Rattle.myi_data.specs.Stored.{stored, stored_file, stored_rows}
+use Rattle.myi_data.specs.Stored.{SizedRow, values_in, stored_file, block_count, stored_rows, IsStorable}
 use Rattle.myi_pair.specs.FirstRows.{key_numbers, first_rows, AreDistinct}
 use Rattle.myi_pair.specs.KeyList.{PlacedRow}
 use Rattle.myi_pair.specs.Trees.{HaveTrees, total}
-use Rattle.myi_pair.specs.Clean.{values_of, placed_row, covers, ListsDeleted, Counts, IsClean}
+use Rattle.myi_pair.specs.Clean.{values_of, sized_row, placed_row, covers, ListsDeleted, Counts, IsClean}
 use Rattle.myi_pair.specs.RecoveredBytes.{kept, new_data, placed_from, LaidTrees, new_trees, recovered_state, new_index}
 use Rattle.myi_pair.specs.Recovered.{IsRepairable, Recovered}
 use Rattle.myi_pair.proofs.FirstRowsLaws.{distinct, all_kept}
-use Rattle.myi_pair.proofs.KeptLaws.{new_rows, new_values}
+use Rattle.myi_pair.proofs.KeptLaws.{new_rows, new_values, values_sized}
 use Rattle.myi_pair.proofs.ShorterLaws.{stored_length, new_reached, shorter}
 use Rattle.myi_pair.proofs.SameDefs.{with_raw, readable_same, deleted_same, values_same, placed_same, addressable_same, distinct_same, trees_same}
 use Rattle.myi_pair.proofs.LaidLaws.{laid_covered, none_deleted, laid_count, laid_split, laid_placed}
@@ -100,28 +100,29 @@ header_like d y s same = record {
 -- a clean pair
 
 -- what is to hold of the two files under the definitions that were asked for
-record AreClean (d : Defs) (vs : List Values) (e y : List ℕ) (roots : List (Option ℕ)) : Type 0 where
+record AreClean (d : Defs) (vs : List SizedRow) (e y : List ℕ) (roots : List (Option ℕ)) : Type 0 where
   pub rows : readable d false e ≡ stored_rows d 0 vs
-  pub values : map (values_of d) (readable d false e) ≡ vs
+  pub stored : AllByRecursion (IsStorable d) vs
+  pub values : map (values_of d) (readable d false e) ≡ values_in vs
   pub placed : map (placed_row d) (readable d false e) ≡ placed_from d 0 vs
   pub long : length e ≡ stored_length d vs
-  pub distinct : AreDistinct d [] vs
+  pub distinct : AreDistinct d [] (values_in vs)
   pub pages : List Range
   pub trees : HaveTrees d y (placed_from d 0 vs) ((0, first_page_of d) ∷ []) (key_numbers d) roots pages
   pub size : first_page_of d + total pages ≡ length y
 
-covered_rows : (d : Defs) (vs : List Values) (e y : List ℕ) (roots : List (Option ℕ)) → AreClean d vs e y roots → (p : ℕ) → p < length e → list_any (covers p) (ranges_of (readable d false e)) ≡ true
-covered_rows d vs e y roots are p inside =
-    ap (λ (rows : List Row). list_any (covers p) (ranges_of rows)) are.rows ∙ laid_covered d 0 p vs (omega arith) (omega (arith, are.long))
+covered_rows : (d : Defs) (vs : List SizedRow) (e y : List ℕ) (roots : List (Option ℕ)) → IsSound d → AreClean d vs e y roots → (p : ℕ) → p < length e → list_any (covers p) (ranges_of (readable d false e)) ≡ true
+covered_rows d vs e y roots s are p inside =
+    ap (λ (rows : List Row). list_any (covers p) (ranges_of rows)) are.rows ∙ laid_covered d 0 p vs s are.stored (omega arith) (omega (arith, are.long))
 
-no_deleted : (d : Defs) (vs : List Values) (e y : List ℕ) (roots : List (Option ℕ)) → IsSound d → AreClean d vs e y roots → deleted d e ≡ []
-no_deleted d vs e y roots s are = none_deleted d e s (covered_rows d vs e y roots are)
+no_deleted : (d : Defs) (vs : List SizedRow) (e y : List ℕ) (roots : List (Option ℕ)) → IsSound d → AreClean d vs e y roots → deleted d e ≡ []
+no_deleted d vs e y roots s are = none_deleted d e s (covered_rows d vs e y roots s are)
 
 -- the numbers of the state are those of the files
-record IsStateOf (s : State) (vs : List Values) (e y : List ℕ) (roots : List (Option ℕ)) : Type 0 where
+record IsStateOf (d : Defs) (s : State) (vs : List SizedRow) (e y : List ℕ) (roots : List (Option ℕ)) : Type 0 where
   pub records : s.records ≡ length vs
   pub del : s.del ≡ 0
-  pub split : s.split ≡ length vs
+  pub split : s.split ≡ block_count d vs
   pub dellink : s.dellink ≡ None
   pub key_file_length : s.key_file_length ≡ length y
   pub data_file_length : s.data_file_length ≡ length e
@@ -129,7 +130,7 @@ record IsStateOf (s : State) (vs : List Values) (e y : List ℕ) (roots : List (
   pub key_empty : s.key_empty ≡ 0
   pub trees : s.roots ≡ roots
 
-counted : (d : Defs) (s : State) (vs : List Values) (e y : List ℕ) (roots : List (Option ℕ)) → IsSound d → AreClean d vs e y roots → IsStateOf s vs e y roots → Counts d s e y
+counted : (d : Defs) (s : State) (vs : List SizedRow) (e y : List ℕ) (roots : List (Option ℕ)) → IsSound d → AreClean d vs e y roots → IsStateOf d s vs e y roots → Counts d s e y
 counted d s vs e y roots is_sound are is =
     let none = no_deleted d vs e y roots is_sound are in
     record {
@@ -158,14 +159,14 @@ lists_none d e head none end = ([], subst (λ (rs : List Range). IsPermutation (
 abbrev one_busy : ℕ → List Range
 one_busy n = (0, n) ∷ []
 
-clean_pair : (d : Defs) (vs : List Values) (e y r : List ℕ) (roots : List (Option ℕ)) → IsSound d → read_defs y ≡ Ok (with_raw d r) → IsLike d r → has_mark d y ≡ true → is_addressable d (length e) ≡ true → AreClean d vs e y roots → IsStateOf (state_of d y) vs e y roots → IsClean e y
+clean_pair : (d : Defs) (vs : List SizedRow) (e y r : List ℕ) (roots : List (Option ℕ)) → IsSound d → read_defs y ≡ Ok (with_raw d r) → IsLike d r → has_mark d y ≡ true → is_addressable d (length e) ≡ true → AreClean d vs e y roots → IsStateOf d (state_of d y) vs e y roots → IsClean e y
 clean_pair d vs e y r roots s read like marked reached c is =
     let d2 : Defs = with_raw d r in
     let state : state_of d2 y ≡ state_of d y = state_same d r y like in
     let rows : readable d2 false e ≡ readable d false e = readable_same d r false e in
     let none : deleted d2 e ≡ [] = deleted_same d r e ∙ no_deleted d vs e y roots s c in
     let placed : map (placed_row d2) (readable d2 false e) ≡ placed_from d 0 vs = ap (map (placed_row d2)) rows ∙ placed_same d r (readable d false e) ∙ c.placed in
-    let values : map (values_of d2) (readable d2 false e) ≡ vs = ap (map (values_of d2)) rows ∙ values_same d r (readable d false e) ∙ c.values in
+    let values : map (values_of d2) (readable d2 false e) ≡ values_in vs = ap (map (values_of d2)) rows ∙ values_same d r (readable d false e) ∙ c.values in
     let first : first_page_of d2 ≡ first_page_of d = first_same d r like in
     let same_roots : (state_of d2 y).roots ≡ roots = ap (λ (t : State). t.roots) state ∙ is.trees in
     let busy : one_busy (first_page_of d2) ≡ one_busy (first_page_of d) = ap one_busy first in
@@ -176,7 +177,7 @@ clean_pair d vs e y r roots s read like marked reached c is =
       mark = mark_same d r y like ∙ marked;
       addressable = addressable_same d r (length e) ∙ reached;
       covered = λ p inside. ap (λ (rs : List Range). list_any (covers p) (ranges_of (readable d2 false e) ++ rs)) none ∙ ap (λ (rs : List Range). list_any (covers p) rs) (append-nil (ranges_of (readable d2 false e))) ∙ ap (λ (rs : List Row). list_any (covers p) (ranges_of rs)) rows
-          ∙ covered_rows d vs e y roots c p inside;
+          ∙ covered_rows d vs e y roots s c p inside;
       list = lists_none d2 e (state_of d2 y).dellink none (ap (λ (t : State). t.dellink) state ∙ is.dellink);
       counts = subst (λ (t : State). Counts d2 t e y) (sym state) (counts_same d r (state_of d y) e y (counted d (state_of d y) vs e y roots s c is));
       pages = c.pages;
@@ -184,25 +185,26 @@ clean_pair d vs e y r roots s read like marked reached c is =
           (subst (λ (b : List Range). HaveTrees d2 y (placed_from d 0 vs) b (key_numbers d2) (state_of d2 y).roots c.pages) (sym busy)
           (subst (λ (rs : List (Option ℕ)). HaveTrees d2 y (placed_from d 0 vs) ((0, first_page_of d) ∷ []) (key_numbers d2) rs c.pages) (sym same_roots) trees));
       key_empty = ap (λ (t : State). t.key_empty) state ∙ is.key_empty ∙ omega (arith, first, c.size);
-      distinct = subst (λ (ws : List Values). AreDistinct d2 [] ws) (sym values) (distinct_same d r [] vs c.distinct);
+      distinct = subst (λ (ws : List Values). AreDistinct d2 [] ws) (sym values) (distinct_same d r [] (values_in vs) c.distinct);
     }
 
 -- what a repair leaves
 
 module _ (d : Defs) (extend : Bool) (x : List ℕ) (now : ℕ) (can : IsRepairable d x now) where
-  kept_distinct : AreDistinct d [] (kept d extend x)
+  kept_distinct : AreDistinct d [] (values_in (kept d extend x))
   unfolding kept
-  kept_distinct = distinct d (map (values_of d) (readable d extend x))
+  kept_distinct = distinct d (map (sized_row d) (readable d extend x))
 
   the_clean : AreClean d (kept d extend x) (new_data d extend x) (new_index d extend x now) (new_trees d (kept d extend x)).roots
   the_clean =
       let s : IsSound d = sound d can.defined in
-      let vs : List Values = kept d extend x in
+      let vs : List SizedRow = kept d extend x in
       let rows = new_rows d false extend x can.defined can.bytes in
       let t = there d extend x now can in
       let same = trees_are d vs in
       record {
         rows = rows;
+        stored = all_stored d extend x now can;
         values = new_values d false extend x can.defined can.bytes;
         placed = ap (map (placed_row d)) rows ∙ laid_placed d 0 vs s (all_stored d extend x now can);
         long = data_long d extend x now can;
@@ -212,7 +214,7 @@ module _ (d : Defs) (extend : Bool) (x : List ℕ) (now : ℕ) (can : IsRepairab
         size = t.size ∙ ap (λ (u : LaidTrees). u.end) (sym same) ∙ sym (index_long d extend x now can);
       }
 
-  the_state : IsStateOf (state_of d (new_index d extend x now)) (kept d extend x) (new_data d extend x) (new_index d extend x now) (new_trees d (kept d extend x)).roots
+  the_state : IsStateOf d (state_of d (new_index d extend x now)) (kept d extend x) (new_data d extend x) (new_index d extend x now) (new_trees d (kept d extend x)).roots
   the_state =
       let same = (index_shows d extend x now can).state in
       record {
@@ -227,8 +229,8 @@ module _ (d : Defs) (extend : Bool) (x : List ℕ) (now : ℕ) (can : IsRepairab
         trees = ap (λ (t : State). t.roots) same;
       }
 
-  data_is : new_data d extend x ≡ flat_map (stored d) (kept d extend x)
-  unfolding new_data stored_file
+  data_is : new_data d extend x ≡ stored_file d (kept d extend x)
+  unfolding new_data
   data_is = refl
 
   pub recovered : Recovered d extend x now (new_data d extend x) (new_index d extend x now)
@@ -256,8 +258,8 @@ trees_stand d extend x now can = let c = the_clean d extend x now can in (c.page
 pub same_defs : (a b : Defs) (x : List ℕ) → read_defs x ≡ Ok a → read_defs x ≡ Ok b → b ≡ a
 same_defs a b x one other = let e = sym other ∙ one in cc
 
-pub clean_kept : (d : Defs) (e y : List ℕ) → read_defs y ≡ Ok d → IsClean e y → kept d false e ≡ map (values_of d) (readable d false e)
+pub clean_kept : (d : Defs) (e y : List ℕ) → read_defs y ≡ Ok d → IsClean e y → kept d false e ≡ map (sized_row d) (readable d false e)
 unfolding kept
 clean_kept d e y read clean =
-    subst (λ (a : Defs). first_rows a (map (values_of a) (readable a false e)) ≡ map (values_of a) (readable a false e)) (same_defs d clean.defs y read clean.read)
-    (all_kept clean.defs (map (values_of clean.defs) (readable clean.defs false e)) clean.distinct)
+    subst (λ (a : Defs). first_rows a (map (sized_row a) (readable a false e)) ≡ map (sized_row a) (readable a false e)) (same_defs d clean.defs y read clean.read)
+    (all_kept clean.defs (map (sized_row clean.defs) (readable clean.defs false e)) (subst (AreDistinct clean.defs []) (sym (values_sized clean.defs (readable clean.defs false e))) clean.distinct))

@@ -1,5 +1,5 @@
 -- What definitions say of rows, keys and trees does not depend on the bytes of the header that they were read from.
-use Rattle.std.proofs.Common.{◌≡◌, ℕ, Bool, false, List, [], ◌∷◌, ◌++◌, map, filter, Option, Some, None, is_some, unwrap_or, refl, sym, ap, subst, ◌∙◌}
+use Rattle.std.proofs.Common.{◌≡◌, ℕ, ◌-◌, Bool, false, List, [], ◌∷◌, ◌++◌, map, filter, Option, Some, None, is_some, unwrap_or, refl, sym, ap, subst, ◌∙◌}
 use Rattle.std.specs.List.{list_any}
 use Rattle.myi_base.specs.Ranges.{Range, is_apart}
 use Rattle.myi_defs.specs.declared.types.RowFormat.{RowFormat}
@@ -18,7 +18,7 @@ use Rattle.myi_btree.specs.declared.pair.Pair.{Pair}
 use Rattle.myi_pair.specs.FirstRows.{repeats, AreDistinct}
 use Rattle.myi_pair.specs.KeyList.{PlacedRow, key_list}
 use Rattle.myi_pair.specs.Trees.{HasTree, HaveTrees}
-use Rattle.myi_pair.specs.Clean.{values_of, placed_row}
+use Rattle.myi_pair.specs.Clean.{values_of, sized_row, placed_row}
 
 -- these definitions, with another header
 abbrev pub with_raw : Defs → List ℕ → Defs
@@ -54,6 +54,9 @@ module _ (d : Defs) (r : List ℕ) where
 
   pub values_same : (rows : List Row) → map (values_of (with_raw d r)) rows ≡ map (values_of d) rows
   values_same rows = λ i. map (λ (s : Row). unwrap_or (row_same s.bytes i) []) rows
+
+  pub sized_same : (rows : List Row) → map (sized_row (with_raw d r)) rows ≡ map (sized_row d) rows
+  sized_same rows = λ i. map (λ (s : Row). record { values = unwrap_or (row_same s.bytes i) []; sizes = map (λ (a : Range). a.1 - a.0) s.blocks }) rows
 
   pub placed_same : (rows : List Row) → map (placed_row (with_raw d r)) rows ≡ map (placed_row d) rows
   placed_same rows = λ i. map (λ (s : Row). (s.at, unwrap_or (row_same s.bytes i) [])) rows

@@ -1,6 +1,7 @@
 -- A second repair leaves the files that the first would have left at its time.
-use Rattle.std.proofs.Common.{◌≡◌, ℕ, ◌+◌, ◌-◌, ◌*◌, ◌≤◌, Bool, cond, Option, List, [], ◌∷◌, ◌++◌, length, map, take, drop, replicate, Ok, refl, sym, ap, subst, ◌∙◌, arith, append_assoc, length-append}
-use Rattle.std.specs.List.{list_any, flat_map}
+use Rattle.std.proofs.Common.{◌≡◌, ℕ, ◌+◌, ◌-◌, ◌*◌, ◌≤◌, Bool, cond, Option, List, [], ◌∷◌, ◌++◌, length, map, take, drop, replicate, sum_by, Ok, refl, sym, ap, subst, ◌∙◌, arith, append_assoc, length-append}
+use Rattle.std.specs.List.{list_any}
+use Rattle.std.proofs.lemmas.List.Sums.{sum_by-cons}
 use Rattle.std.proofs.lemmas.List.{take_at, drop_at, drop-take, take-take, take_all, length-take-le, length-replicate}
 use Rattle.myi_base.specs.Numbers.{num_at}
 use Rattle.myi_defs.specs.declared.types.RowFormat.{RowFormat}
@@ -20,7 +21,7 @@ use Rattle.myi_header.proofs.CallerLemmas.{state-take, state-rest}
 use Rattle.myi_pack.specs.Packed.{Values}
 use Rattle.myi_pack.specs.Spelling.{spelled_row, spelling}
 use Rattle.myi_data.specs.Readable.{readable}
-use Rattle.myi_data.specs.Stored.{stored_by, stored, stored_file}
+use Rattle.myi_data.specs.Stored.{SizedRow, Share, group_by, group, stored_by, stored_size, stored, stored_from, stored_file, block_count}
 use Rattle.myi_btree.specs.declared.pair.Pair.{Pair}
 use Rattle.myi_btree.specs.Walk.{Node}
 use Rattle.myi_btree.specs.Sizes.{fits_in}
@@ -28,49 +29,69 @@ use Rattle.myi_btree.specs.LaidPages.{laid}
 use Rattle.myi_pair.specs.FirstRows.{key_numbers, repeats, first_after, first_rows}
 use Rattle.myi_pair.specs.KeyList.{PlacedRow, key_list}
 use Rattle.myi_pair.specs.Trees.{block_of_key, place_of}
-use Rattle.myi_pair.specs.Clean.{values_of}
+use Rattle.myi_pair.specs.Clean.{sized_row}
 use Rattle.myi_pair.specs.RecoveredBytes.{kept, new_data, placed_from, LaidTrees, pages_then, laid_trees, key_lists, new_trees, without_free_pages, new_state, recovered_state, new_index}
 use Rattle.myi_pair.specs.Recovered.{IsRepairable}
-use Rattle.myi_pair.proofs.KeptLaws.{settled}
+use Rattle.myi_pair.proofs.KeptLaws.{AreAlike, settled_alike}
 use Rattle.myi_pair.proofs.HeaderLaws.{IsNewIndex}
 use Rattle.myi_pair.proofs.NewIndexLaws.{index_shows}
 use Rattle.myi_pair.proofs.RecoveredLaws.{IsLike, front_number, layout_same, first_same, state_same, header_like, same_defs, recovered}
-use Rattle.myi_pair.proofs.SameDefs.{with_raw, readable_same, values_same, repeats_same, list_same}
+use Rattle.myi_pair.proofs.SameDefs.{with_raw, readable_same, sized_same, repeats_same, list_same}
 
 -- what definitions with another header say of kept rows, stored rows and trees
 
 module _ (d : Defs) (r : List ℕ) where
-  after_same : (before rows : List Values) → first_after (with_raw d r) before rows ≡ first_after d before rows
+  after_same : (before : List Values) (rows : List SizedRow) → first_after (with_raw d r) before rows ≡ first_after d before rows
   after_same before [] = refl
   after_same before (row ∷ rows) =
-      ap (λ (p : Values → Bool). cond (list_any p before) (first_after (with_raw d r) before rows) (row ∷ first_after (with_raw d r) (before ++ row ∷ []) rows)) (repeats_same d r row)
-      ∙ ap (λ rs. cond (list_any (repeats d row) before) rs (row ∷ first_after (with_raw d r) (before ++ row ∷ []) rows)) (after_same before rows)
-      ∙ ap (λ rs. cond (list_any (repeats d row) before) (first_after d before rows) (row ∷ rs)) (after_same (before ++ row ∷ []) rows)
+      ap (λ (p : Values → Bool). cond (list_any p before) (first_after (with_raw d r) before rows) (row ∷ first_after (with_raw d r) (before ++ row.values ∷ []) rows)) (repeats_same d r row.values)
+      ∙ ap (λ rs. cond (list_any (repeats d row.values) before) rs (row ∷ first_after (with_raw d r) (before ++ row.values ∷ []) rows)) (after_same before rows)
+      ∙ ap (λ rs. cond (list_any (repeats d row.values) before) (first_after d before rows) (row ∷ rs)) (after_same (before ++ row.values ∷ []) rows)
 
   pub kept_same : (extend : Bool) (x : List ℕ) → kept (with_raw d r) extend x ≡ kept d extend x
   unfolding kept first_rows
   kept_same extend x =
-      ap (λ rows. first_after (with_raw d r) [] (map (values_of (with_raw d r)) rows)) (readable_same d r extend x)
-      ∙ ap (first_after (with_raw d r) []) (values_same d r (readable d extend x))
-      ∙ after_same [] (map (values_of d) (readable d extend x))
+      ap (λ rows. first_after (with_raw d r) [] (map (sized_row (with_raw d r)) rows)) (readable_same d r extend x)
+      ∙ ap (first_after (with_raw d r) []) (sized_same d r (readable d extend x))
+      ∙ after_same [] (map (sized_row d) (readable d extend x))
 
   spelled_same : (f : RowFormat) (v : Values) → spelled_row f (with_raw d r) v ≡ spelled_row f d v
   spelled_same Static v = refl
   spelled_same Dynamic v = refl
 
-  stored_same : (v : Values) → stored (with_raw d r) v ≡ stored d v
-  unfolding spelling
-  stored_same v = ap (stored_by d.format) (spelled_same d.format v)
+  group_same : (row : SizedRow) → group (with_raw d r) row ≡ group d row
+  unfolding spelling group
+  group_same row = ap (λ (b : List ℕ). group_by d.format row.sizes (length b)) (spelled_same d.format row.values)
 
-  laid_same : (vs : List Values) → stored_file (with_raw d r) vs ≡ stored_file d vs
+  stored_same : (at : ℕ) (row : SizedRow) → stored (with_raw d r) at row ≡ stored d at row
+  unfolding spelling stored
+  stored_same at row = ap (stored_by d.format at row.sizes) (spelled_same d.format row.values)
+
+  size_same : (row : SizedRow) → stored_size (with_raw d r) row ≡ stored_size d row
+  size_same row = ap (λ (g : List Share). sum_by (λ s. s.size) g) (group_same row)
+
+  from_same : (at : ℕ) (rows : List SizedRow) → stored_from (with_raw d r) at rows ≡ stored_from d at rows
+  from_same at [] = refl
+  from_same at (row ∷ rows) =
+      ap (λ b. b ++ stored_from (with_raw d r) (at + stored_size (with_raw d r) row) rows) (stored_same at row)
+      ∙ ap (λ n. stored d at row ++ stored_from (with_raw d r) (at + n) rows) (size_same row)
+      ∙ ap (λ bs. stored d at row ++ bs) (from_same (at + stored_size d row) rows)
+
+  laid_same : (rows : List SizedRow) → stored_file (with_raw d r) rows ≡ stored_file d rows
   unfolding stored_file
-  laid_same [] = refl
-  laid_same (v ∷ vs) = ap (λ b. b ++ flat_map (stored (with_raw d r)) vs) (stored_same v) ∙ ap (λ bs. stored d v ++ bs) (laid_same vs)
+  laid_same rows = from_same 0 rows
 
-  places_same : (at : ℕ) (vs : List Values) → placed_from (with_raw d r) at vs ≡ placed_from d at vs
+  count_same : (rows : List SizedRow) → block_count (with_raw d r) rows ≡ block_count d rows
+  count_same [] = refl
+  count_same (row ∷ rows) =
+      sum_by-cons (λ (q : SizedRow). length (group (with_raw d r) q)) row rows
+      ∙ omega (arith, ap (λ (g : List Share). length g) (group_same row), count_same rows)
+      ∙ sym (sum_by-cons (λ (q : SizedRow). length (group d q)) row rows)
+
+  places_same : (at : ℕ) (rows : List SizedRow) → placed_from (with_raw d r) at rows ≡ placed_from d at rows
   places_same at [] = refl
-  places_same at (v ∷ vs) =
-      ap (λ (b : List ℕ). (at, v) ∷ placed_from (with_raw d r) (at + length b) vs) (stored_same v) ∙ ap (λ (rs : List PlacedRow). (at, v) ∷ rs) (places_same (at + length (stored d v)) vs)
+  places_same at (row ∷ rows) =
+      ap (λ n. (at, row.values) ∷ placed_from (with_raw d r) (at + n) rows) (size_same row) ∙ ap (λ (rs : List PlacedRow). (at, row.values) ∷ rs) (places_same (at + stored_size d row) rows)
 
   lists_same : (ks : List ℕ) (rows : List PlacedRow) → map (λ k. key_list (with_raw d r) k rows) ks ≡ map (λ k. key_list d k rows) ks
   lists_same [] rows = refl
@@ -83,7 +104,7 @@ module _ (d : Defs) (r : List ℕ) where
       let nodes : List Node = laid (fits_in (place_of d k)) (block_of_key d k) first pairs in
       ap (pages_then d k first nodes) (laid_trees_same (first + block_of_key d k * length nodes) ks lists)
 
-  trees_with : (rows : List Values) → first_page_of (with_raw d r) ≡ first_page_of d → new_trees (with_raw d r) rows ≡ new_trees d rows
+  trees_with : (rows : List SizedRow) → first_page_of (with_raw d r) ≡ first_page_of d → new_trees (with_raw d r) rows ≡ new_trees d rows
   unfolding new_trees
   trees_with rows first =
       ap (λ at. laid_trees (with_raw d r) at (key_numbers d) (key_lists (with_raw d r) (placed_from (with_raw d r) 0 rows))) first
@@ -153,10 +174,10 @@ rest_settles d r s like =
     emptied_same d r (without_free_pages d (state_of d d.raw).rest) like ∙ emptied_again d (state_of d d.raw).rest (omega (arith, state-rest d d.raw s (omega arith)))
 
 -- a state over the state of a repair
-state_settles : (d : Defs) (r : List ℕ) (n long now later end : ℕ) (roots : List (Option ℕ)) → IsSound d → IsLike d r
-    → new_state (with_raw d r) (new_state d (state_of d d.raw) n n long roots end now) n n long roots end later ≡ new_state d (state_of d d.raw) n n long roots end later
-state_settles d r n long now later end roots s like =
-    ap (λ rest. record (new_state d (state_of d d.raw) n n long roots end later) { rest = rest }) (rest_settles d r s like)
+state_settles : (d : Defs) (r : List ℕ) (n blocks long now later end : ℕ) (roots : List (Option ℕ)) → IsSound d → IsLike d r
+    → new_state (with_raw d r) (new_state d (state_of d d.raw) n blocks long roots end now) n blocks long roots end later ≡ new_state d (state_of d d.raw) n blocks long roots end later
+state_settles d r n blocks long now later end roots s like =
+    ap (λ rest. record (new_state d (state_of d d.raw) n blocks long roots end later) { rest = rest }) (rest_settles d r s like)
 
 -- the second repair
 
@@ -174,15 +195,28 @@ module _ (d : Defs) (extend : Bool) (x : List ℕ) (now : ℕ) (can : IsRepairab
   parts : Parts d (recovered_state d extend x now) header_read
   parts = parts_again d (recovered_state d extend x now) (new_index d extend x now) is_sound (index_shows d extend x now can)
 
-  kept_again : (any : Bool) → kept (with_raw d header_read) any (new_data d extend x) ≡ kept d extend x
-  kept_again any = kept_same d header_read any (new_data d extend x) ∙ settled d any extend x can.defined can.bytes
+  kept_again : (any : Bool) → kept (with_raw d header_read) any (new_data d extend x) ≡ kept d any (new_data d extend x)
+  kept_again any = kept_same d header_read any (new_data d extend x)
+
+  alike : (any : Bool) → AreAlike d (kept d any (new_data d extend x)) (kept d extend x)
+  alike any = settled_alike d any extend x can.defined can.bytes
 
   data_again : (any : Bool) → new_data (with_raw d header_read) any (new_data d extend x) ≡ new_data d extend x
   unfolding new_data
-  data_again any = ap (stored_file (with_raw d header_read)) (kept_again any) ∙ laid_same d header_read (kept d extend x)
+  data_again any = ap (stored_file (with_raw d header_read)) (kept_again any) ∙ laid_same d header_read (kept d any (new_data d extend x)) ∙ (alike any).file
+
+  trees_alike : (one other : List SizedRow) → placed_from d 0 one ≡ placed_from d 0 other → new_trees d one ≡ new_trees d other
+  unfolding new_trees
+  trees_alike one other same = ap (λ (rs : List PlacedRow). laid_trees d (first_page_of d) (key_numbers d) (key_lists d rs)) same
 
   trees_again : (any : Bool) → new_trees (with_raw d header_read) (kept (with_raw d header_read) any (new_data d extend x)) ≡ new_trees d (kept d extend x)
-  trees_again any = ap (new_trees (with_raw d header_read)) (kept_again any) ∙ trees_with d header_read (kept d extend x) (first_same d header_read is_like)
+  trees_again any = ap (new_trees (with_raw d header_read)) (kept_again any) ∙ trees_with d header_read (kept d any (new_data d extend x)) (first_same d header_read is_like) ∙ trees_alike (kept d any (new_data d extend x)) (kept d extend x) (alike any).placed
+
+  count_again : (any : Bool) → length (kept (with_raw d header_read) any (new_data d extend x)) ≡ length (kept d extend x)
+  count_again any = ap (λ (rs : List SizedRow). length rs) (kept_again any) ∙ (alike any).count
+
+  blocks_again : (any : Bool) → block_count (with_raw d header_read) (kept (with_raw d header_read) any (new_data d extend x)) ≡ block_count d (kept d extend x)
+  blocks_again any = ap (block_count (with_raw d header_read)) (kept_again any) ∙ count_same d header_read (kept d any (new_data d extend x)) ∙ (alike any).blocks
 
   read_state_again : state_of (with_raw d header_read) header_read ≡ recovered_state d extend x now
   read_state_again = state_same d header_read header_read is_like ∙ parts.state
@@ -190,14 +224,18 @@ module _ (d : Defs) (extend : Bool) (x : List ℕ) (now : ℕ) (can : IsRepairab
   state_again_of : (any : Bool) (later : ℕ) → recovered_state (with_raw d header_read) any (new_data d extend x) later ≡ recovered_state d extend x later
   state_again_of any later =
       let d2 : Defs = with_raw d header_read in
-      let rows : List Values = kept d extend x in
+      let again : List SizedRow = kept d2 any (new_data d extend x) in
+      let rows : List SizedRow = kept d extend x in
+      let n : ℕ = length rows in
+      let blocks : ℕ = block_count d rows in
       let t : LaidTrees = new_trees d rows in
       let one : State = recovered_state d extend x now in
-      ap (λ (vs : List Values). new_state d2 (state_of d2 header_read) (length vs) (length vs) (length (new_data d2 any (new_data d extend x))) (new_trees d2 (kept d2 any (new_data d extend x))).roots (new_trees d2 (kept d2 any (new_data d extend x))).end later) (kept_again any)
-      ∙ ap (λ (b : List ℕ). new_state d2 (state_of d2 header_read) (length rows) (length rows) (length b) (new_trees d2 (kept d2 any (new_data d extend x))).roots (new_trees d2 (kept d2 any (new_data d extend x))).end later) (data_again any)
-      ∙ ap (λ (u : LaidTrees). new_state d2 (state_of d2 header_read) (length rows) (length rows) (length (new_data d extend x)) u.roots u.end later) (trees_again any)
-      ∙ ap (λ (s : State). new_state d2 s (length rows) (length rows) (length (new_data d extend x)) t.roots t.end later) read_state_again
-      ∙ state_settles d header_read (length rows) (length (new_data d extend x)) now later t.end t.roots is_sound is_like
+      ap (λ m. new_state d2 (state_of d2 header_read) m (block_count d2 again) (length (new_data d2 any (new_data d extend x))) (new_trees d2 again).roots (new_trees d2 again).end later) (count_again any)
+      ∙ ap (λ m. new_state d2 (state_of d2 header_read) n m (length (new_data d2 any (new_data d extend x))) (new_trees d2 again).roots (new_trees d2 again).end later) (blocks_again any)
+      ∙ ap (λ (b : List ℕ). new_state d2 (state_of d2 header_read) n blocks (length b) (new_trees d2 again).roots (new_trees d2 again).end later) (data_again any)
+      ∙ ap (λ (u : LaidTrees). new_state d2 (state_of d2 header_read) n blocks (length (new_data d extend x)) u.roots u.end later) (trees_again any)
+      ∙ ap (λ (s : State). new_state d2 s n blocks (length (new_data d extend x)) t.roots t.end later) read_state_again
+      ∙ state_settles d header_read n blocks (length (new_data d extend x)) now later t.end t.roots is_sound is_like
 
   index_again : (any : Bool) (later : ℕ) → new_index (with_raw d header_read) any (new_data d extend x) later ≡ new_index d extend x later
   unfolding new_index

@@ -1,6 +1,6 @@
 -- A repaired data file is no longer than the one before.
 use Rattle.std.proofs.Common.{◌≡◌, ℕ, zero, suc, ◌+◌, ◌-◌, ◌*◌, ◌/◌, ◌^◌, ◌<◌, ◌≤◌, min, Bool, true, false, cond, ◌⊎◌, inl, inr, List, [], ◌∷◌, ◌++◌, length, map, nat_le, nat_lt, sum_by, refl, sym, ap, subst, ◌∙◌, arith, length-append, div-mul-le_self, le-div_iff_mul-le}
-use Rattle.std.specs.List.{list_any, flat_map, AllByRecursion}
+use Rattle.std.specs.List.{list_any, AllByRecursion}
 use Rattle.std.proofs.lemmas.Bool.{and_parts, and_from, or_cases, or_left, or_right, leb-true, leb-false, le-leb, ltb-true, lt-ltb}
 use Rattle.std.proofs.lemmas.List.Folds.{list_all-append}
 use Rattle.std.proofs.lemmas.List.Sums.{sum_by-cons, sum_by-append}
@@ -14,8 +14,6 @@ use Rattle.myi_defs.specs.Addressable.{pointers, is_addressable}
 use Rattle.myi_defs.specs.ReadDefs.{AreDefs}
 use Rattle.myi_defs.proofs.CallerLemmas.{sound}
 use Rattle.myi_frames.specs.Sizes.{least_size}
-use Rattle.myi_frames.specs.Writing.{whole_spec}
-use Rattle.myi_frames.proofs.CallerLemmas.{length-block, least-writable}
 use Rattle.myi_pack.specs.Packed.{Values, IsStaticRow, IsRow}
 use Rattle.myi_pack.specs.Spelling.{spelling}
 use Rattle.myi_pack.proofs.CallerLemmas.{row-spelled, row-least}
@@ -23,15 +21,15 @@ use Rattle.myi_chain.specs.Chain.{AreApart}
 use Rattle.myi_chain.specs.Readable.{Row}
 use Rattle.myi_chain.specs.Meeting.{ranges_of}
 use Rattle.myi_data.specs.Readable.{readable}
-use Rattle.myi_data.specs.Stored.{stored_by, stored, stored_file, IsStorable}
-use Rattle.myi_data.proofs.CallerLemmas.{spelling_some}
+use Rattle.myi_data.specs.Stored.{SizedRow, stored_size, stored, stored_from, stored_file, IsStorable}
+use Rattle.myi_data.proofs.CallerLemmas.{spelling_some, size_alone, size_one, stored_sized}
 use Rattle.myi_data.proofs.CallerLemmas.{rows_apart}
 use Rattle.myi_pair.specs.FirstRows.{repeats, first_after, first_rows}
 use Rattle.myi_pair.specs.Trees.{total}
-use Rattle.myi_pair.specs.Clean.{values_of}
+use Rattle.myi_pair.specs.Clean.{sized_row}
 use Rattle.myi_pair.specs.RecoveredBytes.{kept, new_data}
 use Rattle.myi_pair.proofs.ReadLaws.{HasRoom, IsFine, readable_fine}
-use Rattle.myi_pair.proofs.KeptLaws.{packs_values, values_storable}
+use Rattle.myi_pair.proofs.KeptLaws.{packs_values, row_storable, kept_each}
 
 -- ranges that are apart have no more bytes than the file
 
@@ -113,53 +111,56 @@ few_in len rs apart inside = omega (arith, total_filled len rs inside, few_bytes
 
 -- how long a stored row is
 
-pub length-slot : (d : Defs) (v : Values) → IsSound d → d.format ≡ Static → IsStorable d v → length (stored d v) ≡ d.slot_length
-length-slot d v s static can =
-    let is : IsStaticRow d.fields d.slot_length v (spelling d v) = subst (λ (f : RowFormat). IsRow f d v (spelling d v)) static (row-spelled d v s can.fits) in
-    ap (λ f. length (stored_by f (spelling d v))) static ∙ is.slot
+pub length-slot : (d : Defs) (r : SizedRow) → IsSound d → d.format ≡ Static → IsStorable d r → stored_size d r ≡ d.slot_length
+length-slot d r s static can =
+    let is : IsStaticRow d.fields d.slot_length r.values (spelling d r.values) = subst (λ (f : RowFormat). IsRow f d r.values (spelling d r.values)) static (row-spelled d r.values s can.fits) in
+    size_one d r s can.fits ∙ ap (λ f. size_alone f (length (spelling d r.values))) static ∙ is.slot
 
-pub length-own : (d : Defs) (v : Values) → d.format ≡ Dynamic → IsStorable d v → length (stored d v) ≡ least_size (length (spelling d v))
-length-own d v dynamic can =
-    let n : ℕ = length (spelling d v) in
-    ap (λ f. length (stored_by f (spelling d v))) dynamic ∙ length-block (whole_spec n) (spelling d v) (least_size n) (least-writable n (can.short dynamic)).0
+pub length-own : (d : Defs) (r : SizedRow) → IsSound d → d.format ≡ Dynamic → IsStorable d r → stored_size d r ≡ least_size (length (spelling d r.values))
+length-own d r s dynamic can = size_one d r s can.fits ∙ ap (λ f. size_alone f (length (spelling d r.values))) dynamic
 
-stored_room : (d : Defs) (len : ℕ) (r : Row) → AreDefs d → IsFine d.format d len r → length (stored d (values_of d r)) ≤ total r.blocks
+stored_room : (d : Defs) (len : ℕ) (r : Row) → AreDefs d → IsFine d.format d len r → stored_size d (sized_row d r) ≤ total r.blocks
 stored_room d len r are fine = of_format d.format refl
   where
     s : IsSound d
     s = sound d are
 
-    v : Values
-    v = values_of d r
+    v : SizedRow
+    v = sized_row d r
 
     can : IsStorable d v
-    can = values_storable d len r are fine
+    can = row_storable d len r are fine
 
-    of_format : (f : RowFormat) → d.format ≡ f → length (stored d v) ≤ total r.blocks
+    of_format : (f : RowFormat) → d.format ≡ f → stored_size d v ≤ total r.blocks
     of_format Static is =
         let room : HasRoom Static d r = subst (λ f. HasRoom f d r) is fine.room in
         omega (arith, room, length-slot d v s is can)
     of_format Dynamic is =
         let room : HasRoom Dynamic d r = subst (λ f. HasRoom f d r) is fine.room in
-        let few : length (spelling d v) ≤ length r.bytes = row-least d v r.bytes s (packs_values d len r s fine) in
-        omega (arith, room (length (spelling d v)) (spelling_some d v s can.fits) few, length-own d v is can)
+        let few : length (spelling d v.values) ≤ length r.bytes = row-least d v.values r.bytes s (packs_values d len r s fine) in
+        omega (arith, room (length (spelling d v.values)) (spelling_some d v.values s can.fits) few, length-own d v s is can)
 
 -- all rows together
 
-abbrev pub stored_length : Defs → List Values → ℕ
-stored_length d vs = sum_by (λ v. length (stored d v)) vs
+abbrev pub stored_length : Defs → List SizedRow → ℕ
+stored_length d rs = sum_by (λ r. stored_size d r) rs
 
-pub length-laid : (d : Defs) (vs : List Values) → length (stored_file d vs) ≡ stored_length d vs
+length-from : (d : Defs) (at : ℕ) (rs : List SizedRow) → IsSound d → AllByRecursion (IsStorable d) rs → length (stored_from d at rs) ≡ stored_length d rs
+length-from d at [] s all = refl
+length-from d at (r ∷ rs) s all =
+    length-append (stored d at r) (stored_from d (at + stored_size d r) rs)
+    ∙ omega (arith, stored_sized d r s all.0.fits at, length-from d (at + stored_size d r) rs s all.1, sum_by-cons (λ r. stored_size d r) r rs)
+
+pub length-laid : (d : Defs) (rs : List SizedRow) → IsSound d → AllByRecursion (IsStorable d) rs → length (stored_file d rs) ≡ stored_length d rs
 unfolding stored_file
-length-laid d [] = refl
-length-laid d (v ∷ vs) = length-append (stored d v) (flat_map (stored d) vs) ∙ omega (arith, length-laid d vs, sum_by-cons (λ v. length (stored d v)) v vs)
+length-laid d rs s all = length-from d 0 rs s all
 
-rows_room : (d : Defs) (len : ℕ) (rows : List Row) → AreDefs d → AllByRecursion (IsFine d.format d len) rows → stored_length d (map (values_of d) rows) ≤ total (ranges_of rows)
+rows_room : (d : Defs) (len : ℕ) (rows : List Row) → AreDefs d → AllByRecursion (IsFine d.format d len) rows → stored_length d (map (sized_row d) rows) ≤ total (ranges_of rows)
 rows_room d len [] are fine = omega arith
 rows_room d len (r ∷ rows) are fine =
     let here = stored_room d len r are fine.0 in
     let there = rows_room d len rows are fine.1 in
-    omega (arith, here, there, sum_by-cons (λ v. length (stored d v)) (values_of d r) (map (values_of d) rows), sum_by-append (λ (a : Range). a.1 - a.0) r.blocks (ranges_of rows))
+    omega (arith, here, there, sum_by-cons (λ r. stored_size d r) (sized_row d r) (map (sized_row d) rows), sum_by-append (λ (a : Range). a.1 - a.0) r.blocks (ranges_of rows))
 
 inside-append : (len : ℕ) (rs ss : List Range) → Inside len rs → Inside len ss → Inside len (rs ++ ss)
 inside-append len [] ss left right = right
@@ -171,13 +172,13 @@ rows_inside f d len (r ∷ rows) fine = inside-append len r.blocks (ranges_of ro
 
 -- leaving rows out makes them no longer
 
-first_after_less : (d : Defs) (before rows : List Values) → stored_length d (first_after d before rows) ≤ stored_length d rows
+first_after_less : (d : Defs) (before : List Values) (rows : List SizedRow) → stored_length d (first_after d before rows) ≤ stored_length d rows
 first_after_less d before [] = omega arith
-first_after_less d before (row ∷ rows) = choose (list_any (repeats d row) before) (first_after_less d before rows) (first_after_less d (before ++ row ∷ []) rows)
+first_after_less d before (row ∷ rows) = choose (list_any (repeats d row.values) before) (first_after_less d before rows) (first_after_less d (before ++ row.values ∷ []) rows)
   where
-    choose : (b : Bool) → stored_length d (first_after d before rows) ≤ stored_length d rows → stored_length d (first_after d (before ++ row ∷ []) rows) ≤ stored_length d rows → stored_length d (cond b (first_after d before rows) (row ∷ first_after d (before ++ row ∷ []) rows)) ≤ stored_length d (row ∷ rows)
-    choose true dropped added = omega (arith, sum_by-cons (λ v. length (stored d v)) row rows)
-    choose false dropped added = omega (arith, sum_by-cons (λ v. length (stored d v)) row rows, sum_by-cons (λ v. length (stored d v)) row (first_after d (before ++ row ∷ []) rows))
+    choose : (b : Bool) → stored_length d (first_after d before rows) ≤ stored_length d rows → stored_length d (first_after d (before ++ row.values ∷ []) rows) ≤ stored_length d rows → stored_length d (cond b (first_after d before rows) (row ∷ first_after d (before ++ row.values ∷ []) rows)) ≤ stored_length d (row ∷ rows)
+    choose true dropped added = omega (arith, sum_by-cons (λ r. stored_size d r) row rows)
+    choose false dropped added = omega (arith, sum_by-cons (λ r. stored_size d r) row rows, sum_by-cons (λ r. stored_size d r) row (first_after d (before ++ row.values ∷ []) rows))
 
 pub shorter : (d : Defs) (extend : Bool) (x : List ℕ) → AreDefs d → AreBytes x → length (new_data d extend x) ≤ length x
 unfolding new_data kept first_rows
@@ -185,7 +186,7 @@ shorter d extend x are bytes =
     let rows : List Row = readable d extend x in
     let fine : AllByRecursion (IsFine d.format d (length x)) rows = readable_fine d extend x bytes in
     let few = few_in (length x) (ranges_of rows) (rows_apart d extend x (sound d are)) (rows_inside d.format d (length x) rows fine) in
-    omega (arith, few, rows_room d (length x) rows are fine, length-laid d (first_after d [] (map (values_of d) rows)), first_after_less d [] (map (values_of d) rows))
+    omega (arith, few, rows_room d (length x) rows are fine, length-laid d (kept d extend x) (sound d are) (kept_each d extend x are bytes), first_after_less d [] (map (sized_row d) rows))
 
 -- a file that is no longer is within reach too
 

@@ -18,16 +18,15 @@ use Rattle.myi_btree.specs.Nodes.{page_of_node}
 use Rattle.myi_btree.specs.Sizes.{IsPlaced, AreSized, fits_in}
 use Rattle.myi_btree.specs.LaidPages.{laid, Stands, root_of}
 use Rattle.myi_btree.specs.Building.{page_for}
-use Rattle.myi_btree.specs.Visit.{HasWalk}
+use Rattle.myi_btree.specs.LaidOnce.{WalksOnce}
 use Rattle.myi_btree.specs.Building.{AreKeys, IsWritten}
-use Rattle.myi_btree.proofs.CallerLemmas.{laid_written, written_read}
+use Rattle.myi_btree.proofs.CallerLemmas.{walks_once, root_some, laid_written, written_read}
 use Rattle.myi_data.specs.Keys.{IsKeyNumber}
 use Rattle.myi_pair.specs.KeyList.{PlacedRow, key_list}
 use Rattle.myi_pair.specs.Trees.{block_of_key, place_of, node_at, HasTree, HaveTrees, total}
 use Rattle.myi_pair.specs.RecoveredBytes.{LaidTrees, laid_trees}
 use Rattle.myi_pair.proofs.SizedLaws.{IsNear, placed, list_sized}
-use Rattle.myi_pair.proofs.LaidPages.{IsLaidTree, laid_tree}
-use Rattle.myi_pair.proofs.PageRanges.{ranges_at, IsOnce, is_once, EndBy, end_later, end_append, between_free, between_end}
+use Rattle.myi_pair.proofs.PageRanges.{ranges_at, total_pages, all_between, EndBy, end_later, end_append, between_free, between_end}
 
 -- what stands behind a part that is at a place
 behind : (n k j : ℕ) (x p q : List ℕ) → drop n x ≡ p ++ q → length p ≡ k → j ≡ n + k → drop j x ≡ q
@@ -70,10 +69,6 @@ nodes_stand place x first (node ∷ nodes) rest is_placed whole w is =
 
 -- one tree
 
-root_some : (block first before : ℕ) (nodes : List Node) → length nodes ≡ suc before → root_of block first nodes ≡ Some (first + block * before)
-root_some block first before [] count = absurd (omega arith)
-root_some block first before (node ∷ nodes) count = ap (λ n. Some (first + block * n)) (let e : length nodes ≡ before = omega arith in e)
-
 -- the pages of a key's tree
 record HasOwn (d : Defs) (k : ℕ) (x : List ℕ) (busy : List Range) (first : ℕ) (list : List Pair) (nodes : List Node) : Type 0 where
   pub own : List Range
@@ -92,16 +87,15 @@ own_tree d k x busy first (p ∷ ps) rest is_placed sized keys whole ends small 
     let nodes : List Node = laid (fits_in place) block first (p ∷ ps) in
     let n : ℕ = length nodes in
     let written : AllByRecursion (IsWritten place) nodes = laid_written place first (p ∷ ps) is_placed whole sized keys small in
-    let t : IsLaidTree (node_at d.rec_ref block x) block first n (p ∷ ps) = laid_tree (node_at d.rec_ref block x) (fits_in place) block first p ps (nodes_stand place x first nodes rest is_placed whole written is) in
-    let once : IsOnce block first n t.w.pages = is_once block first n t.w.pages (omega (arith, is_placed.least)) t.pages in
-    let own : List Range = ranges_at block t.w.pages in
-    let walk : HasWalk block (node_at d.rec_ref block x) (first + block * t.before) t.w = record { height = t.height; walk = t.walk; disjoint = once.disjoint } in
-    let tree : HasTree d k x (Some (first + block * t.before)) busy (p ∷ ps) own = (t.w, walk, t.content, refl, between_free first (first + block * n) block busy t.w.pages ends once.between) in
+    let t : WalksOnce (node_at d.rec_ref block x) block first n (p ∷ ps) = walks_once (node_at d.rec_ref block x) (fits_in place) block first p ps (omega (arith, is_placed.least)) (nodes_stand place x first nodes rest is_placed whole written is) in
+    let own : List Range = ranges_at block t.walked.pages in
+    let between = all_between block first n t.walked.pages t.pages in
+    let tree : HasTree d k x (Some (first + block * t.before)) busy (p ∷ ps) own = (t.walked, t.walk, t.content, refl, between_free first (first + block * n) block busy t.walked.pages ends between) in
     record {
       own = own;
       tree = subst (λ root. HasTree d k x root busy (p ∷ ps) own) (sym (root_some block first t.before nodes t.last)) tree;
-      size = once.size;
-      ends = between_end first (first + block * n) block t.w.pages once.between;
+      size = total_pages block t.walked.pages ∙ ap (λ m. block * m) t.count;
+      ends = between_end first (first + block * n) block t.walked.pages between;
     }
 
 -- all trees

@@ -7,11 +7,10 @@ use Rattle.myi_defs.specs.declared.types.SegType.TheVariants.{LongInt}
 use Rattle.myi_defs.specs.declared.types.Segment.{Segment}
 use Rattle.myi_defs.specs.declared.types.Key.{Key}
 use Rattle.myi_defs.specs.declared.types.Defs.{Defs}
-use Rattle.myi_pack.specs.Packed.{Values}
 use Rattle.myi_pack.specs.Spelling.{spelling}
 use Rattle.myi_keys.specs.Weights.{weights}
 use Rattle.myi_data.specs.Keys.{key_of}
-use Rattle.myi_data.specs.Stored.{stored_file}
+use Rattle.myi_data.specs.Stored.{SizedRow, group, stored, stored_file}
 use Rattle.myi_base.specs.Numbers.{num_bytes}
 use Rattle.myi_keypage.specs.Page.{page_bytes}
 use Rattle.myi_btree.specs.Building.{page_for}
@@ -37,23 +36,23 @@ table = record {
   raw = [];
 }
 
-row_with : ℕ → ℕ → Values
-row_with a b = (255 ∷ []) ∷ (a ∷ 0 ∷ 0 ∷ 0 ∷ []) ∷ (b ∷ 0 ∷ 0 ∷ 0 ∷ []) ∷ []
+row_with : ℕ → ℕ → SizedRow
+row_with a b = record { values = (255 ∷ []) ∷ (a ∷ 0 ∷ 0 ∷ 0 ∷ []) ∷ (b ∷ 0 ∷ 0 ∷ 0 ∷ []) ∷ []; sizes = [] }
 
 two_are_kept : first_rows table (row_with 1 10 ∷ row_with 1 20 ∷ row_with 2 20 ∷ []) ≡ row_with 1 10 ∷ row_with 2 20 ∷ []
 unfolding table key_at segment_at row_with first_rows repeats key_of weights
 two_are_kept = refl
 
 in_eighteen_bytes : stored_file table (row_with 1 10 ∷ row_with 2 20 ∷ []) ≡ 255 ∷ 1 ∷ 0 ∷ 0 ∷ 0 ∷ 10 ∷ 0 ∷ 0 ∷ 0 ∷ 255 ∷ 2 ∷ 0 ∷ 0 ∷ 0 ∷ 20 ∷ 0 ∷ 0 ∷ 0 ∷ []
-unfolding table row_with stored_file spelling
+unfolding table row_with stored_file stored group spelling
 in_eighteen_bytes = refl
 
 -- the page of the first key: 24 bytes are used, and of the second entry's key only the last byte stands
 first_page : take 24 (laid_trees table 1024 (1 ∷ []) (key_list table 1 (placed_from table 0 (row_with 1 10 ∷ row_with 2 20 ∷ [])) ∷ [])).bytes
     ≡ 0 ∷ 24 ∷ 0 ∷ 5 ∷ 5 ∷ 128 ∷ 0 ∷ 0 ∷ 1 ∷ 0 ∷ 0 ∷ 0 ∷ 0 ∷ 0 ∷ 0 ∷ 4 ∷ 1 ∷ 2 ∷ 0 ∷ 0 ∷ 0 ∷ 0 ∷ 0 ∷ 1 ∷ []
-unfolding table key_at segment_at row_with key_list key_of weights spelling page_for page_bytes num_bytes
+unfolding table key_at segment_at row_with key_list key_of weights group spelling page_for page_bytes num_bytes
 first_page = refl
 
 one_root : (laid_trees table 1024 (1 ∷ []) (key_list table 1 (placed_from table 0 (row_with 1 10 ∷ row_with 2 20 ∷ [])) ∷ [])).roots ≡ Some 1024 ∷ []
-unfolding table key_at segment_at row_with key_list key_of weights spelling num_bytes
+unfolding table key_at segment_at row_with key_list key_of weights group spelling num_bytes
 one_root = refl

@@ -18,6 +18,7 @@ use Rattle.myi_pack.specs.Unpacking.{row_of}
 use Rattle.myi_chain.specs.Readable.{Row}
 use Rattle.myi_chain.specs.Meeting.{ranges_of}
 use Rattle.myi_data.specs.Readable.{readable, deleted}
+use Rattle.myi_data.specs.Stored.{SizedRow}
 use Rattle.myi_pair.specs.FirstRows.{key_numbers, AreDistinct}
 use Rattle.myi_pair.specs.KeyList.{PlacedRow}
 use Rattle.myi_pair.specs.Trees.{HaveTrees, total}
@@ -25,6 +26,10 @@ use Rattle.myi_pair.specs.Trees.{HaveTrees, total}
 -- the values of a readable row
 abbrev pub values_of : Defs → Row → Values
 values_of d row = unwrap_or (row_of d row.bytes) []
+
+-- a readable row with the sizes of its blocks
+abbrev pub sized_row : Defs → Row → SizedRow
+sized_row d row = record { values = values_of d row; sizes = map (λ (a : Range). a.1 - a.0) row.blocks }
 
 -- a readable row with its place
 abbrev pub placed_row : Defs → Row → PlacedRow

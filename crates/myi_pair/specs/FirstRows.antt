@@ -13,6 +13,7 @@ use Rattle.myi_keys.specs.Codes.{key_code}
 use Rattle.myi_keys.specs.Limits.{is_complete}
 use Rattle.myi_keys.specs.Order.{key_cmp}
 use Rattle.myi_data.specs.Keys.{key_at, key_of}
+use Rattle.myi_data.specs.Stored.{SizedRow}
 
 -- so many numbers from one on
 abbrev pub numbers_from : ℕ → ℕ → List ℕ
@@ -38,13 +39,13 @@ repeats_key d row other k = is_unique d k && is_same_key (key_of d k row) (key_o
 unfoldable pub repeats : Defs → Values → Values → Bool
 repeats d row other = list_any (repeats_key d row other) (key_numbers d)
 
--- the rows of a list that are kept, behind those that are kept already
-abbrev pub first_after : Defs → List Values → List Values → List Values
+-- the rows of a list that are kept, behind rows with these values that are kept already
+abbrev pub first_after : Defs → List Values → List SizedRow → List SizedRow
 first_after d kept [] = []
-first_after d kept (row ∷ rows) = if list_any (repeats d row) kept then first_after d kept rows else row ∷ first_after d (kept ++ row ∷ []) rows
+first_after d kept (row ∷ rows) = if list_any (repeats d row.values) kept then first_after d kept rows else row ∷ first_after d (kept ++ row.values ∷ []) rows
 
 -- the rows of a list that are kept
-unfoldable pub first_rows : Defs → List Values → List Values
+unfoldable pub first_rows : Defs → List SizedRow → List SizedRow
 first_rows d rows = first_after d [] rows
 
 -- no row of the list repeats one before it, or one of those before the list

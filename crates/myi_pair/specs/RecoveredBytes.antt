@@ -1,6 +1,6 @@
--- The two files that a repair leaves, as bytes: of the data file each kept row, spelled anew, in one block of the least
--- size or one slot; of the index file the header with the state that a repair sets, zeros up to the first page place,
--- and the laid pages of each key, in the order of the keys.
+-- The two files that a repair leaves, as bytes: of the data file each kept row, spelled anew, as such rows are stored; of
+-- the index file the header with the state that a repair sets, zeros up to the first page place, and the laid pages of
+-- each key, in the order of the keys.
 use Rattle.std.specs.Prelude.{◌+◌, ◌-◌, ◌*◌, ◌^◌, ℕ, Bool, List, [], ◌∷◌, ◌++◌, length, map, take, drop, replicate, Option, None}
 use Rattle.std.specs.List.{flat_map}
 use Rattle.myi_defs.specs.declared.types.Defs.{Defs}
@@ -8,9 +8,8 @@ use Rattle.myi_header.specs.declared.state.State.{State}
 use Rattle.myi_header.specs.Layout.{page_sizes, first_page_of}
 use Rattle.myi_header.specs.StateOf.{state_of}
 use Rattle.myi_header.specs.HeaderOf.{header_of}
-use Rattle.myi_pack.specs.Packed.{Values}
 use Rattle.myi_data.specs.Readable.{readable}
-use Rattle.myi_data.specs.Stored.{stored, stored_file}
+use Rattle.myi_data.specs.Stored.{SizedRow, stored_size, stored_file, block_count}
 use Rattle.myi_btree.specs.declared.pair.Pair.{Pair}
 use Rattle.myi_btree.specs.Walk.{Node}
 use Rattle.myi_btree.specs.Sizes.{fits_in}
@@ -19,11 +18,11 @@ use Rattle.myi_btree.specs.Building.{page_for}
 use Rattle.myi_pair.specs.FirstRows.{key_numbers, first_rows}
 use Rattle.myi_pair.specs.KeyList.{PlacedRow, pairs_of, key_list}
 use Rattle.myi_pair.specs.Trees.{place_of, block_of_key}
-use Rattle.myi_pair.specs.Clean.{values_of}
+use Rattle.myi_pair.specs.Clean.{sized_row}
 
 -- the rows that a repair keeps: the readable ones that repeat no unique key of one kept before
-unfoldable pub kept : Defs → Bool → List ℕ → List Values
-kept defs extend d = first_rows defs (map (values_of defs) (readable defs extend d))
+unfoldable pub kept : Defs → Bool → List ℕ → List SizedRow
+kept defs extend d = first_rows defs (map (sized_row defs) (readable defs extend d))
 
 -- how many readable rows it does not keep
 abbrev pub repeat_count : Defs → Bool → List ℕ → ℕ
@@ -34,9 +33,9 @@ unfoldable pub new_data : Defs → Bool → List ℕ → List ℕ
 new_data defs extend d = stored_file defs (kept defs extend d)
 
 -- rows one after the other, with their places, the first at a place
-abbrev pub placed_from : Defs → ℕ → List Values → List PlacedRow
+abbrev pub placed_from : Defs → ℕ → List SizedRow → List PlacedRow
 placed_from d at [] = []
-placed_from d at (v ∷ vs) = (at, v) ∷ placed_from d (at + length (stored d v)) vs
+placed_from d at (row ∷ rows) = (at, row.values) ∷ placed_from d (at + stored_size d row) rows
 
 -- trees one after the other: their bytes, their roots, and the place behind them
 pub record LaidTrees : Type 0 where
@@ -71,7 +70,7 @@ abbrev pub key_lists : Defs → List PlacedRow → List (List Pair)
 key_lists d rows = map (λ k. key_list d k rows) (key_numbers d)
 
 -- the trees of all keys, from the first page place on
-unfoldable pub new_trees : Defs → List Values → LaidTrees
+unfoldable pub new_trees : Defs → List SizedRow → LaidTrees
 new_trees d rows = laid_trees d (first_page_of d) (key_numbers d) (key_lists d (placed_from d 0 rows))
 
 -- the kept bytes of the state, with no list of free pages
@@ -102,7 +101,7 @@ new_state d s rows blocks data_length roots index_length now = record s {
 abbrev pub recovered_state : Defs → Bool → List ℕ → ℕ → State
 recovered_state defs extend d now =
     let rows = kept defs extend d in
-    new_state defs (state_of defs defs.raw) (length rows) (length rows) (length (new_data defs extend d)) (new_trees defs rows).roots (new_trees defs rows).end now
+    new_state defs (state_of defs defs.raw) (length rows) (block_count defs rows) (length (new_data defs extend d)) (new_trees defs rows).roots (new_trees defs rows).end now
 
 -- the new index file
 unfoldable pub new_index : Defs → Bool → List ℕ → ℕ → List ℕ

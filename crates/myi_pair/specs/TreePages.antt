@@ -1,11 +1,10 @@
--- The pages of a tree: the walk that goes over them, and where they stand in a file that ends where they begin.
-use Rattle.std.specs.Prelude.{◌≡◌, ◌≤◌, ◌<◌, ◌+◌, ◌*◌, ◌%◌, ◌^◌, ℕ, suc, List, length, drop}
+-- The pages of a tree, and where they stand in a file that ends where they begin.
+use Rattle.std.specs.Prelude.{◌≡◌, ◌≤◌, ◌<◌, ◌+◌, ◌*◌, ◌%◌, ◌^◌, ℕ, List, length, drop}
 use Rattle.std.specs.List.{flat_map, AllByRecursion}
 use Rattle.myi_keys.specs.Limits.{IsKey}
 use Rattle.myi_btree.specs.declared.pair.Pair.{Pair}
 use Rattle.myi_btree.specs.declared.place.Place.{Place}
-use Rattle.myi_btree.specs.Walk.{Node, Places, Walked, content}
-use Rattle.myi_btree.specs.Visit.{HasWalk}
+use Rattle.myi_btree.specs.Walk.{Node}
 use Rattle.myi_btree.specs.Sizes.{IsPlaced, AreSized, fits_in}
 use Rattle.myi_btree.specs.LaidPages.{laid}
 use Rattle.myi_btree.specs.Building.{page_for, laid_over}
@@ -38,13 +37,3 @@ pub record HasBehind (first end : ℕ) (bytes file : List ℕ) : Type 0 where
   pub behind : drop first file ≡ bytes
   pub long : end ≡ first + length bytes
   pub short : length file ≤ end
-
--- From the last of so many pages there is a walk with these pairs, which goes over each page once.
-pub record WalksOnce (read : Places) (block first total : ℕ) (pairs : List Pair) : Type 0 where
-  pub before : ℕ
-  pub last : total ≡ suc before
-  pub walked : Walked
-  pub walk : HasWalk block read (first + block * before) walked
-  pub content : content walked ≡ pairs
-  pub count : length walked.pages ≡ total
-  pub between : AllByRecursion (λ p. (first ≤ p) × (p + block ≤ first + block * total)) walked.pages

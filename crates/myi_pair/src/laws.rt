@@ -1,6 +1,6 @@
 //! Laws over pairs of files. Each is the contract of a function that does nothing, so that it is proved
 //! with the crate and stands for the crates above.
-ghost use Rattle.std.specs.Prelude.{◌≡◌, ◌+◌, ◌^◌, ◌<◌, ◌≤◌, ℕ, Bool, true, false, List, [], ◌∷◌, ◌++◌, length, map, Ok, All, IsPermutation, IsSorted};
+ghost use Rattle.std.specs.Prelude.{◌≡◌, ◌+◌, ◌^◌, ◌<◌, ◌≤◌, ℕ, suc, Bool, true, false, List, [], ◌∷◌, ◌++◌, length, map, Some, Ok, All, IsPermutation, IsSorted};
 ghost use Rattle.std.specs.List.{list_any, AllByRecursion};
 ghost use Rattle.myi_base.specs.Numbers.{AreBytes};
 ghost use Rattle.myi_base.specs.Ranges.{Range};
@@ -16,17 +16,16 @@ ghost use Rattle.myi_pack.specs.Spelling.{fits};
 ghost use Rattle.myi_keys.specs.Limits.{IsKey};
 ghost use Rattle.myi_data.specs.Readable.{readable};
 ghost use Rattle.myi_data.specs.Keys.{IsKeyNumber, key_of};
-ghost use Rattle.myi_data.specs.Stored.{IsStorable, stored_rows, stored};
+ghost use Rattle.myi_data.specs.Stored.{SizedRow, values_in, IsStorable, stored_size, stored_rows};
 ghost use Rattle.myi_btree.specs.declared.place.Place.{Place};
-ghost use Rattle.myi_btree.specs.Walk.{Places};
-ghost use Rattle.myi_btree.specs.LaidPages.{Fits, laid, Stands};
+ghost use Rattle.myi_btree.specs.Walk.{Walked, walk_of, AreNodes};
 ghost use Rattle.myi_btree.specs.Nodes.{entry_of};
 ghost use Rattle.myi_btree.specs.Sizes.{IsPlaced, IsSized, AreSized};
 ghost use Rattle.myi_pair.specs.FirstRows.{key_numbers, repeats, repeats_code, first_rows, AreDistinct};
 ghost use Rattle.myi_pair.specs.KeyList.{PlacedRow, pair_cmp, pointer, pair_of, pairs_of, sorted, key_list};
-ghost use Rattle.myi_pair.specs.Trees.{place_of, HaveTrees, total};
-ghost use Rattle.myi_pair.specs.TreePages.{tree_pages, tree_end, with_tree, CanBeLaid, HasBehind, WalksOnce};
-ghost use Rattle.myi_pair.specs.Clean.{values_of, IsClean};
+ghost use Rattle.myi_pair.specs.Trees.{place_of, node_at, HaveTrees, total};
+ghost use Rattle.myi_pair.specs.TreePages.{tree_pages, tree_end, with_tree, CanBeLaid, HasBehind};
+ghost use Rattle.myi_pair.specs.Clean.{values_of, sized_row, IsClean};
 ghost use Rattle.myi_pair.specs.RecoveredBytes.{without_free_pages, kept, new_data, placed_from, new_trees, new_index};
 ghost use Rattle.myi_pair.specs.Recovered.{IsRepairable, Recovered};
 
@@ -36,8 +35,9 @@ use myi_btree::Pair;
 /// before it, all of them are kept. A row repeats one of a list exactly where, in a unique key, its key is
 /// complete and has the code of a complete key of theirs.
 pub fn first_rows_are_distinct()
-    ensures distinct { (d : Defs) (rows : List Values) → AreDistinct d [] (first_rows d rows) }
-    ensures all { (d : Defs) (rows : List Values) → AreDistinct d [] rows
+    ensures distinct { (d : Defs) (rows : List SizedRow)
+        → AreDistinct d [] (values_in (first_rows d rows)) }
+    ensures all { (d : Defs) (rows : List SizedRow) → AreDistinct d [] (values_in rows)
         → first_rows d rows ≡ rows }
     ensures noted { (d : Defs) (rows : List Values) (row : Values)
         → list_any (repeats d row) rows ≡ list_any (repeats_code d rows row) (key_numbers d) }
@@ -55,23 +55,23 @@ pub fn key_lists_are_sorted()
         → list ≡ sorted pairs }
 {}
 
-/// Each readable row of a file of bytes can be stored in one block or one slot, and so can each that a
-/// repair keeps. The new data file is read as the kept rows, whether every place is tried or not.
+/// Each readable row of a file of bytes can be stored anew, and so can each that a repair keeps. The new
+/// data file is read as the kept rows, whether every place is tried or not.
 pub fn kept_rows_are_stored()
     ensures rows { (d : Defs) (extend : Bool) (x : List ℕ) → AreDefs d → AreBytes x
-        → AllByRecursion (λ r. IsStorable d (values_of d r)) (readable d extend x) }
+        → AllByRecursion (λ r. IsStorable d (sized_row d r)) (readable d extend x) }
     ensures storable { (d : Defs) (extend : Bool) (x : List ℕ) → AreDefs d → AreBytes x
         → All (IsStorable d) (kept d extend x) }
     ensures laid { (d : Defs) (any extend : Bool) (x : List ℕ) → AreDefs d → AreBytes x
         → readable d any (new_data d extend x) ≡ stored_rows d 0 (kept d extend x) }
     ensures values { (d : Defs) (any extend : Bool) (x : List ℕ) → AreDefs d → AreBytes x
-        → map (values_of d) (readable d any (new_data d extend x)) ≡ kept d extend x }
+        → map (values_of d) (readable d any (new_data d extend x)) ≡ values_in (kept d extend x) }
 {}
 
 /// A repair of a data file that a repair left keeps all its rows, and writes the same file.
 pub fn repairs_settle()
     ensures kept { (d : Defs) (any extend : Bool) (x : List ℕ) → AreDefs d → AreBytes x
-        → kept d any (new_data d extend x) ≡ kept d extend x }
+        → values_in (kept d any (new_data d extend x)) ≡ values_in (kept d extend x) }
     ensures data_file { (d : Defs) (any extend : Bool) (x : List ℕ) → AreDefs d → AreBytes x
         → new_data d any (new_data d extend x) ≡ new_data d extend x }
 {}
@@ -96,9 +96,9 @@ pub fn pairs_are_sized()
         × AllByRecursion (λ p. IsKey p.key) (key_list d k rows) }
 {}
 
-/// A repaired data file is no longer than the one before, and within reach where that was: one block of
-/// the least size is no longer than the blocks that held the row. Whatever is no longer than a file within
-/// reach is within reach.
+/// A repaired data file is no longer than the one before, and within reach where that was: a row that is
+/// stored anew is no longer than the blocks that held it. Whatever is no longer than a file within reach
+/// is within reach.
 pub fn repaired_files_are_shorter()
     ensures shorter { (d : Defs) (extend : Bool) (x : List ℕ) → AreDefs d → AreBytes x
         → length (new_data d extend x) ≤ length x }
@@ -109,14 +109,13 @@ pub fn repaired_files_are_shorter()
         → is_addressable d longer ≡ true → is_addressable d shorter ≡ true }
 {}
 
-/// The walk of laid pages goes over each of them once: no byte belongs to two of its pages, which are as
-/// many as were laid and lie where they were laid.
-pub fn laid_pages_are_met_once()
-    ensures { (read : Places) (fits : Fits) (block first : ℕ) (pair : Pair) (pairs : List Pair)
-        → 0 < block
-        → Stands read block first (laid fits block first (pair ∷ pairs))
-        → WalksOnce read block first (length (laid fits block first (pair ∷ pairs)))
-        (pair ∷ pairs) }
+/// What an index file has at a place is a node: it has a pair, and no children or one more than pairs. So
+/// what `trees_are_shallow` says of the pairs of a tree holds of each walk in a file's bytes.
+pub fn index_pages_are_nodes()
+    ensures nodes { (rec_ref block : ℕ) (x : List ℕ) → AreNodes (node_at rec_ref block x) }
+    ensures shallow { (rec_ref block : ℕ) (x : List ℕ) (height place : ℕ) (w : Walked)
+        → walk_of (node_at rec_ref block x) height place ≡ Some w
+        → 2 ^ suc height ≤ length w.pairs + 1 }
 {}
 
 /// The pages of a tree that are written from the end of a file on stand behind what the file has from a
@@ -154,7 +153,7 @@ pub fn recovered_bytes_recover()
 /// A repair of a clean table keeps all its rows.
 pub fn clean_tables_keep_all()
     ensures { (defs : Defs) (d x : List ℕ) → read_defs x ≡ Ok defs → IsClean d x
-        → kept defs false d ≡ map (values_of defs) (readable defs false d) }
+        → kept defs false d ≡ map (sized_row defs) (readable defs false d) }
 {}
 
 /// A second repair, by the definitions that the new index file has, writes the files that the first one
@@ -172,8 +171,8 @@ pub fn second_repairs_change_nothing()
 /// The measures of what a repair writes: a static row takes its slot, a place in a file within reach fits
 /// a row pointer, and what is kept of the header behind the state's own numbers is as long as before.
 pub fn written_parts_are_measured()
-    ensures slot { (d : Defs) (row : Values) → IsSound d → d.format ≡ Static → IsStorable d row
-        → length (stored d row) ≡ d.slot_length }
+    ensures slot { (d : Defs) (row : SizedRow) → IsSound d → d.format ≡ Static → IsStorable d row
+        → stored_size d row ≡ d.slot_length }
     ensures pointer { (d : Defs) (at len : ℕ) → IsSound d → is_addressable d len ≡ true → at ≤ len
         → pointer d at < 256 ^ d.rec_ref }
     ensures rest { (d : Defs) → IsSound d

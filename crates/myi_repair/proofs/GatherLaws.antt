@@ -12,21 +12,22 @@ use Rattle.myi_pack.specs.Unpacking.{row_of}
 use Rattle.myi_chain.specs.declared.piece.Piece.{Piece}
 use Rattle.myi_chain.specs.declared.piece.ScanFault.{ScanFault}
 use Rattle.myi_chain.specs.Readable.{Row, rows_of}
-use Rattle.myi_chain.specs.Pieces.{shown}
+use Rattle.myi_chain.specs.Pieces.{piece_bytes}
 use Rattle.myi_chain.specs.ScanModel.{fresh_scan, IsSameScan}
-use Rattle.myi_data.specs.Stored.{stored_file}
+use Rattle.myi_data.specs.Stored.{SizedRow, values_in, stored_file}
 use Rattle.myi_data.specs.Readable.{items_in, readable}
 use Rattle.myi_data.specs.Scanning.{TableScan, items_ahead, rows_ahead, IsAsKnown, AfterTableRow}
 use Rattle.myi_data.proofs.CallerLemmas.{fresh_ahead, fresh_known, ahead_same, known_same, rows_first}
-use Rattle.myi_pair.specs.Clean.{values_of}
+use Rattle.myi_pair.specs.Clean.{values_of, sized_row}
 use Rattle.myi_pair.specs.FirstRows.{repeats, first_after, first_rows}
 use Rattle.myi_repair.specs.declared.kept.KeptRows.{KeptRows}
 use Rattle.myi_pair.specs.RecoveredBytes.{kept, repeat_count, new_data}
 use Rattle.myi_repair.specs.declared.gathering.Gathered.{Gathered}
 use Rattle.myi_repair.specs.Names.{FourNames}
 use Rattle.myi_repair.specs.Opening.{IsTable, HasTable}
-use Rattle.myi_repair.specs.Keeping.{lists_in, AreCounted, HasKept, kept_with}
-use Rattle.myi_repair.specs.Gathering.{Gathers, values_ahead, TakesRow, GathersRows}
+use Rattle.myi_repair.specs.Keeping.{lists_in, AreCounted, HasKept, with_sizes, kept_with, TakesIn, WritesIn}
+use Rattle.myi_repair.specs.Gathering.{Gathers, sized_ahead, TakesRow, GathersRows}
+use Rattle.myi_repair.proofs.PairLaws.{values_more}
 use Rattle.myi_repair.proofs.OpenLaws.{is_opened}
 
 -- ---- one row
@@ -49,10 +50,10 @@ rows_same s m n same = ap rows_of (ahead_same s m n same)
 
 -- So far: what is kept, and the rows that are left, make the rows that are kept of all.
 pub record Gathering (start now : TableScan) (file : List ℕ) (k : KeptRows) (m n : Holding) : Type 0 where
-  pub rows : List Values
+  pub rows : List SizedRow
   pub kept : HasKept start.test rows k
   pub here : n file ≡ Some (stored_file start.test rows)
-  pub all : rows ++ first_after start.test rows (values_ahead now n) ≡ first_rows start.test (values_ahead start m)
+  pub all : rows ++ first_after start.test (values_in rows) (sized_ahead now n) ≡ first_rows start.test (sized_ahead start m)
   pub counted : k.kept + k.repeats + length (rows_ahead now n) ≡ length (rows_ahead start m)
 
 pub gathering_none : (start : TableScan) (file : List ℕ) (k : KeptRows) (m n : Holding) → bytes_of start.name n ≡ bytes_of start.name m → HasKept start.test [] k → k.kept + k.repeats ≡ 0 → n file ≡ Some [] → Gathering start start file k m n
@@ -63,7 +64,7 @@ gathering_none start file k m n same kept none here =
       rows = [];
       kept = kept;
       here = here;
-      all = ap (λ (rs : List Row). first_after start.test [] (map (values_of start.test) rs)) rows;
+      all = ap (λ (rs : List Row). first_after start.test [] (map (sized_row start.test) rs)) rows;
       counted = omega (arith, none, ap (λ (rs : List Row). length rs) rows);
     }
 
@@ -71,30 +72,30 @@ gathering_none start file k m n same kept none here =
 pub gathering_more : (start old new : TableScan) (file : List ℕ) (k l : KeptRows) (m n o : Holding) → old.test ≡ start.test → new.test ≡ start.test → Gathering start old file k m n → TakesRow start.test file old new k l n o → Gathering start new file l m o
 gathering_more start old new file k l m n o tested next_tested so_far takes =
     let d = start.test in
-    let row : Values = values_of d takes.row in
+    let row : SizedRow = sized_row d takes.row in
     let rest : List Row = rows_ahead new o in
-    let values : values_ahead old n ≡ row ∷ map (values_of d) rest = ap (λ (rs : List Row). map (values_of old.test) rs) takes.first ∙ ap (λ t. map (values_of t) (takes.row ∷ rest)) tested in
-    let left : values_ahead new o ≡ map (values_of d) rest = ap (λ t. map (values_of t) rest) next_tested in
+    let values : sized_ahead old n ≡ row ∷ map (sized_row d) rest = ap (λ (rs : List Row). map (sized_row old.test) rs) takes.first ∙ ap (λ t. map (sized_row t) (takes.row ∷ rest)) tested in
+    let left : sized_ahead new o ≡ map (sized_row d) rest = ap (λ t. map (sized_row t) rest) next_tested in
     record {
       rows = kept_with d so_far.rows row;
       kept = takes.kept so_far.rows so_far.kept;
       here = takes.written so_far.rows so_far.kept so_far.here;
-      all = ap (λ vs. kept_with d so_far.rows row ++ first_after d (kept_with d so_far.rows row) vs) left ∙ step d so_far.rows row (map (values_of d) rest) ∙ ap (λ vs. so_far.rows ++ first_after d so_far.rows vs) (sym values) ∙ so_far.all;
+      all = ap (λ vs. kept_with d so_far.rows row ++ first_after d (values_in (kept_with d so_far.rows row)) vs) left ∙ step d so_far.rows row (map (sized_row d) rest) ∙ ap (λ vs. so_far.rows ++ first_after d (values_in so_far.rows) vs) (sym values) ∙ so_far.all;
       counted = omega (arith, takes.counted, so_far.counted, ap (λ (rs : List Row). length rs) takes.first);
     }
   where
-    step : (d : Defs) (rows : List Values) (row : Values) (more : List Values) → kept_with d rows row ++ first_after d (kept_with d rows row) more ≡ rows ++ first_after d rows (row ∷ more)
-    step d rows row more = by (list_any (repeats d row) rows)
+    step : (d : Defs) (rows : List SizedRow) (row : SizedRow) (more : List SizedRow) → kept_with d rows row ++ first_after d (values_in (kept_with d rows row)) more ≡ rows ++ first_after d (values_in rows) (row ∷ more)
+    step d rows row more = by (list_any (repeats d row.values) (values_in rows))
       where
-        by : (b : Bool) → (if b then rows else rows ++ row ∷ []) ++ first_after d (if b then rows else rows ++ row ∷ []) more ≡ rows ++ (if b then first_after d rows more else row ∷ first_after d (rows ++ row ∷ []) more)
+        by : (b : Bool) → (if b then rows else rows ++ row ∷ []) ++ first_after d (values_in (if b then rows else rows ++ row ∷ [])) more ≡ rows ++ (if b then first_after d (values_in rows) more else row ∷ first_after d (values_in rows ++ row.values ∷ []) more)
         by true = refl
-        by false = append_assoc rows (row ∷ []) (first_after d (rows ++ row ∷ []) more)
+        by false = ap (λ vs. (rows ++ row ∷ []) ++ first_after d vs more) (values_more rows row) ∙ append_assoc rows (row ∷ []) (first_after d (values_in rows ++ row.values ∷ []) more)
 
 -- no row was left
 pub gathered_all : (start old : TableScan) (file : List ℕ) (k : KeptRows) (m n : Holding) → Gathering start old file k m n → rows_ahead old n ≡ [] → GathersRows start file k m n
 gathered_all start old file k m n so_far none =
     let d = start.test in
-    let all : so_far.rows ≡ first_rows d (values_ahead start m) = sym (append-nil so_far.rows) ∙ ap (λ (rs : List Row). so_far.rows ++ first_after d so_far.rows (map (values_of old.test) rs)) (sym none) ∙ so_far.all in
+    let all : so_far.rows ≡ first_rows d (sized_ahead start m) = sym (append-nil so_far.rows) ∙ ap (λ (rs : List Row). so_far.rows ++ first_after d (values_in so_far.rows) (map (sized_row old.test) rs)) (sym none) ∙ so_far.all in
     record {
       kept = subst (λ vs. HasKept d vs k) all so_far.kept;
       counted = omega (arith, so_far.counted, ap (λ (rs : List Row). length rs) none);
@@ -102,13 +103,13 @@ gathered_all start old file k m n so_far none =
     }
 
 pub same_then : (a b c : TableScan) → IsSameScan a b → IsSameScan b c → IsSameScan a c
-same_then a b c p q = record { name = q.name ∙ p.name; test = q.test ∙ p.test; extend = q.extend ∙ p.extend; end = q.end ∙ p.end }
+same_then a b c p q = record { name = q.name ∙ p.name; test = q.test ∙ p.test; extend = q.extend ∙ p.extend; end = omega (arith, p.end, q.end) }
 
 -- ---- the first row that is left was taken
 
-pub took_row : (d : Defs) (file : List ℕ) (h : Option Holding) (old new : TableScan) (k l : KeptRows) (m n : Holding) (found : ℕ × Piece) (view : Values) (bytes : List ℕ) → h ≡ Some m → (old.name ≡ file → ⊥) → OthersStay file m n → AfterTableRow h old (Ok (Some found)) new → bytes ≡ shown found.1 → row_of d bytes ≡ Some view
-    → l.kept + l.repeats ≡ k.kept + k.repeats + 1 → ((rows : List Values) → HasKept d rows k → HasKept d (kept_with d rows view) l)
-    → ((rows : List Values) → HasKept d rows k → m file ≡ Some (stored_file d rows) → n file ≡ Some (stored_file d (kept_with d rows view))) → TakesRow d file old new k l m n
+pub took_row : (d : Defs) (file : List ℕ) (h : Option Holding) (old new : TableScan) (k l : KeptRows) (m n : Holding) (found : ℕ × Piece) (view : Values) (bytes : List ℕ) → h ≡ Some m → (old.name ≡ file → ⊥) → OthersStay file m n → AfterTableRow h old (Ok (Some found)) new → bytes ≡ piece_bytes found.1 → row_of d bytes ≡ Some view
+    → l.kept + l.repeats ≡ k.kept + k.repeats + 1 → ((sizes : List ℕ) → TakesIn d (with_sizes view sizes) k l)
+    → ((sizes : List ℕ) → WritesIn d file (with_sizes view sizes) k m n) → TakesRow d file old new k l m n
 took_row d file h old new k l m n found view bytes told apart others answered shows read one kept written =
     let answer = answered.0.told m told in
     let row = answer.0 in
@@ -117,8 +118,8 @@ took_row d file h old new k l m n found view bytes told apart others answered sh
       row = row;
       first = rows_first row (items_ahead old m) (items_ahead new m) answer.1 ∙ ap (λ (rs : List Row). row ∷ rs) (sym (rows_same new m n (same_name file new.name m n (λ e. apart (sym answered.0.same.name ∙ e)) others)));
       counted = one;
-      kept = λ rows has. subst (λ v. HasKept d (kept_with d rows v) l) (sym values) (kept rows has);
-      written = λ rows has here. subst (λ v. n file ≡ Some (stored_file d (kept_with d rows v))) (sym values) (written rows has here);
+      kept = subst (λ v. TakesIn d (with_sizes v (sized_row d row).sizes) k l) (sym values) (kept (sized_row d row).sizes);
+      written = subst (λ v. WritesIn d file (with_sizes v (sized_row d row).sizes) k m n) (sym values) (written (sized_row d row).sizes);
     }
 
 -- the file that is scanned is as the scan knows it, also once the other was written
@@ -151,7 +152,7 @@ gathers t defs extend d file end scan k g m n is named long table counted made a
     subst (λ e. GathersRows (fresh_scan t.rows defs extend e) t.new_rows k m n) long (subst (λ f. GathersRows (fresh_scan t.rows defs extend end) f k m n) named (subst (λ s. GathersRows s file k m n) is gathered)) in
     let rows : rows_ahead (fresh_scan t.rows defs extend (length d)) m ≡ readable defs extend d = fresh_rows t.rows d defs extend m o.rows in
     let file_is : bytes_of t.rows m ≡ d = ap (λ b. unwrap_or b []) o.rows in
-    let keep : first_rows defs (values_ahead (fresh_scan t.rows defs extend (length d)) m) ≡ kept defs extend d = ap (λ (rs : List Row). first_rows defs (map (values_of defs) rs)) rows in
+    let keep : first_rows defs (sized_ahead (fresh_scan t.rows defs extend (length d)) m) ≡ kept defs extend d = ap (λ (rs : List Row). first_rows defs (map (sized_row defs) rs)) rows in
     let has : HasKept defs (kept defs extend d) k = subst (λ vs. HasKept defs vs k) keep fresh.kept in
     let count : length (readable defs extend d) ≡ k.kept + k.repeats = ap (λ (rs : List Row). length rs) (sym rows) ∙ sym fresh.counted in
     let repeats : k.repeats ≡ repeat_count defs extend d = omega (arith, count, has.kept) in
@@ -165,7 +166,7 @@ gathers t defs extend d file end scan k g m n is named long table counted made a
             ∙ ap (λ x. record { kept = length (kept defs extend d); repeats = x; old_length = end; new_length = k.end }) repeats
             ∙ ap (λ x. record { kept = length (kept defs extend d); repeats = repeat_count defs extend d; old_length = x; new_length = k.end }) long
             ∙ ap (λ x. record { kept = length (kept defs extend d); repeats = repeat_count defs extend d; old_length = length d; new_length = x }) has.end;
-        split = counted.split ∙ has.kept;
+        split = has.split;
         pairs = has.pairs;
       },
     )

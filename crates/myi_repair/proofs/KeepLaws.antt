@@ -28,11 +28,13 @@ use Rattle.myi_base.specs.Holding.{Holding, overwritten, Writes}
 use Rattle.myi_defs.specs.declared.types.RowFormat.{RowFormat}
 use Rattle.myi_defs.specs.declared.types.RowFormat.TheVariants.{Static, Dynamic}
 use Rattle.myi_defs.specs.Addressable.{is_addressable}
+use Rattle.myi_defs.specs.Sound.{IsSound}
 use Rattle.myi_defs.specs.ReadDefs.{AreDefs}
 use Rattle.myi_defs.proofs.CallerLemmas.{sound}
 use Rattle.myi_pack.proofs.CallerLemmas.{row-short}
 use Rattle.myi_pack.specs.Spelling.{fits, spelling}
-use Rattle.myi_data.specs.Stored.{stored_by, stored, stored_file, IsStorable}
+use Rattle.myi_data.specs.Stored.{SizedRow, values_in, Share, group_by, stored_by, stored_size, stored, stored_file, IsStorable}
+use Rattle.myi_data.proofs.CallerLemmas.{size_alone, group_alone, group_one, size_one, stored_one, stored_sized}
 use Rattle.myi_pair.proofs.CallerLemmas.{length-slot}
 use Rattle.myi_pair.proofs.CallerLemmas.{pointer_near}
 use Rattle.myi_repair.specs.Sized.{AreSizedPairs}
@@ -42,24 +44,26 @@ use Rattle.myi_pair.specs.KeyList.{pointer}
 use Rattle.myi_pair.proofs.CallerLemmas.{noted}
 use Rattle.myi_repair.specs.declared.unique.UniqueKey.{UniqueKey}
 use Rattle.myi_repair.specs.declared.kept.KeptRows.{KeptRows}
-use Rattle.myi_repair.specs.Keeping.{is_noted, unique_cmp, AreNoted, row_keys, has_unique, numbered_code, unique_codes, by_code, lists_in, with_pairs, AreCounted, HasKept, kept_with}
+use Rattle.myi_repair.specs.Keeping.{is_noted, unique_cmp, AreNoted, row_keys, has_unique, numbered_code, unique_codes, by_code, lists_in, with_pairs, AreCounted, HasKept, with_sizes, kept_with}
 use Rattle.myi_repair.proofs.UniqueLaws.{any_kept, any_number, none_before, any_same, any_map}
-use Rattle.myi_repair.proofs.PairLaws.{laid_more, row_pairs_more, no_pairs, sized_with}
+use Rattle.myi_repair.proofs.PairLaws.{laid_more, blocks_more, values_more, stored_more, row_pairs_more, no_pairs, sized_with}
 
 -- none is kept
-pub kept_none : (d : Defs) (keys : ℕ) (k : KeptRows) → length d.keys ≡ keys → k.kept ≡ 0 → k.end ≡ 0 → lists_in k ≡ replicate keys [] → k.seen.keys ≡ [] → HasKept d [] k
+pub kept_none : (d : Defs) (keys : ℕ) (k : KeptRows) → length d.keys ≡ keys → k.kept ≡ 0 → k.split ≡ 0 → k.end ≡ 0 → lists_in k ≡ replicate keys [] → k.seen.keys ≡ [] → HasKept d [] k
 unfolding stored_file
-kept_none d keys k count kept end lists seen = record {
+kept_none d keys k count kept split end lists seen = record {
+  stored = tt;
   kept = kept;
+  split = split;
   end = end;
   pairs = lists ∙ ap (λ n. replicate n []) (sym count) ∙ sym (no_pairs d);
   noted = λ number code. ap (is_noted number code) seen;
 }
 
 -- a row that repeats one is left out
-pub kept_same : (d : Defs) (rows : List Values) (row : Values) (k l : KeptRows) → list_any (repeats d row) rows ≡ true → l.kept ≡ k.kept → l.end ≡ k.end → lists_in l ≡ lists_in k → l.seen.keys ≡ k.seen.keys → HasKept d rows k → HasKept d (kept_with d rows row) l
-kept_same d rows row k l repeat kept end lists seen has =
-    rw repeat (record { kept = kept ∙ has.kept; end = end ∙ has.end; pairs = lists ∙ has.pairs; noted = λ number code. ap (is_noted number code) seen ∙ has.noted number code })
+pub kept_same : (d : Defs) (rows : List SizedRow) (row : SizedRow) (k l : KeptRows) → list_any (repeats d row.values) (values_in rows) ≡ true → l.kept ≡ k.kept → l.split ≡ k.split → l.end ≡ k.end → lists_in l ≡ lists_in k → l.seen.keys ≡ k.seen.keys → HasKept d rows k → HasKept d (kept_with d rows row) l
+kept_same d rows row k l repeat kept split end lists seen has =
+    rw repeat (record { stored = has.stored; kept = kept ∙ has.kept; split = split ∙ has.split; end = end ∙ has.end; pairs = lists ∙ has.pairs; noted = λ number code. ap (is_noted number code) seen ∙ has.noted number code })
 
 -- ---- the keys of the row
 
@@ -133,15 +137,23 @@ noted_repeats d rows row seen us are codes =
 
 -- ---- a row that repeats none is kept
 
-pub kept_new : (d : Defs) (rows : List Values) (row : Values) (k l : KeptRows) (us : List UniqueKey) → list_any (repeats d row) rows ≡ false → l.kept ≡ k.kept + 1 → l.end ≡ k.end + length (stored d row)
-    → lists_in l ≡ with_pairs (pointer d k.end) (row_keys d row) (lists_in k) → ((n : ℕ) (code : List ℕ) → is_noted n code l.seen.keys ≡ (is_noted n code k.seen.keys || is_noted n code us)) → map by_code us ≡ unique_codes d row
+-- a row that fits can be stored, whatever held it
+storable : (d : Defs) (row : SizedRow) → IsSound d → fits d row.values ≡ true → IsStorable d row
+storable d row s fit = record { fits = fit; held = λ dynamic long. absurd (omega (arith, long, row-short d row.values s dynamic fit)) }
+
+pub kept_new : (d : Defs) (rows : List SizedRow) (row : SizedRow) (k l : KeptRows) (us : List UniqueKey) → IsSound d → fits d row.values ≡ true → list_any (repeats d row.values) (values_in rows) ≡ false
+    → l.kept ≡ k.kept + 1 → l.split ≡ k.split + 1 → l.end ≡ k.end + stored_size d row
+    → lists_in l ≡ with_pairs (pointer d k.end) (row_keys d row.values) (lists_in k) → ((n : ℕ) (code : List ℕ) → is_noted n code l.seen.keys ≡ (is_noted n code k.seen.keys || is_noted n code us)) → map by_code us ≡ unique_codes d row.values
     → HasKept d rows k → HasKept d (kept_with d rows row) l
-kept_new d rows row k l us new kept end lists seen codes has =
+kept_new d rows row k l us s fit new kept split end lists seen codes has =
     rw new (record {
+      stored = stored_more d rows row has.stored (storable d row s fit);
       kept = kept ∙ omega (arith, has.kept, length-append rows (row ∷ []));
-      end = end ∙ omega (arith, has.end, ap (λ (x : List ℕ). length x) (laid_more d rows row), length-append (stored_file d rows) (stored d row));
-      pairs = lists ∙ ap (with_pairs (pointer d k.end) (row_keys d row)) has.pairs ∙ row_pairs_more d rows row k.end has.end;
-      noted = λ n code. seen n code ∙ ap (λ b. b || is_noted n code us) (has.noted n code) ∙ ap (λ b. list_any (has_code d n code) rows || b) (noted_of_row d row us codes n code ∙ or_none (has_code d n code row)) ∙ sym (list_any-append (has_code d n code) rows (row ∷ []));
+      split = split ∙ omega (arith, has.split, blocks_more d rows row, ap (λ (g : List Share). length g) (group_one d row s fit));
+      end = end ∙ omega (arith, has.end, ap (λ (x : List ℕ). length x) (laid_more d s rows row has.stored), length-append (stored_file d rows) (stored d (length (stored_file d rows)) row), stored_sized d row s fit (length (stored_file d rows)));
+      pairs = lists ∙ ap (with_pairs (pointer d k.end) (row_keys d row.values)) has.pairs ∙ row_pairs_more d rows row k.end s has.stored has.end;
+      noted = λ n code. seen n code ∙ ap (λ b. b || is_noted n code us) (has.noted n code) ∙ ap (λ b. list_any (has_code d n code) (values_in rows) || b) (noted_of_row d row.values us codes n code ∙ or_none (has_code d n code row.values))
+          ∙ sym (list_any-append (has_code d n code) (values_in rows) (row.values ∷ [])) ∙ ap (list_any (has_code d n code)) (sym (values_more rows row));
     })
   where
     or_none : (b : Bool) → b ≡ (b || false)
@@ -158,8 +170,27 @@ row_short d v are fit = by d.format refl
     by Dynamic e = row-short d v (sound d are) e fit
     by Static e =
         let s = sound d are in
-        let can : IsStorable d v = record { fits = fit; short = λ dynamic. absurd (let both = sym e ∙ dynamic in cc) } in
-        omega (arith, length-slot d v s e can, ap (λ f. length (stored_by f (spelling d v))) e, s.short_slot e)
+        let row : SizedRow = with_sizes v [] in
+        let size : stored_size d row ≡ length (spelling d v) = size_one d row s fit ∙ ap (λ f. size_alone f (length (spelling d v))) e in
+        omega (arith, length-slot d row s e (storable d row s fit), size, s.short_slot e)
+
+-- what is written of it is what stands there, whatever sizes its blocks had
+pub written_alone : (d : Defs) (v : Values) (at : ℕ) (sizes : List ℕ) → AreDefs d → fits d v ≡ true → stored d at (with_sizes v sizes) ≡ stored d at (with_sizes v [])
+written_alone d v at sizes are fit = stored_one d (with_sizes v sizes) (sound d are) fit at ∙ sym (stored_one d (with_sizes v []) (sound d are) fit at)
+
+pub size_alike : (d : Defs) (v : Values) (sizes : List ℕ) → AreDefs d → fits d v ≡ true → stored_size d (with_sizes v []) ≡ stored_size d (with_sizes v sizes)
+size_alike d v sizes are fit = size_one d (with_sizes v []) (sound d are) fit ∙ sym (size_one d (with_sizes v sizes) (sound d are) fit)
+
+-- what a row of these bytes takes, where no sizes are known
+pub put_bytes : (d : Defs) (v : Values) (at : ℕ) (b : List ℕ) → b ≡ spelling d v → stored_by d.format at [] b ≡ stored d at (with_sizes v [])
+unfolding stored
+put_bytes d v at b is = ap (stored_by d.format at []) is
+
+pub put_size : (d : Defs) (v : Values) (at : ℕ) (b : List ℕ) → AreDefs d → fits d v ≡ true → b ≡ spelling d v → length (stored_by d.format at [] b) ≡ stored_size d (with_sizes v [])
+put_size d v at b are fit is = ap (λ (x : List ℕ). length x) (put_bytes d v at b is) ∙ stored_sized d (with_sizes v []) (sound d are) fit at
+
+pub put_count : (d : Defs) (v : Values) (b : List ℕ) → AreDefs d → fits d v ≡ true → b ≡ spelling d v → length (group_by d.format [] (length b)) ≡ 1
+put_count d v b are fit is = ap (λ (g : List Share). length g) (group_alone d.format [] (length b) (λ dynamic. omega (arith, row-short d v (sound d are) dynamic fit, ap (λ (x : List ℕ). length x) is)))
 
 -- ---- the file
 
@@ -167,11 +198,14 @@ pub put_at_end : (file end_bytes row : List ℕ) (end : ℕ) (m n : Holding) →
 put_at_end file end_bytes row end m n here is wrote =
     wrote.here ∙ ap (λ b. Some (overwritten end row (unwrap_or b []))) here ∙ ap (λ e. Some (overwritten e row end_bytes)) is ∙ ap Some (appended end_bytes row)
 
-pub written_new : (d : Defs) (rows : List Values) (row : Values) (k : KeptRows) (file : List ℕ) (m n : Holding) → list_any (repeats d row) rows ≡ false → HasKept d rows k → m file ≡ Some (stored_file d rows) → Writes file k.end (stored d row) m n → n file ≡ Some (stored_file d (kept_with d rows row))
-written_new d rows row k file m n new has here wrote =
-    rw new (put_at_end file (stored_file d rows) (stored d row) k.end m n here has.end wrote ∙ ap Some (sym (laid_more d rows row)))
+pub written_new : (d : Defs) (rows : List SizedRow) (v : Values) (sizes : List ℕ) (k : KeptRows) (file : List ℕ) (m n : Holding) → AreDefs d → fits d v ≡ true → list_any (repeats d v) (values_in rows) ≡ false → HasKept d rows k → m file ≡ Some (stored_file d rows)
+    → Writes file k.end (stored d k.end (with_sizes v [])) m n → n file ≡ Some (stored_file d (kept_with d rows (with_sizes v sizes)))
+written_new d rows v sizes k file m n are fit new has here wrote =
+    let row : SizedRow = with_sizes v sizes in
+    let there : stored d k.end (with_sizes v []) ≡ stored d (length (stored_file d rows)) row = sym (written_alone d v k.end sizes are fit) ∙ ap (λ p. stored d p row) has.end in
+    rw new (put_at_end file (stored_file d rows) (stored d k.end (with_sizes v [])) k.end m n here has.end wrote ∙ ap (λ b. Some (stored_file d rows ++ b)) there ∙ ap Some (sym (laid_more d (sound d are) rows row has.stored)))
 
-pub written_same : (d : Defs) (rows : List Values) (row : Values) (file : List ℕ) (m : Holding) → list_any (repeats d row) rows ≡ true → m file ≡ Some (stored_file d rows) → m file ≡ Some (stored_file d (kept_with d rows row))
+pub written_same : (d : Defs) (rows : List SizedRow) (row : SizedRow) (file : List ℕ) (m : Holding) → list_any (repeats d row.values) (values_in rows) ≡ true → m file ≡ Some (stored_file d rows) → m file ≡ Some (stored_file d (kept_with d rows row))
 written_same d rows row file m repeat here = rw repeat here
 
 -- ---- the steps of a row together
@@ -184,28 +218,29 @@ decided d rows row seen us given keys b are codes rowed same answer =
     ∙ ap (list_any (λ u. contains unique_cmp seen u)) (sym same) ∙ sym answer
 
 abbrev pub with_row : Defs → Values → KeptRows → KeptRows
-with_row d row k = record k { kept = k.kept + 1; split = k.split + 1; end = k.end + length (stored d row) }
+with_row d row k = record k { kept = k.kept + 1; split = k.split + 1; end = k.end + stored_size d (with_sizes row []) }
 
-pub kept_next : (d : Defs) (rows : List Values) (row : Values) (k p l : KeptRows) (us : List UniqueKey) (keys : List (List KeySeg)) (ptr : ℕ) → list_any (repeats d row) rows ≡ false → p ≡ with_row d row k → ptr ≡ pointer d k.end → keys ≡ row_keys d row
-    → ((v : Values) → keys ≡ row_keys d v → map by_code us ≡ unique_codes d v) → lists_in l ≡ with_pairs ptr keys (lists_in p) → l.kept ≡ p.kept → l.end ≡ p.end → ((n : ℕ) (code : List ℕ) → is_noted n code l.seen.keys ≡ (is_noted n code p.seen.keys || is_noted n code us))
-    → HasKept d rows k → HasKept d (kept_with d rows row) l
-kept_next d rows row k p l us keys ptr new put pointed rowed codes lists kept end noted has =
-    kept_new d rows row k l us new (kept ∙ ap (λ q. q.kept) put) (end ∙ ap (λ q. q.end) put)
+pub kept_next : (d : Defs) (rows : List SizedRow) (v : Values) (sizes : List ℕ) (k p l : KeptRows) (us : List UniqueKey) (keys : List (List KeySeg)) (ptr : ℕ) → AreDefs d → fits d v ≡ true → list_any (repeats d v) (values_in rows) ≡ false → p ≡ with_row d v k → ptr ≡ pointer d k.end → keys ≡ row_keys d v
+    → ((w : Values) → keys ≡ row_keys d w → map by_code us ≡ unique_codes d w) → lists_in l ≡ with_pairs ptr keys (lists_in p) → l.kept ≡ p.kept → l.split ≡ p.split → l.end ≡ p.end → ((n : ℕ) (code : List ℕ) → is_noted n code l.seen.keys ≡ (is_noted n code p.seen.keys || is_noted n code us))
+    → HasKept d rows k → HasKept d (kept_with d rows (with_sizes v sizes)) l
+kept_next d rows v sizes k p l us keys ptr are fit new put pointed rowed codes lists kept split end noted has =
+    kept_new d rows (with_sizes v sizes) k l us (sound d are) fit new (kept ∙ ap (λ q. q.kept) put) (split ∙ ap (λ q. q.split) put) (end ∙ ap (λ q. q.end) put ∙ ap (λ n. k.end + n) (size_alike d v sizes are fit))
     (lists ∙ ap (λ q. with_pairs ptr keys (lists_in q)) put ∙ ap (λ x. with_pairs x keys (lists_in k)) pointed ∙ ap (λ ks. with_pairs (pointer d k.end) ks (lists_in k)) rowed)
     (λ n code. noted n code ∙ ap (λ q. is_noted n code q.seen.keys || is_noted n code us) put)
-    (codes row rowed) has
+    (codes v rowed) has
 
 pub short_enough : (d : Defs) (n : ℕ) → is_addressable d n ≡ true → n ≤ 2 ^ 40
 unfolding is_addressable
 short_enough d n reached = leb-true n (2 ^ 40) (and_parts _ _ reached).0
 
-pub counted_next : (d : Defs) (row : Values) (k p l : KeptRows) (keys : List (List KeySeg)) (ptr : ℕ) → AreDefs d → fits d row ≡ true → AreCounted d k → is_addressable d (k.end + length (stored d row)) ≡ true → p ≡ with_row d row k → ptr ≡ pointer d k.end → keys ≡ row_keys d row
+pub counted_next : (d : Defs) (row : Values) (k p l : KeptRows) (keys : List (List KeySeg)) (ptr : ℕ) → AreDefs d → fits d row ≡ true → AreCounted d k → is_addressable d p.end ≡ true → p ≡ with_row d row k → ptr ≡ pointer d k.end → keys ≡ row_keys d row
     → lists_in l ≡ with_pairs ptr keys (lists_in p) → l.kept ≡ p.kept → l.split ≡ p.split → l.end ≡ p.end → AreCounted d l
 counted_next d row k p l keys ptr are fit was reached put pointed rowed lists kept split end =
     let s = sound d are in
+    let behind : p.end ≡ k.end + stored_size d (with_sizes row []) = ap (λ q. q.end) put in
     let all : lists_in l ≡ with_pairs (pointer d k.end) (row_keys d row) (lists_in k) = lists ∙ ap (λ q. with_pairs ptr keys (lists_in q)) put ∙ ap (λ x. with_pairs x keys (lists_in k)) pointed ∙ ap (λ ks. with_pairs (pointer d k.end) ks (lists_in k)) rowed in
     record {
       split = split ∙ ap (λ q. q.split) put ∙ ap (λ n. n + 1) was.split ∙ sym (kept ∙ ap (λ q. q.kept) put);
-      short = omega (arith, short_enough d (k.end + length (stored d row)) reached, end, ap (λ q. q.end) put);
-      pairs = subst (AreSizedPairs d) (sym all) (sized_with d row k.end (lists_in k) s fit (pointer_near d k.end (k.end + length (stored d row)) s reached (omega arith)) was.pairs);
+      short = omega (arith, short_enough d p.end reached, end);
+      pairs = subst (AreSizedPairs d) (sym all) (sized_with d row k.end (lists_in k) s fit (pointer_near d k.end p.end s reached (omega (arith, behind))) was.pairs);
     }

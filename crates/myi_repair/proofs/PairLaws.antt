@@ -4,6 +4,7 @@ use Rattle.std.specs.Prelude.{map, replicate, Vec}
 use Rattle.std.proofs.Math.ListN.{set, get_or-map}
 use Rattle.std.specs.List.{AllByRecursion}
 use Rattle.std.proofs.lemmas.List.{map-append, map-set, length-map, append-nil}
+use Rattle.std.proofs.lemmas.List.Sums.{sum_by-cons, sum_by-append}
 use Rattle.myi_defs.specs.declared.types.Defs.{Defs}
 use Rattle.myi_defs.specs.Sound.{IsSound}
 use Rattle.myi_keys.specs.declared.values.KeySeg.{KeySeg}
@@ -11,7 +12,8 @@ use Rattle.myi_keys.specs.Limits.{IsKey}
 use Rattle.myi_pack.specs.Packed.{Values}
 use Rattle.myi_pack.specs.Spelling.{fits}
 use Rattle.myi_data.specs.Keys.{IsKeyNumber, key_of}
-use Rattle.myi_data.specs.Stored.{stored, stored_file}
+use Rattle.myi_data.specs.Stored.{SizedRow, values_in, group, stored_size, stored, stored_from, stored_file, block_count, IsStorable}
+use Rattle.myi_data.proofs.CallerLemmas.{stored_sized}
 use Rattle.myi_btree.specs.declared.pair.Pair.{Pair}
 use Rattle.myi_btree.specs.Nodes.{entry_of}
 use Rattle.myi_btree.specs.Sizes.{IsSized}
@@ -25,17 +27,42 @@ use Rattle.myi_repair.specs.Keeping.{row_keys, lists_of, with_pairs}
 
 -- ---- one more row at the end
 
-pub laid_more : (d : Defs) (rows : List Values) (row : Values) → stored_file d (rows ++ row ∷ []) ≡ stored_file d rows ++ stored d row
-unfolding stored_file
-laid_more d [] row = append-nil (stored d row)
-laid_more d (r ∷ rows) row = ap (λ x. stored d r ++ x) (laid_more d rows row) ∙ sym (append_assoc (stored d r) (stored_file d rows) (stored d row))
+module _ (d : Defs) (s : IsSound d) where
+  from_more : (at : ℕ) (rows : List SizedRow) (row : SizedRow) → AllByRecursion (IsStorable d) rows → stored_from d at (rows ++ row ∷ []) ≡ stored_from d at rows ++ stored d (at + length (stored_from d at rows)) row
+  from_more at [] row all = let e : at ≡ at + 0 = omega arith in append-nil (stored d at row) ∙ ap (λ p. stored d p row) e
+  from_more at (r ∷ rows) row all =
+      let next : ℕ = at + stored_size d r in
+      let more : List ℕ = stored_from d next rows in
+      let e : next + length more ≡ at + length (stored d at r ++ more) = omega (arith, stored_sized d r s all.0.fits at, length-append (stored d at r) more) in
+      ap (λ x. stored d at r ++ x) (from_more next rows row all.1)
+      ∙ ap (λ p. stored d at r ++ (more ++ stored d p row)) e
+      ∙ sym (append_assoc (stored d at r) more (stored d (at + length (stored d at r ++ more)) row))
 
-pub placed_more : (d : Defs) (at : ℕ) (rows : List Values) (row : Values) → placed_from d at (rows ++ row ∷ []) ≡ placed_from d at rows ++ (at + length (stored_file d rows), row) ∷ []
-unfolding stored_file
-placed_more d at [] row = let e : at ≡ at + 0 = omega arith in ap (λ p. (p, row) ∷ []) e
-placed_more d at (r ∷ rows) row =
-    let e : at + length (stored d r) + length (stored_file d rows) ≡ at + length (stored d r ++ stored_file d rows) = omega (arith, length-append (stored d r) (stored_file d rows)) in
-    ap (λ ps. (at, r) ∷ ps) (placed_more d (at + length (stored d r)) rows row ∙ ap (λ p. placed_from d (at + length (stored d r)) rows ++ (p, row) ∷ []) e)
+  pub laid_more : (rows : List SizedRow) (row : SizedRow) → AllByRecursion (IsStorable d) rows → stored_file d (rows ++ row ∷ []) ≡ stored_file d rows ++ stored d (length (stored_file d rows)) row
+  unfolding stored_file
+  laid_more rows row all = let e : 0 + length (stored_from d 0 rows) ≡ length (stored_from d 0 rows) = omega arith in from_more 0 rows row all ∙ ap (λ p. stored_from d 0 rows ++ stored d p row) e
+
+  placed_from_more : (at : ℕ) (rows : List SizedRow) (row : SizedRow) → AllByRecursion (IsStorable d) rows → placed_from d at (rows ++ row ∷ []) ≡ placed_from d at rows ++ (at + length (stored_from d at rows), row.values) ∷ []
+  placed_from_more at [] row all = let e : at ≡ at + 0 = omega arith in ap (λ p. (p, row.values) ∷ []) e
+  placed_from_more at (r ∷ rows) row all =
+      let next : ℕ = at + stored_size d r in
+      let more : List ℕ = stored_from d next rows in
+      let e : next + length more ≡ at + length (stored d at r ++ more) = omega (arith, stored_sized d r s all.0.fits at, length-append (stored d at r) more) in
+      ap (λ ps. (at, r.values) ∷ ps) (placed_from_more next rows row all.1 ∙ ap (λ p. placed_from d next rows ++ (p, row.values) ∷ []) e)
+
+  pub placed_more : (rows : List SizedRow) (row : SizedRow) → AllByRecursion (IsStorable d) rows → placed_from d 0 (rows ++ row ∷ []) ≡ placed_from d 0 rows ++ (length (stored_file d rows), row.values) ∷ []
+  unfolding stored_file
+  placed_more rows row all = let e : 0 + length (stored_from d 0 rows) ≡ length (stored_from d 0 rows) = omega arith in placed_from_more 0 rows row all ∙ ap (λ p. placed_from d 0 rows ++ (p, row.values) ∷ []) e
+
+pub blocks_more : (d : Defs) (rows : List SizedRow) (row : SizedRow) → block_count d (rows ++ row ∷ []) ≡ block_count d rows + length (group d row)
+blocks_more d rows row = sum_by-append (λ (r : SizedRow). length (group d r)) rows (row ∷ []) ∙ ap (λ n. block_count d rows + n) (sum_by-cons (λ (r : SizedRow). length (group d r)) row [] ∙ (let e : length (group d row) + 0 ≡ length (group d row) = omega arith in e))
+
+pub values_more : (rows : List SizedRow) (row : SizedRow) → values_in (rows ++ row ∷ []) ≡ values_in rows ++ row.values ∷ []
+values_more rows row = map-append (λ (r : SizedRow). r.values) rows (row ∷ [])
+
+pub stored_more : (d : Defs) (rows : List SizedRow) (row : SizedRow) → AllByRecursion (IsStorable d) rows → IsStorable d row → AllByRecursion (IsStorable d) (rows ++ row ∷ [])
+stored_more d [] row all one = (one, tt)
+stored_more d (r ∷ rows) row all one = (all.0, stored_more d rows row all.1 one)
 
 pairs_more : (d : Defs) (rows : List PlacedRow) (at : ℕ) (row : Values) (ks : List ℕ)
     → with_pairs (pointer d at) (map (λ k. key_of d k row) ks) (map (λ k. pairs_of d k rows) ks) ≡ map (λ k. pairs_of d k (rows ++ (at, row) ∷ [])) ks
@@ -45,11 +72,11 @@ pairs_more d rows at row (k ∷ ks) =
     ∙ ap (λ ls. pairs_of d k (rows ++ (at, row) ∷ []) ∷ ls) (pairs_more d rows at row ks)
 
 -- the pairs of the rows with one more
-pub row_pairs_more : (d : Defs) (rows : List Values) (row : Values) (end : ℕ) → end ≡ length (stored_file d rows) → with_pairs (pointer d end) (row_keys d row) (row_pairs d (placed_from d 0 rows)) ≡ row_pairs d (placed_from d 0 (rows ++ row ∷ []))
-row_pairs_more d rows row end is =
-    let e : end ≡ 0 + length (stored_file d rows) = omega arith in
-    pairs_more d (placed_from d 0 rows) end row (key_numbers d)
-    ∙ ap (λ p. row_pairs d (placed_from d 0 rows ++ (p, row) ∷ [])) e ∙ ap (row_pairs d) (sym (placed_more d 0 rows row))
+pub row_pairs_more : (d : Defs) (rows : List SizedRow) (row : SizedRow) (end : ℕ) → IsSound d → AllByRecursion (IsStorable d) rows → end ≡ length (stored_file d rows)
+    → with_pairs (pointer d end) (row_keys d row.values) (row_pairs d (placed_from d 0 rows)) ≡ row_pairs d (placed_from d 0 (rows ++ row ∷ []))
+row_pairs_more d rows row end s all is =
+    pairs_more d (placed_from d 0 rows) end row.values (key_numbers d)
+    ∙ ap (λ p. row_pairs d (placed_from d 0 rows ++ (p, row.values) ∷ [])) is ∙ ap (row_pairs d) (sym (placed_more d s rows row all))
 
 pub no_pairs : (d : Defs) → row_pairs d (placed_from d 0 []) ≡ replicate (length d.keys) []
 no_pairs d = each 1 (length d.keys)

@@ -8,7 +8,7 @@ use Rattle.myi_defs.specs.Sound.{IsSound}
 use Rattle.myi_header.specs.Layout.{first_page_of}
 use Rattle.myi_header.specs.StateOf.{state_of}
 use Rattle.myi_header.specs.HeaderOf.{header_of}
-use Rattle.myi_pack.specs.Packed.{Values}
+use Rattle.myi_data.specs.Stored.{SizedRow, block_count}
 use Rattle.myi_btree.specs.declared.pair.Pair.{Pair}
 use Rattle.myi_btree.specs.LaidPages.{laid}
 use Rattle.myi_btree.specs.Sizes.{fits_in}
@@ -36,7 +36,7 @@ use Rattle.myi_repair.proofs.PairLaws.{length-numbers}
 
 -- ---- the trees
 
-pub trees_same : (d : Defs) (rows : List Values) → trees_of d (row_pairs d (placed_from d 0 rows)) ≡ new_trees d rows
+pub trees_same : (d : Defs) (rows : List SizedRow) → trees_of d (row_pairs d (placed_from d 0 rows)) ≡ new_trees d rows
 unfolding new_trees key_list
 trees_same d rows = ap (laid_trees d (first_page_of d) (key_numbers d)) (each (placed_from d 0 rows) (key_numbers d))
   where
@@ -81,8 +81,8 @@ finished_is t extend d g h now end roots m n s left counted is rooted ended buil
     let set : state_set g roots end now ≡ recovered_state defs extend d now =
     ap (λ (r : Report). new_state defs (state_of defs defs.raw) r.kept g.split r.new_length roots end now) is.report
     ∙ ap (λ x. new_state defs (state_of defs defs.raw) (length (kept defs extend d)) x (length (new_data defs extend d)) roots end now) is.split
-    ∙ ap (λ rs. new_state defs (state_of defs defs.raw) (length (kept defs extend d)) (length (kept defs extend d)) (length (new_data defs extend d)) rs end now) (rooted ∙ ap (λ u. u.roots) trees)
-    ∙ ap (λ e. new_state defs (state_of defs defs.raw) (length (kept defs extend d)) (length (kept defs extend d)) (length (new_data defs extend d)) (new_trees defs (kept defs extend d)).roots e now) (ended ∙ ap (λ u. u.end) trees) in
+    ∙ ap (λ rs. new_state defs (state_of defs defs.raw) (length (kept defs extend d)) (block_count defs (kept defs extend d)) (length (new_data defs extend d)) rs end now) (rooted ∙ ap (λ u. u.roots) trees)
+    ∙ ap (λ e. new_state defs (state_of defs defs.raw) (length (kept defs extend d)) (block_count defs (kept defs extend d)) (length (new_data defs extend d)) (new_trees defs (kept defs extend d)).roots e now) (ended ∙ ap (λ u. u.end) trees) in
     let long : length (header_of defs (state_set g roots end now)) ≡ first_page_of defs = header-long defs (state_set g roots end now) s many (new_rest defs s) in
     let behind : HasBehind (first_page_of defs) end (trees_of defs g.pairs).bytes (bytes_of t.new_index n) = subst (λ e. HasBehind (first_page_of defs) e (trees_of defs g.pairs).bytes (bytes_of t.new_index n)) (sym ended) built in
     ap (λ k. finished_index k roots end now (bytes_of t.new_index n)) left

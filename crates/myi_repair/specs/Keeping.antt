@@ -1,6 +1,6 @@
 -- The rows that are kept so far, by what is kept of them.
 use Rattle.std.specs.Prelude.{◌≡◌, ◌≤◌, ◌==◌, ◌&&◌, ◌||◌, ◌^◌, ℕ, Bool, List, [], ◌∷◌, ◌++◌, length, map, filter, Some, Vec, if◌then◌else◌}
-use Rattle.std.specs.List.{list_any}
+use Rattle.std.specs.List.{list_any, AllByRecursion}
 use Rattle.std.specs.Ordering.{nat_cmp, ordering_then}
 use Rattle.std.specs.declared.cmp.Ordering.{Ordering}
 use Rattle.std.specs.Cmp.Lexicographic.{slice_cmp}
@@ -12,7 +12,7 @@ use Rattle.myi_keys.specs.Limits.{is_complete}
 use Rattle.myi_keys.specs.Codes.{key_code}
 use Rattle.myi_pack.specs.Packed.{Values}
 use Rattle.myi_data.specs.Keys.{key_of}
-use Rattle.myi_data.specs.Stored.{stored_file}
+use Rattle.myi_data.specs.Stored.{SizedRow, values_in, stored_file, block_count, IsStorable}
 use Rattle.myi_btree.specs.declared.pair.Pair.{Pair}
 use Rattle.myi_pair.specs.FirstRows.{key_numbers, is_unique, repeats, has_code}
 use Rattle.myi_pair.specs.RecoveredBytes.{placed_from, row_pairs}
@@ -79,20 +79,26 @@ pub record AreCounted (d : Defs) (k : KeptRows) : Type 0 where
   pub pairs : AreSizedPairs d (lists_in k)
 
 -- these rows are the ones that are kept
-pub record HasKept (d : Defs) (rows : List Values) (k : KeptRows) : Type 0 where
+pub record HasKept (d : Defs) (rows : List SizedRow) (k : KeptRows) : Type 0 where
+  pub stored : AllByRecursion (IsStorable d) rows
   pub kept : k.kept ≡ length rows
+  pub split : k.split ≡ block_count d rows
   pub end : k.end ≡ length (stored_file d rows)
   pub pairs : lists_in k ≡ row_pairs d (placed_from d 0 rows)
-  pub noted : AreNoted d rows k.seen.keys
+  pub noted : AreNoted d (values_in rows) k.seen.keys
+
+-- a row, and the sizes of the blocks that held it
+abbrev pub with_sizes : Values → List ℕ → SizedRow
+with_sizes row sizes = record { values = row; sizes = sizes }
 
 -- the rows that are kept once one more has come
-abbrev pub kept_with : Defs → List Values → Values → List Values
-kept_with d rows row = if list_any (repeats d row) rows then rows else rows ++ row ∷ []
+abbrev pub kept_with : Defs → List SizedRow → SizedRow → List SizedRow
+kept_with d rows row = if list_any (repeats d row.values) (values_in rows) then rows else rows ++ row ∷ []
 
 -- a row has come, and is kept or repeats one that is
-abbrev pub TakesIn : Defs → Values → KeptRows → KeptRows → Type 0
-TakesIn d row k l = (rows : List Values) → HasKept d rows k → HasKept d (kept_with d rows row) l
+abbrev pub TakesIn : Defs → SizedRow → KeptRows → KeptRows → Type 0
+TakesIn d row k l = (rows : List SizedRow) → HasKept d rows k → HasKept d (kept_with d rows row) l
 
 -- a file that held the rows that were kept holds those that are kept once the row has come
-abbrev pub WritesIn : Defs → List ℕ → Values → KeptRows → Holding → Holding → Type 0
-WritesIn d file row k m n = (rows : List Values) → HasKept d rows k → m file ≡ Some (stored_file d rows) → n file ≡ Some (stored_file d (kept_with d rows row))
+abbrev pub WritesIn : Defs → List ℕ → SizedRow → KeptRows → Holding → Holding → Type 0
+WritesIn d file row k m n = (rows : List SizedRow) → HasKept d rows k → m file ≡ Some (stored_file d rows) → n file ≡ Some (stored_file d (kept_with d rows row))

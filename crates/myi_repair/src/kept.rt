@@ -46,16 +46,17 @@ impl Drop for KeptRows {
 }
 
 impl KeptRows {
-    ghost use Rattle.std.specs.Prelude.{◌≡◌, ◌≤◌, ◌<◌, ◌+◌, ◌-◌, ◌^◌, [], true, length, IfOk, IfErr, OnOk, IsTrue};
+    ghost use Rattle.std.specs.Prelude.{◌≡◌, ◌≤◌, ◌<◌, ◌+◌, ◌-◌, ◌^◌, ℕ, List, [], true, length, IfOk, IfErr, OnOk, IsTrue};
     ghost use Rattle.myi_base.specs.Holding.{Told, Writes, OthersStay};
     ghost use Rattle.myi_base.specs.Causes.{HasCause};
     ghost use Rattle.myi_defs.specs.declared.types.Defs.{Defs};
     ghost use Rattle.myi_defs.specs.Addressable.{is_addressable};
     ghost use Rattle.myi_defs.specs.ReadDefs.{AreDefs};
     ghost use Rattle.myi_pack.specs.Spelling.{fits};
-    ghost use Rattle.myi_data.specs.Stored.{stored};
+    ghost use Rattle.myi_data.specs.Stored.{stored_size, stored};
     ghost use Rattle.myi_repair.specs.Opening.{CutsOff};
-    ghost use Rattle.myi_repair.specs.Keeping.{lists_in, with_pairs, NotesBoth, AreCounted, HasKept, TakesIn, WritesIn};
+    ghost use Rattle.myi_repair.specs.Keeping.{lists_in, with_pairs, NotesBoth, AreCounted, HasKept};
+    ghost use Rattle.myi_repair.specs.Keeping.{with_sizes, TakesIn, WritesIn};
 
     /// No row yet, of a table with so many keys.
     pub(crate) fn new(alloc: Global, keys: usize) -> Result<KeptRows, AllocError>
@@ -89,9 +90,11 @@ impl KeptRows {
         ensures counted { OnOk result (AreCounted defs.now self.new) }
         ensures one { OnOk result (
             self.new.kept + self.new.repeats ≡ self.old.kept + self.old.repeats + 1) }
-        ensures kept { OnOk result (TakesIn defs.now row.now self.old self.new) }
+        ensures kept { OnOk result ((sizes : List ℕ)
+            → TakesIn defs.now (with_sizes row.now sizes) self.old self.new) }
         ensures written { OnOk result (Told (F.holds files.old) (F.holds files.new)
-            (WritesIn defs.now file.now row.now self.old)) }
+            (λ m n. (sizes : List ℕ)
+            → WritesIn defs.now file.now (with_sizes row.now sizes) self.old m n)) }
         ensures cut { IfErr result CutsOff }
         ensures others { Told (F.holds files.old) (F.holds files.new) (OthersStay file.now) }
         ensures cause { HasCause RepairFault.File (F.faults files.old) (F.faults files.new) result }
@@ -126,12 +129,12 @@ impl KeptRows {
         ensures counts { OnOk result (self.new ≡ record self.old {
           kept = self.old.kept + 1;
           split = self.old.split + 1;
-          end = self.old.end + length (stored defs.now row.now);
+          end = self.old.end + stored_size defs.now (with_sizes row.now []);
         }) }
-        ensures reached { OnOk result (
-            is_addressable defs.now (self.old.end + length (stored defs.now row.now)) ≡ true) }
+        ensures reached { OnOk result (is_addressable defs.now self.new.end ≡ true) }
         ensures written { OnOk result (Told (F.holds files.old) (F.holds files.new)
-            (Writes file.now self.old.end (stored defs.now row.now))) }
+            (Writes file.now self.old.end
+            (stored defs.now self.old.end (with_sizes row.now [])))) }
         ensures cut { IfErr result CutsOff }
         ensures others { Told (F.holds files.old) (F.holds files.new) (OthersStay file.now) }
         ensures cause { HasCause RepairFault.File (F.faults files.old) (F.faults files.new) result }

@@ -3,33 +3,35 @@ ghost use Rattle.std.specs.Prelude.{◌≡◌, ◌+◌, ◌^◌, ◌<◌, ◌≤
 ghost use Rattle.myi_base.specs.Holding.{Told, Writes, WritesPart};
 ghost use Rattle.myi_base.specs.Causes.{HasCause};
 ghost use Rattle.myi_io.specs.declared.files.FileErr.TheVariants.{Failed};
-ghost use Rattle.myi_data.specs.Stored.{stored_by, own_block};
+ghost use Rattle.myi_data.specs.Stored.{group_by, stored_by, own_block};
 
 use myi_defs::{Defs, RowFormat};
 use myi_frames::{FrameKind, FrameSpec, least_size, write_frame};
 use myi_io::{FileErr, Files};
 use std::alloc::{AllocError, Global};
 
-/// Writes a row at a place of the file of that name, as its slot or as one block of the least size, and
-/// answers the place behind it and the number of its blocks. `packed` is the row's spelling. `sizes`, the
-/// sizes of the blocks that held it, is not read: no row that is built needs more than one block.
+/// Writes a row at a place of the file of that name, in its slot or its blocks, and answers the place behind
+/// them and their number. `packed` is the row's spelling. `sizes`, the sizes of the blocks that held it,
+/// matters only to rows of 2^24 bytes and more, which are not built: it is not read.
 pub fn put_row<F: Files>(
     files: &mut F,
     file: &str,
     defs: &Defs,
     at: u64,
     packed: &[u8],
-    _sizes: &[u32],
+    sizes: &[u32],
 ) -> Result<(u64, u64), FileErr>
     requires writable { IsTrue F.writable }
     requires short { length packed.now < 2 ^ 24 }
     requires place { at ≤ 2 ^ 40 }
     ensures ok { OnOk result (Told (F.holds files.old) (F.holds files.new)
-        (Writes file.now at (stored_by defs.now.format packed.now))) }
+        (Writes file.now at (stored_by defs.now.format at sizes.now packed.now))) }
     ensures err { OnErr result (Told (F.holds files.old) (F.holds files.new)
-        (WritesPart file.now at (stored_by defs.now.format packed.now))) }
-    ensures end { IfOk result (λ r. r.0 ≡ at + length (stored_by defs.now.format packed.now)) }
-    ensures count { IfOk result (λ r. r.1 ≡ 1) }
+        (WritesPart file.now at (stored_by defs.now.format at sizes.now packed.now))) }
+    ensures end { IfOk result (λ r.
+        r.0 ≡ at + length (stored_by defs.now.format at sizes.now packed.now)) }
+    ensures count { IfOk result (λ r.
+        r.1 ≡ length (group_by defs.now.format sizes.now (length packed.now))) }
     ensures cause { HasCause Failed (F.faults files.old) (F.faults files.new) result }
 {
     match defs.format {

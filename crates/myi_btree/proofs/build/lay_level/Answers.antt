@@ -10,9 +10,9 @@ use Rattle.myi_btree.specs.Nodes.{entry_of, entries_of}
 use Rattle.myi_btree.specs.Entries.{entries_left}
 use Rattle.myi_btree.specs.Sizes.{AreSized, fits_in}
 use Rattle.myi_btree.specs.LaidPages.{Level, level_of}
-use Rattle.myi_btree.specs.Building.{MayLay}
+use Rattle.myi_btree.specs.Building.{MayLay, CountsPuts}
 use Rattle.myi_btree.specs.Levels.{IsLevel}
-use Rattle.myi_btree.proofs.PutLaws.{told_start, told_refused, told_spares}
+use Rattle.myi_btree.proofs.PutLaws.{told_start, told_refused, told_spares, puts_none, puts_on, counts_both}
 use Rattle.myi_btree.proofs.LevelLaws.{Laying, laying_start, laying_step, laying_end, same_pairs}
 use Rattle.myi_btree.proofs.BodyLaws.{next_page, next_behind, last_page, on_err, put_told, start_left, same_level}
 use Rattle.myi_btree.proofs.build.lay_level.Goals as goal
@@ -46,6 +46,8 @@ level-init g c =
       laying = subst (λ (t : List ℕ). Laying c.args.setup.place c.args.below.end (fits_in c.args.setup.place (not c.is_empty-node.result)) (level_of (length all) (fits_in c.args.setup.place (not c.is_empty-node.result)) all c.args.below.places.items) all t c.new-level.result []) (sym children)
           (laying_start c.args.setup.place c.args.below.end (fits_in c.args.setup.place (not c.is_empty-node.result)) all c.args.below.places.items c.new-level.result c.new-level.ensures.separators c.new-level.ensures.places c.new-level.ensures.end);
       name = refl;
+      puts = puts_none c.args.cache.now;
+      counted = omega arith;
       later = omega arith;
       reads = refl;
       told = told_start (g.F.Files.holds c.args.files.now) c.args.setup.place c.args.below.end c.args.cache.now;
@@ -131,6 +133,8 @@ level-preserved g c =
       written = i.written ++ node ∷ [];
       laying = subst (λ (t : List ℕ). Laying c.args.setup.place c.args.below.end (fits_in c.args.setup.place (not c.is_empty-node.result)) (level_of (length i.all) (fits_in c.args.setup.place (not c.is_empty-node.result)) i.all c.args.below.places.items) p.split.rest t c.add_page.new.self (i.written ++ node ∷ [])) (sym p.body.others_is) laying;
       name = c.in_ok-put_page.ensures.name ∙ i.name;
+      puts = puts_on c.args.cache.now c.level.cache c.put_page.new.cache i.puts c.in_ok-put_page.ensures.puts;
+      counted = counts_both i.written (node ∷ []) c.args.cache.now c.level.cache c.put_page.new.cache i.counted c.in_ok-put_page.ensures.counted;
       later = omega (arith, i.later, c.in_ok-put_page.ensures.cause.later);
       reads = c.in_ok-put_page.ensures.reads ∙ i.reads;
       told = told;
@@ -177,3 +181,29 @@ returns-clause-laid g c =
     let level = same_level c.args.setup.place (not c.is_empty-node.result) (not (eqb (length c.args.below.places.items) 0)) i.all all c.args.below.places.items same i.node in
     let pages : i.written ++ node ∷ [] ≡ (level_of (length all) (fits_in c.args.setup.place (not (eqb (length c.args.below.places.items) 0))) all c.args.below.places.items).pages = sym laid.pages ∙ ap (λ (t : Level). t.pages) level in
     subst (λ (t : List Node). Told (g.F.Files.holds c.args.files.now) (g.F.Files.holds c.put_page-2.new.files) (MayLay c.args.setup.place c.args.below.end t c.args.cache.now c.put_page-2.new.cache)) pages told
+
+pub returns-in_err-put_page-clause-puts : goal.returns-in_err-put_page-clause-puts
+returns-in_err-put_page-clause-puts g c = puts_on c.args.cache.now c.level.cache c.put_page.new.cache c.level.invariant.puts c.in_err-put_page.ensures.puts
+
+pub returns-in_err-next-2-clause-puts : goal.returns-in_err-next-2-clause-puts
+returns-in_err-next-2-clause-puts g c = puts_on c.args.cache.now c.level.cache c.put_page.new.cache c.level.invariant.puts c.in_ok-put_page.ensures.puts
+
+pub returns-in_err-put_page-2-clause-puts : goal.returns-in_err-put_page-2-clause-puts
+returns-in_err-put_page-2-clause-puts g c = puts_on c.args.cache.now c.level.cache c.put_page-2.new.cache c.level.invariant.puts c.in_err-put_page-2.ensures.puts
+
+pub returns-clause-puts : goal.returns-clause-puts
+returns-clause-puts g c = puts_on c.args.cache.now c.level.cache c.put_page-2.new.cache c.level.invariant.puts c.in_ok-put_page-2.ensures.puts
+
+pub returns-clause-counted : goal.returns-clause-counted
+returns-clause-counted g c =
+    let i = c.level.invariant in
+    let lv : Level = level_of (length i.all) (fits_in c.args.setup.place (not c.is_empty-node.result)) i.all c.args.below.places.items in
+    let n : length i.left ≡ c.level.next.count = omega (arith, i.left_is, c.level-test.false, i.count.inside) in
+    let laid = laying_end c.args.setup.place c.args.below.end (fits_in c.args.setup.place (not c.is_empty-node.result)) lv i.left c.level.children.now c.level.level c.add_page-2.new.self i.written i.laying i.some
+    (n ∙ i.count.is) (ap (λ v. v.items) c.add_page-2.ensures.separators) c.in_ok-add_page-2.ensures.places c.in_ok-add_page-2.ensures.end in
+    let node : Node = node_with i.left c.level.children.now in
+    λ all are.
+    let same : i.all ≡ all = same_pairs i.all all (sym i.all_are ∙ are) in
+    let level = same_level c.args.setup.place (not c.is_empty-node.result) (not (eqb (length c.args.below.places.items) 0)) i.all all c.args.below.places.items same i.node in
+    let pages : i.written ++ node ∷ [] ≡ (level_of (length all) (fits_in c.args.setup.place (not (eqb (length c.args.below.places.items) 0))) all c.args.below.places.items).pages = sym laid.pages ∙ ap (λ (t : Level). t.pages) level in
+    subst (λ (t : List Node). CountsPuts (length t) c.args.cache.now c.put_page-2.new.cache) pages (counts_both i.written (node ∷ []) c.args.cache.now c.level.cache c.put_page-2.new.cache i.counted c.in_ok-put_page-2.ensures.counted)

@@ -8,7 +8,7 @@ use Rattle.myi_btree.specs.Nodes.{entries_of}
 use Rattle.myi_btree.specs.Entries.{coded_of, entries_left, IsInside}
 use Rattle.myi_btree.specs.Sizes.{AreSized, fits_in, IsCount}
 use Rattle.myi_btree.specs.LaidPages.{level_of}
-use Rattle.myi_btree.specs.Building.{MayLay}
+use Rattle.myi_btree.specs.Building.{MayLay, PutsOnly, CountsPuts}
 use Rattle.myi_btree.specs.Levels.{HasEntries}
 use Rattle.myi_btree.proofs.LevelLaws.{Laying}
 use Rattle.myi_btree.proofs.build.lay_level.Given as goal
@@ -33,6 +33,8 @@ invariant-level g l = record {
   written : List Node;
   laying : Laying l.setup.place l.fn.below.end (fits_in l.setup.place l.node) (level_of (length all) (fits_in l.setup.place l.node) all l.fn.below.places.items) left l.children l.level written;
   name : l.cache.name ≡ l.fn.cache.name;
+  puts : PutsOnly l.fn.cache l.cache;
+  counted : CountsPuts (length written) l.fn.cache l.cache;
   later : g.F.Files.faults l.fn.files ≤ g.F.Files.faults l.files;
   reads : g.F.Files.reads l.files ≡ g.F.Files.reads l.fn.files;
   told : Told (g.F.Files.holds l.fn.files) (g.F.Files.holds l.files) (MayLay l.setup.place l.fn.below.end written l.fn.cache l.cache);

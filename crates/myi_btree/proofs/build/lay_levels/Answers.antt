@@ -7,12 +7,13 @@ use Rattle.myi_btree.specs.Walk.{Node}
 use Rattle.myi_btree.specs.Nodes.{entries_of}
 use Rattle.myi_btree.specs.Sizes.{fits_in}
 use Rattle.myi_btree.specs.LaidPages.{Level, level_of}
-use Rattle.myi_btree.specs.Building.{laid_at, MayLay, NotLaid}
+use Rattle.myi_btree.specs.Building.{laid_at, MayLay, NotLaid, CountsPuts}
 use Rattle.myi_btree.specs.Levels.{HasEntries, level_on, IsLevel}
 use Rattle.std.specs.List.{AllByRecursion}
 use Rattle.myi_keypage.specs.Page.{page_with, IsPlace, IsBranching}
 use Rattle.myi_btree.proofs.LevelsLaws.{upper, stepped, told_both, told_spares_both, levels_first, levels_more, branches_above, level_above, pages_above, end_on}
 use Rattle.myi_btree.proofs.BodyLaws.{on_err}
+use Rattle.myi_btree.proofs.PutLaws.{puts_on, counts_both}
 use Rattle.myi_btree.proofs.build.lay_levels.Goals as goal
 
 pub levels-init : goal.levels-init
@@ -39,6 +40,8 @@ levels-init g c =
       end = is.end;
       whole = s.whole;
       name = c.in_ok-level.ensures.name;
+      puts = c.in_ok-level.ensures.puts;
+      counted = subst (λ (t : Level). CountsPuts (length t.pages) c.args.cache.now c.lay_level.new.cache) lowest (c.in_ok-level.ensures.counted pairs are);
       later = c.in_ok-level.ensures.cause.later;
       reads = c.in_ok-level.ensures.reads;
       told = subst (λ (t : List Node). Told (g.F.Files.holds c.args.files.now) (g.F.Files.holds c.lay_level.new.files) (MayLay place c.args.first t c.args.cache.now c.lay_level.new.cache)) (ap (λ (t : Level). t.pages) lowest)
@@ -130,7 +133,13 @@ levels-preserved g c =
       end = end_on place.block_length c.args.first at c.in_ok-level-2.level.end i.written level.pages i.end is.end;
       whole = s.whole;
       name = c.in_ok-level-2.ensures.name ∙ i.name;
+      puts = puts_on c.args.cache.now c.levels.cache c.lay_level-in-levels.new.cache i.puts c.in_ok-level-2.ensures.puts;
+      counted = counts_both i.written level.pages c.args.cache.now c.levels.cache c.lay_level-in-levels.new.cache i.counted
+          (subst (λ (t : List Node). CountsPuts (length t) c.levels.cache c.lay_level-in-levels.new.cache) pages (c.in_ok-level-2.ensures.counted i.aside are));
       later = omega (arith, i.later, c.in_ok-level-2.ensures.cause.later);
       reads = c.in_ok-level-2.ensures.reads ∙ i.reads;
       told = told_both (g.F.Files.holds c.args.files.now) (g.F.Files.holds c.levels.files) (g.F.Files.holds c.lay_level-in-levels.new.files) place c.args.first at i.written level.pages c.args.cache.now c.levels.cache c.lay_level-in-levels.new.cache (sym i.end) i.name i.told laid1;
     }
+
+pub returns-in_err-level-2-clause-puts : goal.returns-in_err-level-2-clause-puts
+returns-in_err-level-2-clause-puts g c = puts_on c.args.cache.now c.levels.cache c.lay_level-in-levels.new.cache c.levels.invariant.puts c.in_err-level-2.ensures.puts

@@ -6,7 +6,7 @@ use Rattle.myi_btree.specs.Nodes.{entries_of}
 use Rattle.std.specs.List.{AllByRecursion}
 use Rattle.myi_keypage.specs.Page.{IsPlace}
 use Rattle.myi_btree.specs.Sizes.{AreSized, fits_in}
-use Rattle.myi_btree.specs.Building.{laid_at, MayLay}
+use Rattle.myi_btree.specs.Building.{laid_at, MayLay, PutsOnly, CountsPuts}
 use Rattle.myi_btree.proofs.LevelsLaws.{upper}
 use Rattle.myi_btree.proofs.build.lay_levels.Given as goal
 
@@ -24,6 +24,8 @@ invariant-levels g l = record {
   end : l.level.end ≡ l.fn.first + l.setup.place.block_length * length written;
   whole : l.level.end % 1024 ≡ 0;
   name : l.cache.name ≡ l.fn.cache.name;
+  puts : PutsOnly l.fn.cache l.cache;
+  counted : CountsPuts (length written) l.fn.cache l.cache;
   later : g.F.Files.faults l.fn.files ≤ g.F.Files.faults l.files;
   reads : g.F.Files.reads l.files ≡ g.F.Files.reads l.fn.files;
   told : Told (g.F.Files.holds l.fn.files) (g.F.Files.holds l.files) (MayLay l.setup.place l.fn.first written l.fn.cache l.cache);

@@ -7,7 +7,7 @@ use Rattle.myi_chain.specs.declared.chain.Link.TheVariants.{Last, More}
 use Rattle.myi_chain.specs.Chain.{tail}
 use Rattle.myi_chain.specs.Chain.{ranges_at}
 use Rattle.myi_chain.specs.Source.{ChainModel, IsHeader, IsTaken, read_bytes, read_blocks, with_rest}
-use Rattle.myi_chain.proofs.SourceLemmas.{header_range}
+use Rattle.myi_chain.proofs.SourceLemmas.{header_range, lies_more}
 use Rattle.myi_chain.proofs.FollowLemmas.{can_more, last_not_broken, more_not_broken, followed_none, followed_no_block, followed_broken, followed_last, followed_more}
 use Rattle.myi_chain.proofs.chain.follow.Goals as goal
 
@@ -16,6 +16,7 @@ loop-at-init g c = record {
   more = c.requires.more;
   can = c.requires.can;
   many = omega arith;
+  lies = λ at old. old;
   holds = refl;
   faults = omega arith;
   same = λ m held. refl;
@@ -45,6 +46,7 @@ loop-at-preserved g c =
       more = omega (arith, left, taken.1, taken.2);
       can = can_more used old.taken c.take.new.self.taken block old.left More was.can all more_not_broken link (header_range at c.args.source.now.end block place);
       many = omega (arith, was.many, ap length all, length-append old.taken ((block.head.at, block.head.size) ∷ []));
+      lies = λ p first. lies_more p at c.args.source.now.end block old.taken c.take.new.self.taken place all (was.lies p first);
       holds = found.holds ∙ was.holds;
       faults = omega (arith, was.faults, found.cause.later);
       same = λ m held.
@@ -74,6 +76,7 @@ returns-in-Broken g c =
           followed_broken (read_bytes c.args.source.now m) (read_blocks c.args.source.now m) old.next used old.taken old.left _ (was.same m held) at block next here link;
       can = λ e. absurd cc;
       many = λ e. absurd cc;
+      lies = λ e. absurd cc;
       holds = found.holds ∙ was.holds;
       cause = record { later = omega (arith, was.faults, found.cause.later); cause = λ e. absurd (ok_not_err e) };
     }
@@ -96,6 +99,7 @@ returns-in-Last g c =
           followed_last (read_bytes c.args.source.now m) (read_blocks c.args.source.now m) old.next used old.taken old.left _ (was.same m held) at block c.take.new.self.taken next here link was.more taken.1 taken.0;
       can = λ _. can_more used old.taken c.take.new.self.taken block old.left Last was.can taken.0 last_not_broken link (header_range at c.args.source.now.end block place);
       many = λ _. omega (arith, was.many, ap length taken.0, length-append old.taken ((block.head.at, block.head.size) ∷ []));
+      lies = λ _ p first. lies_more p at c.args.source.now.end block old.taken c.take.new.self.taken place taken.0 (was.lies p first);
       holds = found.holds ∙ was.holds;
       cause = record { later = omega (arith, was.faults, found.cause.later); cause = λ e. absurd (ok_not_err e) };
     }

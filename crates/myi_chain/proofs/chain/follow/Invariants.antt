@@ -2,7 +2,7 @@ use Rattle.std.proofs.Common.{◌≡◌, ◌≤◌, ◌<◌, ◌++◌, length}
 use Rattle.myi_base.specs.Holding.{IfTold}
 use Rattle.myi_chain.specs.Chain.{tail}
 use Rattle.myi_chain.specs.Chain.{ranges_at}
-use Rattle.myi_chain.specs.Source.{read_blocks, with_rest, CanAdd}
+use Rattle.myi_chain.specs.Source.{read_blocks, with_rest, CanAdd, LiesOn}
 use Rattle.myi_chain.proofs.chain.follow.Given as goal
 
 abbrev pub invariant-loop-at : goal.invariant-loop-at
@@ -10,6 +10,7 @@ invariant-loop-at g l = record {
   more : 0 < l.chain.left;
   can : CanAdd l.used l.chain.taken;
   many : length l.fn.chain.taken ≤ length l.chain.taken;
+  lies : LiesOn l.source.end l.fn.chain.taken l.chain.taken;
   holds : g.F.Files.holds l.files ≡ g.F.Files.holds l.fn.files;
   faults : g.F.Files.faults l.fn.files ≤ g.F.Files.faults l.files;
   same : IfTold (g.F.Files.holds l.fn.files) (λ m.

@@ -1,5 +1,5 @@
-use Rattle.std.proofs.Common.{◌≡◌, ◌∙◌, ◌++◌, ◌∷◌, [], refl, sym, ap, subst}
-use Rattle.myi_chain.specs.Chain.{AreApart, ranges_at}
+use Rattle.std.proofs.Common.{◌≡◌, ◌∙◌, ◌++◌, ◌∷◌, [], refl, ap, subst}
+use Rattle.myi_chain.specs.Chain.{ranges_at}
 use Rattle.myi_chain.specs.Used.{SameUsed, SameFrom, joined}
 use Rattle.myi_chain.proofs.MapLemmas.{far_apart}
 use Rattle.myi_chain.proofs.JoinedLemmas.{adds_front, adds_others}

@@ -1,4 +1,4 @@
-use Rattle.std.proofs.Common.{◌∙◌, arith, sym, ap}
+use Rattle.std.proofs.Common.{◌∙◌, arith, ap}
 use Rattle.myi_chain.specs.Used.{end_from}
 use Rattle.myi_chain.proofs.UsedLemmas.{end_by_last}
 use Rattle.myi_chain.proofs.ranges.end_from_far.Goals as goal

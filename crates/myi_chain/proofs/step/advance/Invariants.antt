@@ -7,7 +7,7 @@ use Rattle.myi_chain.proofs.step.advance.Given as goal
 abbrev pub invariant-loop-position : goal.invariant-loop-position
 invariant-loop-position g l = record {
   later : l.fn.position.place ≤ l.position.place;
-  within : l.position.place ≤ l.fn.source.end;
+  within : l.position.place ≤ l.source.end;
   used : l.position.used ≡ l.fn.position.used;
   holds : g.F.Files.holds l.files ≡ g.F.Files.holds l.fn.files;
   faults : g.F.Files.faults l.fn.files ≤ g.F.Files.faults l.files;
@@ -20,4 +20,4 @@ invariant-loop-position g l = record {
 }
 
 abbrev pub decreases-loop-position : goal.decreases-loop-position
-decreases-loop-position g l = l.end - l.position.place
+decreases-loop-position g l = l.source.end - l.position.place

@@ -1,8 +1,9 @@
 use Rattle.std.proofs.Common.{◌≡◌, ◌∙◌, ◌+◌, ◌∷◌, Some, refl, sym, ap, subst, arith}
+use Rattle.myi_chain.specs.declared.step.Found.TheVariants as found
 use Rattle.myi_chain.specs.Readable.{row, free}
 use Rattle.myi_chain.specs.Found.{met_at, row_held, MeetsShortAt, FindsShortAt, FindsItem, KeepsUsed, Rises}
 use Rattle.myi_chain.proofs.SourceLemmas.{ready_still, reads_same, reads_then}
-use Rattle.myi_chain.proofs.StepLemmas.{met_same, meets_same, over_same, over_free, over_row, over_end}
+use Rattle.myi_chain.proofs.StepLemmas.{met_same, meets_same, finds_same, over_same, over_free, over_row, over_end}
 use Rattle.myi_chain.proofs.step.advance_row.Goals as goal
 
 pub loop-found-init : goal.loop-found-init
@@ -31,22 +32,22 @@ loop-found-preserved g c =
     let new = c.advance.new.position in
     let s = c.loop-found.source in
     let is = c.in-Some.is ∙ ap Some c.in-Free.is in
-    let rises = subst (Rises old.place new.place s.end) is next.rises in
+    let rises = subst (Rises old.place new.place c.advance.new.source.end) is next.rises in
     record {
       later = omega (arith, was.later, rises.0);
-      within = omega (arith, was.reads.end, rises.1);
+      within = rises.1;
       used = subst (KeepsUsed old.used new.used) is next.kept ∙ was.used;
       holds = next.holds ∙ was.holds;
       faults = omega (arith, was.faults, next.cause.later);
       reads = reads_then _ _ _ _ _ was.holds was.reads next.reads;
       passed = λ m held.
           let told = subst (FindsItem c.advance.new.source c.advance.new.row (met_at a.rules.now.extend accepts s old m) (met_at a.rules.now.extend accepts s new m)) is (next.told m (was.holds ∙ held)) in
-          let here = sym (met_same h a.rules.now.extend accepts a.source.now s old m was.reads) ∙ told ∙ ap (λ js. free (c.in-Free.field-0, c.in-Free.field-0 + c.in-Free.field-1) ∷ js) (met_same h a.rules.now.extend accepts a.source.now s new m was.reads) in
+          let here = sym (met_same h a.rules.now.extend accepts a.source.now s old m held was.reads) ∙ told ∙ ap (λ js. free (c.in-Free.field-0, c.in-Free.field-0 + c.in-Free.field-1) ∷ js) (met_same h a.rules.now.extend accepts a.source.now s new m held was.reads) in
           over_free _ _ _ _ (was.passed m held) here;
       short = λ m held meets.
           let same : old ≡ a.position.now = was.short m held meets in
-          let now = meets_same h accepts a.source.now s old m was.reads (subst (λ p. MeetsShortAt accepts a.source.now p m) (sym same) meets) in
-          absurd (subst (λ f. FindsShortAt f new) is (next.short m (was.holds ∙ held) now));
+          let now = meets_same h accepts a.source.now s old m held was.reads (subst (λ p. MeetsShortAt accepts a.source.now p m) (sym same) meets) in
+          absurd (subst (λ f. FindsShortAt s m old f new) is (next.short m (was.holds ∙ held) now));
     }
 
 pub returns-in_default-clause-told : goal.returns-in_default-clause-told
@@ -59,7 +60,7 @@ returns-in_default-clause-told g c m held =
     let new = c.advance.new.position in
     let s = c.loop-found.source in
     let told = subst (FindsItem c.advance.new.source c.advance.new.row (met_at a.rules.now.extend accepts s old m) (met_at a.rules.now.extend accepts s new m)) c.in_default.is (c.in-Ok.ensures.told m (was.holds ∙ held)) in
-    (over_end _ _ (was.passed m held) (sym (met_same h a.rules.now.extend accepts a.source.now s old m was.reads) ∙ told.0), sym (met_same h a.rules.now.extend accepts a.source.now s new m was.reads) ∙ told.1)
+    (over_end _ _ (was.passed m held) (sym (met_same h a.rules.now.extend accepts a.source.now s old m held was.reads) ∙ told.0), sym (met_same h a.rules.now.extend accepts a.source.now s new m held was.reads) ∙ told.1)
 
 pub returns-in-Row-clause-told : goal.returns-in-Row-clause-told
 returns-in-Row-clause-told g c m held =
@@ -72,4 +73,18 @@ returns-in-Row-clause-told g c m held =
     let s = c.loop-found.source in
     let is = c.in-Some.is ∙ ap Some c.in-Row.is in
     let told = subst (FindsItem c.advance.new.source c.advance.new.row (met_at a.rules.now.extend accepts s old m) (met_at a.rules.now.extend accepts s new m)) is (c.in-Ok.ensures.told m (was.holds ∙ held)) in
-    over_row _ _ _ _ (was.passed m held) (sym (met_same h a.rules.now.extend accepts a.source.now s old m was.reads) ∙ told ∙ ap (λ js. row (row_held c.advance.new.source c.advance.new.row c.in-Row.found) ∷ js) (met_same h a.rules.now.extend accepts a.source.now s new m was.reads))
+    over_row _ _ _ _ (was.passed m held) (sym (met_same h a.rules.now.extend accepts a.source.now s old m held was.reads) ∙ told ∙ ap (λ js. row (row_held c.advance.new.source c.advance.new.row c.in-Row.found) ∷ js) (met_same h a.rules.now.extend accepts a.source.now s new m held was.reads))
+
+pub returns-in-Row-clause-short : goal.returns-in-Row-clause-short
+returns-in-Row-clause-short g c m held meets =
+    let was = c.loop-found.invariant in
+    let a = c.args in
+    let h = g.F.Files.holds a.files.now in
+    let accepts = g.A.Accepts.accepts_gives a.rules.now.test in
+    let s = c.loop-found.source in
+    let old = c.loop-found.position in
+    let new = c.advance.new.position in
+    let is = c.in-Some.is ∙ ap Some c.in-Row.is in
+    let here : old ≡ a.position.now = was.short m held meets in
+    let now = meets_same h accepts a.source.now s old m held was.reads (subst (λ p. MeetsShortAt accepts a.source.now p m) (sym here) meets) in
+    finds_same h a.source.now s m held was.reads a.position.now old new (Some (found.Row c.in-Row.found)) here (subst (λ f. FindsShortAt s m old f new) is (c.in-Ok.ensures.short m (was.holds ∙ held) now))

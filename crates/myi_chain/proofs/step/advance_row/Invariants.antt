@@ -8,7 +8,7 @@ use Rattle.myi_chain.proofs.step.advance_row.Given as goal
 abbrev pub invariant-loop-found : goal.invariant-loop-found
 invariant-loop-found g l = record {
   later : l.fn.position.place ≤ l.position.place;
-  within : l.position.place ≤ l.fn.source.end;
+  within : l.position.place ≤ l.source.end;
   used : l.position.used ≡ l.fn.position.used;
   holds : g.F.Files.holds l.files ≡ g.F.Files.holds l.fn.files;
   faults : g.F.Files.faults l.fn.files ≤ g.F.Files.faults l.files;
@@ -21,4 +21,4 @@ invariant-loop-found g l = record {
 }
 
 abbrev pub decreases-loop-found : goal.decreases-loop-found
-decreases-loop-found g l = l.fn.source.end - l.position.place
+decreases-loop-found g l = l.source.end - l.position.place

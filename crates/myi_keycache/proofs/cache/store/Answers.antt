@@ -12,44 +12,29 @@ returns-in_err-make_room-clause-stores g c =
     let fault : CacheFault = c.in_err-make_room.field-0.0 in
     let e = err_from_is_err_and c.from_residual.result c.from_residual.ensures.1 in
     let same : c.from_residual.result ≡ Err fault = e.1 ∙ ap Err e.2 in
-    rw same (refused_stores _ _ c.args.name.now c.args.blocks.now c.make_room.new.blocks c.args.counters.now c.make_room.new.counters c.args.at c.args.buffer.now.items fault c.in_err-make_room.ensures.stay c.in_err-make_room.ensures.writes)
+    rw same (refused_stores _ _ c.args.name.now c.args.blocks.now c.make_room.new.blocks c.args.counters.now c.make_room.new.counters c.args.at c.args.buffer.now.items fault c.in_err-make_room.ensures.stay c.in_err-make_room.ensures.writes
+    (one_due _ _ _ c.args.name.now c.args.blocks.now c.args.counters.now c.args.at (length c.args.buffer.now.items) _ c.requires.none refl (one_err _ _ c.args.name.now (due_in c.args.blocks.now) _ fault c.in_err-make_room.ensures.one)))
 
 pub returns-in_err-take_in-clause-stores : goal.returns-in_err-take_in-clause-stores
 returns-in_err-take_in-clause-stores g c =
     let fault : CacheFault = c.in_err-take_in.field-0.0 in
     let e = err_from_is_err_and c.from_residual-in_err-take_in.result c.from_residual-in_err-take_in.ensures.1 in
     let same : c.from_residual-in_err-take_in.result ≡ Err fault = e.1 ∙ ap Err e.2 in
-    rw (same, c.in_err-take_in.ensures.err) (refused_stores _ _ c.args.name.now c.args.blocks.now c.make_room.new.blocks c.args.counters.now c.make_room.new.counters c.args.at c.args.buffer.now.items fault c.in_ok-make_room.ensures.stay c.in_ok-make_room.ensures.writes)
+    rw (same, c.in_err-take_in.ensures.err) (refused_stores _ _ c.args.name.now c.args.blocks.now c.make_room.new.blocks c.args.counters.now c.make_room.new.counters c.args.at c.args.buffer.now.items fault c.in_ok-make_room.ensures.stay c.in_ok-make_room.ensures.writes
+    (one_due _ _ _ c.args.name.now c.args.blocks.now c.args.counters.now c.args.at (length c.args.buffer.now.items) _ c.requires.none refl (one_refused _ _ c.args.name.now (due_in c.args.blocks.now) _ fault c.in_ok-make_room.ensures.one)))
 
 pub returns-clause-stores : goal.returns-clause-stores
 returns-clause-stores g c =
     let room = room_is c.args.blocks.now c.make_room.new.blocks c.args.at (length c.args.buffer.now.items) c.requires.differ c.requires.none c.in_ok-make_room.ensures.stay c.in_ok-make_room.ensures.ok in
     let t = c.in_ok-take_in.ensures in
     store_stores _ _ c.args.name.now c.args.blocks.now c.make_room.new.blocks c.take_in.new.self c.args.counters.now c.make_room.new.counters c.count_put.new.self c.args.at c.args.buffer.now.items _ c.in_ok-make_room.ensures.stay c.in_ok-make_room.ensures.writes c.requires.none room t.setup t.lists t.alike c.count_put.ensures c.in_ok-make_room.ensures.counted
-
-pub returns-in_err-make_room-clause-one : goal.returns-in_err-make_room-clause-one
-returns-in_err-make_room-clause-one g c =
-    let fault : CacheFault = c.in_err-make_room.field-0.0 in
-    let e = err_from_is_err_and c.from_residual.result c.from_residual.ensures.1 in
-    let same : c.from_residual.result ≡ Err fault = e.1 ∙ ap Err e.2 in
-    rw same (one_due _ _ _ c.args.name.now c.args.blocks.now c.args.counters.now c.args.at (length c.args.buffer.now.items) _ c.requires.none refl (one_err _ _ c.args.name.now (due_in c.args.blocks.now) _ fault c.in_err-make_room.ensures.one))
+    (one_due _ _ _ c.args.name.now c.args.blocks.now c.args.counters.now c.args.at (length c.args.buffer.now.items) _ c.requires.none refl (one_ok _ _ c.args.name.now (due_in c.args.blocks.now) _ _ c.in_ok-make_room.ensures.one))
 
 pub returns-in_err-make_room-clause-quiet : goal.returns-in_err-make_room-clause-quiet
 returns-in_err-make_room-clause-quiet g c none = c.in_err-make_room.ensures.quiet (sym (due_is c.args.name.now c.args.blocks.now c.args.counters.now c.args.at (length c.args.buffer.now.items) c.requires.none) ∙ none)
 
-pub returns-in_err-take_in-clause-one : goal.returns-in_err-take_in-clause-one
-returns-in_err-take_in-clause-one g c =
-    let fault : CacheFault = c.in_err-take_in.field-0.0 in
-    let e = err_from_is_err_and c.from_residual-in_err-take_in.result c.from_residual-in_err-take_in.ensures.1 in
-    let same : c.from_residual-in_err-take_in.result ≡ Err fault = e.1 ∙ ap Err e.2 in
-    rw same (one_due _ _ _ c.args.name.now c.args.blocks.now c.args.counters.now c.args.at (length c.args.buffer.now.items) _ c.requires.none refl (one_refused _ _ c.args.name.now (due_in c.args.blocks.now) _ fault c.in_ok-make_room.ensures.one))
-
 pub returns-in_err-take_in-clause-quiet : goal.returns-in_err-take_in-clause-quiet
 returns-in_err-take_in-clause-quiet g c none = c.in_ok-make_room.ensures.quiet (sym (due_is c.args.name.now c.args.blocks.now c.args.counters.now c.args.at (length c.args.buffer.now.items) c.requires.none) ∙ none)
-
-pub returns-clause-one : goal.returns-clause-one
-returns-clause-one g c =
-    one_due _ _ _ c.args.name.now c.args.blocks.now c.args.counters.now c.args.at (length c.args.buffer.now.items) _ c.requires.none refl (one_ok _ _ c.args.name.now (due_in c.args.blocks.now) _ _ c.in_ok-make_room.ensures.one)
 
 pub returns-clause-quiet : goal.returns-clause-quiet
 returns-clause-quiet g c none = c.in_ok-make_room.ensures.quiet (sym (due_is c.args.name.now c.args.blocks.now c.args.counters.now c.args.at (length c.args.buffer.now.items) c.requires.none) ∙ none)

@@ -7,6 +7,7 @@ use Rattle.myi_keycache.specs.Order.{Order, contents_of}
 use Rattle.myi_keycache.proofs.OrderLemmas.{split}
 use Rattle.myi_keycache.proofs.CacheLemmas.{stay_same, stay_then, nothing_only, only_then}
 use Rattle.myi_keycache.proofs.FlushLemmas.{writing_start, writing_within, writing_next, writing_done, writing_stops, one_written, one_fewer, still_written, got_is, OneWritten}
+use Rattle.myi_keycache.proofs.TurnLemmas.{turning_start, turning_next, turning_next_page, flush_done, flush_stopped, flush_refused, not_counted}
 use Rattle.myi_keycache.proofs.cache.write_all.Goals as goal
 
 pub loop-i-init : goal.loop-i-init
@@ -14,6 +15,8 @@ loop-i-init g c = record {
   stay = stay_same c.args.blocks.now;
   writes = nothing_only _ _ c.args.name.now c.args.blocks.now c.args.counters.now c.requires.writes refl;
   writing = writing_start c.args.blocks.now c.in_ok-found.found.items c.in_ok-found.ensures.all;
+  turning = turning_start _ c.args.name.now c.args.blocks.now c.args.counters.now c.in_ok-found.found.items c.in_ok-found.ensures.all c.requires.writes;
+  quiet = λ all. refl;
   small = c.requires.writes;
   faults = omega arith;
   reads = refl;
@@ -40,6 +43,8 @@ loop-i-preserved g c =
       stay = stay_then _ _ _ i.stay h.stay;
       writes = only_then _ _ _ c.args.name.now c.args.blocks.now c.loop-i.blocks c.write_page.new.blocks _ _ _ i.writing.fewer (one_fewer _ _ _ one) (λ all p n u. all p n (i.stay.unwritten p n u)) i.writes h.writes;
       writing = writing_next c.args.blocks.now c.loop-i.blocks c.write_page.new.blocks c.in_ok-found.found.items c.loop-i.i lt i.writing (subst (λ (f : ℕ × ℕ). OneWritten (contents_of c.loop-i.blocks.pages) (contents_of c.write_page.new.blocks.pages) f.1) (sym got) one);
+      turning = turning_next _ _ _ c.args.name.now c.args.blocks.now c.loop-i.blocks c.write_page.new.blocks c.args.counters.now c.loop-i.counters c.write_page.new.counters c.in_ok-found.found.items c.loop-i.i c.index.result.now _ lt got i.turning one h.one h.counted;
+      quiet = λ all. absurd (all _ _ (turning_next_page _ _ c.args.name.now c.args.blocks.now c.loop-i.blocks c.args.counters.now c.loop-i.counters c.in_ok-found.found.items c.loop-i.i lt i.turning).was);
       small = omega (arith, counted);
       faults = omega (arith, i.faults, h.cause.later);
       reads = h.reads ∙ i.reads;
@@ -63,3 +68,29 @@ returns-in_err-write_page-clause-writes g c =
 
 pub returns-clause-written : goal.returns-clause-written
 returns-clause-written g c = writing_done c.args.blocks.now c.loop-i.blocks c.in_ok-found.found.items c.loop-i.i (omega (arith, c.loop-i-test.false, c.len-i-end.ensures, c.in_ok-found.found.ok.0)) c.loop-i.invariant.writing
+
+pub returns-in_err-found-clause-turns : goal.returns-in_err-found-clause-turns
+returns-in_err-found-clause-turns g c =
+    let e = err_from_is_err_and c.from_residual.result c.from_residual.ensures.1 in
+    rw e.1 (flush_refused _ c.args.name.now c.args.blocks.now c.args.counters.now e.0 c.requires.writes)
+
+pub returns-in_err-write_page-clause-turns : goal.returns-in_err-write_page-clause-turns
+returns-in_err-write_page-clause-turns g c =
+    let lt : c.loop-i.i < length c.in_ok-found.found.items = omega (arith, c.loop-i-test.true, c.len-i-end.ensures, c.in_ok-found.found.ok.0) in
+    let got = got_is c.in_ok-found.found.items c.loop-i.i c.index.result.now lt c.index.ensures in
+    let fault : CacheFault = c.in_err-write_page.field-0.0 in
+    let e = err_from_is_err_and c.from_residual-in_err-write_page.result c.from_residual-in_err-write_page.ensures.1 in
+    let same : c.from_residual-in_err-write_page.result ≡ Err fault = e.1 ∙ ap Err e.2 in
+    let h = c.in_err-write_page.ensures in
+    let i = c.loop-i.invariant in
+    let counted = not_counted c.args.name.now c.loop-i.blocks c.write_page.new.blocks c.loop-i.counters c.write_page.new.counters h.err i.small h.writes.counters in
+    rw same (flush_stopped _ _ _ c.args.name.now c.args.blocks.now c.loop-i.blocks c.write_page.new.blocks c.args.counters.now c.loop-i.counters c.write_page.new.counters c.in_ok-found.found.items c.loop-i.i c.index.result.now fault lt got c.in_ok-found.ensures.all c.in_ok-found.ensures.sorted i.writing.covers i.turning h.err counted h.one)
+
+pub returns-in_err-write_page-clause-quiet : goal.returns-in_err-write_page-clause-quiet
+returns-in_err-write_page-clause-quiet g c all =
+    let lt : c.loop-i.i < length c.in_ok-found.found.items = omega (arith, c.loop-i-test.true, c.len-i-end.ensures, c.in_ok-found.found.ok.0) in
+    absurd (all _ _ (turning_next_page _ _ c.args.name.now c.args.blocks.now c.loop-i.blocks c.args.counters.now c.loop-i.counters c.in_ok-found.found.items c.loop-i.i lt c.loop-i.invariant.turning).was)
+
+pub returns-clause-turns : goal.returns-clause-turns
+returns-clause-turns g c =
+    flush_done _ _ c.args.name.now c.args.blocks.now c.loop-i.blocks c.args.counters.now c.loop-i.counters c.in_ok-found.found.items c.loop-i.i tt (omega (arith, c.loop-i-test.false, c.len-i-end.ensures, c.in_ok-found.found.ok.0)) c.in_ok-found.ensures.all c.in_ok-found.ensures.sorted c.loop-i.invariant.writing.covers c.loop-i.invariant.turning

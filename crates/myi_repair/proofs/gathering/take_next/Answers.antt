@@ -24,7 +24,7 @@ take-requires-clause-row g c κs lives = row-fits c.args.defs.now c.view_packed-
 pub take-requires-clause-few : goal.take-requires-clause-few
 take-requires-clause-few g c κs lives =
     let answer = answered_of _ c.args.scan.now c.next_row.follows.lender-at-none _ _ (c.in-Some.field-0-0, c.in-Some.piece) c.in_ok-piece.was c.in-Some.is c.next_row.follows.holds-at-none in
-    omega (arith, c.requires.few, c.requires.end, answer.0.rises, answer.0.within)
+    omega (arith, c.requires.few, c.requires.end, answer.0.rises, answer.0.within, answer.0.same.end)
 
 pub returns : goal.returns
 returns g c =

@@ -18,10 +18,10 @@ loop-rows-init g c =
     let made = c.in_ok-rows.ensures in
     let others = told_more _ _ _ _ c.in_ok-cut.ensures.ok (λ m n held cut. cut.others) in
     record {
-      same = record { name = refl; test = refl; extend = refl; end = refl };
+      same = record { name = refl; test = refl; extend = refl; end = omega arith };
       counted = made.counted d keys;
       few = omega (arith, made.none);
-      current = stays_known file h h (g.F.Files.holds c.cut.new.self) scan scan refl c.requires.apart (record { name = refl; test = refl; extend = refl; end = refl }) c.requires.current others;
+      current = stays_known file h h (g.F.Files.holds c.cut.new.self) scan scan refl c.requires.apart (record { name = refl; test = refl; extend = refl; end = omega arith }) c.requires.current others;
       later = c.cut.ensures.cause.later;
       others = others;
       so_far = told_more _ _ _ _ c.in_ok-cut.ensures.ok (λ m n held cut.

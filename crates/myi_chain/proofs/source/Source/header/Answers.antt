@@ -1,4 +1,4 @@
-use Rattle.std.proofs.Common.{◌≡◌, ◌∙◌, ap, subst, arith}
+use Rattle.std.proofs.Common.{◌∙◌, ap, subst, arith}
 use Rattle.std.specs.Prelude.{string_bytes}
 use Rattle.myi_window.specs.Excerpt.{EndsBy, bytes_from}
 use Rattle.myi_chain.specs.Source.{SourceModel}

@@ -1,8 +1,8 @@
-use Rattle.std.proofs.Common.{◌≡◌, ◌+◌, ◌++◌, ◌∷◌, ℕ, refl, sym, ap, subst, arith}
+use Rattle.std.proofs.Common.{◌+◌, ◌++◌, ◌∷◌, ℕ, refl, sym, ap, subst, arith}
 use Rattle.std.specs.List.{AllByRecursion}
 use Rattle.myi_chain.specs.Chain.{AreApart, ranges_at}
-use Rattle.myi_chain.specs.Used.{IsRange, joined, AddsBlocks, NeedsMemory}
-use Rattle.myi_chain.proofs.JoinsLemmas.{blocks_added, blocks_need}
+use Rattle.myi_chain.specs.Used.{IsRange, joined, AddsBlocks}
+use Rattle.myi_chain.proofs.JoinsLemmas.{blocks_added}
 use Rattle.myi_chain.proofs.used.Used.add.Goals as goal
 
 pub add_blocks-requires-clause-apart : goal.add_blocks-requires-clause-apart

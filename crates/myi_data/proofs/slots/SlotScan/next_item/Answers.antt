@@ -4,7 +4,7 @@ use Rattle.std.proofs.lemmas.Result.{err_from_is_err_and}
 use Rattle.myi_base.specs.Holding.{bytes_of}
 use Rattle.myi_base.proofs.CallerLemmas.{ok_not_err}
 use Rattle.myi_chain.specs.declared.piece.ScanFault.TheVariants.{File}
-use Rattle.myi_chain.specs.Pieces.{shown}
+use Rattle.myi_chain.specs.Pieces.{piece_bytes}
 use Rattle.myi_io.specs.Faults.{handed_on}
 use Rattle.myi_chain.specs.declared.piece.ScanFault.TheVariants as fault
 use Rattle.myi_data.specs.Readable.{packs}
@@ -23,7 +23,7 @@ returns-in_default g c =
     let to = c.next_slot.new.place in
     let size = c.slot_length-size.result in
     let found = c.in_ok-slot.ensures in
-    let k = went h c.args.self.now name _ i.test i.extend i.end i.place to (option_to_list i.last) i.bytes.held v size c.as_str.ensures.value c.self.view_is c.self.invariant.0 c.self.invariant.1 c.slot_length-size.ensures found.later found.within found.inside c.requires found.stands in
+    let k = went h c.args.self.now name _ i.test i.extend i.end i.place to (option_to_list i.last) i.bytes.held v size c.as_str.ensures.value c.self.view_is c.self.invariant.0 c.self.invariant.1 c.slot_length-size.ensures found.later found.within c.self.invariant.5 found.inside c.requires found.stands in
     let last = subst (IsPlaced size i.place to i.end) c.in_default.is found.placed in (
       (refl, λ _. tt, subst (λ n. AfterTableItem h c.args.self.now (Ok None) (slot_scan n i.test i.extend i.end to (option_to_list i.last) v)) c.as_str.ensures.value (items_ended h c.args.self.now name i.test i.extend i.end i.place to (option_to_list i.last) i.bytes.held v size k last (λ m held stood. subst (IsNext (packs i.test) size (take i.end (bytes_of name m)) i.place to) c.in_default.is (found.found m held stood)))),
       record {
@@ -47,14 +47,14 @@ returns-in-Row g c =
     let to = c.next_slot.new.place in
     let size = c.slot_length-size.result in
     let found = c.in_ok-slot.ensures in
-    let k = went h c.args.self.now name _ i.test i.extend i.end i.place to (option_to_list i.last) i.bytes.held v size c.as_str.ensures.value c.self.view_is c.self.invariant.0 c.self.invariant.1 c.slot_length-size.ensures found.later found.within found.inside c.requires found.stands in
+    let k = went h c.args.self.now name _ i.test i.extend i.end i.place to (option_to_list i.last) i.bytes.held v size c.as_str.ensures.value c.self.view_is c.self.invariant.0 c.self.invariant.1 c.slot_length-size.ensures found.later found.within c.self.invariant.5 found.inside c.requires found.stands in
     let at = c.in-Row.at in
     let placed : IsSlotBetween size i.place to i.end at = subst (IsPlaced size i.place to i.end) (c.in-Some.is ∙ ap Some c.in-Row.is) found.placed in
     let whole = subst (IsHeld (packs i.test) size v) (c.in-Some.is ∙ ap Some c.in-Row.is) found.held in
     let slot = c.slot_at.ensures.shown in (
       (refl, λ _. tt, subst (λ n. AfterTableItem h c.args.self.now (Ok (Some (item.Row at c.slot_at.result))) (slot_scan n i.test i.extend i.end to ((at, size) ∷ []) v)) c.as_str.ensures.value (item_answered h c.args.self.now name i.test i.extend i.end i.place to (option_to_list i.last) i.bytes.held v size k at c.slot_at.result placed whole.0 slot c.slot_at.ensures.form (λ m held stood. subst (IsNext (packs i.test) size (take i.end (bytes_of name m)) i.place to) (c.in-Some.is ∙ ap Some c.in-Row.is) (found.found m held stood)))),
       record {
-        packs = row_packs h c.args.self.now name i.test i.extend i.end i.place to (option_to_list i.last) i.bytes.held v size k (shown c.slot_at.result) at slot whole.1;
+        packs = row_packs h c.args.self.now name i.test i.extend i.end i.place to (option_to_list i.last) i.bytes.held v size k (piece_bytes c.slot_at.result) at slot whole.1;
         slot = row_slot h c.args.self.now name i.test i.extend i.end i.place to (option_to_list i.last) i.bytes.held v size k at c.slot_at.result placed whole.0 slot;
         never = λ static. tt;
         plain = tt;
@@ -74,7 +74,7 @@ returns-in-Free g c =
     let to = c.next_slot.new.place in
     let size = c.slot_length-size.result in
     let found = c.in_ok-slot.ensures in
-    let k = went h c.args.self.now name _ i.test i.extend i.end i.place to (option_to_list i.last) i.bytes.held v size c.as_str.ensures.value c.self.view_is c.self.invariant.0 c.self.invariant.1 c.slot_length-size.ensures found.later found.within found.inside c.requires found.stands in
+    let k = went h c.args.self.now name _ i.test i.extend i.end i.place to (option_to_list i.last) i.bytes.held v size c.as_str.ensures.value c.self.view_is c.self.invariant.0 c.self.invariant.1 c.slot_length-size.ensures found.later found.within c.self.invariant.5 found.inside c.requires found.stands in
     let at = c.in-Free.at in
     let is = c.in-Some.is ∙ ap Some c.in-Free.is in
     let placed : IsSlotBetween size i.place to i.end at = subst (IsPlaced size i.place to i.end) is found.placed in (
@@ -100,7 +100,7 @@ returns-in_err-slot g c =
     let to = c.next_slot.new.place in
     let size = c.slot_length-size.result in
     let found = c.in_err-slot.ensures in
-    let k = went h c.args.self.now name _ i.test i.extend i.end i.place to (option_to_list i.last) i.bytes.held v size c.as_str.ensures.value c.self.view_is c.self.invariant.0 c.self.invariant.1 c.slot_length-size.ensures found.later found.within found.inside c.requires found.stands in
+    let k = went h c.args.self.now name _ i.test i.extend i.end i.place to (option_to_list i.last) i.bytes.held v size c.as_str.ensures.value c.self.view_is c.self.invariant.0 c.self.invariant.1 c.slot_length-size.ensures found.later found.within c.self.invariant.5 found.inside c.requires found.stands in
     let e = err_from_is_err_and c.from_residual.result c.from_residual.ensures.1 in
     let same : c.from_residual.result ≡ Err File = e.1 ∙ ap Err (e.2 ∙ ap (handed_on fault.File fault.Memory) found.failed) in
     rw same (

@@ -9,6 +9,7 @@ use Rattle.myi_keycache.specs.Order.{contents_of}
 use Rattle.myi_keycache.proofs.OrderLemmas.{split}
 use Rattle.myi_keycache.proofs.MidpointLemmas.{named}
 use Rattle.myi_keycache.proofs.OneLemmas.{due_kept, never_hit, one_none, one_kept}
+use Rattle.myi_keycache.proofs.OthersLemmas.{same_keeps, same_changes}
 use Rattle.myi_keycache.proofs.GetLemmas.{hit_page}
 use Rattle.myi_keycache.proofs.PutLemmas.{renewed, hit_stores, stores_on}
 use Rattle.myi_keycache.proofs.cache.KeyCache.put.Goals as goal
@@ -39,6 +40,10 @@ returns g c =
       others = t.others;
       kept = tt;
       added = t.added;
+      there = t.there;
+      to_write = t.to_write;
+      keeps = t.keeps;
+      unwritten = tt;
       name = t.name;
       setup = t.setup;
       access = t.access;
@@ -65,3 +70,11 @@ pub returns-in_err-extend_from_slice-clause-one : goal.returns-in_err-extend_fro
 returns-in_err-extend_from_slice-clause-one g c =
     let e = err_from_is_err_and c.from_residual.result c.from_residual.ensures.1 in
     rw e.1 (one_kept _ _ _ _ e.0 refl)
+
+pub returns-in_err-extend_from_slice-clause-keeps : goal.returns-in_err-extend_from_slice-clause-keeps
+returns-in_err-extend_from_slice-clause-keeps g c = same_keeps _ _ c.args.at (length c.args.bytes.now) c.self.view_is
+
+pub returns-in_err-extend_from_slice-clause-unwritten : goal.returns-in_err-extend_from_slice-clause-unwritten
+returns-in_err-extend_from_slice-clause-unwritten g c =
+    let e = err_from_is_err_and c.from_residual.result c.from_residual.ensures.1 in
+    rw e.1 (same_changes _ _ c.self.view_is)

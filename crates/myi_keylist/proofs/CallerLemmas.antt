@@ -1,0 +1,11 @@
+-- What the crates above may cite. Each lemma states a clause of a law in src/laws.rt; `all_kept` does so for rows of any
+-- type.
+
+-- pairs_are_sorted
+pub use Rattle.myi_keylist.proofs.SortedLaws.{pair_total, sorted_permutes, sorted_sorted, sorted_is}
+-- repeats_are_neighbours
+pub use Rattle.myi_keylist.proofs.RepeatLaws.{apart}
+-- distinct_rows_are_kept
+pub use Rattle.myi_keylist.proofs.FirstLaws.{all_kept}
+-- class_numbers_decide
+pub use Rattle.myi_keylist.proofs.ClassLaws.{classes_keep}

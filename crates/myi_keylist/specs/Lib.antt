@@ -1,0 +1,7 @@
+-- What a reader of the contracts has to believe: the order of pairs, keys that repeat, the rows that are kept, class numbers.
+pub mod PairOrder
+pub mod Repeats
+pub mod FirstBy
+pub mod Classes
+-- What serves private contracts: where codes and marks of a list stand.
+pub mod PairLists

@@ -1,0 +1,31 @@
+//! Lists of pairs: the keys of rows, each with its row pointer, in the order of a tree.
+//!
+//! A pair is a key value and a row pointer. Pairs stand in order by key and then by pointer
+//! (`specs/PairOrder`), and there is one list in order with given pairs, `sorted`. A `PairList` is a list
+//! of pairs with the codes of all keys in one buffer, so that no pair takes memory of its own: its model
+//! is the list.
+//!
+//! - `PairList::push` adds a pair by the code of its key, `sort` puts the pairs in order, `code` and
+//!   `row` give them back, and `has_repeat` finds out whether a complete key is there twice
+//!   (`specs/Repeats`).
+//! - `keep_first` says which rows are kept where keys repeat (`specs/FirstBy`), by class numbers: two
+//!   rows share one exactly where one repeats the other (`specs/Classes`).
+//! - The rest are laws over the definitions.
+//!
+//! ```
+//! key_code_into(&mut code, &mut scratch, &defs, 1, &mut row)?;
+//! pairs.push(&code, pointer)?;
+//! ```
+#![tactic(auto)]
+
+mod class_numbers;
+mod laws;
+mod pair;
+mod pair_list;
+
+pub use class_numbers::keep_first;
+pub use laws::{
+    class_numbers_decide, distinct_rows_are_kept, pairs_are_sorted, repeats_are_neighbours,
+};
+pub use pair::Pair;
+pub use pair_list::PairList;

@@ -1,0 +1,184 @@
+//! `PairList`: a list of pairs with the codes of all keys in one buffer.
+//!
+//! A mark for each pair says where its key's code stands in the buffer, and has the pair's row pointer and
+//! a number that stands in the order of keys, so that a sort moves marks alone and mostly compares
+//! numbers. Contracts see the list of the pairs.
+ghost use Rattle.std.specs.Prelude.{◌≡◌, ◌<◌, ◌++◌, ◌∷◌, [], length, take, slice_index_or};
+ghost use Rattle.std.specs.Prelude.{OnOk, OnErr};
+ghost use Rattle.std.specs.List.{AllByRecursion};
+ghost use Rattle.myi_keys.specs.Limits.{IsKey};
+ghost use Rattle.myi_keys.specs.Codes.{key_code};
+ghost use Rattle.myi_keys.specs.Comparing.{key_front, IsCode};
+ghost use Rattle.myi_keylist.specs.declared.pair.Pair.{Pair};
+ghost use Rattle.myi_keylist.specs.PairOrder.{pair_with, sorted};
+ghost use Rattle.myi_keylist.specs.Repeats.{is_same_key, has_repeat};
+ghost use Rattle.myi_keylist.specs.PairLists.{led, code_from, mark_cmp, pairs_at, IsMark};
+
+use myi_keys::{code_prefix, compare_codes, is_complete_code};
+use std::alloc::{AllocError, Global};
+use std::cmp::Ordering;
+use std::marker::Model;
+
+/// Where the code of a pair's key stands, the number that the key is sorted by first, and the pair's
+/// row pointer.
+#[derive(Clone, Copy)]
+struct Mark {
+    prefix: u64,
+    start: u64,
+    row: u64,
+}
+
+/// Pairs, whose keys are codes in one buffer.
+pub struct PairList {
+    codes: Vec<u8>,
+    marks: Vec<Mark>,
+}
+
+impl Drop for PairList {
+    fn drop(self) {
+        let PairList { codes: _, marks: _ } = self;
+    }
+}
+
+impl Model for PairList {
+    ghost use Rattle.std.specs.Prelude.{List};
+    ghost use Rattle.std.specs.List.{AllByRecursion};
+    ghost use Rattle.myi_keylist.specs.declared.pair.Pair.{Pair};
+    ghost use Rattle.myi_keylist.specs.PairLists.{IsMark, pairs_at};
+
+    ghost Value = { List Pair };
+
+    ghost view = { λ l. pairs_at l.codes.items l.marks.items };
+
+    ghost invariant = { λ l. AllByRecursion (IsMark l.codes.items) l.marks.items };
+}
+
+impl PairList {
+    /// No pair.
+    pub fn new(alloc: Global) -> PairList
+        ensures { result ≡ [] }
+    {
+        PairList {
+            codes: Vec::new(alloc),
+            marks: Vec::new(alloc),
+        }
+    }
+
+    /// The number of pairs.
+    pub fn len(&self) -> usize
+        ensures { result ≡ length self.now }
+    {
+        self.marks.len()
+    }
+
+    /// Adds a pair, by the code of its key. Where memory runs out the list is as before.
+    pub fn push(&mut self, code: &[u8], row: u64) -> Result<(), AllocError>
+        requires { IsCode code.now }
+        ensures added { OnOk result
+            (self.new ≡ self.old ++ pair_with (key_front code.now) row ∷ []) }
+        ensures unchanged { OnErr result (self.new ≡ self.old) }
+    {
+        let start = self.codes.len() as u64;
+        append_code(&mut self.codes, code)?;
+        self.marks.push(Mark {
+            prefix: code_prefix(code),
+            start,
+            row,
+        })?;
+        Ok(())
+    }
+
+    /// The code of the key of pair `i`, from 0.
+    pub fn code(&self, i: usize) -> &[u8]
+        requires { i < length self.now }
+        ensures value { (other : Pair)
+            → result.now ≡ key_code (slice_index_or self.now i other).key }
+        ensures key { (other : Pair) → IsKey (slice_index_or self.now i other).key }
+    {
+        code_from(&self.codes, self.marks[i].start)
+    }
+
+    /// The row pointer of pair `i`, from 0.
+    pub fn row(&self, i: usize) -> u64
+        requires { i < length self.now }
+        ensures { (other : Pair) → result ≡ (slice_index_or self.now i other).row }
+    {
+        self.marks[i].row
+    }
+
+    /// Whether two pairs, one behind the other, have one complete key. In a list in order this is so where
+    /// any two pairs have one.
+    pub fn has_repeat(&self) -> bool
+        ensures { result ≡ has_repeat self.now }
+    {
+        let Some(last) = self.len().checked_sub(1) else {
+            return false;
+        };
+        for i in 0..last {
+            if is_repeat(self.code(i), self.code(i + 1)) {
+                return true;
+            }
+        }
+        false
+    }
+
+    /// Puts the pairs in order. It takes no memory.
+    pub fn sort(&mut self)
+        ensures { self.new ≡ sorted self.old }
+    {
+        sort_marks(&self.codes, &mut self.marks);
+    }
+}
+
+// Appends a code behind its length.
+fn append_code(codes: &mut Vec<u8>, code: &[u8]) -> Result<(), AllocError>
+    requires { length code.now < 65536 }
+    ensures added { OnOk result (codes.new.items ≡ codes.old.items ++ led code.now) }
+    ensures front { take (length codes.old.items) codes.new.items ≡ codes.old.items }
+{
+    codes.extend_from_slice(&(code.len() as u16).to_be_bytes())?;
+    codes.extend_from_slice(code)?;
+    Ok(())
+}
+
+// The code at a place of the buffer.
+fn code_from(codes: &[u8], start: u64) -> &[u8]
+    ensures { result.now ≡ code_from codes.now start }
+{
+    match codes.get(start as usize..) {
+        Some([high, low, rest @ ..]) => {
+            let length = u16::from_be_bytes([*high, *low]) as usize;
+            &rest[..length.min(rest.len())]
+        }
+        _ => &[],
+    }
+}
+
+// Whether two codes stand for one complete key.
+fn is_repeat(one: &[u8], other: &[u8]) -> bool
+    ensures { result ≡ is_same_key (key_front one.now) (key_front other.now) }
+{
+    is_complete_code(one) && compare_codes(one, other).is_eq()
+}
+
+// Which of two marks is first.
+fn compare_marks(codes: &[u8], one: &Mark, other: &Mark) -> Ordering
+    ensures { result ≡ mark_cmp codes.now one.now other.now }
+{
+    if one.prefix != other.prefix {
+        return one.prefix.cmp(&other.prefix);
+    }
+    let code = code_from(codes, one.start);
+    let other_code = code_from(codes, other.start);
+    compare_codes(code, other_code).then(one.row.cmp(&other.row))
+}
+
+// Puts the marks in the order of their pairs.
+fn sort_marks(codes: &[u8], marks: &mut Vec<Mark>)
+    requires { AllByRecursion (IsMark codes.now) marks.old.items }
+    ensures marks { AllByRecursion (IsMark codes.now) marks.new.items }
+    ensures sorted { pairs_at codes.now marks.new.items
+        ≡ sorted (pairs_at codes.now marks.old.items) }
+{
+    marks.sort_unstable_by(|one, other| compare_marks(codes, one, other));
+}
