@@ -1,4 +1,4 @@
-//! Stored cases of files, the key cache and trees: calls, read from standard input, and what they answer.
+//! Stored cases of files, the key cache, trees and lists of keys: calls, read from standard input, and what they answer.
 //!
 //! `docs/CASES.md` has the grammar of the lines, which `case_lines` reads. Each module has one function a
 //! call, and the table of its calls in `answer`. The stored input and output lie beside `src`.
@@ -6,12 +6,13 @@
 
 mod caches;
 mod files;
+mod pairs;
 mod trees;
 
 use case_lines::{Calls, Fault, Words};
 use std::io;
 
-/// The calls on files and sinks in memory, the key cache and the trees of an index.
+/// The calls on files and sinks in memory, the key cache, the trees of an index and lists of keys.
 struct TheCalls;
 
 impl Calls for TheCalls {
@@ -20,6 +21,9 @@ impl Calls for TheCalls {
             return Some(answer);
         }
         if let Some(answer) = caches::answer(words, name, args) {
+            return Some(answer);
+        }
+        if let Some(answer) = pairs::answer(words, name, args) {
             return Some(answer);
         }
         files::answer(words, name, args)

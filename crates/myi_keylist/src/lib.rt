@@ -13,9 +13,20 @@
 //! - The rest are laws over the definitions.
 //!
 //! ```
-//! key_code_into(&mut code, &mut scratch, &defs, 1, &mut row)?;
-//! pairs.push(&code, pointer)?;
+//! let mut pairs = PairList::new(alloc);
+//! for word in args {
+//!     push_pair(&mut pairs, words, *word)?;
+//! }
+//! pairs.sort();
+//! let mut out = String::new(alloc);
+//! for i in 0..pairs.len() {
+//!     push_word(&mut out, pairs.code(i))?;
+//!     write!(out, ":{} ", pairs.row(i))?;
+//! }
+//! out.push_str(if pairs.has_repeat() { "repeat" } else { "none" })?;
 //! ```
+//!
+//! `crates/cases_indexes/src/pairs.rt` has it, and there `push_pair` is `pairs.push(key.code(), row)`.
 #![tactic(auto)]
 
 mod class_numbers;
