@@ -64,8 +64,8 @@ is_among places at = list_any (λ p. p == at) places
 abbrev pub AddsItsOwn : Place → Caching → Holding → Caching → Type 0
 AddsItsOwn place old m new = (pages : List ℕ) → HasPages place old m place.root pages → AddsAmong place (is_among pages) (pages_of old) (pages_of new)
 
--- Of the places that are named from the root on, each was read once at most: no more was read than there are places in any
--- list that names the root and the children of each page that stands at a place of it.
+-- No more was read than places are named from the root on: than there are in any list that names the root and the children
+-- of each page that stands at a place of it.
 abbrev pub ReadsOnce : Place → Caching → Holding → ℕ → ℕ → Type 0
 ReadsOnce place cache m before after = (places : List ℕ) → IsRootNamed place.root (is_among places) → IsClosed (node_lent place cache m) (is_among places) → after ≤ before + length places
 

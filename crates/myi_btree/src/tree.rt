@@ -54,10 +54,11 @@ impl Tree {
     /// the first place on the walk's path where what stands is no page of the tree: no page, or its page has
     /// a byte of one that was met before, or it is a leaf above the depth of the first leaf, or a node at that
     /// depth. What is said of pairs and places holds where the file is as the last call of the cache left it.
-    /// Each page is asked for once at most, and no place but those that are named from the root on. The stack
+    /// No more is read than places are named from the root on, and no other page comes to be kept. The stack
     /// that a walk takes does not grow with the depth that a file says.
     /// The cache keeps no unwritten page, or the tree is whole and no other page that is kept meets one of it;
-    /// then that holds afterwards too, of this tree and of others (`walks_leave_trees_clear`).
+    /// then that holds afterwards too, of this tree and of others that share no byte with it
+    /// (`walks_leave_trees_clear`).
     pub fn walk<F: Files>(
         &self,
         alloc: Global,
@@ -84,7 +85,7 @@ impl Tree {
         ensures cause { HasCause File (F.faults files.old) (F.faults files.new) result }
         ensures reads { F.reads files.old ≤ F.reads files.new }
 
-        // Each page is asked for once at most, and those of the walk are all that is counted.
+        // No more is read than places are named from the root on, and as many pages are asked for as a walk has.
         ensures once { IfTold (F.holds files.old) (λ m. IsCurrent cache.old m
             → ReadsOnce self.now cache.old m (F.reads files.old) (F.reads files.new)) }
         ensures counted { OnOk result (IfTold (F.holds files.old) (λ m. IsCurrent cache.old m
@@ -107,8 +108,9 @@ impl Tree {
     /// Puts the laid pages of sorted pairs into the room from its end on, and moves the end past them. The
     /// root that `place` names is not looked at. Then the tree is clear in the cache, and each tree before it
     /// stays so (`builds_leave_trees_clear`). After a refusal nothing before the room's end was changed, and
-    /// the room is as it was; what stands from its end on may be anything. A page may have no other place than
-    /// one below 2^64: past it the answer is `Memory`.
+    /// the room is as it was; what stands from its end on may be anything. What is said of pages and files
+    /// holds where the file is as the last call of the cache left it and no page that is kept ends behind the
+    /// room's end. A page may have no other place than one below 2^64: past it the answer is `Memory`.
     pub fn build<F: Files>(
         alloc: Global,
         files: &mut F,
