@@ -90,69 +90,88 @@ fn are_places(places: &[Option<u64>]) -> bool
     true
 }
 
+/// The numbers of a state up to the first deleted block.
+#[derive(Clone, Copy)]
+struct Counts {
+    open_count: u16,
+    changed: u8,
+    sortkey: u8,
+    records: u64,
+    del: u64,
+    split: u64,
+    dellink: Option<u64>,
+}
+
+fn counts_of(words: &[&str]) -> Result<Counts, Fault> {
+    let [open_count, changed, sortkey, records, del, split, dellink] = words else {
+        return Err(Fault::Unread);
+    };
+    Ok(Counts {
+        open_count: two_bytes(*open_count)?,
+        changed: one_byte(*changed)?,
+        sortkey: one_byte(*sortkey)?,
+        records: number(*records)?,
+        del: number(*del)?,
+        split: number(*split)?,
+        dellink: place(*dellink)?,
+    })
+}
+
+/// The numbers of a state behind these, but its roots.
+#[derive(Clone, Copy)]
+struct Lengths {
+    key_file: u64,
+    data_file: u64,
+    empty: u64,
+    key_empty: u64,
+    auto_increment: u64,
+    key_map: u64,
+    recover_time: u64,
+}
+
+fn lengths_of(words: &[&str]) -> Result<Lengths, Fault> {
+    let [key_file, data_file, empty, key_empty, auto, key_map, time] = words else {
+        return Err(Fault::Unread);
+    };
+    Ok(Lengths {
+        key_file: number(*key_file)?,
+        data_file: number(*data_file)?,
+        empty: number(*empty)?,
+        key_empty: number(*key_empty)?,
+        auto_increment: number(*auto)?,
+        key_map: number(*key_map)?,
+        recover_time: number(*time)?,
+    })
+}
+
 // The state of these numbers, with the other bytes of the stored one. The numbers are read before there is
 // anything to drop.
 fn given(words: &Words, defs: &Defs, numbers: &[&str]) -> Result<State, Fault>
     requires { IsSound defs.now }
     ensures { IfOk result (λ s. length s.rest ≡ rest_length defs.now) }
 {
-    let [
-        open_count,
-        changed,
-        sortkey,
-        records,
-        del,
-        split,
-        dellink,
-        others @ ..,
-    ] = numbers
-    else {
+    if numbers.len() < 14 {
         return Err(Fault::Unread);
-    };
-    let [
-        key_file,
-        data_file,
-        empty,
-        key_empty,
-        auto,
-        key_map,
-        time,
-        roots @ ..,
-    ] = others
-    else {
-        return Err(Fault::Unread);
-    };
-    let open_count = two_bytes(*open_count)?;
-    let changed = one_byte(*changed)?;
-    let sortkey = one_byte(*sortkey)?;
-    let records = number(*records)?;
-    let del = number(*del)?;
-    let split = number(*split)?;
-    let dellink = place(*dellink)?;
-    let key_file_length = number(*key_file)?;
-    let data_file_length = number(*data_file)?;
-    let empty = number(*empty)?;
-    let key_empty = number(*key_empty)?;
-    let auto_increment = number(*auto)?;
-    let key_map = number(*key_map)?;
-    let recover_time = number(*time)?;
+    }
+    let counts = counts_of(&numbers[..7])?;
+    let lengths = lengths_of(&numbers[7..14])?;
     let stored = stored_state(words.alloc(), defs)?;
     Ok(State {
-        open_count,
-        changed,
-        sortkey,
-        records,
-        del,
-        split,
-        dellink,
-        key_file_length,
-        data_file_length,
-        empty,
-        key_empty,
-        auto_increment,
-        roots: Sequence::new(words.places(roots)?),
-        key_map,
-        recover_time,
+        open_count: counts.open_count,
+        changed: counts.changed,
+        sortkey: counts.sortkey,
+        records: counts.records,
+        del: counts.del,
+        split: counts.split,
+        dellink: counts.dellink,
+        key_file_length: lengths.key_file,
+        data_file_length: lengths.data_file,
+        empty: lengths.empty,
+        key_empty: lengths.key_empty,
+        auto_increment: lengths.auto_increment,
+        roots: Sequence::new(words.places(&numbers[14..])?),
+        key_map: lengths.key_map,
+        recover_time: lengths.recover_time,
         rest: stored.rest,
     })
 }
