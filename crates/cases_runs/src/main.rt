@@ -5,6 +5,7 @@
 #![tactic(auto)]
 
 mod runs;
+mod short;
 
 use case_lines::{Calls, Fault, Words};
 use std::io;

@@ -11,7 +11,7 @@ use Rattle.myi_keypage.specs.Writing.{filled_up}
 use Rattle.myi_keypage.proofs.CallerLemmas.{page_length}
 use Rattle.myi_keycache.specs.Kept.{AddsOnly}
 use Rattle.myi_keycache.specs.Caching.{pages_of, Caching}
-use Rattle.myi_btree.specs.declared.pair.Pair.{Pair}
+use Rattle.myi_keylist.specs.declared.pair.Pair.{Pair}
 use Rattle.myi_btree.specs.declared.place.Place.{Place}
 use Rattle.myi_btree.specs.declared.entries.Entries.{Entries}
 use Rattle.myi_btree.specs.Walk.{Node, node_with}

@@ -6,7 +6,7 @@ use Rattle.myi_base.specs.Ranges.{are_apart}
 use Rattle.myi_base.specs.Holding.{Holding}
 use Rattle.myi_keycache.specs.Kept.{is_kept, NoOtherMeets}
 use Rattle.myi_keycache.specs.Caching.{pages_of, Caching, lends}
-use Rattle.myi_btree.specs.declared.pair.Pair.{Pair}
+use Rattle.myi_keylist.specs.declared.pair.Pair.{Pair}
 use Rattle.myi_btree.specs.declared.place.Place.{Place}
 use Rattle.myi_btree.specs.Walk.{Node, Walked, Agree}
 use Rattle.myi_btree.specs.LaidPages.{IsLaidAt, root_of}

@@ -6,7 +6,7 @@ use Rattle.std.proofs.lemmas.List.{length-map, length-append, length-drop, lengt
 use Rattle.myi_keypage.specs.declared.entry.Entry.{Entry}
 use Rattle.myi_keypage.specs.Fitting.{entries_length, used_length}
 use Rattle.myi_keypage.proofs.CallerLemmas.{entry_least, front_used, two_used}
-use Rattle.myi_btree.specs.declared.pair.Pair.{Pair}
+use Rattle.myi_keylist.specs.declared.pair.Pair.{Pair}
 use Rattle.myi_btree.specs.declared.place.Place.{Place}
 use Rattle.myi_btree.specs.Nodes.{entry_of, entries_of}
 use Rattle.myi_btree.specs.Sizes.{IsPlaced, IsSized, AreSized, fits_in, IsFitting, IsCount}

@@ -5,7 +5,7 @@ use Rattle.std.proofs.lemmas.Option.{same_Some}
 use Rattle.std.proofs.lemmas.Bool.{cases_lt, le-ltb, lt-ltb}
 use Rattle.std.proofs.lemmas.List.{append-nil, length-append, length-take, length-drop, take-append-drop}
 use Rattle.std.proofs.lemmas.List.Sums.{sum_by-cons, sum_by-append}
-use Rattle.myi_btree.specs.declared.pair.Pair.{Pair}
+use Rattle.myi_keylist.specs.declared.pair.Pair.{Pair}
 use Rattle.myi_btree.specs.Walk.{◌>>=◌, Node, node_with, Walked, each, at_node, walk_of, content}
 use Rattle.myi_btree.specs.LaidPages.{count_of, Level, after_page, level_of, places_from, above, levels_from, laid, Stands, IsRooted}
 use Rattle.myi_btree.proofs.Frames.{bind_some}

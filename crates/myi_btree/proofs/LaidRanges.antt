@@ -4,7 +4,7 @@ use Rattle.std.specs.List.{list_all, AllByRecursion}
 use Rattle.std.proofs.lemmas.Bool.{and_from, and_parts, or_left, or_right, leb-true, leb-false, le-leb, lt-leb, lt-ltb, le-ltb, eqb-true, cases_Bool}
 use Rattle.std.proofs.lemmas.List.Sums.{sum_by-cons}
 use Rattle.myi_base.specs.Ranges.{are_apart, is_apart, AreDisjoint}
-use Rattle.myi_btree.specs.declared.pair.Pair.{Pair}
+use Rattle.myi_keylist.specs.declared.pair.Pair.{Pair}
 use Rattle.myi_btree.specs.Walk.{Places}
 use Rattle.myi_btree.specs.LaidPages.{Fits, places_from, IsLaidAt, laid, Stands}
 use Rattle.myi_btree.specs.LaidOnce.{WalksOnce}

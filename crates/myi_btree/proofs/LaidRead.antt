@@ -12,7 +12,7 @@ use Rattle.myi_keypage.specs.Fitting.{used_length}
 use Rattle.myi_keypage.specs.Views.{page_in}
 use Rattle.myi_keypage.proofs.CallerLemmas.{page_again, page_writable}
 use Rattle.myi_keycache.specs.Caching.{Caching, lends}
-use Rattle.myi_btree.specs.declared.pair.Pair.{Pair}
+use Rattle.myi_keylist.specs.declared.pair.Pair.{Pair}
 use Rattle.myi_btree.specs.declared.place.Place.{Place}
 use Rattle.myi_btree.specs.Walk.{Node, node_with}
 use Rattle.myi_btree.specs.Nodes.{entry_of, entries_of, page_of_node, node_in}

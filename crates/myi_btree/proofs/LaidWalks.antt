@@ -5,7 +5,7 @@ use Rattle.std.proofs.lemmas.Bool.{cases_lt, le-ltb, lt-ltb}
 use Rattle.std.proofs.lemmas.List.{map-append, append-nil, length-append, length-take, length-drop, take-append-drop}
 use Rattle.myi_btree.specs.Walk.{◌>>=◌, Node, node_with, Walked, between_pairs, each, at_node, walk_of, content}
 use Rattle.myi_btree.specs.LaidPages.{greatest, count_of, Level, after_page, level_of, places_from, above, levels_from, laid, Stands, IsRooted}
-use Rattle.myi_btree.specs.declared.pair.Pair.{Pair}
+use Rattle.myi_keylist.specs.declared.pair.Pair.{Pair}
 use Rattle.myi_btree.proofs.Frames.{bind_some}
 
 abbrev pub contents : List Walked → List (List Pair)

@@ -6,11 +6,12 @@ use Rattle.myi_keypage.specs.declared.entry.Entry.{Entry}
 use Rattle.myi_keypage.specs.Page.{page_with, is_node, IsBranching}
 use Rattle.myi_keys.specs.declared.values.KeySeg.{KeySeg}
 use Rattle.myi_keys.proofs.CallerLemmas.{one_key}
-use Rattle.myi_btree.specs.declared.pair.Pair.{Pair}
+use Rattle.myi_keylist.specs.declared.pair.Pair.{Pair}
+use Rattle.myi_keylist.specs.PairOrder.{pair_with}
 use Rattle.myi_btree.specs.declared.place.Place.{Place}
 use Rattle.myi_btree.specs.declared.level.Level.{Level as LaidLevel}
 use Rattle.myi_btree.specs.Walk.{Node, node_with}
-use Rattle.myi_btree.specs.Nodes.{entry_of, entries_of, pair_with}
+use Rattle.myi_btree.specs.Nodes.{entry_of, entries_of}
 use Rattle.myi_btree.specs.LaidPages.{count_of, Level, level_of, with_page, places_from}
 use Rattle.myi_btree.specs.Levels.{IsLevel}
 

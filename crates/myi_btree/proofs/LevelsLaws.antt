@@ -7,7 +7,7 @@ use Rattle.myi_base.specs.Holding.{Holding, Told}
 use Rattle.myi_base.proofs.CallerLemmas.{told_then}
 use Rattle.myi_keypage.specs.Page.{page_with, IsBranching, IsPlace}
 use Rattle.myi_keycache.specs.Caching.{pages_of, Caching, contents}
-use Rattle.myi_btree.specs.declared.pair.Pair.{Pair}
+use Rattle.myi_keylist.specs.declared.pair.Pair.{Pair}
 use Rattle.myi_btree.specs.declared.place.Place.{Place}
 use Rattle.myi_btree.specs.declared.level.Level.{Level as LaidLevel}
 use Rattle.myi_btree.specs.Walk.{Node}

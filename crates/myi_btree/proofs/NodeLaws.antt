@@ -7,9 +7,10 @@ use Rattle.myi_keypage.specs.declared.entry.Entry.{Entry}
 use Rattle.myi_keypage.specs.PageItems.{Item, key_after}
 use Rattle.myi_keypage.specs.Views.{ViewedPage, page_in, viewed_in, entries_after, children_of, with_child}
 use Rattle.myi_keys.specs.declared.values.KeySeg.{KeySeg}
-use Rattle.myi_btree.specs.declared.pair.Pair.{Pair}
+use Rattle.myi_keylist.specs.declared.pair.Pair.{Pair}
+use Rattle.myi_keylist.specs.PairOrder.{pair_with}
 use Rattle.myi_btree.specs.Walk.{◌>>=◌, Node, node_with, each}
-use Rattle.myi_btree.specs.Nodes.{page_of_node, key_in, pair_with, pair_in, node_in, entries_of}
+use Rattle.myi_btree.specs.Nodes.{page_of_node, key_in, pair_in, node_in, entries_of}
 use Rattle.std.specs.List.{AllByRecursion}
 use Rattle.myi_keys.specs.Limits.{IsKey}
 use Rattle.myi_keys.specs.Codes.{key_code}

@@ -3,14 +3,14 @@ use Rattle.std.proofs.Common.{◌≡◌, ℕ, zero, suc, ◌+◌, ◌*◌, ◌<�
 use Rattle.std.proofs.lemmas.Bool.{le-leb, or_left}
 use Rattle.std.proofs.lemmas.List.{length-append}
 use Rattle.myi_base.specs.Ranges.{are_apart}
-use Rattle.myi_base.specs.Holding.{Holding, Told, overwritten}
+use Rattle.myi_base.specs.Holding.{Holding, Told, overwritten, OthersStay}
 use Rattle.myi_base.proofs.CallerLemmas.{told_same, told_more, told_then}
 use Rattle.myi_keycache.specs.Kept.{Page, AddsOnly}
 use Rattle.myi_keycache.specs.Caching.{pages_of, Caching, lends, contents, IsCurrent, CanPut, Puts}
 use Rattle.myi_keycache.proofs.CallerLemmas.{stays_start}
 use Rattle.myi_btree.specs.declared.place.Place.{Place}
 use Rattle.myi_btree.specs.Walk.{Node}
-use Rattle.myi_btree.specs.Building.{page_for, PutsPage, PutsNone, MayPut, NotPut, MayLay, NotLaid, AreLent, laid_over, EndBefore, CanLay, Spares, AddsLaid, Lays, PutsOnly, CountsPuts}
+use Rattle.myi_btree.specs.Building.{page_for, PutsPage, PutsNone, MayPut, NotPut, MayLay, NotLaid, AreLent, laid_over, EndBefore, CanLay, Spares, AddsLaid, Lays, LaysOnly, PutsOnly, CountsPuts}
 use Rattle.myi_btree.proofs.ServeLaws.{rose_on}
 
 -- ranges that end before another begins have no byte of it
@@ -133,6 +133,29 @@ puts_on a b c x y = record {
   read_requests = y.read_requests ∙ x.read_requests;
   reads = y.reads ∙ x.reads;
   requests = (x.requests.0 + y.requests.0, rose_on x.requests.0 y.requests.0 a.counters.write_requests b.counters.write_requests c.counters.write_requests x.requests.1 y.requests.1);
+}
+
+-- ---- what holds at any answer
+
+pub lays_still : (a b : Option Holding) (len first : ℕ) (cache : Caching) → b ≡ a → LaysOnly a b len first cache cache
+lays_still a b len first cache same = record { others = told_same a b _ same (λ m held q other. refl); kept = λ p n k. inl k }
+
+pub lays_put : (a b : Option Holding) (len size at : ℕ) (old new : Caching) → size ≡ len → Told a b (OthersStay old.name) → AddsOnly at size (pages_of old) (pages_of new) → LaysOnly a b len at old new
+lays_put a b len size at old new is others adds = record {
+  others = others;
+  kept = λ p n k. elim (adds p n k) [
+    | inl was ↦ inl was
+    | inr one ↦ inr (one.1 ∙ is, let e = one.0 in omega (arith, e))
+  ];
+}
+
+pub lays_then : (a b c : Option Holding) (len first at : ℕ) (old mid new : Caching) → first ≤ at → mid.name ≡ old.name → LaysOnly a b len first old mid → LaysOnly b c len at mid new → LaysOnly a c len first old new
+lays_then a b c len first at old mid new le name x y = record {
+  others = told_then a b c _ _ _ x.others y.others (λ m k n one two q other. two q (λ e. other (e ∙ name)) ∙ one q other);
+  kept = λ p n k. elim (y.kept p n k) [
+    | inl was ↦ x.kept p n was
+    | inr one ↦ inr (one.0, let e = one.1 in omega (arith, le, e))
+  ];
 }
 
 pub counts_both : (xs ys : List Node) (a b c : Caching) → CountsPuts (length xs) a b → CountsPuts (length ys) b c → CountsPuts (length (xs ++ ys)) a c

@@ -5,7 +5,7 @@ use Rattle.std.proofs.lemmas.Bool.{ltb-true}
 use Rattle.std.proofs.lemmas.List.{length-append, length-map}
 use Rattle.myi_btree.specs.Walk.{◌>>=◌, Node, Walked, between_pairs, each, at_node, as_leaf, walk_of, AreNodes}
 use Rattle.myi_btree.proofs.Frames.{bind_some}
-use Rattle.myi_btree.specs.declared.pair.Pair.{Pair}
+use Rattle.myi_keylist.specs.declared.pair.Pair.{Pair}
 
 leaf_len : (place : ℕ) (node : Node) (cs : List ℕ) (w : Walked) → as_leaf place node cs ≡ Some w → length w.pairs ≡ length node.pairs
 leaf_len place node [] w e = ap (λ (w : Walked). length w.pairs) (sym (same_Some _ _ e)) ∙ length-map node.pairs (λ (p : Pair). (p, place))

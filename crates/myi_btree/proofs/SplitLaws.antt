@@ -1,7 +1,7 @@
 -- Parting the entries of a level at the one that is set aside.
 use Rattle.std.proofs.Common.{◌≡◌, ℕ, zero, suc, ◌<◌, List, [], ◌∷◌, ◌++◌, length, get_or, take, drop, refl, sym, ap, ◌∙◌, arith}
 use Rattle.myi_keypage.specs.declared.entry.Entry.{Entry}
-use Rattle.myi_btree.specs.declared.pair.Pair.{Pair}
+use Rattle.myi_keylist.specs.declared.pair.Pair.{Pair}
 use Rattle.myi_btree.specs.Nodes.{entry_of, entries_of}
 
 pub record Split (coded more : List Entry) (left : List Pair) (count : ℕ) : Type 0 where

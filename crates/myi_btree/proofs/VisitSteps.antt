@@ -1,7 +1,7 @@
 -- Going through the children of a page one after the other.
 use Rattle.std.proofs.Common.{◌≡◌, ℕ, zero, suc, ◌<◌, Result, Ok, Err, List, [], ◌∷◌, ◌++◌, length, map, take, drop, append_assoc, append-nil, refl, sym, ap, subst, ◌∙◌, arith}
 use Rattle.std.specs.List.{flat_map}
-use Rattle.myi_btree.specs.declared.pair.Pair.{Pair}
+use Rattle.myi_keylist.specs.declared.pair.Pair.{Pair}
 use Rattle.myi_btree.specs.declared.visited.Visited.{Visited}
 use Rattle.myi_btree.specs.Walk.{Node, node_with, Places, Walked, between_pairs, at_node, as_leaf}
 use Rattle.myi_btree.specs.Visit.{◌>>>◌, found_at, entered, visit_each, as_node, visit}

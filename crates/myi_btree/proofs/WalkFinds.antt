@@ -3,7 +3,7 @@ use Rattle.std.proofs.Common.{◌≡◌, ℕ, zero, suc, ◌+◌, Option, Some, 
 use Rattle.std.specs.Prelude.{OnOk, IfErr}
 use Rattle.std.specs.List.{list_all, flat_map}
 use Rattle.std.specs.Vec.Iter.{into_iter_items}
-use Rattle.myi_btree.specs.declared.pair.Pair.{Pair}
+use Rattle.myi_keylist.specs.declared.pair.Pair.{Pair}
 use Rattle.myi_btree.specs.declared.visited.Visited.{Visited}
 use Rattle.myi_btree.specs.declared.visited.OpenPage.{OpenPage}
 use Rattle.myi_btree.specs.Walk.{Node, node_with, Places, Walked, between_pairs, at_node, as_leaf}

@@ -1,6 +1,6 @@
 -- What building a tree does to a key cache and the files.
-use Rattle.std.specs.Prelude.{◌≡◌, ◌⊎◌, ℕ, ◌+◌, ◌≤◌, true, List, [], ◌∷◌, length, Some}
-use Rattle.myi_base.specs.Holding.{Holding, overwritten, OthersStay}
+use Rattle.std.specs.Prelude.{◌≡◌, ◌⊎◌, ℕ, ◌+◌, ◌≤◌, true, List, [], ◌∷◌, length, Option, Some}
+use Rattle.myi_base.specs.Holding.{Holding, Told, overwritten, OthersStay}
 use Rattle.std.specs.List.{AllByRecursion}
 use Rattle.myi_keys.specs.Limits.{IsKey}
 use Rattle.myi_keypage.specs.declared.entry.Entry.{Entry}
@@ -9,7 +9,7 @@ use Rattle.myi_keypage.specs.Fitting.{used_length}
 use Rattle.myi_keypage.specs.Writing.{filled_up}
 use Rattle.myi_keycache.specs.Kept.{Page, is_kept}
 use Rattle.myi_keycache.specs.Caching.{pages_of, Caching, lends, contents, IsCurrent, CanPut, Stays, Puts}
-use Rattle.myi_btree.specs.declared.pair.Pair.{Pair}
+use Rattle.myi_keylist.specs.declared.pair.Pair.{Pair}
 use Rattle.myi_btree.specs.declared.place.Place.{Place}
 use Rattle.myi_btree.specs.Walk.{Node}
 use Rattle.myi_btree.specs.Nodes.{page_of_node}
@@ -70,6 +70,12 @@ pub record PutsOnly (old new : Caching) : Type 0 where
   pub read_requests : new.counters.read_requests ≡ old.counters.read_requests
   pub reads : new.counters.reads ≡ old.counters.reads
   pub requests : (n : ℕ) × RoseBy n old.counters.write_requests new.counters.write_requests
+
+-- Whatever the files tell: other files hold what they held, and each page that is kept was kept before, or has this length and lies
+-- from this place on.
+pub record LaysOnly (before after : Option Holding) (len first : ℕ) (old new : Caching) : Type 0 where
+  pub others : Told before after (OthersStay old.name)
+  pub kept : (p n : ℕ) → is_kept (pages_of new) p n ≡ true → (is_kept (pages_of old) p n ≡ true) ⊎ ((n ≡ len) × (first ≤ p))
 
 -- so many write requests were counted
 abbrev pub CountsPuts : ℕ → Caching → Caching → Type 0

@@ -2,7 +2,7 @@
 use Rattle.std.specs.Prelude.{◌≤◌, List, ◌++◌, length, drop}
 use Rattle.myi_keypage.specs.declared.entry.Entry.{Entry}
 use Rattle.myi_btree.specs.declared.entries.Entries.{Entries}
-use Rattle.myi_btree.specs.declared.pair.Pair.{Pair}
+use Rattle.myi_keylist.specs.declared.pair.Pair.{Pair}
 use Rattle.myi_btree.specs.Nodes.{entries_of}
 
 -- those that are coded

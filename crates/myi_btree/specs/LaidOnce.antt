@@ -1,7 +1,7 @@
 -- The walk of laid pages goes over each of them once.
 use Rattle.std.specs.Prelude.{◌≡◌, ℕ, suc, ◌+◌, ◌*◌, List, length}
 use Rattle.std.specs.List.{AllByRecursion}
-use Rattle.myi_btree.specs.declared.pair.Pair.{Pair}
+use Rattle.myi_keylist.specs.declared.pair.Pair.{Pair}
 use Rattle.myi_btree.specs.Walk.{Places, Walked, content}
 use Rattle.myi_btree.specs.LaidPages.{IsLaidAt}
 use Rattle.myi_btree.specs.Visit.{HasWalk}

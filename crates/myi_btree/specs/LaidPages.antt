@@ -2,7 +2,7 @@
 -- the left as many of its level's entries as fit, but does not leave exactly one; the next entry is set aside, and the
 -- next page begins behind it. The entries set aside are the level above, and the pages are its children.
 use Rattle.std.specs.Prelude.{◌≡◌, ℕ, zero, suc, ◌+◌, ◌-◌, ◌*◌, ◌<◌, List, [], ◌∷◌, ◌++◌, length, take, drop, Bool, true, false, not, ◌&&◌, nat_lt, ◌==◌, Option, Some, None, if◌then◌else◌}
-use Rattle.myi_btree.specs.declared.pair.Pair.{Pair}
+use Rattle.myi_keylist.specs.declared.pair.Pair.{Pair}
 use Rattle.myi_btree.specs.Walk.{Node, node_with, Places, Walked, walk_of, content}
 
 -- whether pairs fit into a page, with children or without

@@ -4,7 +4,7 @@ use Rattle.std.specs.List.{AllByRecursion}
 use Rattle.myi_keypage.specs.declared.entry.Entry.{Entry}
 use Rattle.myi_keypage.specs.Page.{Page, page_with, is_node, IsPlace, IsBranching}
 use Rattle.myi_keypage.specs.Fitting.{used_length}
-use Rattle.myi_btree.specs.declared.pair.Pair.{Pair}
+use Rattle.myi_keylist.specs.declared.pair.Pair.{Pair}
 use Rattle.myi_btree.specs.declared.place.Place.{Place}
 use Rattle.myi_btree.specs.declared.level.Level.{Level as LaidLevel}
 use Rattle.myi_btree.specs.Nodes.{entries_of}

@@ -7,7 +7,8 @@ use Rattle.myi_keys.specs.declared.values.KeySeg.{KeySeg}
 use Rattle.myi_keys.specs.declared.codes.KeyFault.{KeyFault}
 use Rattle.myi_keys.specs.Codes.{key_code}
 use Rattle.myi_keys.specs.Decoding.{key_at}
-use Rattle.myi_btree.specs.declared.pair.Pair.{Pair}
+use Rattle.myi_keylist.specs.declared.pair.Pair.{Pair}
+use Rattle.myi_keylist.specs.PairOrder.{pair_with}
 use Rattle.myi_btree.specs.declared.node.NodeData.{NodeData}
 use Rattle.myi_btree.specs.Walk.{◌>>=◌, each, Node, node_with}
 
@@ -33,9 +34,6 @@ ok_or_none (Err fault) = None
 -- the key that bytes are the code of
 unfoldable pub key_in : List ℕ → Option (List KeySeg)
 key_in code = ok_or_none (key_at code)
-
-abbrev pub pair_with : List KeySeg → ℕ → Pair
-pair_with key row = record { key = key; row = row }
 
 unfoldable pub pair_in : Entry → Option Pair
 pair_in e = key_in e.key >>= λ key. Some (pair_with key e.row)

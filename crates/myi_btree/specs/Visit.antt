@@ -3,7 +3,7 @@
 -- leaf above the depth of the first leaf, or a node at that depth.
 use Rattle.std.specs.Prelude.{◌≡◌, ℕ, zero, suc, ◌+◌, List, [], ◌∷◌, ◌++◌, map, Bool, true, Option, Some, None, Result, Ok, Err, if◌then◌else◌}
 use Rattle.myi_base.specs.Ranges.{Range, is_apart, AreDisjoint}
-use Rattle.myi_btree.specs.declared.pair.Pair.{Pair}
+use Rattle.myi_keylist.specs.declared.pair.Pair.{Pair}
 use Rattle.myi_btree.specs.Walk.{Node, Places, Walked, at_node, as_leaf, walk_of}
 
 -- the first bad place ends the visit

@@ -4,7 +4,7 @@ use Rattle.std.specs.List.{list_all, flat_map}
 use Rattle.std.specs.Vec.Iter.{into_iter_items}
 use Rattle.myi_keycache.specs.Caching.{Caching}
 use Rattle.myi_btree.specs.CachedTrees.{RoseBy}
-use Rattle.myi_btree.specs.declared.pair.Pair.{Pair}
+use Rattle.myi_keylist.specs.declared.pair.Pair.{Pair}
 use Rattle.myi_btree.specs.declared.visited.Visited.{Visited}
 use Rattle.myi_btree.specs.declared.visited.OpenPage.{OpenPage}
 use Rattle.myi_btree.specs.Walk.{Node, node_with, Places, Walked, between_pairs}

@@ -3,25 +3,26 @@
 //! `lay_levels` lays one level above the other until one has a single page, the root. `lay_level` lays a
 //! level, page by page; `put_page` gives one page to the key cache.
 ghost use Rattle.std.specs.Prelude.{◌≡◌, ◌+◌, ◌*◌, ◌%◌, ◌^◌, ◌<◌, ◌≤◌, ℕ, List, [], length, vec_len, IfOk, IfErr, OnOk, OnErr, IsTrue};
-ghost use Rattle.myi_base.specs.Holding.{Told};
+ghost use Rattle.myi_base.specs.Holding.{Told, OthersStay};
 ghost use Rattle.myi_base.specs.Causes.{HasCause};
 ghost use Rattle.myi_keypage.specs.Page.{page_with};
 ghost use Rattle.myi_keycache.specs.Kept.{AddsOnly};
 ghost use Rattle.myi_keycache.specs.Caching.{pages_of};
 ghost use Rattle.myi_btree.specs.declared.fault.TreeFault.TheVariants.{File};
-ghost use Rattle.myi_btree.specs.declared.pair.Pair.{Pair};
+ghost use Rattle.myi_keylist.specs.declared.pair.Pair.{Pair};
 ghost use Rattle.myi_btree.specs.Faults.{IsFileOrMemory};
 ghost use Rattle.myi_btree.specs.Sizes.{IsPlaced, AreSized};
 ghost use Rattle.myi_btree.specs.Building.{page_made, laid_at, MayPut, NotPut, MayLay, NotLaid, PutsOnly, CountsPuts};
+ghost use Rattle.myi_btree.specs.Building.{LaysOnly};
 ghost use Rattle.myi_btree.specs.Levels.{FitsPage, HasEntries, CanLevel, level_on, IsLevel};
 
 use crate::entries::Entries;
 use crate::fault::TreeFault;
 use crate::level::{Level, children_at, next_page};
-use crate::pair::Pair;
 use crate::place::TreeSetup;
 use myi_io::Files;
 use myi_keycache::KeyCache;
+use myi_keylist::Pair;
 use myi_keypage::{Entry, write_page};
 use std::alloc::AllocError;
 
@@ -54,6 +55,7 @@ fn put_bytes<F: Files>(
     ensures added { AddsOnly at (length page.now) (pages_of cache.old) (pages_of cache.new) }
     ensures name { cache.new.name ≡ cache.old.name }
     ensures puts { PutsOnly cache.old cache.new }
+    ensures others { Told (F.holds files.old) (F.holds files.new) (OthersStay cache.old.name) }
     ensures counted { OnOk result (CountsPuts 1 cache.old cache.new) }
     ensures faults { IfErr result IsFileOrMemory }
     ensures cause { HasCause File (F.faults files.old) (F.faults files.new) result }
@@ -83,6 +85,8 @@ fn put_page<F: Files>(
         (pages_of cache.old) (pages_of cache.new) }
     ensures name { cache.new.name ≡ cache.old.name }
     ensures puts { PutsOnly cache.old cache.new }
+    ensures only { LaysOnly (F.holds files.old) (F.holds files.new)
+        setup.place.block_length at cache.old cache.new }
     ensures counted { OnOk result (CountsPuts 1 cache.old cache.new) }
     ensures faults { IfErr result IsFileOrMemory }
     ensures cause { HasCause File (F.faults files.old) (F.faults files.new) result }
@@ -115,6 +119,8 @@ fn lay_level<F: Files>(
         (NotLaid below.end cache.old cache.new)) }
     ensures name { cache.new.name ≡ cache.old.name }
     ensures puts { PutsOnly cache.old cache.new }
+    ensures only { LaysOnly (F.holds files.old) (F.holds files.new)
+        setup.place.block_length below.end cache.old cache.new }
     ensures counted { (all : List Pair) → HasEntries below pairs.now all → OnOk result
         (CountsPuts (length (level_on setup.place below all).pages) cache.old cache.new) }
     ensures faults { IfErr result IsFileOrMemory }
@@ -164,6 +170,8 @@ pub(crate) fn lay_levels<F: Files>(
         (NotLaid first cache.old cache.new)) }
     ensures name { cache.new.name ≡ cache.old.name }
     ensures puts { PutsOnly cache.old cache.new }
+    ensures only { LaysOnly (F.holds files.old) (F.holds files.new)
+        setup.place.block_length first cache.old cache.new }
     ensures counted { OnOk result
         (CountsPuts (length (laid_at setup.place first pairs.now)) cache.old cache.new) }
     ensures faults { IfErr result IsFileOrMemory }

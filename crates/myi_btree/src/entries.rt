@@ -7,7 +7,7 @@ ghost use Rattle.myi_btree.specs.Nodes.{entries_of};
 ghost use Rattle.myi_btree.specs.Entries.{coded_of, entries_left, IsInside};
 
 use crate::node::append_entries;
-use crate::pair::Pair;
+use myi_keylist::Pair;
 use myi_keypage::Entry;
 use std::alloc::{AllocError, Global};
 

@@ -1,7 +1,7 @@
 //! Laws over walks and laid pages. Each is the contract of a function that does nothing, so that it is
 //! proved with the crate and stands for the crates above.
 ghost use Rattle.std.specs.Prelude.{◌≡◌, ℕ, Bool, suc, ◌+◌, ◌*◌, ◌%◌, ◌^◌, ◌<◌, ◌≤◌, List, [], ◌∷◌, length, Some, Result, Ok};
-ghost use Rattle.myi_btree.specs.declared.pair.Pair.{Pair};
+ghost use Rattle.myi_keylist.specs.declared.pair.Pair.{Pair};
 ghost use Rattle.myi_btree.specs.Walk.{Node, Places, Walked, walk_of, Agree, IsNode, AreNodes};
 ghost use Rattle.myi_btree.specs.LaidPages.{Fits, count_of, level_of, places_from, laid, Stands, IsRooted, root_of};
 ghost use Rattle.myi_btree.specs.LaidOnce.{WalksOnce};

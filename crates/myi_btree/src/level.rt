@@ -2,7 +2,7 @@
 ghost use Rattle.std.specs.Prelude.{◌≡◌, ◌≢◌, ◌⊎◌, ◌+◌, ◌-◌, ◌*◌, ◌^◌, ◌<◌, ◌≤◌, ◌==◌, ℕ, List, [], ◌∷◌, ◌++◌, length, take, drop, IfOk, OnOk, if◌then◌else◌, IfErr};
 ghost use Rattle.std.specs.List.{AllByRecursion};
 ghost use Rattle.myi_keypage.specs.Fitting.{used_length};
-ghost use Rattle.myi_btree.specs.declared.pair.Pair.{Pair};
+ghost use Rattle.myi_keylist.specs.declared.pair.Pair.{Pair};
 ghost use Rattle.myi_btree.specs.Nodes.{entries_of};
 ghost use Rattle.myi_btree.specs.Entries.{coded_of, entries_left, IsInside};
 ghost use Rattle.myi_btree.specs.Sizes.{IsPlaced, IsSized, AreSized, IsFitting, IsCount};
@@ -10,8 +10,8 @@ ghost use Rattle.myi_btree.specs.declared.fault.TreeFault.TheVariants.{Memory};
 
 use crate::entries::Entries;
 use crate::fault::TreeFault;
-use crate::pair::Pair;
 use crate::place::{Place, TreeSetup};
+use myi_keylist::Pair;
 use myi_keypage::{Entry, fitting};
 use std::alloc::{AllocError, Global};
 

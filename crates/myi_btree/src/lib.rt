@@ -28,7 +28,6 @@ mod fault;
 mod laws;
 mod level;
 mod node;
-mod pair;
 mod place;
 mod tree;
 mod visited;
@@ -40,6 +39,6 @@ pub use laws::{
     laid_pages_walk, levels_are_laid, pages_are_nodes, trees_are_shallow, visits_find_walks,
     walks_add_their_own, walks_depend_on_their_pages, walks_exist_once, walks_leave_trees_clear,
 };
-pub use pair::Pair;
+pub use myi_keylist::Pair;
 pub use place::{Place, Room};
 pub use tree::Tree;

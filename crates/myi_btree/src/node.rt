@@ -6,9 +6,9 @@ ghost use Rattle.std.specs.Option.{option_to_list};
 ghost use Rattle.myi_btree.specs.Nodes.{node_view, key_in, node_in, entry_of, entries_of};
 ghost use Rattle.myi_btree.specs.Visited.{node_left};
 
-use crate::pair::Pair;
 use crate::visited::OpenPage;
 use myi_base::Sequence;
+use myi_keylist::Pair;
 use myi_keypage::{Entry, read_page};
 use myi_keys::{KeyFault, KeyVal, decode, encode};
 use std::alloc::{AllocError, Global};

@@ -5,6 +5,7 @@ ghost use Rattle.myi_base.specs.Causes.{HasCause};
 ghost use Rattle.myi_btree.specs.declared.fault.TreeFault.TheVariants.{File};
 ghost use Rattle.myi_btree.specs.Sizes.{IsPlaced, AreSized};
 ghost use Rattle.myi_btree.specs.Building.{laid_at, built_at, CanLay, Spares, Lays, PutsOnly, CountsPuts};
+ghost use Rattle.myi_btree.specs.Building.{LaysOnly};
 ghost use Rattle.myi_keycache.specs.Caching.{IsCurrent, Stays};
 ghost use Rattle.myi_btree.specs.CachedTrees.{node_lent, CanWalk, ReadsOnly, AddsNamed, ReadsOnce, CountsPages};
 ghost use Rattle.myi_btree.specs.Faults.{DamagedAt, IsFileOrMemory};
@@ -12,12 +13,12 @@ ghost use Rattle.myi_btree.specs.Visit.{FindsPairs, FindsBad};
 
 use crate::build::lay_levels;
 use crate::fault::TreeFault;
-use crate::pair::Pair;
 use crate::place::{Place, Room, TreeSetup};
 use crate::visited::Visited;
 use crate::walk::{climb, descend};
 use myi_io::Files;
 use myi_keycache::KeyCache;
+use myi_keylist::Pair;
 use std::alloc::Global;
 use std::marker::Model;
 
@@ -138,6 +139,10 @@ impl Tree {
         ensures refused { OnErr result (Told (F.holds files.old) (F.holds files.new) (λ m n.
             CanLay cache.old m room.old.end → Spares room.old.end cache.old cache.new m n)) }
         ensures room { OnErr result (room.new.end ≡ room.old.end) }
+
+        // At any answer other files stay, and no page comes to be kept but pages from the room's end on.
+        ensures only { LaysOnly (F.holds files.old) (F.holds files.new)
+            place.block_length room.old.end cache.old cache.new }
 
         // The cache's setup and its counters of reads stay, and each page is a write request.
         ensures name { cache.new.name ≡ cache.old.name }

@@ -9,7 +9,7 @@ ghost use Rattle.myi_btree.specs.Faults.{DamagedAt};
 ghost use Rattle.myi_btree.specs.Visited.{each_at, HasPlaces, IsRefused};
 
 use crate::fault::TreeFault;
-use crate::pair::Pair;
+use myi_keylist::Pair;
 use std::alloc::{AllocError, Global};
 use std::collections::BTreeSet;
 use std::vec::IntoIter;

@@ -1,6 +1,6 @@
 -- Ranges in a map, of which those that touch are joined: what a scan that goes on behind them can tell.
 use Rattle.std.proofs.Common.{◌≡◌, ℕ, ◌+◌, ◌<◌, ◌≤◌, max, Bool, true, false, cond, eqb, List, [], ◌∷◌, ◌++◌, Option, Some, None, refl, sym, ap, subst, ◌∙◌, arith, ◌⊎◌, inl, inr}
-use Rattle.std.specs.Prelude.{◌&&◌, ◌||◌, ◌==◌, nat_lt, nat_le, Result, Ok, Err, OnOk, OnErr, is_ok}
+use Rattle.std.specs.Prelude.{◌&&◌, ◌||◌, ◌==◌, nat_lt, nat_le}
 use Rattle.std.specs.Ordering.{nat_cmp}
 use Rattle.std.specs.declared.cmp.Ordering.TheVariants.{Equal}
 use Rattle.std.specs.Map.{lookup, remove_entry}
@@ -16,20 +16,6 @@ use Rattle.myi_chain.proofs.SameLemmas.{is_apart-append, end_of-append, same_app
 use Rattle.myi_chain.proofs.UsedLemmas.{lower, or_else, before-none, before-some, before-later}
 use Rattle.myi_chain.proofs.MapLemmas.{sides, cmp-less, cmp-equal, cmp-greater, IsPut, is_put, same_put, apart_less}
 use Rattle.myi_chain.proofs.JoinedLemmas.{from_same, from_then, grows, swap, one_end, front_apart, front_end, front_is}
-
--- ---- answers of calls that may fail
-
-pub ok_then : {A E P : Type 0} (r : Result A E) → OnOk r P → is_ok r ≡ true → P
-ok_then (Ok x) p e = p
-ok_then (Err y) p e = absurd cc
-
-pub err_then : {A E P : Type 0} (r : Result A E) → OnErr r P → is_ok r ≡ false → P
-err_then (Ok x) p e = absurd cc
-err_then (Err y) p e = p
-
-pub order_then : {A E : Type 0} (r : Result A E) (old put new : List Range) → OnOk r (new ≡ put) → OnErr r (new ≡ old) → AreInOrder 0 put → AreInOrder 0 old → AreInOrder 0 new
-order_then (Ok x) old put new is same h k = subst (AreInOrder 0) (sym is) h
-order_then (Err y) old put new is same h k = subst (AreInOrder 0) (sym same) k
 
 -- ---- tests
 
@@ -202,6 +188,25 @@ lookup-above k low (x ∷ es) h lt =
 
 lookup-next : (k : ℕ) (x : Range) (es : List Range) → x.0 < k → lookup (is_at (nat_cmp k)) (x ∷ es) ≡ lookup (is_at (nat_cmp k)) es
 lookup-next k x es lt = let e = cmp-greater k x.0 lt in rw e refl
+
+-- the last range that begins before a place is in the map
+last_there : (low end : ℕ) (es : List Range) (r : Range) → AreInOrder low es → last_before end es ≡ Some r → lookup (is_at (nat_cmp r.0)) es ≡ Some r.1
+last_there low end [] r h e = absurd cc
+last_there low end (x ∷ es) r h e = by_start (λ k. last_there x.1 end es r h.2 k) (cases_lt x.0 end)
+  where
+    here : lookup (is_at (nat_cmp x.0)) (x ∷ es) ≡ Some x.1
+    here = let equal = cmp-equal x.0 in rw equal refl
+
+    by_last : (last_before end es ≡ Some r → lookup (is_at (nat_cmp r.0)) es ≡ Some r.1) → (o : Option Range) → last_before end es ≡ o → or_else o (Some x) ≡ Some r → lookup (is_at (nat_cmp r.0)) (x ∷ es) ≡ Some r.1
+    by_last more None k f = let same : x ≡ r = cc in subst (λ (y : Range). lookup (is_at (nat_cmp y.0)) (x ∷ es) ≡ Some y.1) same here
+    by_last more (Some y) k f = let l = before-later end x.1 es r h.2 (k ∙ f) in lookup-next r.0 x es (omega (arith, l.0, h.1)) ∙ more (k ∙ f)
+
+    by_start : (last_before end es ≡ Some r → lookup (is_at (nat_cmp r.0)) es ≡ Some r.1) → (x.0 < end) ⊎ (end ≤ x.0) → lookup (is_at (nat_cmp r.0)) (x ∷ es) ≡ Some r.1
+    by_start more (inl lt) = by_last more (last_before end es) refl (sym (before-some end x es lt) ∙ e)
+    by_start more (inr le) = let none = before-none end x.0 (x ∷ es) (omega arith, h.1, h.2) le in absurd cc
+
+pub is_there : (at a end : ℕ) (es : List Range) → AreInOrder 0 es → Some (a, end) ≡ last_before at es → lookup (is_at (nat_cmp a)) es ≡ None → ⊥
+is_there at a end es h last none = let there = last_there 0 at es (a, end) h (sym last) in absurd cc
 
 joined_here : (low at a e : ℕ) (es : List Range) → AreInOrder low ((a, at) ∷ (at, e) ∷ es) → IsJoined low at ((a, at) ∷ (at, e) ∷ es) ((a, e) ∷ es)
 joined_here low at a e es h = record {

@@ -4,7 +4,10 @@
 //! from where it stands on, so that ranges before that place may be joined where they touch: `add_blocks`
 //! does so for the first block of a row, and `join_up` for all that was passed since the row before. A
 //! range from the file's start is kept beside the map, and takes up those that begin where it ends.
-ghost use Rattle.std.specs.Prelude.{◌≡◌, ◌≢◌, ℕ, ◌<◌, true, false, [], ◌∷◌, ◌++◌, IfOk, OnOk, OnErr};
+ghost use Rattle.std.specs.Prelude.{◌≡◌, ◌≢◌, ℕ, ◌<◌, true, false, [], ◌∷◌, ◌++◌, None, IfOk, OnOk, OnErr};
+ghost use Rattle.std.specs.Ordering.{nat_cmp};
+ghost use Rattle.std.specs.Map.{lookup};
+ghost use Rattle.std.specs.BTreeMap.{is_at, insert_entry};
 ghost use Rattle.std.specs.List.{AllByRecursion};
 ghost use Rattle.myi_base.specs.Ranges.{is_apart};
 ghost use Rattle.myi_chain.specs.Chain.{AreApart, ranges_at};
@@ -14,6 +17,17 @@ ghost use Rattle.myi_chain.specs.Used.{IsRange, AreInOrder, SameFrom, joined};
 use crate::ranges::{last_far, put_all, take_out};
 use std::alloc::AllocError;
 use std::collections::BTreeMap;
+
+/// Makes a range that is in a map end at another place. No memory is taken for it.
+fn set_end(far: &mut BTreeMap<u64, u64>, from: u64, to: u64)
+    requires { lookup (is_at (nat_cmp from)) far.old.entries ≢ None }
+    ensures { far.new.entries ≡ insert_entry nat_cmp far.old.entries from to }
+{
+    match far.insert(from, to) {
+        Ok(_) => {}
+        Err(_) => unreachable!(),
+    }
+}
 
 /// Makes the range that ends at a place longer, if there is one.
 fn grow(far: &mut BTreeMap<u64, u64>, at: u64, to: u64) -> bool
@@ -31,7 +45,8 @@ fn grow(far: &mut BTreeMap<u64, u64>, at: u64, to: u64) -> bool
     if end != at {
         return false;
     }
-    far.insert(from, to).is_ok()
+    set_end(far, from, to);
+    true
 }
 
 /// Joins the range that ends at a place with the one that begins there, if both are there.
@@ -49,9 +64,8 @@ fn join_at(far: &mut BTreeMap<u64, u64>, at: u64)
     let Some(end) = far.get(&at).copied() else {
         return;
     };
-    if far.insert(from, end).is_ok() {
-        far.remove(&at);
-    }
+    set_end(far, from, end);
+    far.remove(&at);
 }
 
 /// Adds the range of the first block of a row and those of its others, or none. The first one joins the

@@ -10,12 +10,12 @@ use Rattle.myi_base.proofs.CallerLemmas.{told_same, told_more}
 use Rattle.myi_keycache.specs.declared.setup.Counters.{Counters}
 use Rattle.myi_keycache.specs.declared.setup.CacheFault.{CacheFault}
 use Rattle.myi_keycache.specs.declared.setup.CacheFault.TheVariants.{Short, File, Memory}
-use Rattle.myi_keycache.specs.Kept.{Page, KeptPage, kept, is_kept, is_unwritten, unwritten_count, NoOtherMeets, AddsOnly, SameKept, KeepsBytes, ChangesNone}
+use Rattle.myi_keycache.specs.Kept.{Page, KeptPage, kept, is_kept, is_unwritten, unwritten_count, NoOtherMeets, AddsOnly, SameKept, KeepsBytes, KeepsFlags, ChangesNone}
 use Rattle.myi_keycache.specs.Lent.{bytes_at, Has, lent}
 use Rattle.myi_keycache.specs.Counts.{raised, writes_after, flushes_counted}
 use Rattle.myi_keycache.specs.Midpoint.{midpoint}
-use Rattle.myi_keycache.specs.Caching.{Caching, pages_of, CanGet, IsLent, Stays, Gets, IsRead}
-use Rattle.myi_keycache.specs.Order.{Order, contents_of, lists_in, has_name, page_of, room_in, due_in, counts_one, Pairs, Differ, Alike, PagesStay, WritesOnly, cache_of}
+use Rattle.myi_keycache.specs.Caching.{Caching, pages_of, CanGet, IsLent, Stays, Gets, IsRead, due, AllOrNone}
+use Rattle.myi_keycache.specs.Order.{Order, contents_of, lists_in, has_name, page_of, room_in, due_in, counts_one, Pairs, Differ, Alike, PagesStay, WritesOnly, WroteOut, cache_of}
 use Rattle.myi_keycache.proofs.LentLemmas.{stays_on}
 use Rattle.myi_keycache.proofs.StaysLemmas.{keeping_alike, lent_kept}
 use Rattle.myi_keycache.proofs.KeptLemmas.{kept_first, kept_later}
@@ -26,6 +26,7 @@ use Rattle.myi_keycache.proofs.CacheLemmas.{pages_eq, stays_of}
 use Rattle.myi_keycache.proofs.LoadLemmas.{Room, loaded, read_lent, read_none, adds_only, changes_none, count_taken, not_kept}
 use Rattle.myi_keycache.proofs.OthersLemmas.{same_bytes, taken_bytes, taken_there}
 use Rattle.myi_keycache.proofs.OneLemmas.{due_is, due_hit}
+use Rattle.myi_keycache.proofs.FlagLemmas.{flags_of, taken_flags}
 
 -- what holds of the pages in one order holds of the pages of the cache
 pub of_pages : (P : List Page → List Page → Type 0) (name : List ℕ) (a b : Order) (c d : Counters) → P (contents_of a.pages) (contents_of b.pages) → P (pages_of (cache_of name a c)) (pages_of (cache_of name b d))
@@ -33,8 +34,9 @@ of_pages P name a b c d h = subst (λ l. P l (pages_of (cache_of name b d))) (sy
 
 -- ---- a get that was refused
 
-pub refused_gets : {T E : Type 0} (before after : Option Holding) (name : List ℕ) (o mid : Order) (c k : Counters) (at len : ℕ) (e : E) → PagesStay o mid → WritesOnly before after (cache_of name o c) (cache_of name mid k) → Gets {T = T} {E = E} before after at len (Err e) (cache_of name o c) (cache_of name mid k)
-refused_gets before after name o mid c k at len e stay w = record {
+pub refused_gets : {T E : Type 0} (before after : Option Holding) (name : List ℕ) (o mid : Order) (c k : Counters) (at len : ℕ) (e : E) → PagesStay o mid → WritesOnly before after (cache_of name o c) (cache_of name mid k)
+    → KeepsFlags (due (cache_of name o c) at len) (pages_of (cache_of name o c)) (pages_of (cache_of name mid k)) → AllOrNone before after (due (cache_of name o c) at len) (cache_of name o c) (cache_of name mid k) → Gets {T = T} {E = E} before after at len (Err e) (cache_of name o c) (cache_of name mid k)
+refused_gets before after name o mid c k at len e stay w flags refusal = record {
   name = refl;
   setup = stay.setup;
   access = stay.lists;
@@ -45,6 +47,8 @@ refused_gets before after name o mid c k at len e stay w = record {
   refused = of_pages SameKept name o mid c k stay.kept;
   counters = w.counters;
   written = tt;
+  flags = flags;
+  refusal = refusal;
   others = w.others;
   told = told_more before after _ _ w.told (λ m n held s can. s can.current);
 }
@@ -104,8 +108,8 @@ load_counts name o mid new c k d at bytes x y none r alike =
 
 pub load_gets : {T E : Type 0} (before after : Option Holding) (name : List ℕ) (o mid new : Order) (c k d : Counters) (at len : ℕ) (bytes : List ℕ) (answer : T) → length bytes ≡ len → PagesStay o mid → WritesOnly before after (cache_of name o c) (cache_of name mid k)
     → position (has_name at len) o.pages ≡ None → Room o mid at len → new.setup ≡ mid.setup → lists_in new ≡ midpoint mid.setup (lists_in mid) at (length bytes) → Alike (page_of at bytes false ∷ room_in mid) (contents_of new.pages)
-    → d ≡ record k { read_requests = raised 1 k.read_requests; reads = raised 1 k.reads } → k ≡ counts_one (due_in o) c → IfTold before (IsLent (cache_of name o c) at len (Some bytes)) → IsRead before (cache_of name o c) at len (Some bytes) → Gets {T = T} {E = E} before after at len (Ok answer) (cache_of name o c) (cache_of name new d)
-load_gets {T} {E} before after name o mid new c k d at len bytes answer long stay w none room setup lists alike counted one shown read =
+    → d ≡ record k { read_requests = raised 1 k.read_requests; reads = raised 1 k.reads } → k ≡ counts_one (due_in o) c → WroteOut (due_in o) (contents_of o.pages) (contents_of mid.pages) → IfTold before (IsLent (cache_of name o c) at len (Some bytes)) → IsRead before (cache_of name o c) at len (Some bytes) → Gets {T = T} {E = E} before after at len (Ok answer) (cache_of name o c) (cache_of name new d)
+load_gets {T} {E} before after name o mid new c k d at len bytes answer long stay w none room setup lists alike counted one wrote shown read =
     subst (λ n. Gets {T = T} {E = E} before after at n (Ok answer) (cache_of name o c) (cache_of name new d)) long (
     let none1 = subst (λ n. position (has_name at n) o.pages ≡ None) (sym long) none in
     let r : Room o mid at (length bytes) = subst (Room o mid at) (sym long) room in
@@ -121,6 +125,8 @@ load_gets {T} {E} before after name o mid new c k d at len bytes answer long sta
       refused = tt;
       counters = load_counts name o mid new c k d at bytes w.counters counted none1 r alike;
       written = ap (λ (t : Counters). t.writes) counted ∙ ap (λ (t : Counters). t.writes) one ∙ ap (λ (p : Option Page). raised (option_len p) c.writes) (sym (due_is name o c at (length bytes) none1));
+      flags = flags_of name o new c d at (length bytes) none1 (taken_flags o mid new at bytes r alike wrote);
+      refusal = tt;
       others = w.others;
       told = load_told before after name o mid new c k d at bytes w r alike (subst (λ n. IfTold before (IsLent (cache_of name o c) at n (Some bytes))) (sym long) shown);
     })
@@ -166,6 +172,8 @@ hit_gets before after name o new c d index at len answer lt e same differ small 
       written =
           let same_writes : c.writes ≡ raised 0 c.writes = omega (arith, small) in
           ap (λ (t : Counters). t.writes) counted ∙ same_writes ∙ ap (λ (p : Option Page). raised (option_len p) c.writes) (sym (due_hit name o c at len (ap is_some h.3)));
+      flags = λ p n other. of_pages (λ l m. is_unwritten m p n ≡ is_unwritten l p n) name o new c d (alike.unwritten p n);
+      refusal = tt;
       others = told_same before after _ same (λ m held q ne. refl);
       told = told_same before after _ same (λ m held can. stays_of name o new c d m m (λ good. keeping_alike (contents_of o.pages) (contents_of new.pages) (bytes_of name m) differ alike good) can.current);
     }
@@ -198,6 +206,8 @@ gets_ok {T} {U} {E} {F} before after at len x y old new old1 new1 a b g =
       refused = tt;
       counters = g.counters;
       written = g.written;
+      flags = g.flags;
+      refusal = tt;
       others = g.others;
       told = g.told;
     }))
@@ -215,6 +225,8 @@ gets_err {T} {U} {E} {F} before after at len e f old new old1 new1 a b g =
       refused = g.refused;
       counters = g.counters;
       written = tt;
+      flags = g.flags;
+      refusal = g.refusal;
       others = g.others;
       told = g.told;
     }))

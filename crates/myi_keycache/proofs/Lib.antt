@@ -16,6 +16,7 @@ pub mod CacheLemmas
 pub mod LoadLemmas
 pub mod OthersLemmas
 pub mod OneLemmas
+pub mod FlagLemmas
 pub mod GetLemmas
 pub mod PutLemmas
 pub mod FlushLemmas

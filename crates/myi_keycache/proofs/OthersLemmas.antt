@@ -10,16 +10,16 @@ use Rattle.myi_keycache.proofs.KeptLemmas.{kept_first, kept_later}
 use Rattle.myi_keycache.proofs.StaysLemmas.{not_named, to_front}
 use Rattle.myi_keycache.proofs.LoadLemmas.{Room, rest, rest_differ, rest_unwritten, rest_others, not_kept}
 
-off_name : (x : Page) (p n : ℕ) → AreOthers p n x.at (length x.bytes) → is_page p n x ≡ false
+pub off_name : (x : Page) (p n : ℕ) → AreOthers p n x.at (length x.bytes) → is_page p n x ≡ false
 off_name x p n other = elim (cases_Bool (is_page p n x)) [
   | inl is ↦ let parts = and_parts _ _ is in absurd (other (sym (eqb-true _ _ parts.0)) (sym (eqb-true _ _ parts.1)))
   | inr off ↦ off
 ]
 
-own_name : (x : Page) → is_page x.at (length x.bytes) x ≡ true
+pub own_name : (x : Page) → is_page x.at (length x.bytes) x ≡ true
 own_name x = and_from _ _ (eq-eqb x.at x.at refl) (eq-eqb (length x.bytes) (length x.bytes) refl)
 
-unwritten_later : (x : Page) (pages : List Page) (p n : ℕ) → is_page p n x ≡ false → is_unwritten (x ∷ pages) p n ≡ is_unwritten pages p n
+pub unwritten_later : (x : Page) (pages : List Page) (p n : ℕ) → is_page p n x ≡ false → is_unwritten (x ∷ pages) p n ≡ is_unwritten pages p n
 unfolding is_unwritten
 unwritten_later x pages p n off = rw off refl
 

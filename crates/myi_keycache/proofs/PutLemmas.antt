@@ -10,11 +10,11 @@ use Rattle.myi_base.specs.Ranges.{are_apart}
 use Rattle.myi_base.specs.Holding.{Holding, bytes_of, overwritten}
 use Rattle.myi_base.proofs.CallerLemmas.{told_same, told_more}
 use Rattle.myi_keycache.specs.declared.setup.Counters.{Counters}
-use Rattle.myi_keycache.specs.Kept.{Page, KeptPage, is_page, kept, is_kept, is_unwritten, unwritten_count, NoOtherMeets, AddsOnly, SameKept, KeepsOthers, ChangesNone}
+use Rattle.myi_keycache.specs.Kept.{Page, KeptPage, is_page, kept, is_kept, is_unwritten, unwritten_count, NoOtherMeets, AddsOnly, SameKept, AreOthers, KeepsOthers, KeepsFlags, KeepsOtherFlags, ChangesNone}
 use Rattle.myi_keycache.specs.Counts.{raised, writes_after}
 use Rattle.myi_keycache.specs.Midpoint.{midpoint}
-use Rattle.myi_keycache.specs.Caching.{Caching, pages_of, listed_as, IsCurrent, Stays, Puts, due, WritesOne}
-use Rattle.myi_keycache.specs.Order.{Order, Split, with_page, with_bytes, contents_of, lists_in, has_name, page_of, room_in, due_in, counts_one, Pairs, Differ, Alike, PagesStay, WritesOnly, Stores, cache_of}
+use Rattle.myi_keycache.specs.Caching.{Caching, pages_of, listed_as, IsCurrent, Stays, Puts, due, WritesOne, AllOrNone}
+use Rattle.myi_keycache.specs.Order.{Order, Split, with_page, with_bytes, contents_of, lists_in, has_name, page_of, room_in, due_in, counts_one, Pairs, Differ, Alike, PagesStay, WritesOnly, WroteOut, Stores, cache_of}
 use Rattle.myi_keycache.proofs.KeptLemmas.{unwritten_kept, kept_first, kept_later}
 use Rattle.myi_keycache.proofs.FrontLemmas.{unwritten_count_out, unwritten_out}
 use Rattle.myi_keycache.proofs.StaysLemmas.{Good, Putting, keeping_alike, putting_then, after_keeping, to_front, from_front, put_over}
@@ -22,15 +22,17 @@ use Rattle.myi_keycache.proofs.OrderLemmas.{same_length, differ_with}
 use Rattle.myi_keycache.proofs.MidpointLemmas.{named}
 use Rattle.myi_keycache.proofs.CacheLemmas.{pages_eq, good_in, current_of}
 use Rattle.myi_keycache.proofs.LoadLemmas.{Room, put_in, adds_only, count_taken, not_kept}
-use Rattle.myi_keycache.proofs.OthersLemmas.{taken_there, taken_to_write, taken_keeps, renewed_there, renewed_to_write, renewed_keeps}
+use Rattle.myi_keycache.proofs.OthersLemmas.{taken_there, taken_to_write, taken_keeps, renewed_there, renewed_to_write, renewed_keeps, off_name}
 use Rattle.myi_keycache.proofs.OneLemmas.{due_is, due_hit, one_none, one_ok, one_err}
+use Rattle.myi_keycache.proofs.FlagLemmas.{none_other, stored_flags, stored_of, renewed_flags}
 use Rattle.myi_keycache.proofs.GetLemmas.{of_pages}
 
 -- ---- a put that was refused
 
 pub refused_stores : {T E : Type 0} (before after : Option Holding) (name : List ℕ) (o mid : Order) (c k : Counters) (at : ℕ) (bytes : List ℕ) (e : E) → PagesStay o mid → WritesOnly before after (cache_of name o c) (cache_of name mid k)
-    → WritesOne {T = T} {E = E} before after name (due (cache_of name o c) at (length bytes)) (Err e) → Stores {T = T} {E = E} before after at bytes (Err e) (cache_of name o c) (cache_of name mid k)
-refused_stores before after name o mid c k at bytes e stay w part = record {
+    → WritesOne {T = T} {E = E} before after name (due (cache_of name o c) at (length bytes)) (Err e)
+    → KeepsFlags (due (cache_of name o c) at (length bytes)) (pages_of (cache_of name o c)) (pages_of (cache_of name mid k)) → AllOrNone before after (due (cache_of name o c) at (length bytes)) (cache_of name o c) (cache_of name mid k) → Stores {T = T} {E = E} before after at bytes (Err e) (cache_of name o c) (cache_of name mid k)
+refused_stores before after name o mid c k at bytes e stay w part flags refusal = record {
   ok = tt;
   err = w.told;
   others = w.others;
@@ -46,6 +48,8 @@ refused_stores before after name o mid c k at bytes e stay w part = record {
   counters = w.counters;
   written = tt;
   one = part;
+  flags = λ p n off other. flags p n other;
+  refusal = refusal;
 }
 
 -- ---- the file with a put
@@ -70,8 +74,8 @@ stays_puts at bytes a b c m n k one two = record {
 
 pub store_stores : {T E : Type 0} (before after : Option Holding) (name : List ℕ) (o mid new : Order) (c k d : Counters) (at : ℕ) (bytes : List ℕ) (answer : T) → PagesStay o mid → WritesOnly before after (cache_of name o c) (cache_of name mid k)
     → position (has_name at (length bytes)) o.pages ≡ None → Room o mid at (length bytes) → new.setup ≡ mid.setup → lists_in new ≡ midpoint mid.setup (lists_in mid) at (length bytes) → Alike (page_of at bytes true ∷ room_in mid) (contents_of new.pages)
-    → d ≡ record k { write_requests = raised 1 k.write_requests } → k ≡ counts_one (due_in o) c → WritesOne {T = T} {E = E} before after name (due (cache_of name o c) at (length bytes)) (Ok answer) → Stores {T = T} {E = E} before after at bytes (Ok answer) (cache_of name o c) (cache_of name new d)
-store_stores before after name o mid new c k d at bytes answer stay w none r setup lists alike counted one whole =
+    → d ≡ record k { write_requests = raised 1 k.write_requests } → k ≡ counts_one (due_in o) c → WroteOut (due_in o) (contents_of o.pages) (contents_of mid.pages) → WritesOne {T = T} {E = E} before after name (due (cache_of name o c) at (length bytes)) (Ok answer) → Stores {T = T} {E = E} before after at bytes (Ok answer) (cache_of name o c) (cache_of name new d)
+store_stores before after name o mid new c k d at bytes answer stay w none r setup lists alike counted one wrote whole =
     let x = w.counters in
     let never : is_unwritten (pages_of (cache_of name o c)) at (length bytes) ≡ false = ap (λ l. is_unwritten l at (length bytes)) (pages_eq name o c) ∙ not_unwritten (is_unwritten (contents_of o.pages) at (length bytes)) refl in
     let a = ap unwritten_count (pages_eq name mid k) in
@@ -101,6 +105,8 @@ store_stores before after name o mid new c k d at bytes answer stay w none r set
           ∙ (λ i. record { read_requests = c.read_requests; reads = c.reads; write_requests = raised 1 c.write_requests; writes = writes_after (if sym never i then 0 else 1) (pages_of (cache_of name o c)) (pages_of (cache_of name new d)) c.writes });
       written = ap (λ (t : Counters). t.writes) counted ∙ ap (λ (t : Counters). t.writes) one ∙ ap (λ (p : Option Page). raised (option_len p) c.writes) (sym (due_is name o c at (length bytes) none));
       one = whole;
+      flags = stored_of name o new c d at (length bytes) none (stored_flags o mid new at bytes r alike wrote);
+      refusal = tt;
     }
   where
     not_unwritten : (b : Bool) → is_unwritten (contents_of o.pages) at (length bytes) ≡ b → b ≡ false
@@ -127,6 +133,7 @@ pub record Renewed (o o1 : Order) (index at : ℕ) (bytes : List ℕ) : Type 0 w
   pub to_write : is_unwritten (contents_of o1.pages) at (length bytes) ≡ true
   pub kept : (p n : ℕ) → is_kept (contents_of o1.pages) p n ≡ is_kept (contents_of o.pages) p n
   pub keeps : KeepsOthers at (length bytes) (contents_of o.pages) (contents_of o1.pages)
+  pub flags : (p n : ℕ) → AreOthers p n at (length bytes) → is_unwritten (contents_of o1.pages) p n ≡ is_unwritten (contents_of o.pages) p n
   pub count : unwritten_count (contents_of o.pages) + (if is_unwritten (contents_of o.pages) at (length bytes) then 0 else 1) ≡ unwritten_count (contents_of o1.pages)
   pub puts : (file : List ℕ) → NoOtherMeets (is_kept (contents_of o.pages)) at (length bytes) → Good (contents_of o.pages) file → Putting at bytes (contents_of o.pages) (contents_of o1.pages) file file
 
@@ -139,18 +146,6 @@ kept_names (f ∷ front) x y back p n at len = elim (cases_Bool (is_page p n f))
   | inl is ↦ ap is_some (kept_first f (front ++ y ∷ back) p n is) ∙ sym (ap is_some (kept_first f (front ++ x ∷ back) p n is))
   | inr other ↦ ap is_some (kept_later f (front ++ y ∷ back) p n other) ∙ kept_names front x y back p n at len ∙ sym (ap is_some (kept_later f (front ++ x ∷ back) p n other))
 ]
-
-none_other : (x : Page) (pages : List Page) (p n : ℕ) → AllByRecursion (Differ x) pages → is_page p n x ≡ true → is_unwritten pages p n ≡ false
-unfolding is_unwritten
-none_other x [] p n all is = refl
-none_other x (q ∷ pages) p n all is =
-    elim (cases_Bool (is_page p n q)) [
-      | inl same ↦
-          let a = and_parts _ _ is in
-          let b = and_parts _ _ same in
-          absurd (all.0 (eqb-true _ _ a.0 ∙ sym (eqb-true _ _ b.0)) (eqb-true _ _ a.1 ∙ sym (eqb-true _ _ b.1)))
-      | inr other ↦ rw other (none_other x pages p n all.1 is)
-    ]
 
 unwritten_here : (x : Page) (pages : List Page) (p n : ℕ) → AllByRecursion (Differ x) pages → is_page p n x ≡ true → is_unwritten (x ∷ pages) p n ≡ x.unwritten
 unfolding is_unwritten
@@ -209,6 +204,8 @@ renewed o o1 index at bytes s differ found is =
       to_write = subst (λ (t : ℕ). is_unwritten (contents_of (with_page s q)) t (length bytes) ≡ true) at_is (ap (λ l. is_unwritten l x.at (length bytes)) now ∙ renewed_to_write front y back refl);
       keeps = subst (λ (t : ℕ). KeepsOthers t (length bytes) (contents_of o.pages) (contents_of (with_page s q))) at_is
           (subst (λ l. KeepsOthers x.at (length bytes) l (contents_of (with_page s q))) (sym (parted o index s)) (subst (λ l. KeepsOthers x.at (length bytes) (front ++ x ∷ back) l) (sym now) (renewed_keeps front x y back refl (sym long) differ1 differ_now)));
+      flags = subst (λ (t : ℕ). (p n : ℕ) → AreOthers p n t (length bytes) → is_unwritten (contents_of (with_page s q)) p n ≡ is_unwritten (contents_of o.pages) p n) at_is
+          (λ p k off. ap (λ l. is_unwritten l p k) now ∙ renewed_flags front x y back p k refl (sym long) (off_name y p k off) ∙ ap (λ l. is_unwritten l p k) (sym (parted o index s)));
       count =
           let a = ap unwritten_count (parted o index s) ∙ unwritten_count_out front x back in
           let b = ap unwritten_count now ∙ unwritten_count_out front y back in
@@ -258,6 +255,8 @@ hit_stores before after name o o1 new c d index at bytes answer same r there sma
           let same_writes : c.writes ≡ raised 0 c.writes = omega (arith, small) in
           ap (λ (t : Counters). t.writes) counted ∙ same_writes ∙ ap (λ (p : Option Page). raised (option_len p) c.writes) (sym (due_hit name o c at (length bytes) there));
       one = one_none before after name (due (cache_of name o c) at (length bytes)) (Ok answer) (due_hit name o c at (length bytes) there) same;
+      flags = λ p n off other. of_pages (λ l m. is_unwritten m p n ≡ is_unwritten l p n) name o new c d (alike.unwritten p n ∙ r.flags p n off);
+      refusal = tt;
     }
 
 pub stores_on : {T U E F : Type 0} (before after : Option Holding) (at : ℕ) (bytes : List ℕ) (x : T) (y : U) (old new old1 new1 : Caching) → old ≡ old1 → new ≡ new1 → Stores {T = T} {E = E} before after at bytes (Ok x) old new → Stores {T = U} {E = F} before after at bytes (Ok y) old1 new1
@@ -278,6 +277,8 @@ stores_on {T} {U} {E} {F} before after at bytes x y old new old1 new1 a b g =
       counters = g.counters;
       written = g.written;
       one = one_ok before after old.name (due old at (length bytes)) x y g.one;
+      flags = g.flags;
+      refusal = tt;
     }))
 
 pub refused_on : {T U E F : Type 0} (before after : Option Holding) (at : ℕ) (bytes : List ℕ) (e : E) (f : F) (old new old1 new1 : Caching) → old ≡ old1 → new ≡ new1 → Stores {T = T} {E = E} before after at bytes (Err e) old new → Stores {T = U} {E = F} before after at bytes (Err f) old1 new1
@@ -298,4 +299,6 @@ refused_on {T} {U} {E} {F} before after at bytes e f old new old1 new1 a b g =
       counters = g.counters;
       written = tt;
       one = one_err before after old.name (due old at (length bytes)) e f g.one;
+      flags = g.flags;
+      refusal = g.refusal;
     }))

@@ -6,7 +6,7 @@ use Rattle.myi_base.specs.Holding.{Holding, bytes_of, overwritten, IfTold, Told,
 use Rattle.myi_keycache.specs.declared.setup.CacheSetup.{CacheSetup}
 use Rattle.myi_keycache.specs.declared.setup.Counters.{Counters}
 use Rattle.myi_keycache.specs.Midpoint.{Listed, Lists, midpoint}
-use Rattle.myi_keycache.specs.Kept.{Page, KeptPage, range_of, kept, is_kept, is_unwritten, NoOtherMeets, AddsOnly, SameKept, KeepsBytes, ChangesNone}
+use Rattle.myi_keycache.specs.Kept.{Page, KeptPage, range_of, kept, is_kept, is_unwritten, NoOtherMeets, AddsOnly, SameKept, SameUnwritten, KeepsBytes, KeepsFlags, ChangesNone}
 use Rattle.myi_keycache.specs.Lent.{bytes_at, Has, lent, flushed}
 use Rattle.myi_keycache.specs.Counts.{raised, gets_counted}
 
@@ -58,6 +58,18 @@ pub record WritesOne {T E : Type 0} (before after : Option Holding) (name : List
   pub none : page ≡ None → after ≡ before
   pub ok : OnOk result (IfSome page (λ p. Told before after (Writes name p.at p.bytes)))
   pub err : OnErr result (IfSome page (λ p. Told before after (WritesPart name p.at p.bytes)))
+
+-- this page was written whole: it was counted, and is unwritten no more
+pub record IsWrittenOut (before after : Option Holding) (page : Page) (old new : Caching) : Type 0 where
+  pub file : Told before after (Writes old.name page.at page.bytes)
+  pub counted : new.counters.writes ≡ raised 1 old.counters.writes
+  pub flag : is_unwritten (pages_of new) page.at (length page.bytes) ≡ false
+
+-- The same pages are unwritten and none was counted, or the page that was to be written was written whole.
+abbrev pub AllOrNone : Option Holding → Option Holding → Option Page → Caching → Caching → Type 0
+AllOrNone before after page old new =
+    (SameUnwritten (pages_of old) (pages_of new) × (new.counters.writes ≡ old.counters.writes))
+    ⊎ ((x : Page) × (page ≡ Some x) × IsWrittenOut before after x old new)
 
 -- what the cache lends of a range, where the files hold this
 abbrev pub lends : Caching → Holding → ℕ → ℕ → Option (List ℕ)
@@ -127,8 +139,8 @@ pub record Flushes (old new : Caching) (m n : Holding) : Type 0 where
   pub lent : SameLent old m new n
   pub file : bytes_of old.name n ≡ contents old m
 
--- The cache after a call of get. The page is kept as it was read, no page has other bytes or became unwritten, and after a
--- refusal the same pages are kept.
+-- The cache after a call of get. The page is kept as it was read, no page has other bytes or became unwritten, each but the one
+-- that is to be written is unwritten where it was, and after a refusal the same pages are kept.
 pub record Gets {T E : Type 0} (before after : Option Holding) (at len : ℕ) (result : Result T E) (old new : Caching) : Type 0 where
   pub name : new.name ≡ old.name
   pub setup : new.setup ≡ old.setup
@@ -140,5 +152,7 @@ pub record Gets {T E : Type 0} (before after : Option Holding) (at len : ℕ) (r
   pub refused : OnErr result (SameKept (pages_of old) (pages_of new))
   pub counters : new.counters ≡ gets_counted result at len (pages_of old) (pages_of new) old.counters
   pub written : OnOk result (new.counters.writes ≡ raised (option_len (due old at len)) old.counters.writes)
+  pub flags : KeepsFlags (due old at len) (pages_of old) (pages_of new)
+  pub refusal : OnErr result (AllOrNone before after (due old at len) old new)
   pub others : Told before after (OthersStay old.name)
   pub told : Told before after (λ m n. CanGet old m at len → Stays old new m n)

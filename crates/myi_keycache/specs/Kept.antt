@@ -1,6 +1,6 @@
 -- The pages that a key cache keeps (MySQL Reference Manual, "The MyISAM Key Cache": blocks that were read,
 -- and blocks that were changed and that the index file has yet to get).
-use Rattle.std.specs.Prelude.{◌≡◌, ◌==◌, ◌&&◌, ◌⊎◌, ◌+◌, ◌<◌, ℕ, Bool, true, false, List, length, find, count_by, Option, Some, option_map, is_some}
+use Rattle.std.specs.Prelude.{◌≡◌, ◌==◌, ◌&&◌, ◌⊎◌, ◌+◌, ◌<◌, ℕ, Bool, true, false, List, length, find, count_by, Option, Some, IfSome, option_map, is_some}
 use Rattle.std.specs.List.{list_any}
 use Rattle.myi_base.specs.Ranges.{Range, are_apart}
 
@@ -76,6 +76,18 @@ WrittenUpTo old new = (stop : ℕ)
 -- each unwritten page was unwritten before
 abbrev pub ChangesNone : List Page → List Page → Type 0
 ChangesNone old new = (p n : ℕ) → is_unwritten new p n ≡ true → is_unwritten old p n ≡ true
+
+-- a page has another place than this one, or another length, where there is one
+abbrev pub IsOther : Option Page → ℕ → ℕ → Type 0
+IsOther page p n = IfSome page (λ x. AreOthers p n x.at (length x.bytes))
+
+-- each page but this one, where there is one, is unwritten exactly where it was
+abbrev pub KeepsFlags : Option Page → List Page → List Page → Type 0
+KeepsFlags page old new = (p n : ℕ) → IsOther page p n → is_unwritten new p n ≡ is_unwritten old p n
+
+-- the same of each page but that one and the one of this place and length
+abbrev pub KeepsOtherFlags : Option Page → ℕ → ℕ → List Page → List Page → Type 0
+KeepsOtherFlags page at len old new = (p n : ℕ) → AreOthers p n at len → IsOther page p n → is_unwritten new p n ≡ is_unwritten old p n
 
 -- the file has all pages
 abbrev pub AllWritten : List Page → Type 0

@@ -10,9 +10,9 @@ use Rattle.myi_keycache.specs.declared.blocks.PageName.{PageName}
 use Rattle.myi_keycache.specs.declared.blocks.Block.{Block}
 use Rattle.myi_keycache.specs.Setup.{IsSetup}
 use Rattle.myi_base.specs.Holding.{Holding, IfTold, Told, OthersStay}
-use Rattle.myi_keycache.specs.Kept.{Page, KeptPage, is_page, kept, is_unwritten, SameKept, SameUnwritten, AddsOnly, KeepsOthers, ChangesNone, AllWritten, unwritten_count}
+use Rattle.myi_keycache.specs.Kept.{Page, KeptPage, is_page, kept, is_unwritten, SameKept, SameUnwritten, AddsOnly, KeepsOthers, KeepsFlags, KeepsOtherFlags, ChangesNone, AllWritten, unwritten_count}
 use Rattle.myi_keycache.specs.Lent.{meets_unwritten, flushed}
-use Rattle.myi_keycache.specs.Caching.{Caching, pages_of, listed_as, if_unwritten, due, WritesOne, IsClean, ArePlaced, IsAccess, IsCurrent, IsLent, IsRead, CanPut, Puts, Stays, Gets}
+use Rattle.myi_keycache.specs.Caching.{Caching, pages_of, listed_as, if_unwritten, due, WritesOne, AllOrNone, IsClean, ArePlaced, IsAccess, IsCurrent, IsLent, IsRead, CanPut, Puts, Stays, Gets}
 use Rattle.myi_keycache.specs.Counts.{raised, puts_counted, flushes_counted}
 use Rattle.myi_keycache.specs.Midpoint.{Lists}
 
@@ -160,6 +160,11 @@ pub record WritesOnly (before after : Option Holding) (old new : Caching) : Type
 abbrev pub IsFirstWritten : List Page → Type 0
 IsFirstWritten pages = IfSome (slice_get pages 0) (λ p. p.unwritten ≡ false)
 
+-- this page was written, where there is one, and the others are unwritten where they were
+pub record WroteOut (page : Option Page) (old new : List Page) : Type 0 where
+  pub flags : KeepsFlags page old new
+  pub gone : IfSome page (λ x. is_unwritten new x.at (length x.bytes) ≡ false)
+
 -- the page could not be read: it is not kept, the file ends before its end, and nothing was written
 pub record IsShort (before after : Option Holding) (at len : ℕ) (old : Caching) : Type 0 where
   pub lent : IfTold before (IsLent old at len None)
@@ -202,3 +207,5 @@ pub record Stores {T E : Type 0} (before after : Option Holding) (at : ℕ) (byt
   pub counters : new.counters ≡ puts_counted result at (length bytes) (pages_of old) (pages_of new) old.counters
   pub written : OnOk result (new.counters.writes ≡ raised (option_len (due old at (length bytes))) old.counters.writes)
   pub one : WritesOne before after old.name (due old at (length bytes)) result
+  pub flags : KeepsOtherFlags (due old at (length bytes)) at (length bytes) (pages_of old) (pages_of new)
+  pub refusal : OnErr result (AllOrNone before after (due old at (length bytes)) old new)

@@ -14,7 +14,7 @@ ghost use Rattle.myi_keycache.specs.Caching.{due, WritesOne};
 ghost use Rattle.myi_keycache.specs.Flushing.{FlushWrites};
 ghost use Rattle.myi_keycache.specs.Order.{contents_of, unwritten_at, due_in, counts_one, has_name, cache_of};
 ghost use Rattle.myi_keycache.specs.Order.{Pairs, Differ, Split, with_page, as_written, IsFirstWritten};
-ghost use Rattle.myi_keycache.specs.Order.{PagesStay, WritesOnly, Finds, Stores};
+ghost use Rattle.myi_keycache.specs.Order.{PagesStay, WritesOnly, WroteOut, Finds, Stores};
 
 use crate::blocks::{Blocks, PageName};
 use crate::setup::{CacheFault, CacheSetup, Counters};
@@ -88,6 +88,7 @@ fn write_page<F: Files>(
     ensures quiet { unwritten_at blocks.old index ≡ None → files.new ≡ files.old }
     ensures counted { OnOk result
         (counters.new ≡ counts_one (unwritten_at blocks.old index) counters.old) }
+    ensures uncounted { OnErr result (counters.new ≡ counters.old) }
     ensures faults { IfErr result (λ e. (e ≡ File) ⊎ (e ≡ Memory)) }
     ensures cause { HasCause File (F.faults files.old) (F.faults files.new) result }
     ensures reads { F.reads files.new ≡ F.reads files.old }
@@ -113,6 +114,10 @@ fn make_room<F: Files>(
     requires writes { counters.old.writes < 2 ^ 64 }
     ensures ok { OnOk result (nat_le blocks.new.setup.blocks (length blocks.new.pages) ≡ true
         → IsFirstWritten (contents_of blocks.new.pages)) }
+    ensures err { OnErr result (blocks.new ≡ blocks.old) }
+    ensures wrote { OnOk result (WroteOut (due_in blocks.old)
+        (contents_of blocks.old.pages) (contents_of blocks.new.pages)) }
+    ensures uncounted { OnErr result (counters.new ≡ counters.old) }
     ensures stay { PagesStay blocks.old blocks.new }
     ensures writes { WritesOnly (F.holds files.old) (F.holds files.new)
         (cache_of name.now blocks.old counters.old) (cache_of name.now blocks.new counters.new) }
@@ -292,11 +297,12 @@ impl KeyCache {
     ghost use Rattle.myi_keycache.specs.declared.setup.CacheFault.TheVariants.{Short, File, Memory};
     ghost use Rattle.myi_keycache.specs.Setup.{IsSetup};
     ghost use Rattle.myi_keycache.specs.Kept.{kept, is_kept, is_unwritten, AddsOnly, SameKept};
-    ghost use Rattle.myi_keycache.specs.Kept.{KeepsOthers, ChangesNone, AllWritten, WrittenUpTo};
+    ghost use Rattle.myi_keycache.specs.Kept.{KeepsOthers, KeepsOtherFlags, ChangesNone, AllWritten};
+    ghost use Rattle.myi_keycache.specs.Kept.{WrittenUpTo};
     ghost use Rattle.myi_keycache.specs.Counts.{raised, puts_counted, flushes_counted};
     ghost use Rattle.myi_keycache.specs.Midpoint.{AreLists};
     ghost use Rattle.myi_keycache.specs.Caching.{pages_of, lists_of, IsAccess, IsLent, IsRead, IsCurrent};
-    ghost use Rattle.myi_keycache.specs.Caching.{CanPut, Puts, Stays, Flushes, Gets, due, WritesOne};
+    ghost use Rattle.myi_keycache.specs.Caching.{CanPut, Puts, Stays, Flushes, Gets, due, WritesOne, AllOrNone};
     ghost use Rattle.myi_keycache.specs.Flushing.{FlushWrites};
     ghost use Rattle.myi_keycache.specs.contracts.cache.KeyCache.{the_row};
 
@@ -327,7 +333,8 @@ impl KeyCache {
     /// are kept for it, or else those that the file has. `Short` says that it is not kept, and that the file
     /// ends before its end. After a refusal the same is lent as before, and nothing was counted but what was
     /// written. What is said of bytes that are lent holds where the file is as the last call of this cache left
-    /// it and no other unwritten page meets the range.
+    /// it and no other unwritten page meets the range. At any answer no page but the one that leaves changes
+    /// its flag, and after a refusal that one was written whole and counted, or is unwritten as before.
     pub fn get<F: Files>(
         &mut self,
         files: &mut F,
@@ -370,8 +377,8 @@ impl KeyCache {
     }
 
     /// Puts these bytes as the page of a place, whose length is theirs, and keeps it. Of other pages no bytes
-    /// change, and none becomes unwritten. After a refusal the same is lent as before, and the same pages are
-    /// kept. What is said of bytes that are lent holds where the file is as the last call of this cache left it
+    /// change, and none but the one that leaves changes its flag. After a refusal the same is lent as before, the
+    /// same pages are kept, and that one was written whole and counted, or is unwritten as before. What is said of bytes that are lent holds where the file is as the last call of this cache left it
     /// and no other page that is kept meets the range.
     pub fn put<F: Files>(&mut self, files: &mut F, at: u64, bytes: &[u8]) -> Result<(), CacheFault>
         requires limit { length bytes.now ≤ 16384 }
@@ -400,6 +407,10 @@ impl KeyCache {
             ≡ raised (option_len (due self.old at (length bytes.now))) self.old.counters.writes) }
         ensures one { WritesOne (F.holds files.old) (F.holds files.new) self.old.name
             (due self.old at (length bytes.now)) result }
+        ensures flags { KeepsOtherFlags (due self.old at (length bytes.now)) at (length bytes.now)
+            (pages_of self.old) (pages_of self.new) }
+        ensures refusal { OnErr result (AllOrNone (F.holds files.old) (F.holds files.new)
+            (due self.old at (length bytes.now)) self.old self.new) }
         ensures quiet { due self.old at (length bytes.now) ≡ None → files.new ≡ files.old }
         ensures hit { is_kept (pages_of self.old) at (length bytes.now) ≡ true
             → IsOk result × (files.new ≡ files.old) }
@@ -430,7 +441,8 @@ impl KeyCache {
     /// Writes all unwritten pages in order of place and nothing else, so that the file has what was put. After a
     /// refusal a first part of them is written and no more than a part of the next, the pages are still kept, and
     /// the rest is still unwritten. That the same is lent, and that the file has all that was put, holds where the
-    /// file is as the last call of this cache left it.
+    /// file is as the last call of this cache left it. Pages of one place may be written in any order, also where
+    /// the files tell what they hold.
     pub fn flush<F: Files>(&mut self, files: &mut F) -> Result<(), CacheFault>
         requires writable { IsTrue F.writable }
         ensures ok { OnOk result (Told (F.holds files.old) (F.holds files.new)

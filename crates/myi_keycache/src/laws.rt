@@ -13,6 +13,7 @@ ghost use Rattle.myi_keycache.specs.Midpoint.{Listed, Lists, listed, without, ke
 ghost use Rattle.myi_keycache.specs.Midpoint.{accessed, asked_page, age_limit, midpoint, on_lists, goes};
 ghost use Rattle.myi_keycache.specs.Midpoint.{AreLists, IsFirst};
 ghost use Rattle.myi_keycache.specs.WorkedRun.{four_blocks, page_at, after_accesses};
+ghost use Rattle.myi_keycache.specs.WorkedRun.{lists_at, Passes, four_run};
 ghost use Rattle.myi_keycache.specs.Lent.{bytes_at};
 ghost use Rattle.myi_keycache.specs.Caching.{Caching, pages_of, lists_of, leaving, lends, contents};
 ghost use Rattle.myi_keycache.specs.Caching.{IsCurrent, Stays, Puts};
@@ -157,8 +158,10 @@ pub fn hot_pages_age()
 
 /// The lists of a key cache of 4 blocks, division 50 and age 100, after accesses to the pages A B C D A A A E C D
 /// E C F A, which are numbers here: the third hit of A sends it to the hot list, B leaves for E; A is old at the
-/// twelfth access and goes to the warm beginning, from where it leaves for F, and D for A.
+/// twelfth access and goes to the warm beginning, from where it leaves for F, and D for A. `four_run` has the lists
+/// after each access.
 pub fn lists_of_four_blocks()
+    ensures each { Passes four_blocks (lists_at 0 [] []) four_run }
     ensures third_hit { after_accesses four_blocks (0 ∷ 1 ∷ 2 ∷ 3 ∷ 0 ∷ 0 ∷ 0 ∷ []) ≡ record {
       warm = page_at 1 0 2 ∷ page_at 2 0 3 ∷ page_at 3 0 4 ∷ [];
       hot = page_at 0 3 7 ∷ [];
@@ -166,6 +169,10 @@ pub fn lists_of_four_blocks()
     } }
     ensures evicted { goes four_blocks
         (after_accesses four_blocks (0 ∷ 1 ∷ 2 ∷ 3 ∷ 0 ∷ 0 ∷ 0 ∷ [])) 4 1 ≡ Some (page_at 1 0 2) }
+    ensures old_goes { goes four_blocks (after_accesses four_blocks
+        (0 ∷ 1 ∷ 2 ∷ 3 ∷ 0 ∷ 0 ∷ 0 ∷ 4 ∷ 2 ∷ 3 ∷ 4 ∷ 2 ∷ [])) 5 1 ≡ Some (page_at 0 0 7) }
+    ensures last_goes { goes four_blocks (after_accesses four_blocks
+        (0 ∷ 1 ∷ 2 ∷ 3 ∷ 0 ∷ 0 ∷ 0 ∷ 4 ∷ 2 ∷ 3 ∷ 4 ∷ 2 ∷ 5 ∷ [])) 0 1 ≡ Some (page_at 3 1 10) }
     ensures old { after_accesses four_blocks
         (0 ∷ 1 ∷ 2 ∷ 3 ∷ 0 ∷ 0 ∷ 0 ∷ 4 ∷ 2 ∷ 3 ∷ 4 ∷ 2 ∷ []) ≡ record {
           warm = page_at 0 0 7 ∷ page_at 3 1 10 ∷ page_at 4 1 11 ∷ page_at 2 2 12 ∷ [];

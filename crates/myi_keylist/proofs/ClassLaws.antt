@@ -1,26 +1,56 @@
 -- Rows that are kept by class numbers are those that repeat none kept before them.
-use Rattle.std.proofs.Common.{◌≡◌, ℕ, zero, suc, ◌+◌, ◌-◌, ◌<◌, Bool, true, false, cond, not, ◌&&◌, ◌||◌, eqb, List, [], ◌∷◌, ◌++◌, length, get_or, replicate, refl, sym, ap, ◌∙◌, arith, append_assoc, ◌⊎◌, inl, inr}
+use Rattle.std.proofs.Common.{◌≡◌, ℕ, zero, suc, ◌+◌, ◌-◌, ◌<◌, Bool, true, false, cond, not, ◌&&◌, ◌||◌, eqb, List, [], ◌∷◌, ◌++◌, length, get_or, drop, map, replicate, refl, sym, ap, ◌∙◌, arith, append_assoc, ◌⊎◌, inl, inr}
 use Rattle.std.specs.List.{list_any, AllByRecursion}
-use Rattle.myi_keylist.specs.FirstBy.{KeyOf, first_after, first_by, repeats_in}
-use Rattle.myi_keylist.specs.Classes.{Columns, has_class, share_class, AreClasses, keeps_from, rows_from, picked, is_taken, AreTaken}
-use Rattle.myi_keylist.proofs.FirstLaws.{same_after}
+use Rattle.myi_keylist.specs.FirstBy.{first_after, first_by}
+use Rattle.myi_keylist.specs.Classes.{Columns, has_class, share_class, AreClasses, keeps_from, picked, is_taken, AreTaken}
 
 -- ---- flags and rows
 
-flags_pick : (repeats : ℕ → ℕ → Bool) (kept : List ℕ) (row n : ℕ) → picked (keeps_from repeats kept row n) (rows_from row n) ≡ first_after repeats kept (rows_from row n)
-flags_pick repeats kept row zero = refl
-flags_pick repeats kept row (suc n) = by (list_any (repeats row) kept) (flags_pick repeats kept (suc row) n) (flags_pick repeats (kept ++ row ∷ []) (suc row) n)
-  where
-    by : (b : Bool) → picked (keeps_from repeats kept (suc row) n) (rows_from (suc row) n) ≡ first_after repeats kept (rows_from (suc row) n)
-        → picked (keeps_from repeats (kept ++ row ∷ []) (suc row) n) (rows_from (suc row) n) ≡ first_after repeats (kept ++ row ∷ []) (rows_from (suc row) n)
-        → picked (cond b (false ∷ keeps_from repeats kept (suc row) n) (true ∷ keeps_from repeats (kept ++ row ∷ []) (suc row) n)) (row ∷ rows_from (suc row) n)
-        ≡ cond b (first_after repeats kept (rows_from (suc row) n)) (row ∷ first_after repeats (kept ++ row ∷ []) (rows_from (suc row) n))
-    by true dropped added = dropped
-    by false dropped added = ap (λ rows. row ∷ rows) added
+split_at : {Row : Type 0} (all : List Row) (i : ℕ) (d row : Row) (rest : List Row) → drop i all ≡ row ∷ rest → (i < length all) × ((get_or all i d ≡ row) × (drop (suc i) all ≡ rest))
+split_at [] zero d row rest is = absurd cc
+split_at [] (suc i) d row rest is = absurd cc
+split_at (x ∷ xs) zero d row rest is = (omega arith, (cc, cc))
+split_at (x ∷ xs) (suc i) d row rest is = let found = split_at xs i d row rest is in (omega (arith, found.0), found.1)
 
-pub classes_keep : (keys : List (KeyOf ℕ)) (columns : Columns) (rows : ℕ) → AreClasses keys columns → picked (keeps_from (share_class columns) [] 0 rows) (rows_from 0 rows) ≡ first_by (repeats_in keys) (rows_from 0 rows)
-classes_keep keys columns rows are =
-    flags_pick (share_class columns) [] 0 rows ∙ same_after (share_class columns) (repeats_in keys) (λ row other. sym (are row other)) [] (rows_from 0 rows)
+map_snoc : {X Y : Type 0} (f : X → Y) (xs : List X) (x : X) → map f (xs ++ x ∷ []) ≡ map f xs ++ f x ∷ []
+map_snoc f [] x = refl
+map_snoc f (y ∷ xs) x = ap (λ zs. f y ∷ zs) (map_snoc f xs x)
+
+below_snoc : (n i : ℕ) (ks : List ℕ) → AllByRecursion (λ k. k < n) ks → i < n → AllByRecursion (λ k. k < n) (ks ++ i ∷ [])
+below_snoc n i [] below few = (few, tt)
+below_snoc n i (k ∷ ks) below few = (below.0, below_snoc n i ks below.1 few)
+
+any_kept : {Row : Type 0} (all : List Row) (d : Row) (repeats : Row → Row → Bool) (share : ℕ → ℕ → Bool) → ((i j : ℕ) → i < length all → j < length all → repeats (get_or all i d) (get_or all j d) ≡ share i j)
+    → (i : ℕ) → i < length all → (ks : List ℕ) → AllByRecursion (λ k. k < length all) ks → list_any (share i) ks ≡ list_any (repeats (get_or all i d)) (map (λ k. get_or all k d) ks)
+any_kept all d repeats share are i few [] below = refl
+any_kept all d repeats share are i few (k ∷ ks) below =
+    ap (λ b. b || list_any (share i) ks) (sym (are i k few below.0)) ∙ ap (λ b. repeats (get_or all i d) (get_or all k d) || b) (any_kept all d repeats share are i few ks below.1)
+
+flags_pick : {Row : Type 0} (all : List Row) (d : Row) (repeats : Row → Row → Bool) (share : ℕ → ℕ → Bool) → ((i j : ℕ) → i < length all → j < length all → repeats (get_or all i d) (get_or all j d) ≡ share i j)
+    → (ks : List ℕ) → AllByRecursion (λ k. k < length all) ks → (i : ℕ) (rest : List Row) → drop i all ≡ rest → picked (keeps_from share ks i (length rest)) rest ≡ first_after repeats (map (λ k. get_or all k d) ks) rest
+flags_pick all d repeats share are ks below i [] is = refl
+flags_pick {Row} all d repeats share are ks below i (row ∷ rest) is =
+    let here = split_at all i d row rest is in
+    let same : list_any (share i) ks ≡ list_any (repeats row) (map (λ k. get_or all k d) ks) =
+    any_kept all d repeats share are i here.0 ks below ∙ ap (λ r. list_any (repeats r) (map (λ k. get_or all k d) ks)) here.1.0 in
+    let kept : map (λ k. get_or all k d) (ks ++ i ∷ []) ≡ map (λ k. get_or all k d) ks ++ row ∷ [] =
+    map_snoc (λ k. get_or all k d) ks i ∙ ap (λ r. map (λ k. get_or all k d) ks ++ r ∷ []) here.1.0 in
+    by (list_any (share i) ks) (list_any (repeats row) (map (λ k. get_or all k d) ks)) same
+    (flags_pick all d repeats share are ks below (suc i) rest here.1.1)
+    (flags_pick all d repeats share are (ks ++ i ∷ []) (below_snoc (length all) i ks below here.0) (suc i) rest here.1.1 ∙ ap (λ rs. first_after repeats rs rest) kept)
+  where
+    by : (a b : Bool) → a ≡ b → picked (keeps_from share ks (suc i) (length rest)) rest ≡ first_after repeats (map (λ k. get_or all k d) ks) rest
+        → picked (keeps_from share (ks ++ i ∷ []) (suc i) (length rest)) rest ≡ first_after repeats (map (λ k. get_or all k d) ks ++ row ∷ []) rest
+        → picked (cond a (false ∷ keeps_from share ks (suc i) (length rest)) (true ∷ keeps_from share (ks ++ i ∷ []) (suc i) (length rest))) (row ∷ rest)
+        ≡ cond b (first_after repeats (map (λ k. get_or all k d) ks) rest) (row ∷ first_after repeats (map (λ k. get_or all k d) ks ++ row ∷ []) rest)
+    by true true same dropped added = dropped
+    by false false same dropped added = ap (λ rows. row ∷ rows) added
+    by true false same dropped added = absurd cc
+    by false true same dropped added = absurd cc
+
+pub classes_keep : {Row : Type 0} (repeats : Row → Row → Bool) (rows : List Row) (columns : Columns) → AreClasses repeats rows columns → picked (keeps_from (share_class columns) [] 0 (length rows)) rows ≡ first_by repeats rows
+classes_keep repeats [] columns are = refl
+classes_keep repeats (row ∷ rows) columns are = flags_pick (row ∷ rows) row repeats (share_class columns) (λ i j few fewer. are i j row few fewer) [] tt 0 (row ∷ rows) refl
 
 -- ---- tests of some element
 

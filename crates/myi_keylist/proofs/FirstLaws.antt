@@ -1,5 +1,4 @@
--- Where no two rows have one complete key in a unique key, all rows are kept; and rows are kept alike by two relations that
--- agree on them.
+-- Where no two rows have one complete key in a unique key, all rows are kept.
 use Rattle.std.proofs.Common.{◌≡◌, Bool, true, false, cond, ◌||◌, List, [], ◌∷◌, ◌++◌, map, refl, sym, ap, subst, ◌∙◌}
 use Rattle.std.specs.List.{list_any, AllByRecursion}
 use Rattle.myi_keylist.specs.Repeats.{is_same_key, AreApart}
@@ -62,21 +61,3 @@ all_after keys kept (row ∷ rows) apart =
 pub all_kept : {Row : Type 0} (keys : List (KeyOf Row)) (rows : List Row) → AreDistinctIn keys rows → first_by (repeats_in keys) rows ≡ rows
 unfolding BehindApart
 all_kept keys rows apart = all_after keys [] rows apart
-
--- ---- two relations that agree
-
-any_same : {Row : Type 0} (p q : Row → Bool) (rows : List Row) → AllByRecursion (λ k. p k ≡ q k) rows → list_any p rows ≡ list_any q rows
-any_same p q [] same = refl
-any_same p q (row ∷ rows) same = ap (λ b. b || list_any p rows) same.0 ∙ ap (λ b. q row || b) (any_same p q rows same.1)
-
-pub same_after : {Row : Type 0} (repeats other : Row → Row → Bool) → ((row k : Row) → repeats row k ≡ other row k) → (kept rows : List Row) → first_after repeats kept rows ≡ first_after other kept rows
-same_after repeats other same kept [] = refl
-same_after {Row} repeats other same kept (row ∷ rows) =
-    let one : list_any (repeats row) kept ≡ list_any (other row) kept = any_same (repeats row) (other row) kept (all kept) in
-    ap (λ (b : Bool). cond b (first_after repeats kept rows) (row ∷ first_after repeats (kept ++ row ∷ []) rows)) one
-    ∙ ap (λ rs. cond (list_any (other row) kept) rs (row ∷ first_after repeats (kept ++ row ∷ []) rows)) (same_after repeats other same kept rows)
-    ∙ ap (λ rs. cond (list_any (other row) kept) (first_after other kept rows) (row ∷ rs)) (same_after repeats other same (kept ++ row ∷ []) rows)
-  where
-    all : (ks : List Row) → AllByRecursion (λ k. repeats row k ≡ other row k) ks
-    all [] = tt
-    all (k ∷ ks) = (same row k, all ks)

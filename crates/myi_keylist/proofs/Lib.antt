@@ -4,3 +4,6 @@ pub mod MarkLaws
 pub mod RepeatLaws
 pub mod FirstLaws
 pub mod ClassLaws
+pub mod PointerLaws
+pub mod ColumnLaws
+pub mod PointLaws

@@ -2,7 +2,6 @@
 -- one that it shares with the rows of the same key in the same unique key, and with no others.
 use Rattle.std.specs.Prelude.{◌≡◌, ◌&&◌, ◌==◌, ◌<◌, ℕ, zero, suc, Bool, true, false, not, if◌then◌else◌, List, [], ◌∷◌, ◌++◌, length, slice_index, slice_index_or}
 use Rattle.std.specs.List.{list_any, AllByRecursion}
-use Rattle.myi_keylist.specs.FirstBy.{KeyOf, repeats_in}
 
 -- the class numbers of all rows, for each unique key
 abbrev pub Columns : Type 0
@@ -20,9 +19,10 @@ has_class columns c row = list_any (λ numbers. slice_index numbers row == c) co
 abbrev pub share_class : Columns → ℕ → ℕ → Bool
 share_class columns row other = list_any (λ numbers. not (slice_index numbers row == 0) && has_class columns (slice_index numbers row) other) columns
 
--- two rows share a number exactly where one repeats the other's complete key in a unique key
-abbrev pub AreClasses : List (KeyOf ℕ) → Columns → Type 0
-AreClasses keys columns = (row other : ℕ) → repeats_in keys row other ≡ share_class columns row other
+-- two rows of a list share a number exactly where one repeats the other
+abbrev pub AreClasses : {Row : Type 0} → (Row → Row → Bool) → List Row → Columns → Type 0
+AreClasses {Row} repeats rows columns =
+    (i j : ℕ) (other : Row) → i < length rows → j < length rows → repeats (slice_index_or rows i other) (slice_index_or rows j other) ≡ share_class columns i j
 
 -- whether each of n rows from a number on is kept, behind those that are kept already
 abbrev pub keeps_from : (ℕ → ℕ → Bool) → List ℕ → ℕ → ℕ → List Bool
@@ -34,13 +34,8 @@ keeps_from repeats kept row (suc n) =
 abbrev pub class_flags : Columns → ℕ → List Bool
 class_flags columns n = keeps_from (share_class columns) [] 0 n
 
--- the numbers of n rows from a number on
-abbrev pub rows_from : ℕ → ℕ → List ℕ
-rows_from row zero = []
-rows_from row (suc n) = row ∷ rows_from (suc row) n
-
 -- the rows with a true flag
-abbrev pub picked : List Bool → List ℕ → List ℕ
+abbrev pub picked : {Row : Type 0} → List Bool → List Row → List Row
 picked [] rows = []
 picked (b ∷ flags) [] = []
 picked (true ∷ flags) (row ∷ rows) = row ∷ picked flags rows

@@ -1,7 +1,8 @@
--- What a reader of the contracts has to believe: the order of pairs, keys that repeat, the rows that are kept, class numbers.
+-- What a reader of the contracts has to believe: the order of pairs, keys that repeat, the rows that are kept, class numbers, row pointers.
 pub mod PairOrder
 pub mod Repeats
 pub mod FirstBy
 pub mod Classes
+pub mod Columns
 -- What serves private contracts: where codes and marks of a list stand.
 pub mod PairLists

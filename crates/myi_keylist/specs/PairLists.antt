@@ -1,6 +1,6 @@
 -- A list of pairs with the codes of all keys in one buffer. A mark says of each pair where its key's code stands; before the
 -- code stand two bytes, its length, high byte first.
-use Rattle.std.specs.Prelude.{◌≡◌, ℕ, ◌+◌, ◌*◌, ◌/◌, ◌%◌, List, [], ◌∷◌, ◌++◌, length, take, drop, map}
+use Rattle.std.specs.Prelude.{◌≡◌, ℕ, ◌+◌, ◌*◌, ◌/◌, ◌%◌, List, [], ◌∷◌, ◌++◌, length, take, drop, map, slice_index}
 use Rattle.std.specs.Ordering.{nat_cmp, ordering_then}
 use Rattle.std.specs.declared.cmp.Ordering.{Ordering}
 use Rattle.myi_keys.specs.declared.values.KeySeg.{KeySeg}
@@ -44,3 +44,7 @@ pairs_at codes marks = map (pair_at codes) marks
 -- the order of marks: by the number, and where that is the same by code and pointer
 abbrev pub mark_cmp : List ℕ → Mark → Mark → Ordering
 mark_cmp codes a b = ordering_then (nat_cmp a.prefix b.prefix) (ordering_then (code_cmp (code_from codes a.start) (code_from codes b.start)) (nat_cmp a.row b.row))
+
+-- the mark of a row number with the pointer that stands at it
+abbrev pub pointed_mark : List ℕ → Mark → Mark
+pointed_mark pointers mark = record { prefix = mark.prefix; start = mark.start; row = slice_index pointers mark.row }

@@ -36,7 +36,8 @@ mod pair_list;
 
 pub use class_numbers::keep_first;
 pub use laws::{
-    class_numbers_decide, distinct_rows_are_kept, pairs_are_sorted, repeats_are_neighbours,
+    class_numbers_decide, columns_are_classes, distinct_rows_are_kept, pairs_are_sorted,
+    repeats_are_neighbours, rising_pointers_keep_order,
 };
 pub use pair::Pair;
 pub use pair_list::PairList;

@@ -3,7 +3,7 @@
 //! A mark for each pair says where its key's code stands in the buffer, and has the pair's row pointer and
 //! a number that stands in the order of keys, so that a sort moves marks alone and mostly compares
 //! numbers. Contracts see the list of the pairs.
-ghost use Rattle.std.specs.Prelude.{◌≡◌, ◌<◌, ◌++◌, ◌∷◌, [], length, take, slice_index_or};
+ghost use Rattle.std.specs.Prelude.{◌≡◌, ◌<◌, ◌++◌, ◌∷◌, [], length, map, take, slice_index_or};
 ghost use Rattle.std.specs.Prelude.{OnOk, OnErr};
 ghost use Rattle.std.specs.List.{AllByRecursion};
 ghost use Rattle.myi_keys.specs.Limits.{IsKey};
@@ -12,7 +12,8 @@ ghost use Rattle.myi_keys.specs.Comparing.{key_front, IsCode};
 ghost use Rattle.myi_keylist.specs.declared.pair.Pair.{Pair};
 ghost use Rattle.myi_keylist.specs.PairOrder.{pair_with, sorted};
 ghost use Rattle.myi_keylist.specs.Repeats.{is_same_key, has_repeat};
-ghost use Rattle.myi_keylist.specs.PairLists.{led, code_from, mark_cmp, pairs_at, IsMark};
+ghost use Rattle.myi_keylist.specs.Columns.{pointed};
+ghost use Rattle.myi_keylist.specs.PairLists.{led, code_from, mark_cmp, pairs_at, pointed_mark, IsMark};
 
 use myi_keys::{code_prefix, compare_codes, is_complete_code};
 use std::alloc::{AllocError, Global};
@@ -128,6 +129,14 @@ impl PairList {
     {
         sort_marks(&self.codes, &mut self.marks);
     }
+
+    /// Where the pairs have the numbers of rows, puts in place of each the pointer that stands at it, 0
+    /// where none does.
+    pub fn point(&mut self, pointers: &[u64])
+        ensures { self.new ≡ map (pointed pointers.now) self.old }
+    {
+        point_marks(&mut self.marks, pointers);
+    }
 }
 
 // Appends a code behind its length.
@@ -181,4 +190,20 @@ fn sort_marks(codes: &[u8], marks: &mut Vec<Mark>)
         ≡ sorted (pairs_at codes.now marks.old.items) }
 {
     marks.sort_unstable_by(|one, other| compare_marks(codes, one, other));
+}
+
+// Puts in place of a mark's row number the pointer that stands at it.
+fn point_mark(mark: &mut Mark, pointers: &[u64])
+    ensures { mark.new ≡ pointed_mark pointers.now mark.old }
+{
+    mark.row = pointers.get(mark.row as usize).copied().unwrap_or(0);
+}
+
+// The same for each mark.
+fn point_marks(marks: &mut [Mark], pointers: &[u64])
+    ensures { marks.new ≡ map (pointed_mark pointers.now) marks.old }
+{
+    for mark in marks.iter_mut() {
+        point_mark(mark, pointers);
+    }
 }

@@ -2,8 +2,8 @@
 
 -- first_rows_are_distinct
 pub use Rattle.myi_pair.proofs.FirstRowsLaws.{noted}
--- key_lists_are_sorted
-pub use Rattle.myi_pair.proofs.KeyListLaws.{sorted_is, sorted_permutes}
+-- class_numbers_keep_first_rows
+pub use Rattle.myi_pair.proofs.FirstByClasses.{classes_keep_first}
 -- pairs_are_sized
 pub use Rattle.myi_pair.proofs.SizedLaws.{placed, is_key, sized}
 -- laid_pages_stand_behind

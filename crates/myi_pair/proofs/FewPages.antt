@@ -10,7 +10,7 @@ use Rattle.myi_defs.specs.declared.types.Defs.{Defs}
 use Rattle.myi_defs.specs.Sound.{IsSound}
 use Rattle.myi_defs.specs.Addressable.{is_addressable}
 use Rattle.myi_header.specs.Layout.{first_page_of}
-use Rattle.myi_btree.specs.declared.pair.Pair.{Pair}
+use Rattle.myi_keylist.specs.declared.pair.Pair.{Pair}
 use Rattle.myi_btree.specs.declared.place.Place.{Place}
 use Rattle.myi_btree.specs.Walk.{Node}
 use Rattle.myi_btree.specs.Sizes.{IsPlaced, AreSized, IsSized, IsCount, fits_in}
@@ -20,9 +20,10 @@ use Rattle.myi_btree.proofs.CallerLemmas.{good_count}
 use Rattle.myi_btree.proofs.CallerLemmas.{level_count, level_all}
 use Rattle.myi_btree.proofs.CallerLemmas.{all_drop}
 use Rattle.myi_data.specs.Keys.{IsKeyNumber}
-use Rattle.myi_pair.specs.KeyList.{PlacedRow, pairs_of, pair_of, sorted, key_list}
+use Rattle.myi_keylist.specs.PairOrder.{sorted}
+use Rattle.myi_pair.specs.KeyList.{PlacedRow, pairs_of, pair_of, key_list}
 use Rattle.myi_pair.specs.Trees.{block_of_key, place_of}
-use Rattle.myi_pair.proofs.KeyListLaws.{sorted_permutes}
+use Rattle.myi_keylist.proofs.CallerLemmas.{sorted_permutes}
 use Rattle.myi_pair.proofs.SizedLaws.{IsNear, placed, list_sized}
 use Rattle.myi_pair.proofs.TreesLaws.{trees_of}
 

@@ -1,6 +1,6 @@
 pub mod CallerLemmas
 pub mod FirstRowsLaws
-pub mod KeyListLaws
+pub mod FirstByClasses
 pub mod ReadLaws
 pub mod KeptLaws
 pub mod SizedLaws

@@ -12,7 +12,7 @@ use Rattle.myi_header.specs.declared.state.State.{State}
 use Rattle.myi_header.specs.Layout.{first_page_of}
 use Rattle.myi_header.specs.HeaderOf.{header_of}
 use Rattle.myi_data.specs.Stored.{SizedRow, stored_size, stored_file, block_count, IsStorable}
-use Rattle.myi_btree.specs.declared.pair.Pair.{Pair}
+use Rattle.myi_keylist.specs.declared.pair.Pair.{Pair}
 use Rattle.myi_btree.specs.Walk.{Node}
 use Rattle.myi_btree.specs.Sizes.{IsPlaced, fits_in}
 use Rattle.myi_btree.specs.LaidPages.{laid, root_of}

@@ -14,7 +14,7 @@ use Rattle.myi_chain.specs.Meeting.{ranges_of}
 use Rattle.std.specs.Prelude.{option_and_then}
 use Rattle.myi_data.specs.Keys.{key_of}
 use Rattle.myi_data.specs.Readable.{packs, items_at, items_by, items_in, readable, deleted}
-use Rattle.myi_btree.specs.declared.pair.Pair.{Pair}
+use Rattle.myi_keylist.specs.declared.pair.Pair.{Pair}
 use Rattle.myi_pair.specs.FirstRows.{repeats, AreDistinct}
 use Rattle.myi_pair.specs.KeyList.{PlacedRow, key_list}
 use Rattle.myi_pair.specs.Trees.{HasTree, HaveTrees}

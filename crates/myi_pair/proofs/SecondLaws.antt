@@ -22,7 +22,7 @@ use Rattle.myi_pack.specs.Packed.{Values}
 use Rattle.myi_pack.specs.Spelling.{spelled_row, spelling}
 use Rattle.myi_data.specs.Readable.{readable}
 use Rattle.myi_data.specs.Stored.{SizedRow, Share, group_by, group, stored_by, stored_size, stored, stored_from, stored_file, block_count}
-use Rattle.myi_btree.specs.declared.pair.Pair.{Pair}
+use Rattle.myi_keylist.specs.declared.pair.Pair.{Pair}
 use Rattle.myi_btree.specs.Walk.{Node}
 use Rattle.myi_btree.specs.Sizes.{fits_in}
 use Rattle.myi_btree.specs.LaidPages.{laid}

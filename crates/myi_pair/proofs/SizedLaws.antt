@@ -26,12 +26,13 @@ use Rattle.myi_keys.specs.Weights.{weights, CanWeigh}
 use Rattle.myi_keys.proofs.CallerLemmas.{seg_size, weights_few}
 use Rattle.myi_data.specs.Keys.{content, is_absent, seg_of, IsKeyNumber, key_of}
 use Rattle.myi_data.proofs.CallerLemmas.{can_weigh, key_is, key_is_at, segments_at, values_fit}
-use Rattle.myi_btree.specs.declared.pair.Pair.{Pair}
+use Rattle.myi_keylist.specs.declared.pair.Pair.{Pair}
 use Rattle.myi_btree.specs.Nodes.{entry_of}
 use Rattle.myi_btree.specs.Sizes.{IsPlaced, IsSized, AreSized}
-use Rattle.myi_pair.specs.KeyList.{PlacedRow, pointer_by, pointer, pair_of, pairs_of, sorted, key_list}
+use Rattle.myi_keylist.specs.PairOrder.{sorted}
+use Rattle.myi_pair.specs.KeyList.{PlacedRow, pointer_by, pointer, pair_of, pairs_of, key_list}
 use Rattle.myi_pair.specs.Trees.{block_of_key, place_of}
-use Rattle.myi_pair.proofs.KeyListLaws.{sorted_permutes}
+use Rattle.myi_keylist.proofs.CallerLemmas.{sorted_permutes}
 
 seg_short : (fs : List Field) (row : Values) (s : Segment) → IsSoundSegment fs s → CanWeigh s (content fs row s) → length (seg_code (seg_of fs row s)) ≤ seg_cost s.length
 unfolding weights

@@ -11,7 +11,7 @@ use Rattle.myi_defs.specs.Addressable.{is_addressable}
 use Rattle.myi_keypage.specs.Page.{page_bytes}
 use Rattle.myi_keypage.proofs.CallerLemmas.{page_length}
 use Rattle.myi_keycache.specs.Lent.{bytes_at}
-use Rattle.myi_btree.specs.declared.pair.Pair.{Pair}
+use Rattle.myi_keylist.specs.declared.pair.Pair.{Pair}
 use Rattle.myi_btree.specs.declared.place.Place.{Place}
 use Rattle.myi_btree.specs.Walk.{Node}
 use Rattle.myi_btree.specs.Nodes.{page_of_node}

@@ -4,14 +4,12 @@
 use Rattle.std.specs.Prelude.{◌≡◌, ◌&&◌, ℕ, zero, suc, Bool, false, if◌then◌else◌, List, [], ◌∷◌, ◌++◌, length}
 use Rattle.std.specs.List.{list_any}
 use Rattle.std.specs.Option.{option_map_or}
-use Rattle.std.specs.Ordering.{is_eq}
 use Rattle.std.specs.Str.{bytes_eq}
 use Rattle.myi_defs.specs.declared.types.Defs.{Defs}
 use Rattle.myi_pack.specs.Packed.{Values}
-use Rattle.myi_keys.specs.declared.values.KeySeg.{KeySeg}
 use Rattle.myi_keys.specs.Codes.{key_code}
 use Rattle.myi_keys.specs.Limits.{is_complete}
-use Rattle.myi_keys.specs.Order.{key_cmp}
+use Rattle.myi_keylist.specs.Repeats.{is_same_key}
 use Rattle.myi_data.specs.Keys.{key_at, key_of}
 use Rattle.myi_data.specs.Stored.{SizedRow}
 
@@ -27,10 +25,6 @@ key_numbers d = numbers_from 1 (length d.keys)
 abbrev pub is_unique : Defs → ℕ → Bool
 is_unique d k = option_map_or (λ key. key.unique) (key_at d.keys k) false
 
--- both keys are complete and equal
-abbrev pub is_same_key : List KeySeg → List KeySeg → Bool
-is_same_key key other = is_complete key && is_eq (key_cmp key other)
-
 -- the row has the complete key of the other in the unique key of that number
 abbrev pub repeats_key : Defs → Values → Values → ℕ → Bool
 repeats_key d row other k = is_unique d k && is_same_key (key_of d k row) (key_of d k other)
@@ -38,6 +32,10 @@ repeats_key d row other k = is_unique d k && is_same_key (key_of d k row) (key_o
 -- the row has the complete key of the other in a unique key
 unfoldable pub repeats : Defs → Values → Values → Bool
 repeats d row other = list_any (repeats_key d row other) (key_numbers d)
+
+-- the same of rows with the sizes of their blocks
+abbrev pub repeats_row : Defs → SizedRow → SizedRow → Bool
+repeats_row d row other = repeats d row.values other.values
 
 -- the rows of a list that are kept, behind rows with these values that are kept already
 abbrev pub first_after : Defs → List Values → List SizedRow → List SizedRow

@@ -1,14 +1,12 @@
 -- The key list of a key: the key of each row with the row's pointer, sorted by key and then by pointer.
-use Rattle.std.specs.Prelude.{◌/◌, ℕ, if◌then◌else◌, List, [], ◌∷◌, map}
-use Rattle.std.specs.Ordering.{nat_cmp, ordering_then, is_gt}
-use Rattle.std.specs.declared.cmp.Ordering.{Ordering}
+use Rattle.std.specs.Prelude.{◌/◌, ℕ, List, map}
 use Rattle.myi_defs.specs.declared.types.RowFormat.{RowFormat}
 use Rattle.myi_defs.specs.declared.types.RowFormat.TheVariants.{Static, Dynamic}
 use Rattle.myi_defs.specs.declared.types.Defs.{Defs}
 use Rattle.myi_pack.specs.Packed.{Values}
-use Rattle.myi_keys.specs.Order.{key_cmp}
 use Rattle.myi_data.specs.Keys.{key_of}
-use Rattle.myi_btree.specs.declared.pair.Pair.{Pair}
+use Rattle.myi_keylist.specs.declared.pair.Pair.{Pair}
+use Rattle.myi_keylist.specs.PairOrder.{sorted}
 
 -- a row and its place in the data file
 abbrev pub PlacedRow : Type 0
@@ -28,19 +26,6 @@ pair_of d k r = record { key = key_of d k r.1; row = pointer d r.0 }
 
 abbrev pub pairs_of : Defs → ℕ → List PlacedRow → List Pair
 pairs_of d k rows = map (pair_of d k) rows
-
--- by key, and then by pointer
-abbrev pub pair_cmp : Pair → Pair → Ordering
-pair_cmp p q = ordering_then (key_cmp p.key q.key) (nat_cmp p.row q.row)
-
--- a pair put into a sorted list
-abbrev pub put_pair : Pair → List Pair → List Pair
-put_pair p [] = p ∷ []
-put_pair p (q ∷ qs) = if is_gt (pair_cmp p q) then q ∷ put_pair p qs else p ∷ q ∷ qs
-
-abbrev pub sorted : List Pair → List Pair
-sorted [] = []
-sorted (p ∷ ps) = put_pair p (sorted ps)
 
 -- the key list of the key of that number
 unfoldable pub key_list : Defs → ℕ → List PlacedRow → List Pair

@@ -10,7 +10,7 @@ use Rattle.myi_header.specs.StateOf.{state_of}
 use Rattle.myi_header.specs.HeaderOf.{header_of}
 use Rattle.myi_data.specs.Readable.{readable}
 use Rattle.myi_data.specs.Stored.{SizedRow, stored_size, stored_file, block_count}
-use Rattle.myi_btree.specs.declared.pair.Pair.{Pair}
+use Rattle.myi_keylist.specs.declared.pair.Pair.{Pair}
 use Rattle.myi_btree.specs.Walk.{Node}
 use Rattle.myi_btree.specs.Sizes.{fits_in}
 use Rattle.myi_btree.specs.LaidPages.{laid, root_of}

@@ -6,7 +6,7 @@ use Rattle.myi_base.specs.Ranges.{Range, is_apart}
 use Rattle.myi_defs.specs.declared.types.Defs.{Defs}
 use Rattle.myi_data.specs.Keys.{key_at}
 use Rattle.myi_keycache.specs.Lent.{bytes_at}
-use Rattle.myi_btree.specs.declared.pair.Pair.{Pair}
+use Rattle.myi_keylist.specs.declared.pair.Pair.{Pair}
 use Rattle.myi_btree.specs.declared.place.Place.{Place}
 use Rattle.myi_btree.specs.Walk.{◌>>=◌, Places, Walked, content}
 use Rattle.myi_btree.specs.Nodes.{node_in}

@@ -14,6 +14,7 @@ ghost use Rattle.myi_header.specs.StateOf.{rest_length, state_of};
 ghost use Rattle.myi_pack.specs.Packed.{Values};
 ghost use Rattle.myi_pack.specs.Spelling.{fits};
 ghost use Rattle.myi_keys.specs.Limits.{IsKey};
+ghost use Rattle.myi_keylist.specs.Classes.{Columns, AreClasses, class_flags, picked};
 ghost use Rattle.myi_data.specs.Readable.{readable};
 ghost use Rattle.myi_data.specs.Keys.{IsKeyNumber, key_of};
 ghost use Rattle.myi_data.specs.Stored.{SizedRow, values_in, IsStorable, stored_size, stored_rows};
@@ -21,8 +22,8 @@ ghost use Rattle.myi_btree.specs.declared.place.Place.{Place};
 ghost use Rattle.myi_btree.specs.Walk.{Walked, walk_of, AreNodes};
 ghost use Rattle.myi_btree.specs.Nodes.{entry_of};
 ghost use Rattle.myi_btree.specs.Sizes.{IsPlaced, IsSized, AreSized};
-ghost use Rattle.myi_pair.specs.FirstRows.{key_numbers, repeats, repeats_code, first_rows, AreDistinct};
-ghost use Rattle.myi_pair.specs.KeyList.{PlacedRow, pair_cmp, pointer, pair_of, pairs_of, sorted, key_list};
+ghost use Rattle.myi_pair.specs.FirstRows.{key_numbers, repeats, repeats_row, repeats_code, first_rows, AreDistinct};
+ghost use Rattle.myi_pair.specs.KeyList.{PlacedRow, pointer, pair_of, pairs_of, key_list};
 ghost use Rattle.myi_pair.specs.Trees.{place_of, node_at, HaveTrees, total};
 ghost use Rattle.myi_pair.specs.TreePages.{tree_pages, tree_end, with_tree, CanBeLaid, HasBehind};
 ghost use Rattle.myi_pair.specs.Clean.{values_of, sized_row, IsClean};
@@ -43,16 +44,12 @@ pub fn first_rows_are_distinct()
         → list_any (repeats d row) rows ≡ list_any (repeats_code d rows row) (key_numbers d) }
 {}
 
-/// Sorting pairs keeps them and puts them in order, and there is one list in order with these pairs: what
-/// any other way of sorting leaves is the same list, also by the order that pairs have as a type.
-pub fn key_lists_are_sorted()
-    ensures permuted { (pairs : List Pair) → IsPermutation pairs (sorted pairs) }
-    ensures ascending { (pairs : List Pair) → IsSorted pair_cmp (sorted pairs) }
-    ensures once { (pairs list : List Pair) → IsPermutation pairs list → IsSorted pair_cmp list
-        → list ≡ sorted pairs }
-    ensures own { (pairs list : List Pair) → IsPermutation pairs list
-        → IsSorted ⟦<Pair as Ord>⟧.cmp list
-        → list ≡ sorted pairs }
+/// Rows that are kept by class numbers are the first rows, where two rows share a number exactly where one
+/// repeats the other in a unique key.
+pub fn class_numbers_keep_first_rows()
+    ensures { (d : Defs) (rows : List SizedRow) (columns : Columns)
+        → AreClasses (repeats_row d) rows columns
+        → picked (class_flags columns (length rows)) rows ≡ first_rows d rows }
 {}
 
 /// Each readable row of a file of bytes can be stored anew, and so can each that a repair keeps. The new

@@ -14,7 +14,7 @@ use Rattle.myi_pack.specs.Spelling.{fits}
 use Rattle.myi_data.specs.Keys.{IsKeyNumber, key_of}
 use Rattle.myi_data.specs.Stored.{SizedRow, values_in, group, stored_size, stored, stored_from, stored_file, block_count, IsStorable}
 use Rattle.myi_data.proofs.CallerLemmas.{stored_sized}
-use Rattle.myi_btree.specs.declared.pair.Pair.{Pair}
+use Rattle.myi_keylist.specs.declared.pair.Pair.{Pair}
 use Rattle.myi_btree.specs.Nodes.{entry_of}
 use Rattle.myi_btree.specs.Sizes.{IsSized}
 use Rattle.myi_pair.specs.FirstRows.{key_numbers, numbers_from}

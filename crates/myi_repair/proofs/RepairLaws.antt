@@ -9,11 +9,12 @@ use Rattle.myi_header.specs.Layout.{first_page_of}
 use Rattle.myi_header.specs.StateOf.{state_of}
 use Rattle.myi_header.specs.HeaderOf.{header_of}
 use Rattle.myi_data.specs.Stored.{SizedRow, block_count}
-use Rattle.myi_btree.specs.declared.pair.Pair.{Pair}
+use Rattle.myi_keylist.specs.declared.pair.Pair.{Pair}
 use Rattle.myi_btree.specs.LaidPages.{laid}
 use Rattle.myi_btree.specs.Sizes.{fits_in}
 use Rattle.myi_pair.specs.FirstRows.{key_numbers}
-use Rattle.myi_pair.specs.KeyList.{PlacedRow, pairs_of, sorted, key_list}
+use Rattle.myi_keylist.specs.PairOrder.{sorted}
+use Rattle.myi_pair.specs.KeyList.{PlacedRow, pairs_of, key_list}
 use Rattle.myi_pair.specs.Trees.{place_of, block_of_key}
 use Rattle.myi_pair.specs.TreePages.{HasBehind}
 use Rattle.myi_pair.specs.RecoveredBytes.{laid_trees, kept, new_data, placed_from, row_pairs, new_trees, new_state, recovered_state, new_index}

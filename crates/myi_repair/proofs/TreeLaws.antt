@@ -15,7 +15,7 @@ use Rattle.myi_keys.specs.Limits.{IsKey}
 use Rattle.myi_keycache.specs.Kept.{kept}
 use Rattle.myi_keycache.specs.Lent.{flushed}
 use Rattle.myi_keycache.specs.Caching.{pages_of, Caching, contents, IsCurrent}
-use Rattle.myi_btree.specs.declared.pair.Pair.{Pair}
+use Rattle.myi_keylist.specs.declared.pair.Pair.{Pair}
 use Rattle.myi_btree.specs.declared.place.Place.{Place}
 use Rattle.myi_btree.specs.Walk.{Node}
 use Rattle.myi_btree.specs.Sizes.{IsPlaced, AreSized}
@@ -24,12 +24,12 @@ use Rattle.myi_btree.specs.Building.{CanLay, EndBefore, Lays}
 use Rattle.myi_btree.proofs.CallerLemmas.{multiple}
 use Rattle.myi_btree.proofs.CallerLemmas.{ends}
 use Rattle.myi_pair.specs.FirstRows.{key_numbers, numbers_from}
-use Rattle.myi_pair.specs.KeyList.{sorted}
+use Rattle.myi_keylist.specs.PairOrder.{sorted}
 use Rattle.myi_pair.specs.Trees.{place_of, block_of_key}
 use Rattle.myi_pair.specs.RecoveredBytes.{LaidTrees, laid_trees, pages_then}
 use Rattle.myi_pair.specs.TreePages.{tree_nodes, tree_pages, tree_end, with_tree, CanBeLaid, HasBehind}
 use Rattle.myi_pair.proofs.CallerLemmas.{tree_behind}
-use Rattle.myi_pair.proofs.CallerLemmas.{sorted_permutes}
+use Rattle.myi_keylist.proofs.CallerLemmas.{sorted_permutes}
 use Rattle.myi_repair.specs.Building.{trees_of, LaysTrees}
 use Rattle.myi_repair.proofs.PairLaws.{length-numbers}
 use Rattle.myi_repair.proofs.FilesLaws.{resized_none}

@@ -4,10 +4,10 @@ use Rattle.myi_base.specs.Holding.{Holding, bytes_of}
 use Rattle.myi_defs.specs.declared.types.Defs.{Defs}
 use Rattle.myi_header.specs.Layout.{first_page_of}
 use Rattle.myi_keycache.specs.Caching.{Caching, contents, IsCurrent}
-use Rattle.myi_btree.specs.declared.pair.Pair.{Pair}
+use Rattle.myi_keylist.specs.declared.pair.Pair.{Pair}
+use Rattle.myi_keylist.specs.PairOrder.{sorted}
 use Rattle.myi_btree.specs.Building.{CanLay}
 use Rattle.myi_pair.specs.FirstRows.{key_numbers}
-use Rattle.myi_pair.specs.KeyList.{sorted}
 use Rattle.myi_pair.specs.RecoveredBytes.{LaidTrees, laid_trees}
 use Rattle.myi_pair.specs.TreePages.{HasBehind}
 use Rattle.myi_repair.specs.declared.trees.Trees.{Trees}

@@ -13,7 +13,7 @@ use Rattle.myi_keys.specs.Codes.{key_code}
 use Rattle.myi_pack.specs.Packed.{Values}
 use Rattle.myi_data.specs.Keys.{key_of}
 use Rattle.myi_data.specs.Stored.{SizedRow, values_in, stored_file, block_count, IsStorable}
-use Rattle.myi_btree.specs.declared.pair.Pair.{Pair}
+use Rattle.myi_keylist.specs.declared.pair.Pair.{Pair}
 use Rattle.myi_pair.specs.FirstRows.{key_numbers, is_unique, repeats, has_code}
 use Rattle.myi_pair.specs.RecoveredBytes.{placed_from, row_pairs}
 use Rattle.myi_repair.specs.declared.unique.UniqueKey.{UniqueKey}

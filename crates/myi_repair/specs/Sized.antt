@@ -3,7 +3,7 @@ use Rattle.std.specs.Prelude.{◌≡◌, ◌+◌, ◌<◌, ℕ, List, [], length
 use Rattle.std.specs.List.{AllByRecursion}
 use Rattle.myi_defs.specs.declared.types.Defs.{Defs}
 use Rattle.myi_keys.specs.Limits.{IsKey}
-use Rattle.myi_btree.specs.declared.pair.Pair.{Pair}
+use Rattle.myi_keylist.specs.declared.pair.Pair.{Pair}
 use Rattle.myi_btree.specs.Sizes.{AreSized}
 use Rattle.myi_pair.specs.Trees.{place_of}
 

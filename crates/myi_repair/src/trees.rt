@@ -10,7 +10,7 @@ ghost use Rattle.myi_data.specs.Keys.{IsKeyNumber};
 ghost use Rattle.myi_btree.specs.Sizes.{IsPlaced, AreSized, fits_in};
 ghost use Rattle.myi_btree.specs.LaidPages.{laid, root_of};
 ghost use Rattle.myi_btree.specs.Building.{CanLay, Lays};
-ghost use Rattle.myi_pair.specs.KeyList.{sorted};
+ghost use Rattle.myi_keylist.specs.PairOrder.{sorted};
 ghost use Rattle.myi_pair.specs.Trees.{place_of};
 ghost use Rattle.myi_repair.specs.Opening.{CutsOff};
 ghost use Rattle.myi_repair.specs.Sized.{AreSizedPairs};

@@ -7,6 +7,7 @@ ghost use Rattle.std.specs.Prelude.{◌≡◌, ◌≤◌, ◌+◌, ◌-◌, ◌+
 ghost use Rattle.myi_base.specs.Holding.{IfTold, bytes_of};
 ghost use Rattle.myi_base.specs.Causes.{HasCause};
 ghost use Rattle.myi_io.specs.declared.files.FileErr.TheVariants.{Failed};
+ghost use Rattle.myi_window.specs.declared.window.TheConstants.{WINDOW};
 
 use myi_io::{FileErr, Files};
 use std::alloc::{AllocError, Global};
@@ -49,9 +50,9 @@ fn read_behind<F: Files>(
 
 /// How many bytes are missing behind the first `count` from a place on, up to the end or a whole window.
 fn room_behind(count: usize, from: u64, end: u64) -> usize
-    requires few { count ≤ 131072 }
+    requires few { count ≤ WINDOW }
     requires inside { from + count ≤ end }
-    ensures { count + result ≡ min 131072 (end - from) }
+    ensures { count + result ≡ min WINDOW (end - from) }
 {
     if end - from < WINDOW as u64 {
         return (end - from) as usize - count;
@@ -81,12 +82,13 @@ impl Drop for Window {
 impl Model for Window {
     ghost use Rattle.std.specs.Prelude.{◌≡◌, ◌≤◌, length, take};
     ghost use Rattle.myi_window.specs.Excerpt.{Excerpt};
+    ghost use Rattle.myi_window.specs.declared.window.TheConstants.{WINDOW};
 
     ghost Value = { Excerpt };
 
     ghost view = { λ w. record { from = w.from; bytes = take w.count w.buffer.items } };
 
-    ghost invariant = { λ w. (length w.buffer.items ≡ 131072) × (w.count ≤ 131072) };
+    ghost invariant = { λ w. (length w.buffer.items ≡ WINDOW) × (w.count ≤ WINDOW) };
 }
 
 impl Window {

@@ -1,1 +1,2 @@
 pub mod SinkLaws
+pub mod HeadlineLaws

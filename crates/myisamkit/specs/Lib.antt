@@ -6,6 +6,8 @@ pub mod Words
 pub mod Lines
 -- what a run says and does
 pub mod Runs
+-- what a repair of a table comes to
+pub mod Headline
 -- what serves private contracts
 
 -- what ends a run before its line

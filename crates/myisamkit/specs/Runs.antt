@@ -97,3 +97,7 @@ SaysPart request files old new = IfTold files (λ m. IfTold old (λ w. (k : ℕ)
 
 abbrev pub Says : Request → Option Holding → Option (List ℕ) → Option (List ℕ) → Status → Type 0
 Says request files old new s = (IsFault s × SaysPart request files old new) ⊎ ((IsFault s → ⊥) × SaysAll request files old new)
+
+-- this line was written, or a front of it where a fault cut the run off
+abbrev pub SaysLine : List ℕ → Option (List ℕ) → Option (List ℕ) → Status → Type 0
+SaysLine line old new s = (IsFault s × IfTold old (λ w. (k : ℕ) × (new ≡ Some (w ++ take k line)))) ⊎ ((IsFault s → ⊥) × IfTold old (λ w. new ≡ Some (w ++ line)))

@@ -33,6 +33,7 @@ pub(crate) fn recover_table<F: Files>(
         IfTold (F.holds files.old) (IsStatus (recover extend name.now) r.0)) }
     ensures plain { IfOk result (λ r. IsFault r.0 → ⊥) }
     ensures usage { IfOk result (λ r. r.0 ≢ Status.Usage) }
+    ensures findings { IfOk result (λ r. r.0 ≢ Status.Findings) }
     ensures files { Told (F.holds files.old) (F.holds files.new)
         (LeavesWhole (recover extend name.now) now) }
     ensures cleared { IfErr result (λ s.

@@ -1,12 +1,14 @@
 //! The top call.
-ghost use Rattle.std.specs.Prelude.{◌≡◌, ◌⊎◌, ◌↔◌, string_bytes, IfOk, IfErr, OnOk, IsTrue};
+ghost use Rattle.std.specs.Prelude.{◌≡◌, ◌≢◌, ◌⊎◌, ◌↔◌, string_bytes, IfOk, IfErr, OnOk, IsTrue};
 ghost use Rattle.myi_base.specs.Holding.{IfTold, Told};
 ghost use Rattle.myi_base.specs.Causes.{Rose, HasCause};
 ghost use Rattle.myi_repair.specs.Faults.{RoseAtMost};
 ghost use Rattle.myisamkit.specs.Words.{request_of, usage};
 ghost use Rattle.myisamkit.specs.Stops.{status_of_stop};
 ghost use Rattle.myisamkit.specs.Runs.{IsText, IsStatus, faults_told, IsFault};
-ghost use Rattle.myisamkit.specs.Runs.{Says, LeavesWhole, LeavesNoWorking, Does};
+ghost use Rattle.myisamkit.specs.Runs.{Says, SaysLine, LeavesWhole, LeavesNoWorking, Does};
+ghost use Rattle.myisamkit.specs.Lines as spec;
+ghost use Rattle.myisamkit.specs.Headline.{Recovers};
 
 use crate::lines::usage_line;
 use crate::recover::recover_table;
@@ -26,14 +28,23 @@ pub fn kit<F: Files, O: Sink>(
 ) -> Status
     requires { IsTrue F.writable }
 
+    // A table that can be repaired is repaired, faults of files and want of memory aside.
+    ensures headline { Told (F.holds files.old) (F.holds files.new)
+        (Recovers (request_of words.now) now result) }
+
     // What is written is the text that the words have on these files; a fault may cut it off.
     ensures text { Says (request_of words.now) (F.holds files.old)
         (O.written out.old) (O.written out.new) result }
+
+    // Words that are refused need no file: the line on usage is written whatever the files tell.
+    ensures refused_words { request_of words.now ≡ usage
+        → SaysLine spec.usage_line (O.written out.old) (O.written out.new) result }
 
     // Where no fault cuts the run off, the status is the defined one.
     ensures status { IfTold (F.holds files.old) (λ m.
         IsFault result ⊎ IsStatus (request_of words.now) result m) }
     ensures usage { IsFault result ⊎ ((request_of words.now ≡ usage) ↔ (result ≡ Status.Usage)) }
+    ensures findings { result ≢ Status.Findings }
 
     // At each status a table's files are the old ones or whole new ones, and other files stay.
     ensures files { Told (F.holds files.old) (F.holds files.new)
@@ -75,6 +86,9 @@ fn work<F: Files>(
         IfTold (F.holds files.old) (IsStatus (request_of words.now) r.0)) }
     ensures plain { IfOk result (λ r. IsFault r.0 → ⊥) }
     ensures usage { IfOk result (λ r. (request_of words.now ≡ usage) ↔ (r.0 ≡ Status.Usage)) }
+    ensures usage_line { IfOk result (λ r. request_of words.now ≡ usage
+        → string_bytes r.1 ≡ spec.usage_line) }
+    ensures findings { IfOk result (λ r. r.0 ≢ Status.Findings) }
     ensures files { Told (F.holds files.old) (F.holds files.new)
         (LeavesWhole (request_of words.now) now) }
     ensures cleared { IfErr result (λ s.

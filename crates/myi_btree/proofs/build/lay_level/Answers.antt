@@ -4,7 +4,7 @@ use Rattle.myi_base.specs.Holding.{Told}
 use Rattle.myi_keypage.specs.declared.entry.Entry.{Entry}
 use Rattle.std.specs.List.{AllByRecursion}
 use Rattle.myi_keypage.specs.Page.{page_with, IsPlace, IsBranching}
-use Rattle.myi_btree.specs.declared.pair.Pair.{Pair}
+use Rattle.myi_keylist.specs.declared.pair.Pair.{Pair}
 use Rattle.myi_btree.specs.Walk.{Node, node_with}
 use Rattle.myi_btree.specs.Nodes.{entry_of, entries_of}
 use Rattle.myi_btree.specs.Entries.{entries_left}
@@ -12,7 +12,7 @@ use Rattle.myi_btree.specs.Sizes.{AreSized, fits_in}
 use Rattle.myi_btree.specs.LaidPages.{Level, level_of}
 use Rattle.myi_btree.specs.Building.{MayLay, CountsPuts}
 use Rattle.myi_btree.specs.Levels.{IsLevel}
-use Rattle.myi_btree.proofs.PutLaws.{told_start, told_refused, told_spares, puts_none, puts_on, counts_both}
+use Rattle.myi_btree.proofs.PutLaws.{lays_still, lays_then, told_start, told_refused, told_spares, puts_none, puts_on, counts_both}
 use Rattle.myi_btree.proofs.LevelLaws.{Laying, laying_start, laying_step, laying_end, same_pairs}
 use Rattle.myi_btree.proofs.BodyLaws.{next_page, next_behind, last_page, on_err, put_told, start_left, same_level}
 use Rattle.myi_btree.proofs.build.lay_level.Goals as goal
@@ -47,6 +47,7 @@ level-init g c =
           (laying_start c.args.setup.place c.args.below.end (fits_in c.args.setup.place (not c.is_empty-node.result)) all c.args.below.places.items c.new-level.result c.new-level.ensures.separators c.new-level.ensures.places c.new-level.ensures.end);
       name = refl;
       puts = puts_none c.args.cache.now;
+      only = lays_still _ _ _ _ _ refl;
       counted = omega arith;
       later = omega arith;
       reads = refl;
@@ -134,6 +135,7 @@ level-preserved g c =
       laying = subst (λ (t : List ℕ). Laying c.args.setup.place c.args.below.end (fits_in c.args.setup.place (not c.is_empty-node.result)) (level_of (length i.all) (fits_in c.args.setup.place (not c.is_empty-node.result)) i.all c.args.below.places.items) p.split.rest t c.add_page.new.self (i.written ++ node ∷ [])) (sym p.body.others_is) laying;
       name = c.in_ok-put_page.ensures.name ∙ i.name;
       puts = puts_on c.args.cache.now c.level.cache c.put_page.new.cache i.puts c.in_ok-put_page.ensures.puts;
+      only = lays_then _ _ _ _ _ _ _ _ _ (omega (arith, i.laying.found_end)) i.name i.only c.in_ok-put_page.ensures.only;
       counted = counts_both i.written (node ∷ []) c.args.cache.now c.level.cache c.put_page.new.cache i.counted c.in_ok-put_page.ensures.counted;
       later = omega (arith, i.later, c.in_ok-put_page.ensures.cause.later);
       reads = c.in_ok-put_page.ensures.reads ∙ i.reads;
@@ -207,3 +209,23 @@ returns-clause-counted g c =
     let level = same_level c.args.setup.place (not c.is_empty-node.result) (not (eqb (length c.args.below.places.items) 0)) i.all all c.args.below.places.items same i.node in
     let pages : i.written ++ node ∷ [] ≡ (level_of (length all) (fits_in c.args.setup.place (not (eqb (length c.args.below.places.items) 0))) all c.args.below.places.items).pages = sym laid.pages ∙ ap (λ (t : Level). t.pages) level in
     subst (λ (t : List Node). CountsPuts (length t) c.args.cache.now c.put_page-2.new.cache) pages (counts_both i.written (node ∷ []) c.args.cache.now c.level.cache c.put_page-2.new.cache i.counted c.in_ok-put_page-2.ensures.counted)
+
+pub returns-in_err-put_page-clause-only : goal.returns-in_err-put_page-clause-only
+returns-in_err-put_page-clause-only g c =
+    let i = c.level.invariant in
+    lays_then _ _ _ _ _ _ _ _ _ (omega (arith, i.laying.found_end)) i.name i.only c.in_err-put_page.ensures.only
+
+pub returns-in_err-next-2-clause-only : goal.returns-in_err-next-2-clause-only
+returns-in_err-next-2-clause-only g c =
+    let i = c.level.invariant in
+    lays_then _ _ _ _ _ _ _ _ _ (omega (arith, i.laying.found_end)) i.name i.only c.in_ok-put_page.ensures.only
+
+pub returns-in_err-put_page-2-clause-only : goal.returns-in_err-put_page-2-clause-only
+returns-in_err-put_page-2-clause-only g c =
+    let i = c.level.invariant in
+    lays_then _ _ _ _ _ _ _ _ _ (omega (arith, i.laying.found_end)) i.name i.only c.in_err-put_page-2.ensures.only
+
+pub returns-clause-only : goal.returns-clause-only
+returns-clause-only g c =
+    let i = c.level.invariant in
+    lays_then _ _ _ _ _ _ _ _ _ (omega (arith, i.laying.found_end)) i.name i.only c.in_ok-put_page-2.ensures.only

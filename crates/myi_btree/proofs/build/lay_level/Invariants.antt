@@ -2,13 +2,13 @@ use Rattle.std.proofs.Common.{◌≡◌, ◌≤◌, ◌<◌, List, length, not, 
 use Rattle.std.specs.List.{AllByRecursion}
 use Rattle.myi_base.specs.Holding.{Told}
 use Rattle.myi_keypage.specs.Page.{page_with, IsPlace, IsBranching}
-use Rattle.myi_btree.specs.declared.pair.Pair.{Pair}
+use Rattle.myi_keylist.specs.declared.pair.Pair.{Pair}
 use Rattle.myi_btree.specs.Walk.{Node}
 use Rattle.myi_btree.specs.Nodes.{entries_of}
 use Rattle.myi_btree.specs.Entries.{coded_of, entries_left, IsInside}
 use Rattle.myi_btree.specs.Sizes.{AreSized, fits_in, IsCount}
 use Rattle.myi_btree.specs.LaidPages.{level_of}
-use Rattle.myi_btree.specs.Building.{MayLay, PutsOnly, CountsPuts}
+use Rattle.myi_btree.specs.Building.{MayLay, LaysOnly, PutsOnly, CountsPuts}
 use Rattle.myi_btree.specs.Levels.{HasEntries}
 use Rattle.myi_btree.proofs.LevelLaws.{Laying}
 use Rattle.myi_btree.proofs.build.lay_level.Given as goal
@@ -34,6 +34,7 @@ invariant-level g l = record {
   laying : Laying l.setup.place l.fn.below.end (fits_in l.setup.place l.node) (level_of (length all) (fits_in l.setup.place l.node) all l.fn.below.places.items) left l.children l.level written;
   name : l.cache.name ≡ l.fn.cache.name;
   puts : PutsOnly l.fn.cache l.cache;
+  only : LaysOnly (g.F.Files.holds l.fn.files) (g.F.Files.holds l.files) l.setup.place.block_length l.fn.below.end l.fn.cache l.cache;
   counted : CountsPuts (length written) l.fn.cache l.cache;
   later : g.F.Files.faults l.fn.files ≤ g.F.Files.faults l.files;
   reads : g.F.Files.reads l.files ≡ g.F.Files.reads l.fn.files;

@@ -2,18 +2,18 @@ use Rattle.std.proofs.Common.{◌≡◌, ℕ, suc, ◌-◌, ◌%◌, ◌<◌, �
 use Rattle.std.proofs.lemmas.Bool.{lt-ltb}
 use Rattle.myi_base.specs.Holding.{Told}
 use Rattle.myi_keypage.specs.declared.entry.Entry.{Entry}
-use Rattle.myi_btree.specs.declared.pair.Pair.{Pair}
+use Rattle.myi_keylist.specs.declared.pair.Pair.{Pair}
 use Rattle.myi_btree.specs.Walk.{Node}
 use Rattle.myi_btree.specs.Nodes.{entries_of}
 use Rattle.myi_btree.specs.Sizes.{fits_in}
 use Rattle.myi_btree.specs.LaidPages.{Level, level_of}
-use Rattle.myi_btree.specs.Building.{laid_at, MayLay, NotLaid, CountsPuts}
+use Rattle.myi_btree.specs.Building.{laid_at, MayLay, NotLaid, LaysOnly, CountsPuts}
 use Rattle.myi_btree.specs.Levels.{HasEntries, level_on, IsLevel}
 use Rattle.std.specs.List.{AllByRecursion}
 use Rattle.myi_keypage.specs.Page.{page_with, IsPlace, IsBranching}
 use Rattle.myi_btree.proofs.LevelsLaws.{upper, stepped, told_both, told_spares_both, levels_first, levels_more, branches_above, level_above, pages_above, end_on}
 use Rattle.myi_btree.proofs.BodyLaws.{on_err}
-use Rattle.myi_btree.proofs.PutLaws.{puts_on, counts_both}
+use Rattle.myi_btree.proofs.PutLaws.{lays_then, puts_on, counts_both}
 use Rattle.myi_btree.proofs.build.lay_levels.Goals as goal
 
 pub levels-init : goal.levels-init
@@ -41,6 +41,7 @@ levels-init g c =
       whole = s.whole;
       name = c.in_ok-level.ensures.name;
       puts = c.in_ok-level.ensures.puts;
+      only = subst (λ (n : ℕ). LaysOnly (g.F.Files.holds c.args.files.now) (g.F.Files.holds c.lay_level.new.files) place.block_length n c.args.cache.now c.lay_level.new.cache) c.new-none.ensures.end c.in_ok-level.ensures.only;
       counted = subst (λ (t : Level). CountsPuts (length t.pages) c.args.cache.now c.lay_level.new.cache) lowest (c.in_ok-level.ensures.counted pairs are);
       later = c.in_ok-level.ensures.cause.later;
       reads = c.in_ok-level.ensures.reads;
@@ -134,6 +135,7 @@ levels-preserved g c =
       whole = s.whole;
       name = c.in_ok-level-2.ensures.name ∙ i.name;
       puts = puts_on c.args.cache.now c.levels.cache c.lay_level-in-levels.new.cache i.puts c.in_ok-level-2.ensures.puts;
+      only = lays_then _ _ _ _ _ _ _ _ _ (omega (arith, i.end)) i.name i.only c.in_ok-level-2.ensures.only;
       counted = counts_both i.written level.pages c.args.cache.now c.levels.cache c.lay_level-in-levels.new.cache i.counted
           (subst (λ (t : List Node). CountsPuts (length t) c.levels.cache c.lay_level-in-levels.new.cache) pages (c.in_ok-level-2.ensures.counted i.aside are));
       later = omega (arith, i.later, c.in_ok-level-2.ensures.cause.later);
@@ -143,3 +145,12 @@ levels-preserved g c =
 
 pub returns-in_err-level-2-clause-puts : goal.returns-in_err-level-2-clause-puts
 returns-in_err-level-2-clause-puts g c = puts_on c.args.cache.now c.levels.cache c.lay_level-in-levels.new.cache c.levels.invariant.puts c.in_err-level-2.ensures.puts
+
+pub returns-in_err-level-clause-only : goal.returns-in_err-level-clause-only
+returns-in_err-level-clause-only g c =
+    subst (λ (n : ℕ). LaysOnly (g.F.Files.holds c.args.files.now) (g.F.Files.holds c.lay_level.new.files) c.args.setup.place.block_length n c.args.cache.now c.lay_level.new.cache) c.new-none.ensures.end c.in_err-level.ensures.only
+
+pub returns-in_err-level-2-clause-only : goal.returns-in_err-level-2-clause-only
+returns-in_err-level-2-clause-only g c =
+    let i = c.levels.invariant in
+    lays_then _ _ _ _ _ _ _ _ _ (omega (arith, i.end)) i.name i.only c.in_err-level-2.ensures.only

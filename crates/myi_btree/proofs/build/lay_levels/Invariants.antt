@@ -1,12 +1,12 @@
 use Rattle.std.proofs.Common.{◌≡◌, ◌+◌, ◌*◌, ◌%◌, ◌≤◌, ◌++◌, ℕ, suc, List, length, ltb}
 use Rattle.myi_base.specs.Holding.{Told}
-use Rattle.myi_btree.specs.declared.pair.Pair.{Pair}
+use Rattle.myi_keylist.specs.declared.pair.Pair.{Pair}
 use Rattle.myi_btree.specs.Walk.{Node}
 use Rattle.myi_btree.specs.Nodes.{entries_of}
 use Rattle.std.specs.List.{AllByRecursion}
 use Rattle.myi_keypage.specs.Page.{IsPlace}
 use Rattle.myi_btree.specs.Sizes.{AreSized, fits_in}
-use Rattle.myi_btree.specs.Building.{laid_at, MayLay, PutsOnly, CountsPuts}
+use Rattle.myi_btree.specs.Building.{laid_at, MayLay, LaysOnly, PutsOnly, CountsPuts}
 use Rattle.myi_btree.proofs.LevelsLaws.{upper}
 use Rattle.myi_btree.proofs.build.lay_levels.Given as goal
 
@@ -25,6 +25,7 @@ invariant-levels g l = record {
   whole : l.level.end % 1024 ≡ 0;
   name : l.cache.name ≡ l.fn.cache.name;
   puts : PutsOnly l.fn.cache l.cache;
+  only : LaysOnly (g.F.Files.holds l.fn.files) (g.F.Files.holds l.files) l.setup.place.block_length l.fn.first l.fn.cache l.cache;
   counted : CountsPuts (length written) l.fn.cache l.cache;
   later : g.F.Files.faults l.fn.files ≤ g.F.Files.faults l.files;
   reads : g.F.Files.reads l.files ≡ g.F.Files.reads l.fn.files;

@@ -1,10 +1,11 @@
-use Rattle.std.proofs.Common.{◌≡◌, ℕ, false, List, Some, None, Err, length, slice_get, sym, ap, subst, ◌∙◌, arith}
+use Rattle.std.proofs.Common.{◌≡◌, ℕ, false, List, Some, None, Ok, Err, length, slice_get, refl, sym, ap, subst, ◌∙◌, arith}
 use Rattle.std.proofs.lemmas.Result.{err_from_is_err_and}
 use Rattle.myi_base.proofs.CallerLemmas.{ok_not_err}
 use Rattle.myi_keycache.specs.declared.setup.CacheFault.{CacheFault}
 use Rattle.myi_keycache.specs.Order.{WritesOnly, due_in, cache_of, page_of}
 use Rattle.myi_keycache.proofs.CacheLemmas.{pages_eq, stay_same, nothing_only}
 use Rattle.myi_keycache.proofs.LoadLemmas.{room_is}
+use Rattle.myi_keycache.proofs.FlagLemmas.{none_or, wrote_or, flags_of, refused_flags}
 use Rattle.myi_keycache.proofs.OneLemmas.{one_due, one_ok, one_kept, one_refused, one_err}
 use Rattle.myi_keycache.proofs.GetLemmas.{refused_gets, short_lent, read_answer, read_missing, load_gets, not_short, memory_not_short}
 use Rattle.myi_keycache.proofs.cache.load.Goals as goal
@@ -28,7 +29,8 @@ returns-in_err-read_page-clause-finds g c =
           );
       clean = λ all. h.holds;
       one = one_kept _ _ c.args.name.now _ fault h.holds;
-      gets = refused_gets _ _ c.args.name.now c.args.blocks.now c.args.blocks.now c.args.counters.now c.args.counters.now c.args.page.at c.args.page.size fault (stay_same c.args.blocks.now) (nothing_only _ _ c.args.name.now c.args.blocks.now c.args.counters.now c.requires.writes h.holds);
+      gets = refused_gets _ _ c.args.name.now c.args.blocks.now c.args.blocks.now c.args.counters.now c.args.counters.now c.args.page.at c.args.page.size fault (stay_same c.args.blocks.now) (nothing_only _ _ c.args.name.now c.args.blocks.now c.args.counters.now c.requires.writes h.holds)
+          (refused_flags c.args.name.now c.args.blocks.now c.args.blocks.now c.args.counters.now c.args.counters.now _ refl) (none_or _ _ _ c.args.name.now c.args.blocks.now c.args.blocks.now c.args.counters.now c.args.counters.now refl refl);
     })
 
 pub returns-in_err-make_room-clause-finds : goal.returns-in_err-make_room-clause-finds
@@ -43,7 +45,8 @@ returns-in_err-make_room-clause-finds g c =
       short = λ p is. absurd (not_short fault p h.faults is);
       clean = w.clean;
       one = one_due _ _ _ c.args.name.now c.args.blocks.now c.args.counters.now c.args.page.at c.args.page.size _ c.requires.none c.in_ok-read_page.ensures.holds (one_err _ _ c.args.name.now (due_in c.args.blocks.now) _ fault h.one);
-      gets = refused_gets _ _ c.args.name.now c.args.blocks.now c.make_room.new.blocks c.args.counters.now c.make_room.new.counters c.args.page.at c.args.page.size fault h.stay w;
+      gets = refused_gets _ _ c.args.name.now c.args.blocks.now c.make_room.new.blocks c.args.counters.now c.make_room.new.counters c.args.page.at c.args.page.size fault h.stay w
+          (refused_flags c.args.name.now c.args.blocks.now c.make_room.new.blocks c.args.counters.now c.make_room.new.counters _ h.err) (none_or _ _ _ c.args.name.now c.args.blocks.now c.make_room.new.blocks c.args.counters.now c.make_room.new.counters h.err h.uncounted);
     })
 
 pub returns-in_err-index-clause-finds : goal.returns-in_err-index-clause-finds
@@ -58,7 +61,10 @@ returns-in_err-index-clause-finds g c =
       short = λ p is. absurd (memory_not_short fault p c.in_err-index.ensures.fault is);
       clean = w.clean;
       one = one_due _ _ _ c.args.name.now c.args.blocks.now c.args.counters.now c.args.page.at c.args.page.size _ c.requires.none c.in_ok-read_page.ensures.holds (one_refused _ _ c.args.name.now (due_in c.args.blocks.now) _ fault h.one);
-      gets = refused_gets _ _ c.args.name.now c.args.blocks.now c.make_room.new.blocks c.args.counters.now c.make_room.new.counters c.args.page.at c.args.page.size fault h.stay w;
+      gets = refused_gets _ _ c.args.name.now c.args.blocks.now c.make_room.new.blocks c.args.counters.now c.make_room.new.counters c.args.page.at c.args.page.size fault h.stay w
+          (flags_of c.args.name.now c.args.blocks.now c.make_room.new.blocks c.args.counters.now c.make_room.new.counters c.args.page.at c.args.page.size c.requires.none h.wrote.flags)
+          (wrote_or _ _ c.args.name.now c.args.blocks.now c.make_room.new.blocks c.args.counters.now c.make_room.new.counters c.args.page.at c.args.page.size _ c.requires.none h.wrote h.counted c.requires.writes
+          (one_due _ _ _ c.args.name.now c.args.blocks.now c.args.counters.now c.args.page.at c.args.page.size _ c.requires.none c.in_ok-read_page.ensures.holds h.one));
     })
 
 pub returns : goal.returns
@@ -80,7 +86,7 @@ returns g c =
         short = tt;
         clean = w.clean;
         one = one_due _ _ _ c.args.name.now c.args.blocks.now c.args.counters.now c.args.page.at c.args.page.size _ c.requires.none c.in_ok-read_page.ensures.holds (one_ok _ _ c.args.name.now (due_in c.args.blocks.now) _ _ c.in_ok-make_room.ensures.one);
-        gets = load_gets _ _ c.args.name.now c.args.blocks.now c.make_room.new.blocks c.take_in.new.self c.args.counters.now c.make_room.new.counters c.count_get.new.self c.args.page.at c.args.page.size bytes _ long c.in_ok-make_room.ensures.stay w c.requires.none room t.setup t.lists t.alike c.count_get.ensures c.in_ok-make_room.ensures.counted shown read;
+        gets = load_gets _ _ c.args.name.now c.args.blocks.now c.make_room.new.blocks c.take_in.new.self c.args.counters.now c.make_room.new.counters c.count_get.new.self c.args.page.at c.args.page.size bytes _ long c.in_ok-make_room.ensures.stay w c.requires.none room t.setup t.lists t.alike c.count_get.ensures c.in_ok-make_room.ensures.counted c.in_ok-make_room.ensures.wrote shown read;
       };
       cause = record { later = omega (arith, c.in_ok-read_page.ensures.cause.later, c.in_ok-make_room.ensures.cause.later); cause = λ e. absurd (ok_not_err e) };
       reads = omega (arith, c.in_ok-read_page.ensures.reads, c.in_ok-make_room.ensures.reads);

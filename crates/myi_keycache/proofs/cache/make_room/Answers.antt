@@ -6,6 +6,7 @@ use Rattle.myi_keycache.proofs.LoadLemmas.{first_written}
 use Rattle.myi_keycache.specs.declared.setup.CacheFault.{CacheFault}
 use Rattle.myi_keycache.specs.Kept.{Page}
 use Rattle.myi_keycache.specs.Order.{counts_one}
+use Rattle.myi_keycache.proofs.FlagLemmas.{wrote_none, wrote_first}
 use Rattle.myi_keycache.proofs.OneLemmas.{due_full, due_free, count_none, one_none, one_full}
 use Rattle.myi_keycache.proofs.cache.make_room.Goals as goal
 
@@ -41,3 +42,13 @@ returns-else-is_full-clause-one g c = one_none _ _ c.args.name.now _ _ (due_free
 
 pub returns-else-is_full-clause-counted : goal.returns-else-is_full-clause-counted
 returns-else-is_full-clause-counted g c = count_none c.args.counters.now _ c.requires.writes (due_free c.args.blocks.now (sym c.is_full.ensures.full ∙ c.if-is_full.false))
+
+pub returns-in_ok-write_page-clause-wrote : goal.returns-in_ok-write_page-clause-wrote
+returns-in_ok-write_page-clause-wrote g c =
+    let le = leb-true _ _ (sym c.is_full.ensures.full ∙ c.if-is_full.true) in
+    let some = c.is_full.ensures.ordered.setup.some_block in
+    let s = split c.args.blocks.now.pages 0 (omega (arith, le, some)) in
+    wrote_first c.args.blocks.now c.write_page.new.blocks s (sym c.is_full.ensures.full ∙ c.if-is_full.true) c.is_full.ensures.ordered.differ (c.in_ok-write_page.ensures.ok s)
+
+pub returns-else-is_full-clause-wrote : goal.returns-else-is_full-clause-wrote
+returns-else-is_full-clause-wrote g c = wrote_none _ _ (due_free c.args.blocks.now (sym c.is_full.ensures.full ∙ c.if-is_full.false))

@@ -1,7 +1,7 @@
 use Rattle.std.proofs.Common.{◌≡◌, ◌∙◌, ap, sym, subst}
 use Rattle.myi_btree.specs.Sizes.{AreSized}
-use Rattle.myi_pair.specs.KeyList.{sorted}
-use Rattle.myi_pair.proofs.CallerLemmas.{sorted_is}
+use Rattle.myi_keylist.specs.PairOrder.{sorted}
+use Rattle.myi_keylist.proofs.CallerLemmas.{sorted_is}
 use Rattle.myi_repair.proofs.TreeLaws.{sorted_sized}
 use Rattle.myi_repair.proofs.trees.build_tree.Goals as goal
 

@@ -6,9 +6,9 @@ use Rattle.std.specs.List.{AllByRecursion}
 use Rattle.myi_base.proofs.CallerLemmas.{told_more, told_then}
 use Rattle.myi_data.specs.Keys.{IsKeyNumber}
 use Rattle.myi_keys.specs.Limits.{IsKey}
-use Rattle.myi_btree.specs.declared.pair.Pair.{Pair}
+use Rattle.myi_keylist.specs.declared.pair.Pair.{Pair}
 use Rattle.myi_btree.specs.Sizes.{IsPlaced, AreSized}
-use Rattle.myi_pair.specs.KeyList.{sorted}
+use Rattle.myi_keylist.specs.PairOrder.{sorted}
 use Rattle.myi_pair.specs.Trees.{place_of}
 use Rattle.myi_pair.specs.TreePages.{tree_end, CanBeLaid}
 use Rattle.myi_pair.proofs.CallerLemmas.{placed}

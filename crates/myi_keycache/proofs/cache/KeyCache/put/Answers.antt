@@ -9,6 +9,7 @@ use Rattle.myi_keycache.specs.Order.{contents_of}
 use Rattle.myi_keycache.proofs.OrderLemmas.{split}
 use Rattle.myi_keycache.proofs.MidpointLemmas.{named}
 use Rattle.myi_keycache.proofs.OneLemmas.{due_kept, never_hit, one_none, one_kept}
+use Rattle.myi_keycache.proofs.FlagLemmas.{none_still, flags_still}
 use Rattle.myi_keycache.proofs.OthersLemmas.{same_keeps, same_changes}
 use Rattle.myi_keycache.proofs.GetLemmas.{hit_page}
 use Rattle.myi_keycache.proofs.PutLemmas.{renewed, hit_stores, stores_on}
@@ -50,6 +51,8 @@ returns g c =
       counters = t.counters;
       written = t.written;
       one = one_none _ _ _ _ _ (due_kept (string_bytes c.self.inside.name) c.self.inside.blocks c.self.inside.counters c.args.self.now c.args.at (length c.args.bytes.now) c.self.view_is there) refl;
+      flags = t.flags;
+      refusal = tt;
       quiet = λ none. refl;
       hit = λ kept. (refl, refl);
       faults = tt;
@@ -78,3 +81,11 @@ pub returns-in_err-extend_from_slice-clause-unwritten : goal.returns-in_err-exte
 returns-in_err-extend_from_slice-clause-unwritten g c =
     let e = err_from_is_err_and c.from_residual.result c.from_residual.ensures.1 in
     rw e.1 (same_changes _ _ c.self.view_is)
+
+pub returns-in_err-extend_from_slice-clause-flags : goal.returns-in_err-extend_from_slice-clause-flags
+returns-in_err-extend_from_slice-clause-flags g c = flags_still _ _ _ c.args.at (length c.args.bytes.now) c.self.view_is
+
+pub returns-in_err-extend_from_slice-clause-refusal : goal.returns-in_err-extend_from_slice-clause-refusal
+returns-in_err-extend_from_slice-clause-refusal g c =
+    let e = err_from_is_err_and c.from_residual.result c.from_residual.ensures.1 in
+    rw e.1 (none_still _ _ _ _ _ c.self.view_is)
