@@ -12,7 +12,7 @@ use Rattle.myi_btree.specs.Walk.{Node, Walked, Agree}
 use Rattle.myi_btree.specs.LaidPages.{IsLaidAt, root_of}
 use Rattle.myi_btree.specs.LaidOnce.{WalksOnce}
 use Rattle.myi_btree.specs.Sizes.{IsPlaced, AreSized}
-use Rattle.myi_btree.specs.Building.{laid_at, built_at, AreKeys, CanLay, Lays}
+use Rattle.myi_btree.specs.Building.{laid_at, built_at, AreKeys, CanLay, Lays, LaysOnly, Spares}
 use Rattle.myi_btree.specs.Visit.{page_range, HasWalk}
 use Rattle.myi_btree.specs.CachedTrees.{node_lent, HasPages, IsClear, NoneMeets}
 use Rattle.myi_btree.proofs.Among.{in_all}
@@ -52,8 +52,8 @@ two_laid block first total p at (i, below, e) (j, also, f) =
 before_laid : (block first total p len at : ℕ) → p + len ≤ first → IsLaidAt block first total at → are_apart (p, p + len) (page_range block at) ≡ true
 before_laid block first total p len at before (j, below, f) = let le : p + len ≤ at = omega (arith, before, f) in or_left (nat_le (p + len) at) (nat_le (at + block) p) (le-leb (p + len) at le)
 
-laid_behind : (block first total p at len : ℕ) → at + len ≤ first → IsLaidAt block first total p → are_apart (page_range block p) (page_range len at) ≡ true
-laid_behind block first total p at len before (i, below, e) = let le : at + len ≤ p = omega (arith, before, e) in or_right (nat_le (p + block) at) (nat_le (at + len) p) (le-leb (at + len) p le)
+laid_from : (block first total p : ℕ) → IsLaidAt block first total p → first ≤ p
+laid_from block first total p (i, below, e) = omega (arith, e)
 
 -- ---- the tree that was built
 
@@ -101,9 +101,12 @@ agree_before other old new m n first (p ∷ ps) same nodes before =
     let bytes = lent_bytes other old m p nodes.0.0 nodes.0.1 in
     (same_bytes other old new m n p (bytes.1 ∙ sym (same p other.block_length bytes.0 before.0 bytes.1)), agree_before other old new m n first ps same nodes.1 before.1)
 
-pub others_before : (place other : Place) (first : ℕ) (nodes : List Node) (old new : Caching) (m n : Holding) (others : List ℕ) → HasPages other old m other.root others → AllByRecursion (λ p. p + other.block_length ≤ first) others
-    → IsClear other old m other.root → Lays place first nodes old new m n → IsClear other new n other.root
-others_before place other first nodes old new m n others theirs before clear lays = by other.root theirs clear
+behind : (block first p at len : ℕ) → at + len ≤ first → first ≤ p → are_apart (page_range block p) (page_range len at) ≡ true
+behind block first p at len before from = let le : at + len ≤ p = omega (arith, before, from) in or_right (nat_le (p + block) at) (nat_le (at + len) p) (le-leb (at + len) p le)
+
+spared : (len : ℕ) (other : Place) (first : ℕ) (old new : Caching) (m n : Holding) (others : List ℕ) → HasPages other old m other.root others → AllByRecursion (λ p. p + other.block_length ≤ first) others → IsClear other old m other.root → Spares first old new m n
+    → ((p n : ℕ) → is_kept (pages_of new) p n ≡ true → (is_kept (pages_of old) p n ≡ true) ⊎ ((n ≡ len) × (first ≤ p))) → IsClear other new n other.root
+spared len other first old new m n others theirs before clear spares kept = by other.root theirs clear
   where
     by : (r : Option ℕ) → HasPages other old m r others → IsClear other old m r → IsClear other new n r
     by None their clear = tt
@@ -115,12 +118,23 @@ others_before place other first nodes old new m n others theirs before clear lay
           w,
           record {
             height = walk.height;
-            walk = same_walk read (node_lent other new n) walk.height root w walk.walk (agree_before other old new m n first w.pages lays.spares.lent (walk_nodes read walk.height root w walk.walk) ends);
+            walk = same_walk read (node_lent other new n) walk.height root w walk.walk (agree_before other old new m n first w.pages spares.lent (walk_nodes read walk.height root w walk.walk) ends);
             disjoint = walk.disjoint;
           },
-          all_of (λ at. NoOtherMeets (is_kept (pages_of new)) at other.block_length) w.pages (λ at among q len kept. elim (lays.kept q len kept) [
-            | inl was ↦ in_all (λ at. NoOtherMeets (is_kept (pages_of old)) at other.block_length) w.pages at meets among q len was
+          all_of (λ at. NoOtherMeets (is_kept (pages_of new)) at other.block_length) w.pages (λ at among q long is. elim (kept q long is) [
+            | inl was ↦ in_all (λ at. NoOtherMeets (is_kept (pages_of old)) at other.block_length) w.pages at meets among q long was
             | inr now ↦ inr (subst (λ (k : ℕ). are_apart (q, q + k) (page_range other.block_length at) ≡ true) (sym now.0)
-                (laid_behind place.block_length first (length nodes) q at other.block_length (in_all (λ p. p + other.block_length ≤ first) w.pages at ends among) now.1))
+                (behind len first q at other.block_length (in_all (λ p. p + other.block_length ≤ first) w.pages at ends among) now.1))
           ]),
         )
+
+pub others_before : (place other : Place) (first : ℕ) (nodes : List Node) (old new : Caching) (m n : Holding) (others : List ℕ) → HasPages other old m other.root others → AllByRecursion (λ p. p + other.block_length ≤ first) others
+    → IsClear other old m other.root → Lays place first nodes old new m n → IsClear other new n other.root
+others_before place other first nodes old new m n others theirs before clear lays = spared place.block_length other first old new m n others theirs before clear lays.spares (λ q long is. elim (lays.kept q long is) [
+  | inl was ↦ inl was
+  | inr now ↦ inr (now.0, laid_from place.block_length first (length nodes) q now.1)
+])
+
+pub others_refused : (place other : Place) (first : ℕ) (before after : Option Holding) (old new : Caching) (m n : Holding) (others : List ℕ) → HasPages other old m other.root others → AllByRecursion (λ p. p + other.block_length ≤ first) others
+    → IsClear other old m other.root → Spares first old new m n → LaysOnly before after place.block_length first old new → IsClear other new n other.root
+others_refused place other first before after old new m n others theirs ends clear spares only = spared place.block_length other first old new m n others theirs ends clear spares only.kept

@@ -71,8 +71,8 @@ pub record PutsOnly (old new : Caching) : Type 0 where
   pub reads : new.counters.reads ≡ old.counters.reads
   pub requests : (n : ℕ) × RoseBy n old.counters.write_requests new.counters.write_requests
 
--- Whatever the files tell: other files hold what they held, and each page that is kept was kept before, or has this length and lies
--- from this place on.
+-- Other files hold what they held, where they tell it; and whatever they tell, each page that is kept was kept before, or has
+-- this length and lies from this place on.
 pub record LaysOnly (before after : Option Holding) (len first : ℕ) (old new : Caching) : Type 0 where
   pub others : Told before after (OthersStay old.name)
   pub kept : (p n : ℕ) → is_kept (pages_of new) p n ≡ true → (is_kept (pages_of old) p n ≡ true) ⊎ ((n ≡ len) × (first ≤ p))

@@ -3,7 +3,6 @@
 //! The lowest level has the pairs, whose keys are coded page by page, so that no more codes are kept than
 //! one page may need. A level above has the entries that were set aside below it, which are coded.
 ghost use Rattle.std.specs.Prelude.{◌≡◌, ◌⊎◌, ◌+◌, ◌≤◌, [], length, IfOk};
-ghost use Rattle.myi_btree.specs.Nodes.{entries_of};
 ghost use Rattle.myi_btree.specs.Entries.{coded_of, entries_left, IsInside};
 
 use crate::node::append_entries;

@@ -1,6 +1,6 @@
 //! Laws over walks and laid pages. Each is the contract of a function that does nothing, so that it is
 //! proved with the crate and stands for the crates above.
-ghost use Rattle.std.specs.Prelude.{◌≡◌, ℕ, Bool, suc, ◌+◌, ◌*◌, ◌%◌, ◌^◌, ◌<◌, ◌≤◌, List, [], ◌∷◌, length, Some, Result, Ok};
+ghost use Rattle.std.specs.Prelude.{◌≡◌, ℕ, Bool, suc, ◌+◌, ◌*◌, ◌%◌, ◌^◌, ◌<◌, ◌≤◌, List, ◌∷◌, length, Option, Some, Result, Ok};
 ghost use Rattle.myi_keylist.specs.declared.pair.Pair.{Pair};
 ghost use Rattle.myi_btree.specs.Walk.{Node, Places, Walked, walk_of, Agree, IsNode, AreNodes};
 ghost use Rattle.myi_btree.specs.LaidPages.{Fits, count_of, level_of, places_from, laid, Stands, IsRooted, root_of};
@@ -13,7 +13,7 @@ ghost use Rattle.myi_btree.specs.declared.place.Place.{Place};
 ghost use Rattle.myi_btree.specs.CachedTrees.{node_lent, HasPages, IsClear, AddsNamed, AddsItsOwn, ReadsOnce, AreApart};
 ghost use Rattle.myi_btree.specs.Nodes.{node_in};
 ghost use Rattle.myi_btree.specs.Sizes.{IsPlaced, AreSized, IsCount, fits_in};
-ghost use Rattle.myi_btree.specs.Building.{laid_at, built_at, AddsLaid, AreKeys, EndBefore, CanLay, IsWritten, Lays, page_for};
+ghost use Rattle.myi_btree.specs.Building.{laid_at, built_at, AddsLaid, AreKeys, EndBefore, CanLay, IsWritten, Lays, LaysOnly, Spares, page_for};
 ghost use Rattle.myi_keycache.specs.Kept.{Page};
 
 /// A walk depends on its own pages alone: where two readings give the same at each of them, the walk is
@@ -148,8 +148,9 @@ pub fn walks_leave_trees_clear()
         → IsClear other new n other.root }
 {}
 
-/// A tree that was just built is clear, and so stays each tree that was and stands before it. Building says
-/// of the cache what is asked here (`laid` of `Tree::build`).
+/// A tree that was just built is clear, and so stays each tree that was and stands before it, also where the
+/// build was refused. Building says of the cache what is asked here (`laid`, `refused` and `only` of
+/// `Tree::build`).
 pub fn builds_leave_trees_clear()
     ensures this { (place : Place) (first : ℕ) (pairs : List Pair) (old new : Caching)
         (m n : Holding)
@@ -161,5 +162,12 @@ pub fn builds_leave_trees_clear()
         (m n : Holding) (others : List ℕ) → HasPages other old m other.root others
         → AllByRecursion (λ p. p + other.block_length ≤ first) others
         → IsClear other old m other.root → Lays place first nodes old new m n
+        → IsClear other new n other.root }
+    ensures refused { (place other : Place) (first : ℕ) (before after : Option Holding)
+        (old new : Caching) (m n : Holding) (others : List ℕ)
+        → HasPages other old m other.root others
+        → AllByRecursion (λ p. p + other.block_length ≤ first) others
+        → IsClear other old m other.root → Spares first old new m n
+        → LaysOnly before after place.block_length first old new
         → IsClear other new n other.root }
 {}

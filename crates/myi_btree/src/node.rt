@@ -1,7 +1,7 @@
 //! What stands on a page: its pairs with their keys, and its children.
 //!
 //! `read_node` reads a `Node` from the bytes of a page, and `entry_of` gives the entry of a pair.
-ghost use Rattle.std.specs.Prelude.{◌≡◌, ◌≤◌, ◌++◌, length, take, IfOk, OnOk, option_map};
+ghost use Rattle.std.specs.Prelude.{◌≡◌, ◌≤◌, ◌++◌, take, IfOk, OnOk, option_map};
 ghost use Rattle.std.specs.Option.{option_to_list};
 ghost use Rattle.myi_btree.specs.Nodes.{node_view, key_in, node_in, entry_of, entries_of};
 ghost use Rattle.myi_btree.specs.Visited.{node_left};

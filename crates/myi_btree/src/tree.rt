@@ -1,5 +1,5 @@
 //! `Tree`: the pairs of one key, sorted, on pages of an index file.
-ghost use Rattle.std.specs.Prelude.{◌≡◌, ◌⊎◌, ◌+◌, ◌*◌, ◌%◌, ◌≤◌, ℕ, Some, length, IfOk, IfErr, OnOk, OnErr, IsTrue};
+ghost use Rattle.std.specs.Prelude.{◌≡◌, ◌+◌, ◌*◌, ◌%◌, ◌≤◌, Some, length, IfOk, IfErr, OnOk, OnErr, IsTrue};
 ghost use Rattle.myi_base.specs.Holding.{IfTold, Told};
 ghost use Rattle.myi_base.specs.Causes.{HasCause};
 ghost use Rattle.myi_btree.specs.declared.fault.TreeFault.TheVariants.{File};
@@ -54,9 +54,9 @@ impl Tree {
     /// The pairs of the tree in the order of its walk, each with the place of its page. `Damaged` comes at
     /// the first place on the walk's path where what stands is no page of the tree: no page, or its page has
     /// a byte of one that was met before, or it is a leaf above the depth of the first leaf, or a node at that
-    /// depth. What is said of pairs and places holds where the file is as the last call of the cache left it.
-    /// No more is read than places are named from the root on, and no other page comes to be kept. The stack
-    /// that a walk takes does not grow with the depth that a file says.
+    /// depth. What is said of pairs and places, and of what is read and kept, holds where the file is as the
+    /// last call of the cache left it. No more is read than places are named from the root on, and no other
+    /// page comes to be kept. Pages are held open in a list, so a deep tree takes no deep stack.
     /// The cache keeps no unwritten page, or the tree is whole and no other page that is kept meets one of it;
     /// then that holds afterwards too, of this tree and of others that share no byte with it
     /// (`walks_leave_trees_clear`).
@@ -108,10 +108,11 @@ impl Tree {
 
     /// Puts the laid pages of sorted pairs into the room from its end on, and moves the end past them. The
     /// root that `place` names is not looked at. Then the tree is clear in the cache, and each tree before it
-    /// stays so (`builds_leave_trees_clear`). After a refusal nothing before the room's end was changed, and
-    /// the room is as it was; what stands from its end on may be anything. What is said of pages and files
+    /// stays so (`builds_leave_trees_clear`). After a refusal what the cache lends before the room's end is
+    /// the same, trees there stay clear, and the room is as it was; what stands from its end on may be
+    /// anything. What is said of pages and files
     /// holds where the file is as the last call of the cache left it and no page that is kept ends behind the
-    /// room's end. A page may have no other place than one below 2^64: past it the answer is `Memory`.
+    /// room's end. A page may have no other place than one below 2^64: past it the answer is an error.
     pub fn build<F: Files>(
         alloc: Global,
         files: &mut F,
@@ -140,7 +141,8 @@ impl Tree {
             CanLay cache.old m room.old.end → Spares room.old.end cache.old cache.new m n)) }
         ensures room { OnErr result (room.new.end ≡ room.old.end) }
 
-        // At any answer other files stay, and no page comes to be kept but pages from the room's end on.
+        // At any answer other files stay, where they tell what they hold, and no page comes to be kept but
+        // pages from the room's end on.
         ensures only { LaysOnly (F.holds files.old) (F.holds files.new)
             place.block_length room.old.end cache.old cache.new }
 

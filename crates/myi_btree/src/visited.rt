@@ -1,12 +1,12 @@
 //! The pages that a walk went into: what it has of them so far, and those that it has open.
-ghost use Rattle.std.specs.Prelude.{◌≡◌, ◌≢◌, ◌+◌, ◌<◌, ◌++◌, ◌∷◌, ℕ, List, [], take, drop, IfErr, OnOk};
+ghost use Rattle.std.specs.Prelude.{◌≡◌, ◌≢◌, ◌+◌, ◌<◌, ◌++◌, [], take, drop, IfErr, OnOk};
 ghost use Rattle.std.specs.List.{list_all};
 ghost use Rattle.std.specs.Vec.Iter.{into_iter_items};
 ghost use Rattle.myi_base.specs.Ranges.{are_apart};
 ghost use Rattle.myi_btree.specs.declared.fault.TreeFault.TheVariants.{File};
 ghost use Rattle.myi_btree.specs.Visit.{page_range};
 ghost use Rattle.myi_btree.specs.Faults.{DamagedAt};
-ghost use Rattle.myi_btree.specs.Visited.{each_at, HasPlaces, IsRefused};
+ghost use Rattle.myi_btree.specs.Visited.{each_at, IsRefused};
 
 use crate::fault::TreeFault;
 use myi_keylist::Pair;

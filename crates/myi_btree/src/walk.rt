@@ -2,13 +2,12 @@
 //!
 //! `descend` goes down the first children to the first leaf, and `climb` goes up again: a page gives its next
 //! pair, and `visit` goes through each further child, whose leaves are to stand as deep as the first one.
-ghost use Rattle.std.specs.Prelude.{◌≡◌, IsTrue, ◌+◌, ◌<◌, ◌≤◌, ◌++◌, ◌∷◌, ℕ, List, [], ◌^◌, None, Some, Ok, Err, length, take, drop, IfOk, IfErr, OnOk, OnErr};
+ghost use Rattle.std.specs.Prelude.{◌≡◌, ◌+◌, ◌<◌, ◌≤◌, ◌++◌, ◌∷◌, ℕ, List, [], None, Some, Ok, Err, length, IfOk, IfErr, OnOk};
 ghost use Rattle.myi_base.specs.Holding.{Told};
 ghost use Rattle.myi_base.specs.Causes.{HasCause};
 ghost use Rattle.myi_keycache.specs.Kept.{AddsOnly};
 ghost use Rattle.myi_keycache.specs.Caching.{pages_of, CanGet, Stays};
 ghost use Rattle.myi_btree.specs.declared.fault.TreeFault.TheVariants.{File};
-ghost use Rattle.myi_btree.specs.Walk.{Node};
 ghost use Rattle.myi_btree.specs.Nodes.{node_view};
 ghost use Rattle.myi_btree.specs.Sizes.{IsPlaced};
 ghost use Rattle.myi_btree.specs.Faults.{DamagedAt};

@@ -1,9 +1,12 @@
 pub mod CallerLemmas
 pub mod SortedLaws
 pub mod MarkLaws
+pub mod TogetherLaws
 pub mod RepeatLaws
 pub mod FirstLaws
 pub mod ClassLaws
 pub mod PointerLaws
 pub mod ColumnLaws
 pub mod PointLaws
+pub mod NumberLaws
+pub mod KeptLaws

@@ -96,7 +96,7 @@ unfolding Behind times
 gone_by p [] whole behind none = refl
 gone_by p (q ∷ qs) whole behind none = never p.key (q ∷ qs) (all_above p.key q qs (next_above p q whole behind.0 (or_false (is_same_key p.key q.key) (has_repeat (q ∷ qs)) none).0) behind.1)
 
-same_is : (key other : List KeySeg) → is_same_key key other ≡ true → (is_complete key ≡ true) × (key ≡ other)
+pub same_is : (key other : List KeySeg) → is_same_key key other ≡ true → (is_complete key ≡ true) × (key ≡ other)
 same_is key other is = by (is_complete key) (key_cmp key other) refl refl is
   where
     by : (whole : Bool) (o : Ordering) → is_complete key ≡ whole → key_cmp key other ≡ o → (whole && is_eq o) ≡ true → (is_complete key ≡ true) × (key ≡ other)
@@ -119,7 +119,7 @@ at_most_once (p ∷ ps) order none key = by (is_same_key key p.key) refl (at_mos
 
 -- ---- keys that are there once at most are apart
 
-itself : (key : List KeySeg) → is_complete key ≡ true → is_same_key key key ≡ true
+pub itself : (key : List KeySeg) → is_complete key ≡ true → is_same_key key key ≡ true
 itself key whole = rw (whole, tied_itself key_total key) refl
 
 there : (key : List KeySeg) (before : List (List KeySeg)) → list_any (is_same_key key) before ≡ true → (is_complete key ≡ true) × (1 ≤ times key before)

@@ -174,7 +174,7 @@ same_rest : (p : Pair) (ps qs : List Pair) → SamePairs (p ∷ ps) (p ∷ qs) �
 unfolding SamePairs
 same_rest p ps qs same = λ f. omega (arith, same f, sum_by-cons f p ps, sum_by-cons f p qs)
 
-behind_order : (p : Pair) (ps : List Pair) → Behind p ps → InOrder ps
+pub behind_order : (p : Pair) (ps : List Pair) → Behind p ps → InOrder ps
 unfolding Behind InOrder
 behind_order p [] behind = tt
 behind_order p (q ∷ qs) behind = behind.1

@@ -1,15 +1,16 @@
 -- A list of pairs with the codes of all keys in one buffer. A mark says of each pair where its key's code stands; before the
 -- code stand two bytes, its length, high byte first.
-use Rattle.std.specs.Prelude.{◌≡◌, ℕ, ◌+◌, ◌*◌, ◌/◌, ◌%◌, List, [], ◌∷◌, ◌++◌, length, take, drop, map, slice_index}
+use Rattle.std.specs.Prelude.{◌≡◌, ◌==◌, ◌&&◌, ℕ, ◌+◌, ◌-◌, ◌*◌, ◌/◌, ◌%◌, Bool, false, not, if◌then◌else◌, List, [], ◌∷◌, ◌++◌, length, take, drop, map, slice_index, slice_index_or}
 use Rattle.std.specs.Ordering.{nat_cmp, ordering_then}
 use Rattle.std.specs.declared.cmp.Ordering.{Ordering}
 use Rattle.myi_keys.specs.declared.values.KeySeg.{KeySeg}
-use Rattle.myi_keys.specs.Limits.{IsKey}
+use Rattle.myi_keys.specs.Limits.{IsKey, is_complete}
 use Rattle.myi_keys.specs.Codes.{key_code}
 use Rattle.myi_keys.specs.Comparing.{key_front, code_cmp, key_prefix}
 use Rattle.myi_keylist.specs.declared.pair.Pair.{Pair}
 use Rattle.myi_keylist.specs.declared.pair_list.Mark.{Mark}
 use Rattle.myi_keylist.specs.PairOrder.{pair_with}
+use Rattle.myi_keylist.specs.Repeats.{is_same_key}
 
 -- a code behind its length
 abbrev pub led : List ℕ → List ℕ
@@ -48,3 +49,22 @@ mark_cmp codes a b = ordering_then (nat_cmp a.prefix b.prefix) (ordering_then (c
 -- the mark of a row number with the pointer that stands at it
 abbrev pub pointed_mark : List ℕ → Mark → Mark
 pointed_mark pointers mark = record { prefix = mark.prefix; start = mark.start; row = slice_index pointers mark.row }
+
+-- the mark's row, by its number, has a flag that is set
+abbrev pub is_flagged : List Bool → Mark → Bool
+is_flagged flags mark = slice_index_or flags mark.row false
+
+-- the key and the row of a pair of a list
+abbrev pub key_at : List Pair → ℕ → List KeySeg
+key_at pairs i = (slice_index_or pairs i (pair_with [] 0)).key
+
+abbrev pub row_at : List Pair → ℕ → ℕ
+row_at pairs i = (slice_index_or pairs i (pair_with [] 0)).row
+
+-- a pair and the one before it have one complete key
+abbrev pub repeats_last : List Pair → ℕ → Bool
+repeats_last pairs i = not (i == 0) && is_same_key (key_at pairs (i - 1)) (key_at pairs i)
+
+-- the class number of a pair of a list in order, behind the last number that was given
+abbrev pub next_number : List Pair → ℕ → ℕ → ℕ
+next_number pairs i last = if repeats_last pairs i then last else (if is_complete (key_at pairs i) then last + 1 else 0)

@@ -9,7 +9,9 @@
 //!   `row` give them back, and `has_repeat` finds out whether a complete key is there twice
 //!   (`specs/Repeats`).
 //! - `keep_first` says which rows are kept where keys repeat (`specs/FirstBy`), by class numbers: two
-//!   rows share one exactly where one repeats the other (`specs/Classes`).
+//!   rows share one exactly where one repeats the other (`specs/Classes`). `PairList::number` gives the
+//!   numbers of one key (`specs/Columns`), `retain` takes the other rows out, and `point` puts row
+//!   pointers in place of the numbers of rows.
 //! - The rest are laws over the definitions.
 //!
 //! ```
@@ -36,8 +38,9 @@ mod pair_list;
 
 pub use class_numbers::keep_first;
 pub use laws::{
-    class_numbers_decide, columns_are_classes, distinct_rows_are_kept, pairs_are_sorted,
-    repeats_are_neighbours, rising_pointers_keep_order,
+    class_numbers_decide, columns_are_classes, columns_go_on, columns_keep_first_rows,
+    distinct_rows_are_kept, equal_keys_stand_together, kept_pointers_keep_order,
+    kept_rows_are_listed, pairs_are_sorted, repeats_are_neighbours, rising_pointers_keep_order,
 };
 pub use pair::Pair;
 pub use pair_list::PairList;

@@ -3,17 +3,19 @@
 //! A mark for each pair says where its key's code stands in the buffer, and has the pair's row pointer and
 //! a number that stands in the order of keys, so that a sort moves marks alone and mostly compares
 //! numbers. Contracts see the list of the pairs.
-ghost use Rattle.std.specs.Prelude.{◌≡◌, ◌<◌, ◌++◌, ◌∷◌, [], length, map, take, slice_index_or};
-ghost use Rattle.std.specs.Prelude.{OnOk, OnErr};
-ghost use Rattle.std.specs.List.{AllByRecursion};
+ghost use Rattle.std.specs.Prelude.{◌≡◌, ◌<◌, ◌≤◌, ◌+◌, ◌==◌, ◌++◌, ◌∷◌, ℕ, false, [], length, map, take};
+ghost use Rattle.std.specs.Prelude.{slice_index, slice_index_or, if◌then◌else◌, OnOk, OnErr};
+ghost use Rattle.std.specs.List.{AllByRecursion, filter};
 ghost use Rattle.myi_keys.specs.Limits.{IsKey};
 ghost use Rattle.myi_keys.specs.Codes.{key_code};
 ghost use Rattle.myi_keys.specs.Comparing.{key_front, IsCode};
 ghost use Rattle.myi_keylist.specs.declared.pair.Pair.{Pair};
 ghost use Rattle.myi_keylist.specs.PairOrder.{pair_with, sorted};
 ghost use Rattle.myi_keylist.specs.Repeats.{is_same_key, has_repeat};
-ghost use Rattle.myi_keylist.specs.Columns.{pointed};
+ghost use Rattle.myi_keylist.specs.FirstBy.{KeyOf};
+ghost use Rattle.myi_keylist.specs.Columns.{IsColumn, numbered, has_flag, pointed};
 ghost use Rattle.myi_keylist.specs.PairLists.{led, code_from, mark_cmp, pairs_at, pointed_mark, IsMark};
+ghost use Rattle.myi_keylist.specs.PairLists.{repeats_last, next_number, is_flagged};
 
 use myi_keys::{code_prefix, compare_codes, is_complete_code};
 use std::alloc::{AllocError, Global};
@@ -130,6 +132,56 @@ impl PairList {
         sort_marks(&self.codes, &mut self.marks);
     }
 
+    /// Where the pairs are those of all rows with their numbers, in order, writes for each row its class
+    /// number in this key. The numbers go on behind those that are taken; answers the last one.
+    pub fn number(&self, taken: u64, column: &mut [u64]) -> u64
+        requires { taken + length self.now < 18446744073709551616 }
+        ensures column { (key : KeyOf ℕ) → self.now ≡ sorted (numbered key (length column.old))
+            → IsColumn key (length column.old) taken result column.new }
+        ensures few { result ≤ taken + length self.now }
+    {
+        let mut last = taken;
+        for i in 0..self.len() {
+            let number = self.next_number(i, last);
+            write_number(column, self.row(i), number);
+            if number > last {
+                last = number;
+            }
+        }
+        last
+    }
+
+    // The class number of pair `i`, where the last one so far is known.
+    fn next_number(&self, i: usize, last: u64) -> u64
+        requires inside { i < length self.now }
+        requires room { last + 1 < 18446744073709551616 }
+        ensures { result ≡ next_number self.now i last }
+    {
+        if self.repeats_last(i) {
+            last
+        } else if is_complete_code(self.code(i)) {
+            last + 1
+        } else {
+            0
+        }
+    }
+
+    // Whether pair `i` and the one before it have one complete key.
+    fn repeats_last(&self, i: usize) -> bool
+        requires { i < length self.now }
+        ensures { result ≡ repeats_last self.now i }
+    {
+        i != 0 && is_repeat(self.code(i - 1), self.code(i))
+    }
+
+    /// Where the pairs have the numbers of rows, takes out those of rows whose flag is not set. The others
+    /// stay in order. It takes no memory.
+    pub fn retain(&mut self, flags: &[bool])
+        ensures { self.new ≡ filter (has_flag flags.now) self.old }
+    {
+        retain_marks(&mut self.marks, flags);
+    }
+
     /// Where the pairs have the numbers of rows, puts in place of each the pointer that stands at it, 0
     /// where none does.
     pub fn point(&mut self, pointers: &[u64])
@@ -190,6 +242,31 @@ fn sort_marks(codes: &[u8], marks: &mut Vec<Mark>)
         ≡ sorted (pairs_at codes.now marks.old.items) }
 {
     marks.sort_unstable_by(|one, other| compare_marks(codes, one, other));
+}
+
+// Writes the number of a row, if it is one of the column's.
+fn write_number(column: &mut [u64], row: u64, number: u64)
+    ensures { (r : ℕ) → r < length column.old
+        → slice_index column.new r ≡ (if r == row then number else slice_index column.old r) }
+{
+    let place = row as usize;
+    if place < column.len() {
+        column[place] = number;
+    }
+}
+
+// Whether the row's flag is set.
+fn is_set(flags: &[bool], row: u64) -> bool
+    ensures { result ≡ slice_index_or flags.now row false }
+{
+    flags.get(row as usize).copied().unwrap_or(false)
+}
+
+// Takes out the marks of rows whose flag is not set.
+fn retain_marks(marks: &mut Vec<Mark>, flags: &[bool])
+    ensures { marks.new.items ≡ filter (is_flagged flags.now) marks.old.items }
+{
+    marks.retain(|mark| is_set(flags, mark.row));
 }
 
 // Puts in place of a mark's row number the pointer that stands at it.

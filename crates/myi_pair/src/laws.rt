@@ -1,6 +1,6 @@
 //! Laws over pairs of files. Each is the contract of a function that does nothing, so that it is proved
 //! with the crate and stands for the crates above.
-ghost use Rattle.std.specs.Prelude.{◌≡◌, ◌+◌, ◌^◌, ◌<◌, ◌≤◌, ℕ, suc, Bool, true, false, List, [], ◌∷◌, ◌++◌, length, map, Some, Ok, All, IsPermutation, IsSorted};
+ghost use Rattle.std.specs.Prelude.{◌≡◌, ◌+◌, ◌^◌, ◌<◌, ◌≤◌, ℕ, suc, Bool, true, false, List, [], ◌∷◌, ◌++◌, length, map, Some, Ok, All};
 ghost use Rattle.std.specs.List.{list_any, AllByRecursion};
 ghost use Rattle.myi_base.specs.Numbers.{AreBytes};
 ghost use Rattle.myi_base.specs.Ranges.{Range};
@@ -30,7 +30,7 @@ ghost use Rattle.myi_pair.specs.Clean.{values_of, sized_row, IsClean};
 ghost use Rattle.myi_pair.specs.RecoveredBytes.{without_free_pages, kept, new_data, placed_from, new_trees, new_index};
 ghost use Rattle.myi_pair.specs.Recovered.{IsRepairable, Recovered};
 
-use myi_btree::Pair;
+use myi_keylist::Pair;
 
 /// Of the first rows of unique keys none repeats one before it, and where no row of a list repeats one
 /// before it, all of them are kept. A row repeats one of a list exactly where, in a unique key, its key is

@@ -20,11 +20,11 @@ use crate::names::TableFiles;
 use crate::opening::{OpenedTable, open_table};
 use crate::report::Report;
 use myi_base::Sequence;
-use myi_btree::Pair;
 use myi_data::{DataFile, DataScan};
 use myi_defs::Defs;
 use myi_header::{State, stored_state};
 use myi_io::Files;
+use myi_keylist::Pair;
 use myi_pack::view_packed;
 use std::alloc::{AllocError, Global};
 

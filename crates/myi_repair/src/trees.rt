@@ -18,11 +18,12 @@ ghost use Rattle.myi_repair.specs.Building.{AreTrees, Builds, LaysTrees};
 
 use crate::fault::RepairFault;
 use myi_base::Sequence;
-use myi_btree::{Pair, Place, Room, Tree, TreeFault};
+use myi_btree::{Place, Room, Tree, TreeFault};
 use myi_defs::Defs;
 use myi_header::first_page;
 use myi_io::Files;
 use myi_keycache::{CacheFault, CacheSetup, KeyCache};
+use myi_keylist::Pair;
 use std::alloc::{AllocError, Global};
 
 /// How a repair keeps index pages.

@@ -1,2 +1,2 @@
 pub mod SinkLaws
-pub mod HeadlineLaws
+pub mod RecoverLaws

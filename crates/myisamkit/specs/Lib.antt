@@ -7,7 +7,7 @@ pub mod Lines
 -- what a run says and does
 pub mod Runs
 -- what a repair of a table comes to
-pub mod Headline
+pub mod Recovers
 -- what serves private contracts
 
 -- what ends a run before its line

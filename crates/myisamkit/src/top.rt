@@ -8,7 +8,7 @@ ghost use Rattle.myisamkit.specs.Stops.{status_of_stop};
 ghost use Rattle.myisamkit.specs.Runs.{IsText, IsStatus, faults_told, IsFault};
 ghost use Rattle.myisamkit.specs.Runs.{Says, SaysLine, LeavesWhole, LeavesNoWorking, Does};
 ghost use Rattle.myisamkit.specs.Lines as spec;
-ghost use Rattle.myisamkit.specs.Headline.{Recovers};
+ghost use Rattle.myisamkit.specs.Recovers.{Recovers};
 
 use crate::lines::usage_line;
 use crate::recover::recover_table;
@@ -28,16 +28,17 @@ pub fn kit<F: Files, O: Sink>(
 ) -> Status
     requires { IsTrue F.writable }
 
-    // A table that can be repaired is repaired, faults of files and want of memory aside.
-    ensures headline { Told (F.holds files.old) (F.holds files.new)
+    // A table that can be repaired is repaired, but where a file fault or want of memory is answered.
+    ensures recovers { Told (F.holds files.old) (F.holds files.new)
         (Recovers (request_of words.now) now result) }
 
     // What is written is the text that the words have on these files; a fault may cut it off.
     ensures text { Says (request_of words.now) (F.holds files.old)
         (O.written out.old) (O.written out.new) result }
 
-    // Words that are refused need no file: the line on usage is written whatever the files tell.
-    ensures refused_words { request_of words.now ≡ usage
+    // Where the words are no command, the line on usage is written, whatever the files tell; a fault may cut
+    // it off.
+    ensures usage_text { request_of words.now ≡ usage
         → SaysLine spec.usage_line (O.written out.old) (O.written out.new) result }
 
     // Where no fault cuts the run off, the status is the defined one.
