@@ -1,5 +1,5 @@
 -- What a scan finds at a place: a row, whose bytes are kept in the window or were joined, or a deleted block.
-use Rattle.std.specs.Prelude.{◌≡◌, ◌+◌, ◌<◌, ◌≤◌, ℕ, Bool, true, false, nat_le, List, [], ◌∷◌, length, Option, Some, None, option_to_list}
+use Rattle.std.specs.Prelude.{◌≡◌, ◌+◌, ◌<◌, ◌≤◌, ℕ, Bool, true, false, nat_le, List, [], ◌∷◌, ◌++◌, length, Option, Some, None, option_to_list}
 use Rattle.myi_base.specs.Holding.{Holding}
 use Rattle.myi_base.specs.Ranges.{Range}
 use Rattle.myi_frames.specs.declared.head.Header.{Header}
@@ -8,6 +8,8 @@ use Rattle.myi_window.specs.Excerpt.{Excerpt}
 use Rattle.myi_window.specs.declared.window.TheConstants.{WINDOW}
 use Rattle.myi_chain.specs.declared.chain.Link.{Link}
 use Rattle.myi_chain.specs.declared.chain.Link.TheVariants.{Broken, Last, More}
+use Rattle.myi_chain.specs.declared.piece.Wanted.{Wanted}
+use Rattle.myi_chain.specs.declared.piece.Wanted.TheVariants.{Items, Rows}
 use Rattle.myi_chain.specs.declared.step.FoundRow.{FoundRow}
 use Rattle.myi_chain.specs.declared.step.FoundRow.TheVariants.{Kept, Joined}
 use Rattle.myi_chain.specs.declared.step.Found.{Found}
@@ -18,7 +20,7 @@ use Rattle.myi_chain.specs.Chain.{Reading, row_bytes}
 use Rattle.myi_chain.specs.Readable.{Row, Item, row, free, rest, skip_by, free_by}
 use Rattle.myi_chain.specs.Pieces.{is_lent}
 use Rattle.myi_chain.specs.Used.{joined}
-use Rattle.myi_chain.specs.ScanModel.{MeetsShort, IsBehind, EndsInside, AreBlocksAt, FirstItem, FirstRow, NoRow}
+use Rattle.myi_chain.specs.ScanModel.{MeetsShort, IsBehind, EndsInside, AreBlocksAt, ArePassed, PassesTo}
 use Rattle.myi_chain.specs.Chain.{placed, ranges_at}
 use Rattle.myi_chain.specs.Source.{SourceModel, read_bytes, read_blocks, IsKept, kept_bytes}
 
@@ -145,26 +147,27 @@ MeetsShortAt accepts s p m = MeetsShort accepts (read_bytes s m) p.place p.used
 abbrev pub FindsShortAt : SourceModel → Holding → Position → Option Found → Position → Type 0
 FindsShortAt s m p f q = FindsShort (read_blocks s m) p.place f q.place q.used
 
--- this is the first item of those that were to come, and the others are to come
-abbrev pub FindsItem : SourceModel → RowBuffer → List Item → List Item → Option Found → Type 0
-FindsItem s r old new None = (old ≡ []) × (new ≡ [])
-FindsItem s r old new (Some f) = FirstItem (item_at s r f) old new
+-- what was found, where it is wanted
+abbrev pub picked : Wanted → Option Found → Option Found
+picked wanted None = None
+picked wanted (Some (found.Row r)) = Some (found.Row r)
+picked Items (Some (found.Free at size)) = Some (found.Free at size)
+picked Rows (Some (found.Free at size)) = None
 
--- this is the first row of those that were to come, and the items behind it are to come
-abbrev pub FindsNextRow : SourceModel → RowBuffer → List Item → List Item → Option FoundRow → Type 0
-FindsNextRow s r old new None = NoRow old × (new ≡ [])
-FindsNextRow s r old new (Some f) = FirstRow (row_held s r f) old new
+-- it is wanted
+abbrev pub IsMeant : Wanted → Found → Type 0
+IsMeant wanted f = picked wanted (Some f) ≡ Some f
+
+-- this is the first item that is wanted of those that were to come, and those behind it are to come
+abbrev pub FindsItem : SourceModel → RowBuffer → Wanted → List Item → List Item → Option Found → Type 0
+FindsItem s r wanted old new None = ArePassed wanted old × (new ≡ [])
+FindsItem s r wanted old new (Some f) = PassesTo wanted old (item_at s r f ∷ new)
 
 -- the used ranges are those of before, where no row was found
 abbrev pub KeepsUsed : List Range → List Range → Option Found → Type 0
 KeepsUsed old new None = new ≡ old
 KeepsUsed old new (Some (found.Free at size)) = new ≡ old
 KeepsUsed old new (Some (found.Row r)) = Unit {0}
-
--- the row in the block at a place was found
-abbrev pub FindsShortRowAt : SourceModel → Holding → Position → Option FoundRow → Position → Type 0
-FindsShortRowAt s m p None q = ⊥
-FindsShortRowAt s m p (Some f) q = WentPlain (read_blocks s m) p.place q.place q.used
 
 -- where a call ends that goes from a place up to an end: behind it where something was found, and else at the end
 abbrev pub Rises : {X : Type 0} → ℕ → ℕ → ℕ → Option X → Type 0
