@@ -293,9 +293,6 @@ to_same w a b e = ([], passed_none w, e)
 pub to_more : (w : Wanted) (a b c is : List Item) → PassesTo w a b → ArePassed w is → b ≡ is ++ c → PassesTo w a c
 to_more w a b c is over passed e = (over.0 ++ is, passed_both w over.0 is over.1 passed, over.2 ∙ ap (λ (xs : List Item). over.0 ++ xs) e ∙ sym (append_assoc over.0 is c))
 
-pub to_this : (w : Wanted) (a b c : List Item) → PassesTo w a b → b ≡ c → PassesTo w a c
-to_this w a b c over e = (over.0, over.1, over.2 ∙ ap (λ (xs : List Item). over.0 ++ xs) e)
-
 pub to_end : (w : Wanted) (a b : List Item) → PassesTo w a b → b ≡ [] → ArePassed w a
 to_end w a b over e = subst (ArePassed w) (sym (over.2 ∙ ap (λ (xs : List Item). over.0 ++ xs) e)) (passed_both w over.0 [] over.1 (passed_none w))
 

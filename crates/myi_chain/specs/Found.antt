@@ -1,5 +1,5 @@
 -- What a scan finds at a place: a row, whose bytes are kept in the window or were joined, or a deleted block.
-use Rattle.std.specs.Prelude.{◌≡◌, ◌+◌, ◌<◌, ◌≤◌, ℕ, Bool, true, false, nat_le, List, [], ◌∷◌, ◌++◌, length, Option, Some, None, option_to_list}
+use Rattle.std.specs.Prelude.{◌≡◌, ◌+◌, ◌<◌, ◌≤◌, ℕ, Bool, true, false, nat_le, List, [], ◌∷◌, length, Option, Some, None, option_to_list}
 use Rattle.myi_base.specs.Holding.{Holding}
 use Rattle.myi_base.specs.Ranges.{Range}
 use Rattle.myi_frames.specs.declared.head.Header.{Header}

@@ -1,7 +1,7 @@
-use Rattle.std.proofs.Common.{◌≡◌, ◌∙◌, ◌++◌, Some, refl, sym, ap, subst, arith}
-use Rattle.myi_chain.specs.Found.{met_at, item_at, items_at, MeetsShortAt, FindsShortAt}
+use Rattle.std.proofs.Common.{◌≡◌, ◌∙◌, ◌++◌, refl, sym, ap, subst, arith}
+use Rattle.myi_chain.specs.Found.{items_at, MeetsShortAt}
 use Rattle.myi_chain.proofs.SourceLemmas.{ready_still, reads_same, reads_then}
-use Rattle.myi_chain.proofs.StepLemmas.{met_end, met_same, meets_same, short_ended, finds_same, to_same, to_more, to_this, to_end, picked_is, picked_none, picked_short}
+use Rattle.myi_chain.proofs.StepLemmas.{met_end, met_same, meets_same, short_ended, to_same, to_more, to_end, picked_none, picked_short}
 use Rattle.myi_chain.proofs.step.advance.Goals as goal
 
 pub loop-position-init : goal.loop-position-init
