@@ -23,9 +23,9 @@ use Rattle.myi_chain.specs.Readable.{Row, Item, row, free, rest, items_in, rows_
 use Rattle.myi_chain.specs.Pieces.{piece_bytes}
 use Rattle.myi_chain.specs.Used.{joined}
 use Rattle.myi_chain.specs.Chain.{ranges_at}
-use Rattle.myi_chain.specs.Source.{SourceModel, read_blocks, IsReady, ReadsOn}
+use Rattle.myi_chain.specs.Source.{SourceModel, read_blocks, IsReady, ReadsOn, EndStaysOr}
 use Rattle.myi_chain.specs.Found.{met_at, row_held, item_at, found_at, found_blocks, LiesRow, MeetsShortAt, WentPlain, IsMeant}
-use Rattle.myi_chain.specs.ScanModel.{Scanning, scanned, IsSameScan, IsCurrent, IsItem, IsWanted, LendsBlock, EndsInside, AreBlocksAt, StandsItem, ArePassed, PassesTo, ComesFirst, items_left, Answers, HasEnded, Keeps, IsBehind, MeetsPlain, ScansPlain, MayLack, After}
+use Rattle.myi_chain.specs.ScanModel.{Scanning, scanned, FallsToKept, IsSameScan, IsCurrent, IsItem, IsWanted, LendsBlock, EndsInside, AreBlocksAt, StandsItem, ArePassed, PassesTo, ComesFirst, items_left, Answers, HasEnded, Keeps, IsBehind, MeetsPlain, ScansPlain, MayLack, After}
 use Rattle.myi_chain.proofs.BlockLemmas.{blocks_read}
 use Rattle.myi_chain.proofs.ReadableLemmas.{rest_end}
 use Rattle.myi_chain.proofs.StepLemmas.{met_same}
@@ -45,7 +45,7 @@ module _ {A : Type 0} (h : Option Holding) (old : Scanning A) (s : SourceModel) 
   pub ready_scan : IfTold h (IsReady s)
   ready_scan m held = let is = subst (λ (o : Scanning A). IsCurrent o m) (sym view) (current m held) in record { kept = is.kept; long = is.long }
 
-  module _ (gives : A → List ℕ → Bool) (mid : SourceModel) (q : Position) (r : RowBuffer) (on : ReadsOn h s mid) where
+  module _ (gives : A → List ℕ → Bool) (mid : SourceModel) (q : Position) (r : RowBuffer) (on : ReadsOn h s mid) (fell : EndStaysOr s mid) where
     left_before : (m : Holding) → items_left gives old m ≡ met_at extend (gives test) s p m
     left_before m = subst (λ (o : Scanning A). items_left gives o m ≡ met_at extend (gives test) s p m) view refl
 
@@ -66,6 +66,12 @@ module _ {A : Type 0} (h : Option Holding) (old : Scanning A) (s : SourceModel) 
 
     whole_scan : IfTold h (λ m. mid.end ≡ old.end)
     whole_scan m held = on.end m held ∙ sym old_end
+
+    falls_scan : (now : List (ℕ × ℕ)) → FallsToKept old (scan_of mid test extend q now)
+    falls_scan now = elim fell [
+      | inl e ↦ inl (e ∙ sym old_end)
+      | inr cut ↦ inr cut
+    ]
 
     old_blocks : old.blocks ≡ blocks
     old_blocks = sym (ap (λ (o : Scanning A). o.blocks) view)
@@ -89,6 +95,7 @@ module _ {A : Type 0} (h : Option Holding) (old : Scanning A) (s : SourceModel) 
       same = same_scan now;
       rises = omega (arith, old_place, rises.0);
       within = rises.1;
+      falls = falls_scan now;
       whole = whole_scan;
       stands = stands;
       told = comes_first wanted f answer now is told;
@@ -111,6 +118,7 @@ module _ {A : Type 0} (h : Option Holding) (old : Scanning A) (s : SourceModel) 
     ended wanted last told = record {
       same = same_scan blocks;
       ended = last;
+      falls = falls_scan blocks;
       whole = whole_scan;
       blocks = sym old_blocks;
       told = λ m held. (subst (ArePassed wanted) (sym (left_before m)) (told m held).0, left_behind blocks m held ∙ (told m held).1);
@@ -136,6 +144,7 @@ module _ {A : Type 0} (h : Option Holding) (old : Scanning A) (s : SourceModel) 
       place = ap (λ (r : Position). r.place) same ∙ sym old_place;
       used = ap (λ (r : Position). r.used) same ∙ ap (λ (o : Scanning A). o.used) view;
       within = within;
+      falls = falls_scan blocks;
       whole = whole_scan;
       blocks = sym old_blocks;
       told = λ m held. left_behind blocks m held ∙ ap (λ (r : Position). met_at extend (gives test) s r m) same ∙ sym (left_before m);

@@ -56,6 +56,15 @@ pub record IsSameScan {A : Type 0} (old new : Scanning A) : Type 0 where
   pub extend : new.extend ≡ old.extend
   pub end : new.end ≤ old.end
 
+-- fewer bytes than a window holds are kept of a file, and they end where it does
+abbrev pub IsCutOff : Excerpt → ℕ → Type 0
+IsCutOff kept end = (kept.from + length kept.bytes ≡ end) × (length kept.bytes < WINDOW)
+
+-- The end falls only where a read of the file gave less than was asked for: to behind the bytes that came, which the scan
+-- keeps then.
+abbrev pub FallsToKept : {A : Type 0} → Scanning A → Scanning A → Type 0
+FallsToKept old new = (new.end ≡ old.end) ⊎ IsCutOff new.kept new.end
+
 -- ---- what is answered
 
 -- the answer is this row or this deleted block; the blocks that are kept are then those of the row
@@ -146,6 +155,7 @@ module _ {A : Type 0} (left : Scanning A → Holding → List readable.Item) (Cu
     pub same : IsSameScan old new
     pub rises : old.place < new.place
     pub within : new.place ≤ new.end
+    pub falls : FallsToKept old new
     pub whole : IfTold holds (λ m. new.end ≡ old.end)
     pub stands : StandsItem found old new
     pub told : IfTold holds (λ m. ComesFirst wanted (left old m) (left new m) found old.blocks new.blocks)
@@ -155,6 +165,7 @@ module _ {A : Type 0} (left : Scanning A → Holding → List readable.Item) (Cu
   pub record HasEnded (new : Scanning A) : Type 0 where
     pub same : IsSameScan old new
     pub ended : new.place ≡ new.end
+    pub falls : FallsToKept old new
     pub whole : IfTold holds (λ m. new.end ≡ old.end)
     pub blocks : new.blocks ≡ old.blocks
     pub told : IfTold holds (λ m. ArePassed wanted (left old m) × (left new m ≡ []))
@@ -166,6 +177,7 @@ module _ {A : Type 0} (left : Scanning A → Holding → List readable.Item) (Cu
     pub place : new.place ≡ old.place
     pub used : new.used ≡ old.used
     pub within : new.place ≤ new.end
+    pub falls : FallsToKept old new
     pub whole : IfTold holds (λ m. new.end ≡ old.end)
     pub blocks : new.blocks ≡ old.blocks
     pub told : IfTold holds (λ m. left new m ≡ left old m)

@@ -20,7 +20,7 @@ ghost use Rattle.myi_chain.specs.Pieces.{is_lent};
 ghost use Rattle.myi_chain.specs.ScanModel.{AreBlocksAt};
 ghost use Rattle.myi_chain.specs.Used.{AddsBlocks, NeedsMemory};
 ghost use Rattle.myi_chain.specs.Chain.{placed, ranges_at};
-ghost use Rattle.myi_chain.specs.Source.{read_bytes, read_blocks, IsReady, ReadsOn, IsHeader, HoldsShort, IsKept, kept_bytes, first_by, HasFollowed, CanAdd, AreRead, StandsThere};
+ghost use Rattle.myi_chain.specs.Source.{read_bytes, read_blocks, IsReady, ReadsOn, MayFall, StaysAt, EndStaysOr, IsHeader, HoldsShort, IsKept, kept_bytes, first_by, HasFollowed, CanAdd, AreRead, StandsThere};
 ghost use Rattle.myi_chain.specs.Found.{is_short, found_at, found_blocks, LiesRow, LiesItem, FindsRow, IsPassed, IsBlockOf, IsFree, met_at, items_at, HoldsItem, HoldsRow, MeetsShortAt, FindsShortAt, FindsItem, KeepsUsed, Rises, picked, IsMeant};
 
 use crate::chain::{Chain, Link, first_link, follow, join};
@@ -271,6 +271,8 @@ fn step<A: Accepts, F: Files>(
         → FindsShortAt source.old m position.old found position.new)) }
     ensures never { IfErr result (λ e. e ≡ Memory → IfTold (F.holds files.old) (λ m.
         MeetsShortAt (A.accepts_gives rules.now.test) source.old position.old m → ⊥)) }
+    ensures falls { MayFall position.old.place source.old source.new }
+    ensures stays { StaysAt position.old.place source.old source.new }
     ensures reads { ReadsOn (F.holds files.old) source.old source.new }
     ensures holds { F.holds files.new ≡ F.holds files.old }
     ensures cause { HasCause File (F.faults files.old) (F.faults files.new) result }
@@ -335,6 +337,7 @@ pub(crate) fn advance<A: Accepts, F: Files>(
         → FindsShortAt source.old m position.old found position.new)) }
     ensures never { IfErr result (λ e. e ≡ Memory → IfTold (F.holds files.old) (λ m.
         MeetsShortAt (A.accepts_gives rules.now.test) source.old position.old m → ⊥)) }
+    ensures falls { EndStaysOr source.old source.new }
     ensures reads { ReadsOn (F.holds files.old) source.old source.new }
     ensures holds { F.holds files.new ≡ F.holds files.old }
     ensures cause { HasCause File (F.faults files.old) (F.faults files.new) result }

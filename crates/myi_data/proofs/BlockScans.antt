@@ -35,6 +35,7 @@ module _ (h : Option Holding) (old : TableScan) (dynamic : old.test.format ≡ D
       place = k.place;
       used = k.used;
       within = k.within;
+      falls = k.falls;
       whole = k.whole;
       blocks = k.blocks;
       told = λ m held. sym (same_items new k.same.test m) ∙ k.told m held ∙ same_items old refl m;
@@ -46,6 +47,7 @@ module _ (h : Option Holding) (old : TableScan) (dynamic : old.test.format ≡ D
     record {
       same = k.same;
       ended = k.ended;
+      falls = k.falls;
       whole = k.whole;
       blocks = k.blocks;
       told = λ m held. (subst (ArePassed wanted) (same_items old refl m) (k.told m held).0, sym (same_items new k.same.test m) ∙ (k.told m held).1);
@@ -58,6 +60,7 @@ module _ (h : Option Holding) (old : TableScan) (dynamic : old.test.format ≡ D
       same = k.same;
       rises = k.rises;
       within = k.within;
+      falls = k.falls;
       whole = k.whole;
       stands = k.stands;
       told = λ m held.

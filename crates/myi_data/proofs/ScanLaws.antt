@@ -1,5 +1,5 @@
 -- What a scan of slots leaves, from what was found between two places of its file.
-use Rattle.std.proofs.Common.{◌≡◌, ◌∙◌, ◌+◌, ◌^◌, ◌<◌, ◌≤◌, ℕ, Bool, true, List, [], ◌∷◌, length, take, drop, sym, ap, subst, arith, refl, Option, Some, None, Ok, Err}
+use Rattle.std.proofs.Common.{◌≡◌, ◌∙◌, ◌+◌, ◌^◌, ◌<◌, ◌≤◌, ℕ, Bool, true, List, [], ◌∷◌, length, take, drop, sym, ap, subst, arith, refl, Option, Some, None, Ok, Err, inl}
 use Rattle.std.proofs.lemmas.Bool.{le-leb, lt-leb}
 use Rattle.std.proofs.lemmas.List.{length-take-le}
 use Rattle.myi_base.specs.Holding.{Holding, bytes_of}
@@ -136,6 +136,7 @@ module _ (holds : Option Holding) (old : TableScan) (name : List ℕ) (test : De
       same = same_scan to ((at, size) ∷ []) v;
       rises = omega (arith, old_place, placed.0, placed.1, k.some);
       within = k.within;
+      falls = inl (sym old_end);
       whole = whole_scan;
       stands = (lends_slot size at p form, (refl, (slot_inside at placed, tt)));
       told = λ m held.
@@ -154,6 +155,7 @@ module _ (holds : Option Holding) (old : TableScan) (name : List ℕ) (test : De
       same = same_scan to blocks v;
       rises = omega (arith, old_place, placed.0, placed.1, k.some);
       within = k.within;
+      falls = inl (sym old_end);
       whole = whole_scan;
       stands = (sym old_blocks, slot_inside at placed);
       told = λ m held. record { first = free (at, at + size); next = ahead wanted _ blocks m (told m held (stood m held)); is = (refl, sym old_blocks) };
@@ -167,6 +169,7 @@ module _ (holds : Option Holding) (old : TableScan) (name : List ℕ) (test : De
     record {
       same = same_scan to blocks v;
       ended = last;
+      falls = inl (sym old_end);
       whole = whole_scan;
       blocks = sym old_blocks;
       told = λ m held. (subst (ArePassed wanted) (sym (left_before m)) (told m held (stood m held)), left_at to blocks v m ∙ end_left (packs test) size end to (bytes_of name m) k.some (omega arith));
@@ -182,6 +185,7 @@ module _ (holds : Option Holding) (old : TableScan) (name : List ℕ) (test : De
       place = same ∙ sym old_place;
       used = ap (λ (s : TableScan). s.used) k.view;
       within = k.within;
+      falls = inl (sym old_end);
       whole = whole_scan;
       blocks = sym old_blocks;
       told = λ m held. left_at to blocks v m ∙ ap (left m) same ∙ sym (left_before m);

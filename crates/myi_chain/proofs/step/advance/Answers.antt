@@ -1,6 +1,6 @@
-use Rattle.std.proofs.Common.{◌≡◌, ◌∙◌, ◌++◌, refl, sym, ap, subst, arith}
+use Rattle.std.proofs.Common.{◌≡◌, ◌∙◌, ◌++◌, refl, sym, ap, subst, arith, inl}
 use Rattle.myi_chain.specs.Found.{items_at, MeetsShortAt}
-use Rattle.myi_chain.proofs.SourceLemmas.{ready_still, reads_same, reads_then}
+use Rattle.myi_chain.proofs.SourceLemmas.{ready_still, reads_same, reads_then, falls_then, falls_or}
 use Rattle.myi_chain.proofs.StepLemmas.{met_end, met_same, meets_same, short_ended, to_same, to_more, to_end, picked_none, picked_short}
 use Rattle.myi_chain.proofs.step.advance.Goals as goal
 
@@ -12,6 +12,7 @@ loop-position-init g c = record {
   holds = refl;
   faults = omega arith;
   reads = reads_same (g.F.Files.holds c.args.files.now) c.args.source.now c.requires.ready;
+  falls = inl refl;
   passed = λ m held. to_same _ _ _ refl;
   short = λ m held meets. refl;
 }
@@ -40,6 +41,7 @@ loop-position-preserved g c =
       holds = stepped.holds ∙ was.holds;
       faults = omega (arith, was.faults, stepped.cause.later);
       reads = reads_then _ _ _ _ _ was.holds was.reads stepped.reads;
+      falls = falls_then old.place new.place a.source.now c.loop-position.source c.step.new.source stepped.within.0 was.falls stepped.falls stepped.stays;
       passed = λ m held.
           let told = stepped.told m (was.holds ∙ held) in
           let here = sym (met_same h a.rules.now.extend accepts a.source.now c.loop-position.source old m held was.reads) ∙ told ∙ ap (λ is. items_at c.step.new.source c.step.new.row c.in-Ok.found ++ is) (met_same h a.rules.now.extend accepts a.source.now c.loop-position.source new m held was.reads) in
@@ -62,3 +64,12 @@ pub returns-clause-short : goal.returns-clause-short
 returns-clause-short g c m held meets =
     let was = c.loop-position.invariant.short m held meets in
     short_ended (g.A.Accepts.accepts_gives c.args.rules.now.test) c.args.source.now c.args.position.now m (c.requires.ready m held) (omega (arith, c.loop-position-test.false, c.end.ensures, c.loop-position.invariant.reads.end m held, ap (λ (p : Rattle.myi_chain.specs.declared.step.Position.Position). p.place) was)) meets
+
+pub returns-clause-falls : goal.returns-clause-falls
+returns-clause-falls g c = falls_or c.loop-position.position.place c.args.source.now c.loop-position.source c.loop-position.invariant.falls
+
+pub returns-in-Some-clause-falls : goal.returns-in-Some-clause-falls
+returns-in-Some-clause-falls g c = falls_or c.loop-position.position.place c.args.source.now c.step.new.source (falls_then c.loop-position.position.place c.loop-position.position.place c.args.source.now c.loop-position.source c.step.new.source (omega arith) c.loop-position.invariant.falls c.step.ensures.falls c.step.ensures.stays)
+
+pub returns-in-Err-clause-falls : goal.returns-in-Err-clause-falls
+returns-in-Err-clause-falls g c = falls_or c.loop-position.position.place c.args.source.now c.step.new.source (falls_then c.loop-position.position.place c.loop-position.position.place c.args.source.now c.loop-position.source c.step.new.source (omega arith) c.loop-position.invariant.falls c.step.ensures.falls c.step.ensures.stays)

@@ -25,7 +25,7 @@ returns-in_default g c =
     let mid = c.advance.new.source in
     let q = c.advance.new.position in
     let r = c.advance.new.row in
-    let answer = ended h c.args.self.now i.source i.rules.test i.rules.extend i.position i.blocks c.self.view_is c.requires.current gives mid q r next.reads c.args.wanted (subst (Rises i.position.place q.place mid.end) c.in_default.is next.rises) (λ m held. subst (FindsItem mid r c.args.wanted (met_at i.rules.extend (gives i.rules.test) i.source i.position m) (met_at i.rules.extend (gives i.rules.test) i.source q m)) c.in_default.is (next.told m held)) in (
+    let answer = ended h c.args.self.now i.source i.rules.test i.rules.extend i.position i.blocks c.self.view_is c.requires.current gives mid q r next.reads next.falls c.args.wanted (subst (Rises i.position.place q.place mid.end) c.in_default.is next.rises) (λ m held. subst (FindsItem mid r c.args.wanted (met_at i.rules.extend (gives i.rules.test) i.source i.position m) (met_at i.rules.extend (gives i.rules.test) i.source q m)) c.in_default.is (next.told m held)) in (
       (refl, λ _. tt, (answer, tt)),
       record {
         says = record { packs = tt; meant = tt; never = tt; failing = tt };
@@ -47,8 +47,8 @@ returns-in-Free g c =
     let is = c.in-Some.is ∙ ap Some c.in-Free.is in
     let rises = subst (Rises i.position.place q.place mid.end) is next.rises in
     let old = c.args.self.now in
-    let answer = free_answered h old i.source i.rules.test i.rules.extend i.position i.blocks c.self.view_is c.requires.current gives mid q r next.reads c.args.wanted c.in-Free.at c.in-Free.size (subst (λ o. IfSome o (LiesItem mid r)) is next.lies) rises (λ m held. subst (FindsItem mid r c.args.wanted (met_at i.rules.extend (gives i.rules.test) i.source i.position m) (met_at i.rules.extend (gives i.rules.test) i.source q m)) is (next.told m held)) in (
-      (refl, λ _. tt, (answer, λ m held. goes_on_plain h old i.source i.rules.test i.rules.extend i.position i.blocks c.self.view_is c.requires.current gives mid q r next.reads rises m (λ meets. absurd (subst (λ o. FindsShortAt i.source m i.position o q) is (next.short m held meets))))),
+    let answer = free_answered h old i.source i.rules.test i.rules.extend i.position i.blocks c.self.view_is c.requires.current gives mid q r next.reads next.falls c.args.wanted c.in-Free.at c.in-Free.size (subst (λ o. IfSome o (LiesItem mid r)) is next.lies) rises (λ m held. subst (FindsItem mid r c.args.wanted (met_at i.rules.extend (gives i.rules.test) i.source i.position m) (met_at i.rules.extend (gives i.rules.test) i.source q m)) is (next.told m held)) in (
+      (refl, λ _. tt, (answer, λ m held. goes_on_plain h old i.source i.rules.test i.rules.extend i.position i.blocks c.self.view_is c.requires.current gives mid q r next.reads next.falls rises m (λ meets. absurd (subst (λ o. FindsShortAt i.source m i.position o q) is (next.short m held meets))))),
       record {
         says = record { packs = tt; meant = free_meant c.args.wanted c.in-Free.at c.in-Free.size (subst (λ o. IfSome o (IsMeant c.args.wanted)) is next.meant); never = tt; failing = tt };
         holds = next.holds;
@@ -72,11 +72,11 @@ returns-in-Kept g c =
     let lies = subst (λ o. IfSome o (LiesItem mid r)) is next.lies in
     let rises = subst (Rises i.position.place q.place mid.end) is next.rises in
     let old = c.args.self.now in
-    let answer = row_answered h old i.source i.rules.test i.rules.extend i.position i.blocks c.self.view_is c.requires.current gives mid q r next.reads c.args.wanted f c.in-Kept.block.head.at (piece.Lent c.row_bytes.result) c.set_one.new.self rises (λ m told. subst (FindsItem mid r c.args.wanted (met_at i.rules.extend (gives i.rules.test) i.source i.position m) (met_at i.rules.extend (gives i.rules.test) i.source q m)) is (next.told m told)) c.row_bytes.ensures refl c.set_one.ensures (ap (λ b. is_lent (ranges_at b)) c.set_one.ensures ∙ held.lent) lies in (
-      (refl, λ _. tt, (answer, λ m told. goes_on_plain h old i.source i.rules.test i.rules.extend i.position i.blocks c.self.view_is c.requires.current gives mid q r next.reads rises m (λ meets. subst (λ o. FindsShortAt i.source m i.position o q) is (next.short m told meets)))),
+    let answer = row_answered h old i.source i.rules.test i.rules.extend i.position i.blocks c.self.view_is c.requires.current gives mid q r next.reads next.falls c.args.wanted f c.in-Kept.block.head.at (piece.Lent c.row_bytes.result) c.set_one.new.self rises (λ m told. subst (FindsItem mid r c.args.wanted (met_at i.rules.extend (gives i.rules.test) i.source i.position m) (met_at i.rules.extend (gives i.rules.test) i.source q m)) is (next.told m told)) c.row_bytes.ensures refl c.set_one.ensures (ap (λ b. is_lent (ranges_at b)) c.set_one.ensures ∙ held.lent) lies in (
+      (refl, λ _. tt, (answer, λ m told. goes_on_plain h old i.source i.rules.test i.rules.extend i.position i.blocks c.self.view_is c.requires.current gives mid q r next.reads next.falls rises m (λ meets. subst (λ o. FindsShortAt i.source m i.position o q) is (next.short m told meets)))),
       record {
         says = record {
-          packs = packs_old h old i.source i.rules.test i.rules.extend i.position i.blocks c.self.view_is c.requires.current gives mid q r next.reads _ (ap (gives i.rules.test) c.row_bytes.ensures ∙ held.packs);
+          packs = packs_old h old i.source i.rules.test i.rules.extend i.position i.blocks c.self.view_is c.requires.current gives mid q r next.reads next.falls _ (ap (gives i.rules.test) c.row_bytes.ensures ∙ held.packs);
           meant = tt;
           never = tt;
           failing = tt;
@@ -102,11 +102,11 @@ returns-in-Joined g c =
     let lies = subst (λ o. IfSome o (LiesItem mid r)) is next.lies in
     let rises = subst (Rises i.position.place q.place mid.end) is next.rises in
     let old = c.args.self.now in
-    let answer = row_answered h old i.source i.rules.test i.rules.extend i.position i.blocks c.self.view_is c.requires.current gives mid q r next.reads c.args.wanted f c.in-Joined.at (piece.Joined c.deref.result) c.take.new.self rises (λ m told. subst (FindsItem mid r c.args.wanted (met_at i.rules.extend (gives i.rules.test) i.source i.position m) (met_at i.rules.extend (gives i.rules.test) i.source q m)) is (next.told m told)) c.deref.ensures.value refl c.take.ensures (ap (λ b. is_lent (ranges_at b)) c.take.ensures ∙ held.lent) lies in (
-      (refl, λ _. tt, (answer, λ m told. goes_on_plain h old i.source i.rules.test i.rules.extend i.position i.blocks c.self.view_is c.requires.current gives mid q r next.reads rises m (λ meets. subst (λ o. FindsShortAt i.source m i.position o q) is (next.short m told meets)))),
+    let answer = row_answered h old i.source i.rules.test i.rules.extend i.position i.blocks c.self.view_is c.requires.current gives mid q r next.reads next.falls c.args.wanted f c.in-Joined.at (piece.Joined c.deref.result) c.take.new.self rises (λ m told. subst (FindsItem mid r c.args.wanted (met_at i.rules.extend (gives i.rules.test) i.source i.position m) (met_at i.rules.extend (gives i.rules.test) i.source q m)) is (next.told m told)) c.deref.ensures.value refl c.take.ensures (ap (λ b. is_lent (ranges_at b)) c.take.ensures ∙ held.lent) lies in (
+      (refl, λ _. tt, (answer, λ m told. goes_on_plain h old i.source i.rules.test i.rules.extend i.position i.blocks c.self.view_is c.requires.current gives mid q r next.reads next.falls rises m (λ meets. subst (λ o. FindsShortAt i.source m i.position o q) is (next.short m told meets)))),
       record {
         says = record {
-          packs = packs_old h old i.source i.rules.test i.rules.extend i.position i.blocks c.self.view_is c.requires.current gives mid q r next.reads _ (ap (gives i.rules.test) c.deref.ensures.value ∙ held.packs);
+          packs = packs_old h old i.source i.rules.test i.rules.extend i.position i.blocks c.self.view_is c.requires.current gives mid q r next.reads next.falls _ (ap (gives i.rules.test) c.deref.ensures.value ∙ held.packs);
           meant = tt;
           never = tt;
           failing = tt;
@@ -129,13 +129,13 @@ returns-in_err-found g c =
     let old = c.args.self.now in
     let e = err_from_is_err_and c.from_residual.result c.from_residual.ensures.1 in
     rw e.1 (
-      (refl, λ _. tt, (kept_after h old i.source i.rules.test i.rules.extend i.position i.blocks c.self.view_is c.requires.current gives mid q r next.reads c.args.wanted next.err next.within, tt)),
+      (refl, λ _. tt, (kept_after h old i.source i.rules.test i.rules.extend i.position i.blocks c.self.view_is c.requires.current gives mid q r next.reads next.falls c.args.wanted next.err next.within, tt)),
       record {
         says = record {
           packs = tt;
           meant = tt;
-          never = λ is. never_plain h old i.source i.rules.test i.rules.extend i.position i.blocks c.self.view_is c.requires.current gives mid q r next.reads next.some (next.never (sym e.2 ∙ is));
-          failing = some_left h old i.source i.rules.test i.rules.extend i.position i.blocks c.self.view_is c.requires.current gives mid q r next.reads next.some;
+          never = λ is. never_plain h old i.source i.rules.test i.rules.extend i.position i.blocks c.self.view_is c.requires.current gives mid q r next.reads next.falls next.some (next.never (sym e.2 ∙ is));
+          failing = some_left h old i.source i.rules.test i.rules.extend i.position i.blocks c.self.view_is c.requires.current gives mid q r next.reads next.falls next.some;
         };
         holds = next.holds;
         cause = record { later = next.cause.later; cause = λ is. next.cause.cause (ap Err (sym e.2 ∙ err_same is)) };
