@@ -24,8 +24,8 @@ use Rattle.myi_chain.specs.Pieces.{piece_bytes}
 use Rattle.myi_chain.specs.Used.{joined}
 use Rattle.myi_chain.specs.Chain.{ranges_at}
 use Rattle.myi_chain.specs.Source.{SourceModel, read_blocks, IsReady, ReadsOn, EndStaysOr}
-use Rattle.myi_chain.specs.Found.{met_at, row_held, item_at, found_at, found_blocks, LiesRow, MeetsShortAt, WentPlain, IsMeant}
-use Rattle.myi_chain.specs.ScanModel.{Scanning, scanned, FallsToKept, IsSameScan, IsCurrent, IsItem, IsWanted, LendsBlock, EndsInside, AreBlocksAt, StandsItem, ArePassed, PassesTo, ComesFirst, items_left, Answers, HasEnded, Keeps, IsBehind, MeetsPlain, ScansPlain, MayLack, After}
+use Rattle.myi_chain.specs.Found.{met_at, row_held, item_at, found_at, found_blocks, LiesRow, MeetsShortAt, WentPlain, place_of, IsBetween, IsMeant}
+use Rattle.myi_chain.specs.ScanModel.{Scanning, scanned, FallsToKept, IsSameScan, IsCurrent, IsItem, IsWanted, LendsBlock, place_in, EndsInside, AreBlocksAt, StandsItem, ArePassed, PassesTo, ComesFirst, items_left, Answers, HasEnded, Keeps, IsBehind, MeetsPlain, ScansPlain, MayLack, After}
 use Rattle.myi_chain.proofs.BlockLemmas.{blocks_read}
 use Rattle.myi_chain.proofs.ReadableLemmas.{rest_end}
 use Rattle.myi_chain.proofs.StepLemmas.{met_same}
@@ -88,12 +88,13 @@ module _ {A : Type 0} (h : Option Holding) (old : Scanning A) (s : SourceModel) 
           is = subst (λ (b : List (ℕ × ℕ)). IsItem (item_at mid r f) answer b now) (sym old_blocks) is;
         }
 
-    answered : (wanted : Wanted) (f : Found) (answer : Answer) (now : List (ℕ × ℕ)) → (p.place < q.place) × (q.place ≤ mid.end) → IsItem (item_at mid r f) answer blocks now → StandsItem answer old (scan_of mid test extend q now)
+    answered : (wanted : Wanted) (f : Found) (answer : Answer) (now : List (ℕ × ℕ)) → IsBetween p.place q.place f × (q.place ≤ mid.end) → place_of f ≡ place_in answer → IsItem (item_at mid r f) answer blocks now → StandsItem answer old (scan_of mid test extend q now)
         → IfTold h (λ m. PassesTo wanted (met_at extend (gives test) s p m) (item_at mid r f ∷ met_at extend (gives test) s q m))
         → Answers (items_left gives) IsCurrent wanted h old answer (scan_of mid test extend q now)
-    answered wanted f answer now rises is stands told = record {
+    answered wanted f answer now rises here is stands told = record {
       same = same_scan now;
-      rises = omega (arith, old_place, rises.0);
+      rises = omega (arith, old_place, rises.0.0, rises.0.1);
+      between = (omega (arith, old_place, here, rises.0.0), omega (arith, here, rises.0.1));
       within = rises.1;
       falls = falls_scan now;
       whole = whole_scan;
@@ -102,17 +103,17 @@ module _ {A : Type 0} (h : Option Holding) (old : Scanning A) (s : SourceModel) 
       current = current_scan now;
     }
 
-    pub row_answered : (wanted : Wanted) (f : FoundRow) (at : ℕ) (piece : Piece) (now : List (ℕ × ℕ)) → (p.place < q.place) × (q.place ≤ mid.end)
+    pub row_answered : (wanted : Wanted) (f : FoundRow) (at : ℕ) (piece : Piece) (now : List (ℕ × ℕ)) → IsBetween p.place q.place (found.Row f) × (q.place ≤ mid.end)
         → IfTold h (λ m. PassesTo wanted (met_at extend (gives test) s p m) (row (row_held mid r f) ∷ met_at extend (gives test) s q m))
         → piece_bytes piece ≡ (row_held mid r f).bytes → found_at f ≡ at → now ≡ found_blocks r.chain.taken f → LendsBlock piece now → LiesRow mid r f
         → Answers (items_left gives) IsCurrent wanted h old (item.Row at piece) (scan_of mid test extend q now)
     row_answered wanted f at piece now rises told is here kept lends lies =
-        answered wanted (found.Row f) (item.Row at piece) now rises (here, is, ap ranges_at kept) (lends, subst (λ n. AreBlocksAt n mid.end now) here (subst (AreBlocksAt (found_at f) mid.end) (sym kept) lies)) told
+        answered wanted (found.Row f) (item.Row at piece) now rises here (here, is, ap ranges_at kept) (lends, subst (λ n. AreBlocksAt n mid.end now) here (subst (AreBlocksAt (found_at f) mid.end) (sym kept) lies)) told
 
-    pub free_answered : (wanted : Wanted) (at size : ℕ) → EndsInside mid.end (at, size) → (p.place < q.place) × (q.place ≤ mid.end)
+    pub free_answered : (wanted : Wanted) (at size : ℕ) → EndsInside mid.end (at, size) → IsBetween p.place q.place (found.Free at size) × (q.place ≤ mid.end)
         → IfTold h (λ m. PassesTo wanted (met_at extend (gives test) s p m) (free (at, at + size) ∷ met_at extend (gives test) s q m))
         → Answers (items_left gives) IsCurrent wanted h old (item.Free at size) (scan_of mid test extend q blocks)
-    free_answered wanted at size lies rises told = answered wanted (found.Free at size) (item.Free at size) blocks rises (refl, refl) (sym old_blocks, lies) told
+    free_answered wanted at size lies rises told = answered wanted (found.Free at size) (item.Free at size) blocks rises refl (refl, refl) (sym old_blocks, lies) told
 
     pub ended : (wanted : Wanted) → q.place ≡ mid.end → IfTold h (λ m. ArePassed wanted (met_at extend (gives test) s p m) × (met_at extend (gives test) s q m ≡ [])) → HasEnded (items_left gives) IsCurrent wanted h old (scan_of mid test extend q blocks)
     ended wanted last told = record {
@@ -129,9 +130,9 @@ module _ {A : Type 0} (h : Option Holding) (old : Scanning A) (s : SourceModel) 
     plain_cases m meets = subst (λ (o : Scanning A). MeetsPlain gives o m) (sym view) meets
 
     -- while only rows in one block are met, one after the other
-    pub goes_on_plain : (p.place < q.place) × (q.place ≤ mid.end) → (m : Holding) → (MeetsShortAt (gives test) s p m → WentPlain (read_blocks s m) p.place q.place q.used) → MeetsPlain gives old m → IsBehind (block_of (scanned old m)) old.place q.place × (q.used ≡ joined q.place)
-    goes_on_plain rises m short meets = elim (plain_cases m meets) [
-      | inl last ↦ absurd (omega (arith, last, rises.0, rises.1, on.falls))
+    pub goes_on_plain : (f : Found) → IsBetween p.place q.place f × (q.place ≤ mid.end) → (m : Holding) → (MeetsShortAt (gives test) s p m → WentPlain (read_blocks s m) p.place q.place q.used) → MeetsPlain gives old m → IsBehind (block_of (scanned old m)) old.place q.place × (q.used ≡ joined q.place)
+    goes_on_plain f rises m short meets = elim (plain_cases m meets) [
+      | inl last ↦ absurd (omega (arith, last, rises.0.0, rises.0.1, rises.1, on.falls))
       | inr next ↦
           let t = short next in
           (subst (λ (o : Scanning A). IsBehind (block_of (scanned o m)) o.place q.place) view t.0, t.1)

@@ -26,7 +26,7 @@ use Rattle.myi_chain.specs.declared.piece.Wanted.{Wanted}
 use Rattle.myi_chain.specs.declared.piece.Wanted.TheVariants.{Items, Rows}
 use Rattle.myi_chain.specs.ScanModel.{MeetsShort, IsBehind, ArePassed, PassesTo}
 use Rattle.myi_chain.specs.Source.{SourceModel, IsHeader, IsReady, ReadsOn, read_bytes, read_blocks, AreRead, first_by}
-use Rattle.myi_chain.specs.Found.{is_short, found_at, found_bytes, found_blocks, found_row, found_items, met_from, NoRowAt, FindsRow, IsPassed, IsBlockOf, IsFree, LiesItem, HoldsItem, met_at, items_at, MeetsShortAt, FindsShort, FindsShortAt, KeepsUsed, picked, IsMeant}
+use Rattle.myi_chain.specs.Found.{is_short, found_at, found_bytes, found_blocks, found_row, found_items, met_from, NoRowAt, FindsRow, IsPassed, IsBlockOf, IsFree, LiesItem, HoldsItem, met_at, items_at, MeetsShortAt, FindsShort, FindsShortAt, KeepsUsed, IsBetween, picked, IsMeant}
 use Rattle.myi_chain.proofs.BlockLemmas.{blocks_read}
 use Rattle.myi_chain.proofs.CodeLemmas.{placed_ranges}
 use Rattle.myi_chain.proofs.ChainLemmas.{chain_sound}
@@ -254,6 +254,12 @@ free_lies at s r h (Some (found.Row q)) place is = absurd is
 free_lies at s r h (Some (found.Free p size)) place is =
     let lies = lies_block at s.end h place in
     (omega (arith, is.0, is.1, lies.0), omega (arith, is.0, is.1, lies.1))
+
+-- it stands at the place at which the block does
+pub free_between : (at to : ℕ) (h : Header) (f : Option Found) → h.head.at ≡ at → at < to → IfSome f (IsBlockOf h) → IfSome f (IsBetween at to)
+free_between at to h None here order is = tt
+free_between at to h (Some (found.Row q)) here order is = absurd is
+free_between at to h (Some (found.Free p size)) here order is = (omega (arith, is.0, here), omega (arith, is.0, here, order))
 
 -- nothing is met at the end
 pub met_end : (extend : Bool) (accepts : List ℕ → Bool) (s : SourceModel) (p : Position) (m : Holding) → IsReady s m → s.end ≤ p.place → met_at extend accepts s p m ≡ []

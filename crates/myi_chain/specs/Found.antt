@@ -39,6 +39,11 @@ abbrev pub found_at : FoundRow → ℕ
 found_at (Kept h) = h.head.at
 found_at (Joined p) = p
 
+-- the place of what was found
+abbrev pub place_of : Found → ℕ
+place_of (found.Row r) = found_at r
+place_of (found.Free at size) = at
+
 -- its bytes: kept in a window, or those that were joined
 abbrev pub found_bytes : Excerpt → List ℕ → FoundRow → List ℕ
 found_bytes e bytes (Kept h) = kept_bytes h e
@@ -169,7 +174,11 @@ KeepsUsed old new None = new ≡ old
 KeepsUsed old new (Some (found.Free at size)) = new ≡ old
 KeepsUsed old new (Some (found.Row r)) = Unit {0}
 
--- where a call ends that goes from a place up to an end: behind it where something was found, and else at the end
-abbrev pub Rises : {X : Type 0} → ℕ → ℕ → ℕ → Option X → Type 0
+-- what was found stands between two places
+abbrev pub IsBetween : ℕ → ℕ → Found → Type 0
+IsBetween from to f = (from ≤ place_of f) × (place_of f < to)
+
+-- where a call ends that goes from a place up to an end: behind what was found, and else at the end
+abbrev pub Rises : ℕ → ℕ → ℕ → Option Found → Type 0
 Rises from to end None = to ≡ end
-Rises from to end (Some f) = (from < to) × (to ≤ end)
+Rises from to end (Some f) = IsBetween from to f × (to ≤ end)

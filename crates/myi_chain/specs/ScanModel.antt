@@ -60,8 +60,7 @@ pub record IsSameScan {A : Type 0} (old new : Scanning A) : Type 0 where
 abbrev pub IsCutOff : Excerpt → ℕ → Type 0
 IsCutOff kept end = (kept.from + length kept.bytes ≡ end) × (length kept.bytes < WINDOW)
 
--- The end falls only where a read of the file gave less than was asked for: to behind the bytes that came, which the scan
--- keeps then.
+-- the end stays, or falls to behind the bytes that the scan keeps then, which are fewer than a window holds
 abbrev pub FallsToKept : {A : Type 0} → Scanning A → Scanning A → Type 0
 FallsToKept old new = (new.end ≡ old.end) ⊎ IsCutOff new.kept new.end
 
@@ -94,6 +93,11 @@ abbrev pub as_items : Result (Option (ℕ × Piece)) ScanFault → Result (Optio
 as_items (Err e) = Err e
 as_items (Ok None) = Ok None
 as_items (Ok (Some found)) = Ok (Some (as_item found))
+
+-- the place of an answer
+abbrev pub place_in : Item → ℕ
+place_in (item.Row at p) = at
+place_in (item.Free at size) = at
 
 -- A row's bytes are lent exactly where the row is one block that a window can hold; these are its blocks.
 abbrev pub LendsBlock : Piece → List (ℕ × ℕ) → Type 0
@@ -139,8 +143,8 @@ pub record ComesFirst (wanted : Wanted) (before after : List readable.Item) (fou
 
 -- ---- what a call answers, and what it leaves
 
--- What a call answers, whatever the files tell. An answer is of its kind, as this says; it is Memory only where memory may
--- be wanting; and a call fails only before the scan's end.
+-- What a call answers, whatever the files tell. An answer is of the kind that is given, and it is one that is wanted; a
+-- refusal is Memory only where memory may be lacking; and a call is refused only before the scan's end.
 pub record Says {A : Type 0} (IsOfKind : Item → Type 0) (MayLackMemory : Type 0) (wanted : Wanted) (old : Scanning A) (result : Result (Option Item) ScanFault) : Type 0 where
   pub packs : IfOk result (λ found. IfSome found IsOfKind)
   pub meant : IfOk result (λ found. IfSome found (IsWanted wanted))
@@ -149,11 +153,12 @@ pub record Says {A : Type 0} (IsOfKind : Item → Type 0) (MayLackMemory : Type 
 
 -- `left` is the items that are left, and `Current` says when the file is as the scan knows it.
 module _ {A : Type 0} (left : Scanning A → Holding → List readable.Item) (Current : Scanning A → Holding → Type 0) (wanted : Wanted) (holds : Option Holding) (old : Scanning A) where
-  -- One was answered: the first that was left, and what is behind it is left. A file that tells what it holds is scanned
-  -- to the same end.
+  -- One was answered: the first that was left, and what is behind it is left. Its place is where the scan stood or behind
+  -- it, and the scan stands behind that then. A file that tells what it holds is scanned to the same end.
   pub record Answers (found : Item) (new : Scanning A) : Type 0 where
     pub same : IsSameScan old new
     pub rises : old.place < new.place
+    pub between : (old.place ≤ place_in found) × (place_in found < new.place)
     pub within : new.place ≤ new.end
     pub falls : FallsToKept old new
     pub whole : IfTold holds (λ m. new.end ≡ old.end)

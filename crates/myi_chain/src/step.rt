@@ -21,7 +21,7 @@ ghost use Rattle.myi_chain.specs.ScanModel.{AreBlocksAt};
 ghost use Rattle.myi_chain.specs.Used.{AddsBlocks, NeedsMemory};
 ghost use Rattle.myi_chain.specs.Chain.{placed, ranges_at};
 ghost use Rattle.myi_chain.specs.Source.{read_bytes, read_blocks, IsReady, ReadsOn, MayFall, StaysAt, EndStaysOr, IsHeader, HoldsShort, IsKept, kept_bytes, first_by, HasFollowed, CanAdd, AreRead, StandsThere};
-ghost use Rattle.myi_chain.specs.Found.{is_short, found_at, found_blocks, LiesRow, LiesItem, FindsRow, IsPassed, IsBlockOf, IsFree, met_at, items_at, HoldsItem, HoldsRow, MeetsShortAt, FindsShortAt, FindsItem, KeepsUsed, Rises, picked, IsMeant};
+ghost use Rattle.myi_chain.specs.Found.{is_short, found_at, found_blocks, LiesRow, LiesItem, FindsRow, IsPassed, IsBlockOf, IsFree, met_at, items_at, HoldsItem, HoldsRow, MeetsShortAt, FindsShortAt, FindsItem, KeepsUsed, IsBetween, Rises, picked, IsMeant};
 
 use crate::chain::{Chain, Link, first_link, follow, join};
 use crate::piece::{Accepts, ScanFault, Wanted};
@@ -257,8 +257,8 @@ fn step<A: Accepts, F: Files>(
     ensures held { IfOk result (λ found. IfSome found
         (HoldsItem (A.accepts_gives rules.now.test) source.new row.new)) }
     ensures lies { IfOk result (λ found. IfSome found (LiesItem source.new row.new)) }
-    ensures rises { IfOk result (λ found. IfSome found (λ _.
-        position.old.place < position.new.place)) }
+    ensures rises { IfOk result (λ found. IfSome found
+        (IsBetween position.old.place position.new.place)) }
     ensures within { OnOk result ((position.old.place ≤ position.new.place)
         × (position.new.place ≤ source.new.end)) }
     ensures nearer { OnOk result (source.new.end - position.new.place

@@ -59,6 +59,7 @@ module _ (h : Option Holding) (old : TableScan) (dynamic : old.test.format ≡ D
     record {
       same = k.same;
       rises = k.rises;
+      between = k.between;
       within = k.within;
       falls = k.falls;
       whole = k.whole;

@@ -135,6 +135,7 @@ module _ (holds : Option Holding) (old : TableScan) (name : List ℕ) (test : De
     record {
       same = same_scan to ((at, size) ∷ []) v;
       rises = omega (arith, old_place, placed.0, placed.1, k.some);
+      between = (omega (arith, old_place, placed.0), omega (arith, placed.1, k.some));
       within = k.within;
       falls = inl (sym old_end);
       whole = whole_scan;
@@ -154,6 +155,7 @@ module _ (holds : Option Holding) (old : TableScan) (name : List ℕ) (test : De
     record {
       same = same_scan to blocks v;
       rises = omega (arith, old_place, placed.0, placed.1, k.some);
+      between = (omega (arith, old_place, placed.0), omega (arith, placed.1, k.some));
       within = k.within;
       falls = inl (sym old_end);
       whole = whole_scan;

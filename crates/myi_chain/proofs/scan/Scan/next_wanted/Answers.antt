@@ -48,7 +48,7 @@ returns-in-Free g c =
     let rises = subst (Rises i.position.place q.place mid.end) is next.rises in
     let old = c.args.self.now in
     let answer = free_answered h old i.source i.rules.test i.rules.extend i.position i.blocks c.self.view_is c.requires.current gives mid q r next.reads next.falls c.args.wanted c.in-Free.at c.in-Free.size (subst (λ o. IfSome o (LiesItem mid r)) is next.lies) rises (λ m held. subst (FindsItem mid r c.args.wanted (met_at i.rules.extend (gives i.rules.test) i.source i.position m) (met_at i.rules.extend (gives i.rules.test) i.source q m)) is (next.told m held)) in (
-      (refl, λ _. tt, (answer, λ m held. goes_on_plain h old i.source i.rules.test i.rules.extend i.position i.blocks c.self.view_is c.requires.current gives mid q r next.reads next.falls rises m (λ meets. absurd (subst (λ o. FindsShortAt i.source m i.position o q) is (next.short m held meets))))),
+      (refl, λ _. tt, (answer, λ m held. goes_on_plain h old i.source i.rules.test i.rules.extend i.position i.blocks c.self.view_is c.requires.current gives mid q r next.reads next.falls (found.Free c.in-Free.at c.in-Free.size) rises m (λ meets. absurd (subst (λ o. FindsShortAt i.source m i.position o q) is (next.short m held meets))))),
       record {
         says = record { packs = tt; meant = free_meant c.args.wanted c.in-Free.at c.in-Free.size (subst (λ o. IfSome o (IsMeant c.args.wanted)) is next.meant); never = tt; failing = tt };
         holds = next.holds;
@@ -73,7 +73,7 @@ returns-in-Kept g c =
     let rises = subst (Rises i.position.place q.place mid.end) is next.rises in
     let old = c.args.self.now in
     let answer = row_answered h old i.source i.rules.test i.rules.extend i.position i.blocks c.self.view_is c.requires.current gives mid q r next.reads next.falls c.args.wanted f c.in-Kept.block.head.at (piece.Lent c.row_bytes.result) c.set_one.new.self rises (λ m told. subst (FindsItem mid r c.args.wanted (met_at i.rules.extend (gives i.rules.test) i.source i.position m) (met_at i.rules.extend (gives i.rules.test) i.source q m)) is (next.told m told)) c.row_bytes.ensures refl c.set_one.ensures (ap (λ b. is_lent (ranges_at b)) c.set_one.ensures ∙ held.lent) lies in (
-      (refl, λ _. tt, (answer, λ m told. goes_on_plain h old i.source i.rules.test i.rules.extend i.position i.blocks c.self.view_is c.requires.current gives mid q r next.reads next.falls rises m (λ meets. subst (λ o. FindsShortAt i.source m i.position o q) is (next.short m told meets)))),
+      (refl, λ _. tt, (answer, λ m told. goes_on_plain h old i.source i.rules.test i.rules.extend i.position i.blocks c.self.view_is c.requires.current gives mid q r next.reads next.falls (found.Row f) rises m (λ meets. subst (λ o. FindsShortAt i.source m i.position o q) is (next.short m told meets)))),
       record {
         says = record {
           packs = packs_old h old i.source i.rules.test i.rules.extend i.position i.blocks c.self.view_is c.requires.current gives mid q r next.reads next.falls _ (ap (gives i.rules.test) c.row_bytes.ensures ∙ held.packs);
@@ -103,7 +103,7 @@ returns-in-Joined g c =
     let rises = subst (Rises i.position.place q.place mid.end) is next.rises in
     let old = c.args.self.now in
     let answer = row_answered h old i.source i.rules.test i.rules.extend i.position i.blocks c.self.view_is c.requires.current gives mid q r next.reads next.falls c.args.wanted f c.in-Joined.at (piece.Joined c.deref.result) c.take.new.self rises (λ m told. subst (FindsItem mid r c.args.wanted (met_at i.rules.extend (gives i.rules.test) i.source i.position m) (met_at i.rules.extend (gives i.rules.test) i.source q m)) is (next.told m told)) c.deref.ensures.value refl c.take.ensures (ap (λ b. is_lent (ranges_at b)) c.take.ensures ∙ held.lent) lies in (
-      (refl, λ _. tt, (answer, λ m told. goes_on_plain h old i.source i.rules.test i.rules.extend i.position i.blocks c.self.view_is c.requires.current gives mid q r next.reads next.falls rises m (λ meets. subst (λ o. FindsShortAt i.source m i.position o q) is (next.short m told meets)))),
+      (refl, λ _. tt, (answer, λ m told. goes_on_plain h old i.source i.rules.test i.rules.extend i.position i.blocks c.self.view_is c.requires.current gives mid q r next.reads next.falls (found.Row f) rises m (λ meets. subst (λ o. FindsShortAt i.source m i.position o q) is (next.short m told meets)))),
       record {
         says = record {
           packs = packs_old h old i.source i.rules.test i.rules.extend i.position i.blocks c.self.view_is c.requires.current gives mid q r next.reads next.falls _ (ap (gives i.rules.test) c.deref.ensures.value ∙ held.packs);
