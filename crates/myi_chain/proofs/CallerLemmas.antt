@@ -2,10 +2,12 @@
 
 -- chains_are_found
 pub use Rattle.myi_chain.proofs.BlockLemmas.{blocks_read}
+pub use Rattle.myi_chain.proofs.GroupLemmas.{joined_far}
 -- rows_are_met
 pub use Rattle.myi_chain.proofs.ReadableLemmas.{rest_fine}
 -- sound_files_are_read
 pub use Rattle.myi_chain.proofs.LaidLemmas.{laid_rows}
+pub use Rattle.myi_chain.proofs.GroupLemmas.{groups_read}
 -- plain_scans_take_no_memory
 pub use Rattle.myi_chain.proofs.ScanLemmas.{plain_meets, plain_after}
 -- rows_come_first

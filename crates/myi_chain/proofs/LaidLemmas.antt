@@ -16,13 +16,13 @@ use Rattle.myi_chain.proofs.ReadableLemmas.{rest_end, rest_step}
 abbrev pub AreBelow : ℕ → List Range → Type 0
 AreBelow p used = AllByRecursion (λ r. (r.0 < r.1) × (r.1 ≤ p)) used
 
-below_end : (p : ℕ) (used : List Range) → AreBelow p used → end_of p used ≡ 0
+pub below_end : (p : ℕ) (used : List Range) → AreBelow p used → end_of p used ≡ 0
 below_end p [] h = refl
 below_end p (r ∷ used) h =
     let other : (r.0 == p) ≡ false = ne_eqb _ _ (omega (arith, h.0.0, h.0.1)) in
     rw other (below_end p used h.1)
 
-below_apart : (p e : ℕ) (used : List Range) → AreBelow p used → is_apart (p, e) used ≡ true
+pub below_apart : (p e : ℕ) (used : List Range) → AreBelow p used → is_apart (p, e) used ≡ true
 below_apart p e [] h = refl
 below_apart p e (r ∷ used) h =
     let before : nat_le r.1 p ≡ true = le-leb _ _ h.0.1 in
@@ -33,7 +33,7 @@ below_apart p e (r ∷ used) h =
     either_le true b e f = f
     either_le false b e f = rw (e, f) refl
 
-below_more : (p q : ℕ) (used : List Range) → AreBelow p used → p < q → AreBelow q (used ++ (p, q) ∷ [])
+pub below_more : (p q : ℕ) (used : List Range) → AreBelow p used → p < q → AreBelow q (used ++ (p, q) ∷ [])
 below_more p q [] h lt = ((lt, omega arith), tt)
 below_more p q (r ∷ used) h lt = ((h.0.0, omega (arith, h.0.1)), below_more p q used h.1 lt)
 

@@ -4,6 +4,7 @@ pub mod ChainLemmas
 pub mod CountLemmas
 pub mod ReadableLemmas
 pub mod LaidLemmas
+pub mod GroupLemmas
 pub mod PartLemmas
 pub mod PlaceLemmas
 pub mod CoverLemmas

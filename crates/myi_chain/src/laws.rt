@@ -6,11 +6,11 @@ ghost use Rattle.myi_base.specs.Holding.{Holding, bytes_of, IfTold};
 ghost use Rattle.myi_base.specs.Ranges.{Range};
 ghost use Rattle.myi_frames.specs.declared.form.FrameKind.TheVariants.{Deleted, Whole, Start, Middle, End};
 ghost use Rattle.myi_frames.specs.Block.{Block, block_of};
-ghost use Rattle.myi_chain.specs.Chain.{Reading, IsReading, AreApart, IsChain, range_of, ranges, row_bytes, chain_of};
+ghost use Rattle.myi_chain.specs.Chain.{Reading, IsReading, AreLinked, AreApart, IsChain, range_of, ranges, row_bytes, chain_of};
 ghost use Rattle.myi_chain.specs.Readable.{Row, row, free, row_at, end_of, items, places, rest, rows_of, readable, items_in};
 ghost use Rattle.myi_chain.specs.Readable as readable;
 ghost use Rattle.myi_chain.specs.Meeting.{IsItemOf, IsRowOf, IsDeletedOf, ranges_of, AreRising, ItemsRise, HasNoRow};
-ghost use Rattle.myi_chain.specs.Laid.{AreLaid, whole_row};
+ghost use Rattle.myi_chain.specs.Laid.{AreLaid, whole_row, AreJoined, AreGroups, group_rows};
 ghost use Rattle.myi_chain.specs.Parts.{Part, IsMadeOf, parts_met, has_byte};
 ghost use Rattle.myi_chain.specs.ScanModel.{Scanning, scanned, fresh_scan, items_left, IsCurrent, MeetsPlain, ScansPlain, After, ArePassed, PassesTo, ComesFirst, IsItem};
 ghost use Rattle.myi_chain.specs.Used.{joined, SameFrom};
@@ -27,7 +27,7 @@ use crate::piece::Accepts;
 
 /// The blocks of a file of bytes are read so. At each place there is one chain or none, and the
 /// definition that is followed finds it exactly where there is one. No chain has more blocks than a
-/// twentieth of the file's length.
+/// twentieth of the file's length. Linked blocks that stand one directly after the other share no byte.
 pub fn chains_are_found()
     ensures blocks { (d : List ℕ) → IsReading (block_of d) (length d) }
     ensures sound { (read : Reading) (p : ℕ) (used : List Range) (bs : List Block)
@@ -39,6 +39,9 @@ pub fn chains_are_found()
     ensures few { (read : Reading) (len : ℕ) → IsReading read len
         → (p : ℕ) (used : List Range) (bs : List Block)
         → IsChain read p used bs → length bs ≤ len / 20 }
+    ensures joined { (read : Reading) (len : ℕ) → IsReading read len
+        → (p : ℕ) (bs : List Block)
+        → AreLinked read p bs → AreJoined p bs → AreApart [] (ranges bs) }
 {}
 
 /// What is met in a file of any bytes. The recursion stands at no more places than one for each four
@@ -120,7 +123,8 @@ pub fn each_place_is_read()
 {}
 
 /// What stands in a sound file is what is read: a file that is only whole blocks of rows, one after the
-/// other, has exactly these rows, whether every place is tried or not; and where not every place is tried, a
+/// other, has exactly these rows, whether every place is tried or not, and so has a file that is only rows in
+/// any blocks, all one directly after the other (`groups`); and where not every place is tried, a
 /// file of rows in any blocks and of deleted blocks has exactly these, in order of their places. A file is
 /// such a one if each of its bytes belongs to a block of a row or to a deleted block, of which no two have a
 /// byte in common, in whichever order they stand (`covered`).
@@ -128,6 +132,10 @@ pub fn sound_files_are_read()
     ensures laid { (extend : Bool) (accepts : List ℕ → Bool) (d : List ℕ) (bs : List Block)
         → AreLaid (block_of d) accepts (length d) 0 bs
         → readable extend accepts d ≡ map whole_row bs }
+    ensures groups { (extend : Bool) (accepts : List ℕ → Bool) (d : List ℕ)
+        (groups : List (List Block))
+        → AreGroups (block_of d) accepts (length d) 0 groups
+        → readable extend accepts d ≡ group_rows 0 groups }
     ensures parts { (accepts : List ℕ → Bool) (d : List ℕ) (parts : List Part)
         → IsMadeOf (block_of d) accepts (length d) parts
         → items_in false accepts d ≡ parts_met parts }

@@ -3,6 +3,9 @@ pub mod SlotLaws
 pub mod RowsLemmas
 pub mod PlainLaws
 pub mod SpellingLemmas
+pub mod ShareLemmas
+pub mod GiantLemmas
+pub mod StandLemmas
 pub mod AloneLemmas
 pub mod StoredLemmas
 pub mod KeyLemmas

@@ -1,5 +1,5 @@
--- A file of rows, one block or one slot each, is read as these rows.
-use Rattle.std.proofs.Common.{◌≡◌, ℕ, ◌+◌, ◌%◌, ◌<◌, ◌≤◌, Bool, true, false, eqb, List, [], ◌∷◌, ◌++◌, length, take, drop, map, Some, refl, sym, ap, subst, ◌∙◌, arith, append_assoc, length-append}
+-- A file of rows, each in its blocks or its slot, is read as these rows.
+use Rattle.std.proofs.Common.{◌≡◌, ℕ, ◌+◌, ◌-◌, ◌%◌, ◌^◌, ◌<◌, ◌≤◌, Bool, true, false, eqb, List, [], ◌∷◌, ◌++◌, length, take, drop, refl, sym, ap, subst, ◌∙◌, arith, append_assoc, length-append}
 use Rattle.std.specs.Prelude.{slice_index, All, is_some}
 use Rattle.std.specs.List.{flat_map, AllByRecursion}
 use Rattle.std.proofs.lemmas.Bool.{ne_eqb}
@@ -10,92 +10,84 @@ use Rattle.myi_defs.specs.declared.types.RowFormat.TheVariants.{Static, Dynamic}
 use Rattle.myi_defs.specs.declared.types.Defs.{Defs}
 use Rattle.myi_defs.specs.Sound.{IsSound}
 use Rattle.myi_frames.specs.Block.{Block, block_of}
-use Rattle.myi_frames.specs.Sizes.{least_size}
-use Rattle.myi_frames.specs.Writing.{IsWritable, whole_spec, written_block}
-use Rattle.myi_frames.proofs.CallerLemmas.{length-block, block-joined, least-writable}
+use Rattle.myi_frames.specs.Sizes.{total_size}
 use Rattle.myi_pack.specs.Packed.{Values, IsStaticRow, IsRow}
 use Rattle.myi_pack.specs.Spelling.{spelling, fits}
-use Rattle.myi_pack.proofs.CallerLemmas.{row-spelled, row-reads, row-short}
-use Rattle.myi_chain.specs.Readable.{Row, Item, rows_of}
+use Rattle.myi_pack.proofs.CallerLemmas.{row-spelled, row-reads}
+use Rattle.myi_base.specs.Ranges.{Range}
+use Rattle.myi_chain.specs.Chain.{ranges}
+use Rattle.myi_chain.specs.Readable.{Row, Item, row_at, rows_of}
 use Rattle.myi_chain.specs.Readable as chains
-use Rattle.myi_chain.specs.Laid.{AreLaid, whole_row}
-use Rattle.myi_chain.proofs.CallerLemmas as chains_laid
+use Rattle.myi_chain.specs.Laid.{AreGroups, group_rows}
+use Rattle.myi_chain.proofs.CallerLemmas.{groups_read}
 use Rattle.myi_data.specs.Slots.{Slot, slots_in}
 use Rattle.myi_data.specs.Readable.{packs, slot_row, slot_items, items_at, items_by, items_in, readable}
-use Rattle.myi_data.specs.Stored.{SizedRow, Share, own_block, group, stored_size, stored, stored_from, stored_file, ranges_from, stored_rows, IsStorable}
+use Rattle.myi_data.specs.Stored.{SizedRow, Share, group_by, stored_by, group, stored_size, stored, stored_from, stored_file, ranges_from, stored_rows, IsStorable}
 use Rattle.myi_data.proofs.AloneLemmas.{bytes_alone, size_alone, group_one, size_one, stored_one}
+use Rattle.myi_data.proofs.ShareLemmas.{total_shares}
+use Rattle.myi_data.proofs.StandLemmas.{row_blocks, IsShaped, row_shaped, can_stand, stored_dynamic, group_dynamic}
 use Rattle.myi_data.proofs.SlotLaws.{slots_none, slots_more}
-use Rattle.myi_data.proofs.SpellingLemmas.{spelling_some}
 
 packs_spelling : (d : Defs) (v : Values) → IsSound d → fits d v ≡ true → packs d (spelling d v) ≡ true
 packs_spelling d v s f = ap is_some (row-reads d v s f)
 
 -- ---- blocks
 
-blocks_from : Defs → ℕ → List SizedRow → List Block
-blocks_from d at [] = []
-blocks_from d at (r ∷ rs) =
-    written_block (whole_spec (length (spelling d r.values))) at (least_size (length (spelling d r.values))) (spelling d r.values) ∷ blocks_from d (at + least_size (length (spelling d r.values))) rs
+groups_from : Defs → ℕ → List SizedRow → List (List Block)
+groups_from d at [] = []
+groups_from d at (r ∷ rs) = row_blocks at r.sizes (spelling d r.values) ∷ groups_from d (at + stored_size d r) rs
 
 module _ (d : Defs) (s : IsSound d) (dynamic : d.format ≡ Dynamic) where
-  writable : (v : Values) → fits d v ≡ true → IsWritable (whole_spec (length (spelling d v))) (length (spelling d v)) (least_size (length (spelling d v)))
-  writable v fit = (least-writable (length (spelling d v)) (row-short d v s dynamic fit)).0
+  shaped : (at : ℕ) (r : SizedRow) → IsStorable d r → IsShaped at (spelling d r.values) (stored_by Dynamic at r.sizes (spelling d r.values)) (group_by Dynamic r.sizes (length (spelling d r.values))) (row_blocks at r.sizes (spelling d r.values))
+  shaped at r can = row_shaped at r.sizes (spelling d r.values) (can_stand d r s dynamic can)
 
-  stored_block : (at : ℕ) (r : SizedRow) → fits d r.values ≡ true → stored d at r ≡ own_block (spelling d r.values)
-  stored_block at r fit = stored_one d r s fit at ∙ ap (λ f. bytes_alone f (spelling d r.values)) dynamic
+  size_is : (r : SizedRow) → stored_size d r ≡ total_shares (group_by Dynamic r.sizes (length (spelling d r.values)))
+  size_is r = ap (λ (g : List Share). total_shares g) (group_dynamic d r dynamic)
 
-  own_size : (r : SizedRow) → fits d r.values ≡ true → stored_size d r ≡ least_size (length (spelling d r.values))
-  own_size r fit = size_one d r s fit ∙ ap (λ f. size_alone f (length (spelling d r.values))) dynamic
-
-  length-own : (v : Values) → fits d v ≡ true → length (own_block (spelling d v)) ≡ least_size (length (spelling d v))
-  length-own v fit = length-block (whole_spec (length (spelling d v))) (spelling d v) (least_size (length (spelling d v))) (writable v fit)
-
-  blocks_laid : (rs : List SizedRow) (x front : List ℕ) → AllByRecursion (IsStorable d) rs → length front % 4 ≡ 0 → x ≡ front ++ flat_map (λ (r : SizedRow). own_block (spelling d r.values)) rs → AreLaid (block_of x) (packs d) (length x) (length front) (blocks_from d (length front) rs)
-  unfolding blocks_from
-  blocks_laid [] x front all aligned is = sym (ap (λ (l : List ℕ). length l) is ∙ length-append front [] ∙ (let e : length front + 0 ≡ length front = omega arith in e))
-  blocks_laid (r ∷ rs) x front all aligned is =
+  groups_laid : (at : ℕ) (rs : List SizedRow) (x front : List ℕ) → AllByRecursion (IsStorable d) rs → length front ≡ at → at % 4 ≡ 0 → length x < 2 ^ 64 - 1 → x ≡ front ++ stored_from d at rs → AreGroups (block_of x) (packs d) (length x) at (groups_from d at rs)
+  unfolding groups_from
+  groups_laid at [] x front all long aligned near is = omega (arith, long, length-append front [], ap (λ (y : List ℕ). length y) is)
+  groups_laid at (r ∷ rs) x front all long aligned near is =
       let text : List ℕ = spelling d r.values in
-      let n = length text in
-      let size = least_size n in
-      let w = writable r.values all.0.fits in
-      let long : length (own_block text) ≡ size = length-own r.values all.0.fits in
-      let behind : List ℕ = flat_map (λ (r : SizedRow). own_block (spelling d r.values)) rs in
-      let here : block_of (front ++ (own_block text ++ behind)) (length front) ≡ Some (written_block (whole_spec n) (length front) size text) = block-joined (whole_spec n) text front behind size w aligned in
-      let next : length (front ++ own_block text) ≡ length front + size = length-append front (own_block text) ∙ ap (λ k. length front + k) long in
-      let multiple : (length front + size) % 4 ≡ 0 = omega (arith, aligned, w.multiple) in
-      let more = blocks_laid rs x (front ++ own_block text) all.1 (ap (λ k. k % 4) next ∙ multiple) (is ∙ sym (append_assoc front (own_block text) behind)) in (
+      let shape = shaped at r all.0 in
+      let here : List ℕ = stored_by Dynamic at r.sizes text in
+      let size : stored_size d r ≡ total_shares (group_by Dynamic r.sizes (length text)) = size_is r in
+      let next : ℕ = at + stored_size d r in
+      let behind : List ℕ = stored_from d next rs in
+      let whole : x ≡ front ++ (here ++ behind) = is ∙ ap (λ (y : List ℕ). front ++ (y ++ behind)) (stored_dynamic d r at dynamic) in
+      let far : length (front ++ here) ≡ next = omega (arith, length-append front here, long, shape.long, size) in
+      let count : length x ≡ next + length behind = omega (arith, ap (λ (y : List ℕ). length y) whole, length-append front (here ++ behind), length-append here behind, long, shape.long, size) in
+      let split : x ≡ (front ++ here) ++ behind = whole ∙ sym (append_assoc front here behind) in
+      let multiple : next % 4 ≡ 0 = omega (arith, aligned, shape.multiple, size) in
+      let total : next ≡ at + total_size (row_blocks at r.sizes text) = omega (arith, size, shape.total) in (
         record {
-          here = ap (λ (y : List ℕ). block_of y (length front)) is ∙ here;
-          kind = refl;
-          some = spelling_some d r.values s all.0.fits;
-          all = refl;
-          packs = packs_spelling d r.values s all.0.fits;
+          chain = shape.chain x front behind long aligned (omega (arith, near, count, size)) whole;
+          joined = shape.joined;
+          packs = ap (packs d) shape.row ∙ packs_spelling d r.values s all.0.fits;
         },
-        subst (λ k. AreLaid (block_of x) (packs d) (length x) k (blocks_from d k rs)) next more,
+        subst (λ k. AreGroups (block_of x) (packs d) (length x) k (groups_from d next rs)) total (groups_laid next rs x (front ++ here) all.1 far multiple near split),
       )
 
-  whole_rows : (at : ℕ) (rs : List SizedRow) → AllByRecursion (IsStorable d) rs → map whole_row (blocks_from d at rs) ≡ stored_rows d at rs
-  unfolding stored_rows blocks_from
-  whole_rows at [] all = refl
-  whole_rows at (r ∷ rs) all =
+  rows_grouped : (at : ℕ) (rs : List SizedRow) → AllByRecursion (IsStorable d) rs → group_rows at (groups_from d at rs) ≡ stored_rows d at rs
+  unfolding stored_rows groups_from
+  rows_grouped at [] all = refl
+  rows_grouped at (r ∷ rs) all =
       let text : List ℕ = spelling d r.values in
-      let size = least_size (length text) in
-      let long : stored_size d r ≡ size = own_size r all.0.fits in
-      let one : group d r ≡ record { size = size; taken = length text } ∷ [] = group_one d r s all.0.fits ∙ ap (λ f. record { size = size_alone f (length text); taken = length text } ∷ []) dynamic in
-      ap (λ (rows : List Row). record { at = at; bytes = text; blocks = (at, at + size) ∷ [] } ∷ rows) (whole_rows (at + size) rs all.1)
-      ∙ ap (λ k. record { at = at; bytes = text; blocks = (at, at + size) ∷ [] } ∷ stored_rows d (at + k) rs) (sym long)
-      ∙ ap (λ (g : List Share). record { at = at; bytes = text; blocks = ranges_from at g } ∷ stored_rows d (at + stored_size d r) rs) (sym one)
+      let shape = shaped at r all.0 in
+      let next : ℕ = at + stored_size d r in
+      let blocks : List Block = row_blocks at r.sizes text in
+      let total : at + total_size blocks ≡ next = omega (arith, size_is r, shape.total) in
+      ap (λ k. row_at at blocks ∷ group_rows k (groups_from d next rs)) total
+      ∙ ap (λ (b : List ℕ). record { at = at; bytes = b; blocks = ranges blocks } ∷ group_rows next (groups_from d next rs)) shape.row
+      ∙ ap (λ (a : List Range). record { at = at; bytes = text; blocks = a } ∷ group_rows next (groups_from d next rs)) (shape.ranges ∙ ap (ranges_from at) (sym (group_dynamic d r dynamic)))
+      ∙ ap (λ (rows : List Row). record { at = at; bytes = text; blocks = ranges_from at (group d r) } ∷ rows) (rows_grouped next rs all.1)
 
-  laid_blocks : (at : ℕ) (rs : List SizedRow) → AllByRecursion (IsStorable d) rs → stored_from d at rs ≡ flat_map (λ (r : SizedRow). own_block (spelling d r.values)) rs
-  laid_blocks at [] all = refl
-  laid_blocks at (r ∷ rs) all = ap (λ (b : List ℕ). b ++ stored_from d (at + stored_size d r) rs) (stored_block at r all.0.fits) ∙ ap (λ (bs : List ℕ). own_block (spelling d r.values) ++ bs) (laid_blocks (at + stored_size d r) rs all.1)
-
-  pub blocks_read_back : (extend : Bool) (rs : List SizedRow) → AllByRecursion (IsStorable d) rs → readable d extend (stored_file d rs) ≡ stored_rows d 0 rs
+  pub blocks_read_back : (extend : Bool) (rs : List SizedRow) → AllByRecursion (IsStorable d) rs → length (stored_file d rs) < 2 ^ 64 - 1 → readable d extend (stored_file d rs) ≡ stored_rows d 0 rs
   unfolding readable items_in chains.readable stored_file
-  blocks_read_back extend rs all =
+  blocks_read_back extend rs all near =
       let x : List ℕ = stored_file d rs in
-      let laid : AreLaid (block_of x) (packs d) (length x) 0 (blocks_from d 0 rs) = blocks_laid rs x [] all refl (laid_blocks 0 rs all) in
-      ap (λ (f : RowFormat). rows_of (items_by f d extend x)) dynamic ∙ chains_laid.laid_rows extend (packs d) x (blocks_from d 0 rs) laid ∙ whole_rows 0 rs all
+      let laid : AreGroups (block_of x) (packs d) (length x) 0 (groups_from d 0 rs) = groups_laid 0 rs x [] all refl refl near refl in
+      ap (λ (f : RowFormat). rows_of (items_by f d extend x)) dynamic ∙ groups_read extend (packs d) x (groups_from d 0 rs) laid ∙ rows_grouped 0 rs all
 
 -- ---- slots
 
@@ -147,12 +139,12 @@ module _ (d : Defs) (s : IsSound d) (static : d.format ≡ Static) where
   unfolding readable items_in stored_file
   slots_read_back extend rs all = ap (λ (f : RowFormat). rows_of (items_by f d extend (stored_file d rs))) static ∙ rows_back 0 rs all
 
-pub stored_read : (d : Defs) (extend : Bool) (rs : List SizedRow) → IsSound d → All (IsStorable d) rs → readable d extend (stored_file d rs) ≡ stored_rows d 0 rs
-stored_read d extend rs s all = of_format d.format refl
+pub stored_read : (d : Defs) (extend : Bool) (rs : List SizedRow) → IsSound d → All (IsStorable d) rs → (d.format ≡ Dynamic → length (stored_file d rs) < 2 ^ 64 - 1) → readable d extend (stored_file d rs) ≡ stored_rows d 0 rs
+stored_read d extend rs s all near = of_format d.format refl
   where
     each : AllByRecursion (IsStorable d) rs
     each = recursion_from_All (IsStorable d) rs all
 
     of_format : (f : RowFormat) → d.format ≡ f → readable d extend (stored_file d rs) ≡ stored_rows d 0 rs
     of_format Static e = slots_read_back d s e extend rs each
-    of_format Dynamic e = blocks_read_back d s e extend rs each
+    of_format Dynamic e = blocks_read_back d s e extend rs each (near e)

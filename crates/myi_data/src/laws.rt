@@ -1,7 +1,7 @@
 //! Laws over the definitions of this crate. Each is the contract of a function that does nothing, so
 //! that it is proved with the crate and stands for the crates above.
-ghost use Rattle.std.specs.Prelude.{◌≡◌, ◌≢◌, ◌-◌, ◌^◌, ◌<◌, ◌≤◌, ℕ, Bool, true, false};
-ghost use Rattle.std.specs.Prelude.{List, [], ◌∷◌, All, HoldsAt, length, map, take, get_or, slice_index, Option, Some, Result};
+ghost use Rattle.std.specs.Prelude.{◌≡◌, ◌≢◌, ◌+◌, ◌-◌, ◌%◌, ◌^◌, ◌<◌, ◌≤◌, ℕ, Bool, true, false};
+ghost use Rattle.std.specs.Prelude.{List, [], ◌∷◌, ◌++◌, sum, sum_by, All, HoldsAt, length, map, take, get_or, slice_index, Option, Some, Result};
 ghost use Rattle.std.specs.List.{AllByRecursion, flat_map};
 ghost use Rattle.myi_base.specs.Holding.{Holding, IfTold, bytes_of};
 ghost use Rattle.myi_base.specs.Numbers.{AreBytes};
@@ -19,7 +19,8 @@ ghost use Rattle.myi_keys.specs.declared.values.KeySeg.TheVariants.{Weights};
 ghost use Rattle.myi_keys.specs.Weights.{weights, CanWeigh};
 ghost use Rattle.myi_data.specs.Keys.{content, seg_of, key_at, segments_of, TellsNull};
 ghost use Rattle.myi_pack.specs.Packed.{Values};
-ghost use Rattle.myi_chain.specs.Chain.{AreApart};
+ghost use Rattle.myi_frames.specs.Block.{Block, block_of};
+ghost use Rattle.myi_chain.specs.Chain.{AreApart, IsChain, ranges, row_bytes};
 ghost use Rattle.myi_chain.specs.Meeting.{ranges_of, AreRising};
 ghost use Rattle.myi_chain.specs.declared.piece.Wanted.{Wanted};
 ghost use Rattle.myi_chain.specs.declared.piece.Item.{Item};
@@ -31,7 +32,8 @@ ghost use Rattle.myi_data.specs.Slots.{Slot, slots_in};
 ghost use Rattle.myi_data.specs.Readable.{packs, slot_range, slot_row, slot_items, items_in, readable, deleted};
 ghost use Rattle.myi_data.specs.Scanning.{TableScan, items_ahead, IsAsKnown, AfterTable};
 ghost use Rattle.myi_data.specs.Plain.{IsPlain, plain_rows};
-ghost use Rattle.myi_data.specs.Stored.{SizedRow, PackARow, IsStorable, own_block, group_by, stored_by};
+ghost use Rattle.myi_data.specs.Stored.{SizedRow, PackARow, HaveHeld, IsStorable, own_block, group_by, stored_by};
+ghost use Rattle.myi_data.specs.Stored.{Share, shares, shared_bytes, ranges_from, group};
 ghost use Rattle.myi_data.specs.Stored.{stored_size, stored, stored_file, stored_rows};
 
 /// The readable rows of any bytes, in both formats. Each packs a row; they come in order of their
@@ -49,14 +51,16 @@ pub fn rows_are_readable()
 {}
 
 /// What is stored is what is read: a file that is only rows that can be stored, one after the other, has
-/// exactly these rows, whether every place is tried or not.
+/// exactly these rows, whether every place is tried or not. A dynamic one is to be so short that a place of
+/// eight bytes can be named anywhere in it.
 pub fn stored_files_are_read()
     ensures { (d : Defs) (extend : Bool) (rows : List SizedRow) → IsSound d
         → All (IsStorable d) rows
+        → (d.format ≡ Dynamic → length (stored_file d rows) < 2 ^ 64 - 1)
         → readable d extend (stored_file d rows) ≡ stored_rows d 0 rows }
 {}
 
-/// A row takes the bytes that its slot or its blocks have. A row of fewer than 2^24 bytes stands alone, in
+/// A row takes the bytes that its slot or its blocks have, and has no more blocks than bytes. A row of fewer than 2^24 bytes stands alone, in
 /// one slot or one block of the least size, whatever held it and wherever it stands.
 pub fn rows_stand_alone()
     ensures sized { (d : Defs) (at : ℕ) (row : SizedRow) → IsSound d → IsStorable d row
@@ -66,8 +70,38 @@ pub fn rows_stand_alone()
     ensures slot { (at : ℕ) (sizes b : List ℕ) → stored_by Static at sizes b ≡ b }
     ensures block { (at : ℕ) (sizes b : List ℕ) → length b < 2 ^ 24
         → stored_by Dynamic at sizes b ≡ own_block b }
+    ensures few { (d : Defs) (row : SizedRow) → IsSound d → IsStorable d row
+        → (0 < stored_size d row) × (length (group d row) ≤ stored_size d row) }
     ensures size { (d : Defs) (row : SizedRow) → IsSound d → IsStorable d row
         → stored_size d row ≡ length (stored_by d.format 0 row.sizes (spelling d row.values)) }
+{}
+
+/// Where a row of 2^24 bytes and more stands, of which four bytes count the bytes. Written into blocks of
+/// the sizes of blocks that held as many bytes, at any place of a file that eight bytes can name, it is the
+/// row of a chain, and its blocks stand one directly after the other (`chain`); they take the bytes of their
+/// sizes (`long`), never more than there were (`less`). Written again into the sizes of the blocks in which it
+/// stands, any row takes the same blocks (`again`) and has the same bytes there (`same`).
+pub fn giant_rows_stand()
+    ensures chain { (sizes b front back : List ℕ) → HaveHeld sizes (length b)
+        → 2 ^ 24 ≤ length b → length b < 2 ^ 32 → length front % 4 ≡ 0
+        → length front + sum_by (λ s. s.size) (shares sizes (length b)) < 2 ^ 64 - 1
+        → (blocks : List Block)
+        × IsChain (block_of (front
+        ++ (shared_bytes (length front) (shares sizes (length b)) b ++ back)))
+        (length front) [] blocks
+        × (row_bytes blocks ≡ b)
+        × (ranges blocks ≡ ranges_from (length front) (shares sizes (length b))) }
+    ensures long { (at : ℕ) (sizes b : List ℕ) → HaveHeld sizes (length b)
+        → 2 ^ 24 ≤ length b → length b < 2 ^ 32
+        → length (shared_bytes at (shares sizes (length b)) b)
+        ≡ sum_by (λ s. s.size) (shares sizes (length b)) }
+    ensures less { (sizes : List ℕ) (n : ℕ)
+        → sum_by (λ s. s.size) (shares sizes n) ≤ sum sizes }
+    ensures again { (f : RowFormat) (sizes : List ℕ) (n : ℕ)
+        → group_by f (map (λ s. s.size) (group_by f sizes n)) n ≡ group_by f sizes n }
+    ensures same { (f : RowFormat) (at : ℕ) (sizes b : List ℕ)
+        → stored_by f at (map (λ s. s.size) (group_by f sizes (length b))) b
+        ≡ stored_by f at sizes b }
 {}
 
 /// What is met in the data file of a static table is what each of its slots is, slot after slot: a deleted

@@ -1,9 +1,11 @@
 -- What the crates above cite. Each lemma states a clause of the law of its group in src/laws.rt.
 
 -- blocks_stand
-pub use Rattle.myi_frames.proofs.BlockLemmas.{block-stands, block-bytes}
+pub use Rattle.myi_frames.proofs.BlockLemmas.{block-stands, block-bytes, block-bounded}
 pub use Rattle.myi_frames.proofs.SizeLemmas.{block-sized}
 -- written_blocks_read_back
-pub use Rattle.myi_frames.proofs.WriteLemmas.{length-block, block-joined}
+pub use Rattle.myi_frames.proofs.WriteLemmas.{length-block, length-block-naming, block-joined}
 -- least_sizes_are_least
-pub use Rattle.myi_frames.proofs.SizeLemmas.{least-writable, least-sized, least-together}
+pub use Rattle.myi_frames.proofs.SizeLemmas.{least-writable, least-sized, least-least, least-together}
+-- rooms_are_greatest
+pub use Rattle.myi_frames.proofs.SizeLemmas.{start-writable, middle-writable, block-start, block-middle, block-start-few, block-middle-few}

@@ -210,6 +210,55 @@ block-middle d p b are here middle =
         by_width (inl short) = absurd (omega (arith, below_width ll 2 l (omega arith) small, leb-false _ _ e))
         by_width (inr wide) = omega arith
 
+-- a start that is filled by a giant row, and a middle, can be written: three bytes count what they hold
+
+pub block-start-few : (d : List ℕ) (p : ℕ) (b : Block) (rec_len : ℕ) → AreBytes d → block_of d p ≡ Some b → b.kind ≡ Start → 2 ^ 24 ≤ rec_len → start_room rec_len b.size < 2 ^ 24
+unfolding start_room
+block-start-few d p b rec are here start le =
+    let x = drop p d in
+    let f = in_form d p b here in
+    let form = f.form in
+    let rl = form.rec_len in
+    let ll = form.len in
+    let r = num_at 1 rl x in
+    let l = num_at (len_at form) ll x in
+    let u = num_at (unused_at form) form.unused x in
+    let narrow = form-narrow (get_or x 0 0) form f.is in
+    let kind : form.kind ≡ Start = sym f.kind ∙ start in
+    let w : OfWidths Start form = by_kind Start (λ k. OfWidths k form) form.kind kind (form-widths (get_or x 0 0) form f.is) in
+    let size : b.size ≡ header_len form + l + u = f.sized ∙ ap (λ k. block_size k (header_len form) r l u) kind in
+    sums rl ll l u b.size narrow.rec_len narrow.len (number-below (len_at form) ll 3 x (bytes-drop p d are) narrow.len) (no_number (unused_at form) form.unused x w.1) (size ∙ lengths form l u w.0 w.1 w.2) (nat_le (2 ^ 24) rec) refl (nat_le rec 65535)
+  where
+    lengths : (f : Form) (l u : ℕ) → f.prev ≡ 0 → f.unused ≡ 0 → f.next ≡ 8 → header_len f + l + u ≡ 9 + f.rec_len + f.len + l + u
+    lengths f l u a b c = omega arith
+
+    sums : (rl ll l u size : ℕ) → rl ≤ 4 → ll ≤ 3 → l < 256 ^ 3 → u ≡ 0 → size ≡ 9 + rl + ll + l + u → (giant : Bool) → nat_le (2 ^ 24) rec ≡ giant → (short : Bool) → size - (if giant then 16 else (if short then 13 else 15)) < 2 ^ 24
+    sums rl ll l u size a b small none all true e short = omega arith
+    sums rl ll l u size a b small none all false e short = absurd (omega (arith, le, leb-false _ _ e))
+
+pub block-middle-few : (d : List ℕ) (p : ℕ) (b : Block) → AreBytes d → block_of d p ≡ Some b → b.kind ≡ Middle → middle_room b.size < 2 ^ 24
+unfolding middle_room
+block-middle-few d p b are here middle =
+    let x = drop p d in
+    let f = in_form d p b here in
+    let form = f.form in
+    let ll = form.len in
+    let r = num_at 1 form.rec_len x in
+    let l = num_at (len_at form) ll x in
+    let u = num_at (unused_at form) form.unused x in
+    let narrow = form-narrow (get_or x 0 0) form f.is in
+    let kind : form.kind ≡ Middle = sym f.kind ∙ middle in
+    let w : OfWidths Middle form = by_kind Middle (λ k. OfWidths k form) form.kind kind (form-widths (get_or x 0 0) form f.is) in
+    let size : b.size ≡ header_len form + l + u = f.sized ∙ ap (λ k. block_size k (header_len form) r l u) kind in
+    sums ll l u b.size narrow.len (number-below (len_at form) ll 3 x (bytes-drop p d are) narrow.len) (no_number (unused_at form) form.unused x w.2) (size ∙ lengths form l u w.0 w.1 w.2 w.3) (nat_le b.size 65546) refl
+  where
+    lengths : (f : Form) (l u : ℕ) → f.rec_len ≡ 0 → f.prev ≡ 0 → f.unused ≡ 0 → f.next ≡ 8 → header_len f + l + u ≡ 9 + f.len + l + u
+    lengths f l u a b c d = omega arith
+
+    sums : (ll l u size : ℕ) → ll ≤ 3 → l < 256 ^ 3 → u ≡ 0 → size ≡ 9 + ll + l + u → (short : Bool) → nat_le size 65546 ≡ short → (if short then size - 11 else size - 12) < 2 ^ 24
+    sums ll l u size a small none all true e = omega (arith, leb-true _ _ e)
+    sums ll l u size a small none all false e = omega arith
+
 -- ---- sizes in which a block can be written
 
 pub least-writable : (n : ℕ) → n < 2 ^ 24 → IsWritable (whole_spec n) n (least_size n) × IsWritable end_spec n (least_size n)

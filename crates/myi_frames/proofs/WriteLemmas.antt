@@ -7,7 +7,8 @@ use Rattle.myi_base.specs.Numbers.{num_at, num_bytes, pointer_of, pointer_number
 use Rattle.myi_base.specs.Items.{numbers, spelling, Fit}
 use Rattle.myi_base.specs.Holding.{overwritten}
 use Rattle.myi_base.proofs.CallerLemmas.{bytes-num_bytes}
-use Rattle.myi_base.proofs.CallerLemmas.{numbers-spelling, length-spelling}
+use Rattle.myi_base.proofs.CallerLemmas.{numbers-spelling, length-spelling, length-num_bytes}
+use Rattle.std.specs.Option.{option_map_or}
 use Rattle.myi_frames.specs.declared.form.FrameKind.{FrameKind}
 use Rattle.myi_frames.specs.declared.form.FrameKind.TheVariants.{Deleted, Whole, Start, Middle, End}
 use Rattle.myi_frames.specs.declared.form.Form.{Form}
@@ -341,6 +342,35 @@ length-block f content size w =
     let fits = type-fits f n size w in
     let head = header_bytes f n size in
     let start = length-header f n size fits in
+    let room = fits.room in
+    omega (arith, length-append head (content ++ replicate (size - (length head + n)) 0), length-append content (replicate (size - (length head + n)) 0), length-replicate {A = ℕ} (size - (length head + n)) 0)
+
+-- whatever place it names
+
+length-spelled : (ws vs us : List ℕ) → length vs ≡ length us → length (spelling ws vs) ≡ length (spelling ws us)
+length-spelled [] vs us same = refl
+length-spelled (w ∷ ws) [] [] same = refl
+length-spelled (w ∷ ws) [] (u ∷ us) same = absurd (omega arith)
+length-spelled (w ∷ ws) (v ∷ vs) [] same = absurd (omega arith)
+length-spelled (w ∷ ws) (v ∷ vs) (u ∷ us) same =
+    let rest : length (spelling ws vs) ≡ length (spelling ws us) = length-spelled ws vs us (omega arith) in
+    omega (arith, rest, length-append (num_bytes w v) (spelling ws vs), length-append (num_bytes w u) (spelling ws us), length-num_bytes w v, length-num_bytes w u)
+
+length-naming : (f : FrameSpec) (next : Option ℕ) (n size : ℕ) → length (header_bytes (record f { next = next }) n size) ≡ length (header_bytes f n size)
+unfolding header_bytes
+length-naming f next n size = by_form (form_of (type_of f n size))
+  where
+    by_form : (o : Option Form) → length (option_map_or (λ (form : Form). header_as (type_of f n size) form (record f { next = next }) n size) o []) ≡ length (option_map_or (λ (form : Form). header_as (type_of f n size) form f n size) o [])
+    by_form None = refl
+    by_form (Some form) = ap suc (length-spelled (widths form) (numbers_of form (record f { next = next }) n size) (numbers_of form f n size) refl)
+
+pub length-block-naming : (f : FrameSpec) (next : Option ℕ) (content : List ℕ) (size : ℕ) → IsWritable f (length content) size → length (block_bytes (record f { next = next }) content size) ≡ size
+unfolding block_bytes
+length-block-naming f next content size w =
+    let n = length content in
+    let fits = type-fits f n size w in
+    let head = header_bytes (record f { next = next }) n size in
+    let start : length head ≡ header_len fits.form = length-naming f next n size ∙ length-header f n size fits in
     let room = fits.room in
     omega (arith, length-append head (content ++ replicate (size - (length head + n)) 0), length-append content (replicate (size - (length head + n)) 0), length-replicate {A = ℕ} (size - (length head + n)) 0)
 

@@ -59,13 +59,16 @@ pub fn answers_are_decided()
         → ShowsBlock seen b }
 {}
 
-/// A block that is written has its size, and is read back whole between any other bytes, and where it
+/// A block that is written has its size, whatever place it names as the next, and is read back whole between any other bytes, and where it
 /// is written into a file; where all its bytes are at hand it is what is seen. The header of a deleted
 /// block alone makes its place a deleted block.
 pub fn written_blocks_read_back()
     ensures length { (f : FrameSpec) (content : List ℕ) (size : ℕ)
         → IsWritable f (length content) size
         → length (block_bytes f content size) ≡ size }
+    ensures naming { (f : FrameSpec) (next : Option ℕ) (content : List ℕ) (size : ℕ)
+        → IsWritable f (length content) size
+        → length (block_bytes (record f { next = next }) content size) ≡ size }
     ensures bytes { (f : FrameSpec) (content : List ℕ) (size : ℕ)
         → IsWritable f (length content) size
         → AreBytes content → AreBytes (block_bytes f content size) }
@@ -121,7 +124,8 @@ pub fn least_sizes_are_least()
 {}
 
 /// A start and a middle can be written with as many row bytes as their sizes have room for, and none
-/// that is found in a file of bytes holds more; a start of a row that is no longer has no less room.
+/// that is found in a file of bytes holds more; a start of a row that is no longer has no less room. In such
+/// a file no middle, and no start for a giant row, has room for more bytes than three bytes count.
 pub fn rooms_are_greatest()
     ensures start_writable { (rec_len size : ℕ) (next : Option ℕ) → size % 4 ≡ 0 → 20 ≤ size
         → rec_len < 2 ^ 32
@@ -135,4 +139,10 @@ pub fn rooms_are_greatest()
         → b.kind ≡ Start → rec_len ≤ b.rec_len → length b.bytes ≤ start_room rec_len b.size }
     ensures middle { (d : List ℕ) (p : ℕ) (b : Block) → AreBytes d → block_of d p ≡ Some b
         → b.kind ≡ Middle → length b.bytes ≤ middle_room b.size }
+    ensures few_in_start { (d : List ℕ) (p : ℕ) (b : Block) (rec_len : ℕ) → AreBytes d
+        → block_of d p ≡ Some b
+        → b.kind ≡ Start → 2 ^ 24 ≤ rec_len → start_room rec_len b.size < 2 ^ 24 }
+    ensures few_in_middle { (d : List ℕ) (p : ℕ) (b : Block) → AreBytes d
+        → block_of d p ≡ Some b
+        → b.kind ≡ Middle → middle_room b.size < 2 ^ 24 }
 {}

@@ -1,9 +1,12 @@
 -- The rows that a repair keeps can be stored, and what it stores is read as these rows.
-use Rattle.std.proofs.Common.{◌≡◌, ℕ, suc, ◌+◌, arith, subst, Bool, true, false, cond, List, [], ◌∷◌, ◌++◌, length, map, Option, Some, None, is_some, unwrap_or, All, refl, sym, ap, ◌∙◌}
+use Rattle.std.proofs.Common.{◌≡◌, ℕ, suc, ◌+◌, ◌-◌, ◌^◌, ◌<◌, ◌≤◌, sum_by, arith, subst, Bool, true, false, cond, List, [], ◌∷◌, ◌++◌, length, map, Option, Some, None, is_some, unwrap_or, All, refl, sym, ap, ◌∙◌}
 use Rattle.std.specs.List.{list_any, AllByRecursion}
 use Rattle.std.proofs.lemmas.List.Elements.{All-from_recursion}
 use Rattle.std.proofs.lemmas.List.Sums.{sum_by-cons}
 use Rattle.myi_base.specs.Numbers.{AreBytes}
+use Rattle.myi_base.specs.Ranges.{Range}
+use Rattle.myi_defs.specs.declared.types.RowFormat.{RowFormat}
+use Rattle.myi_defs.specs.declared.types.RowFormat.TheVariants.{Static, Dynamic}
 use Rattle.myi_defs.specs.declared.types.Defs.{Defs}
 use Rattle.myi_defs.specs.Sound.{IsSound}
 use Rattle.myi_defs.specs.ReadDefs.{AreDefs}
@@ -11,17 +14,17 @@ use Rattle.myi_defs.proofs.CallerLemmas.{sound}
 use Rattle.myi_pack.specs.Packed.{Values, Packs}
 use Rattle.myi_pack.specs.Unpacking.{row_of}
 use Rattle.myi_pack.specs.Spelling.{spelling, fits}
-use Rattle.myi_pack.proofs.CallerLemmas.{row-takes, row-fits, row-reads, row-short}
+use Rattle.myi_pack.proofs.CallerLemmas.{row-takes, row-fits, row-reads, row-least}
 use Rattle.myi_chain.specs.Readable.{Row}
 use Rattle.myi_data.specs.Readable.{readable}
-use Rattle.myi_data.specs.Stored.{SizedRow, values_in, Share, group, stored_size, stored, stored_from, stored_file, block_count, stored_rows, IsStorable}
-use Rattle.myi_data.proofs.CallerLemmas.{stored_read, group_one, size_one, stored_one}
+use Rattle.myi_data.specs.Stored.{SizedRow, values_in, Share, group, stored_size, stored, stored_from, stored_file, block_count, ranges_from, stored_rows, HaveHeld, IsStorable}
+use Rattle.myi_data.proofs.CallerLemmas.{stored_read, group_again, stored_again}
 use Rattle.myi_pair.specs.FirstRows.{repeats, first_after, first_rows, AreDistinct}
 use Rattle.myi_pair.specs.KeyList.{PlacedRow}
 use Rattle.myi_pair.specs.Clean.{values_of, sized_row}
 use Rattle.myi_pair.specs.RecoveredBytes.{kept, new_data, placed_from}
 use Rattle.myi_pair.proofs.FirstRowsLaws.{distinct, all_kept}
-use Rattle.myi_pair.proofs.ReadLaws.{IsFine, readable_fine}
+use Rattle.myi_pair.proofs.ReadLaws.{HasHeld, IsFine, readable_fine}
 
 -- a readable row has values, which can be stored
 
@@ -36,7 +39,12 @@ pub row_storable : (d : Defs) (len : ℕ) (r : Row) → AreDefs d → IsFine d.f
 row_storable d len r are fine =
     let s : IsSound d = sound d are in
     let fit : fits d (values_of d r) ≡ true = row-fits d (values_of d r) r.bytes s (packs_values d len r s fine) in
-    record { fits = fit; held = λ dynamic long. absurd (omega (arith, long, row-short d (values_of d r) s dynamic fit)) }
+    let few : length (spelling d (values_of d r)) ≤ length r.bytes = row-least d (values_of d r) r.bytes s (packs_values d len r s fine) in
+    record { fits = fit; held = λ dynamic long. held_as d.format (length (spelling d (values_of d r))) dynamic fine.held few }
+  where
+    held_as : (f : RowFormat) (n : ℕ) → f ≡ Dynamic → HasHeld f r → n ≤ length r.bytes → HaveHeld (map (λ (a : Range). a.1 - a.0) r.blocks) n
+    held_as Dynamic n e held few = held n few
+    held_as Static n e held few = absurd cc
 
 rows_storable : (d : Defs) (len : ℕ) (rows : List Row) → AreDefs d → AllByRecursion (IsFine d.format d len) rows → AllByRecursion (λ (r : Row). IsStorable d (sized_row d r)) rows
 rows_storable d len [] are fine = tt
@@ -76,15 +84,15 @@ laid_values d at (r ∷ rs) s all =
     let first : unwrap_or (row_of d (spelling d r.values)) [] ≡ r.values = ap (λ (o : Option Values). unwrap_or o []) (row-reads d r.values s all.0.fits) in
     ap (λ w. w ∷ map (values_of d) (stored_rows d (at + stored_size d r) rs)) first ∙ ap (λ ws. r.values ∷ ws) (laid_values d (at + stored_size d r) rs s all.1)
 
-pub new_rows : (d : Defs) (any extend : Bool) (x : List ℕ) → AreDefs d → AreBytes x → readable d any (new_data d extend x) ≡ stored_rows d 0 (kept d extend x)
+pub new_rows : (d : Defs) (any extend : Bool) (x : List ℕ) → AreDefs d → AreBytes x → length (new_data d extend x) < 2 ^ 64 - 1 → readable d any (new_data d extend x) ≡ stored_rows d 0 (kept d extend x)
 unfolding new_data
-new_rows d any extend x are bytes = stored_read d any (kept d extend x) (sound d are) (kept_storable d extend x are bytes)
+new_rows d any extend x are bytes near = stored_read d any (kept d extend x) (sound d are) (kept_storable d extend x are bytes) (λ _. near)
 
-pub new_values : (d : Defs) (any extend : Bool) (x : List ℕ) → AreDefs d → AreBytes x → map (values_of d) (readable d any (new_data d extend x)) ≡ values_in (kept d extend x)
-new_values d any extend x are bytes =
-    ap (map (values_of d)) (new_rows d any extend x are bytes) ∙ laid_values d 0 (kept d extend x) (sound d are) (kept_each d extend x are bytes)
+pub new_values : (d : Defs) (any extend : Bool) (x : List ℕ) → AreDefs d → AreBytes x → length (new_data d extend x) < 2 ^ 64 - 1 → map (values_of d) (readable d any (new_data d extend x)) ≡ values_in (kept d extend x)
+new_values d any extend x are bytes near =
+    ap (map (values_of d)) (new_rows d any extend x are bytes near) ∙ laid_values d 0 (kept d extend x) (sound d are) (kept_each d extend x are bytes)
 
--- and a repair of it keeps them all
+-- and a repair of it keeps them all, with the sizes of their new blocks
 
 kept_distinct : (d : Defs) (extend : Bool) (x : List ℕ) → AreDistinct d [] (values_in (kept d extend x))
 unfolding kept
@@ -98,19 +106,44 @@ pub values_sized : (d : Defs) (rows : List Row) → values_in (map (sized_row d)
 values_sized d [] = refl
 values_sized d (r ∷ rows) = ap (λ vs. values_of d r ∷ vs) (values_sized d rows)
 
-pub settled : (d : Defs) (any extend : Bool) (x : List ℕ) → AreDefs d → AreBytes x → values_in (kept d any (new_data d extend x)) ≡ values_in (kept d extend x)
-settled d any extend x are bytes =
-    let rows : List Row = readable d any (new_data d extend x) in
-    let same : values_in (map (sized_row d) rows) ≡ values_in (kept d extend x) = values_sized d rows ∙ new_values d any extend x are bytes in
-    let apart : AreDistinct d [] (values_in (map (sized_row d) rows)) = subst (AreDistinct d []) (sym same) (kept_distinct d extend x) in
-    ap values_in (kept_of d any (new_data d extend x) ∙ all_kept d (map (sized_row d) rows) apart) ∙ same
+-- a row with the sizes of the blocks in which it is stored
+abbrev resized : Defs → SizedRow → SizedRow
+resized d r = record { values = r.values; sizes = map (λ (s : Share). s.size) (group d r) }
 
--- ---- rows with the same values are stored alike
+values_resized : (d : Defs) (rs : List SizedRow) → values_in (map (resized d) rs) ≡ values_in rs
+values_resized d [] = refl
+values_resized d (r ∷ rs) = ap (λ vs. r.values ∷ vs) (values_resized d rs)
 
--- rows of these values, of which no sizes are known
-bare : List Values → List SizedRow
-bare [] = []
-bare (v ∷ vs) = record { values = v; sizes = [] } ∷ bare vs
+ranges_sizes : (at : ℕ) (g : List Share) → map (λ (a : Range). a.1 - a.0) (ranges_from at g) ≡ map (λ (s : Share). s.size) g
+ranges_sizes at [] = refl
+ranges_sizes at (s ∷ g) =
+    let size : at + s.size - at ≡ s.size = omega arith in
+    ap (λ n. n ∷ map (λ (a : Range). a.1 - a.0) (ranges_from (at + s.size) g)) size ∙ ap (λ (ns : List ℕ). s.size ∷ ns) (ranges_sizes (at + s.size) g)
+
+laid_sized : (d : Defs) (at : ℕ) (rs : List SizedRow) → IsSound d → AllByRecursion (IsStorable d) rs → map (sized_row d) (stored_rows d at rs) ≡ map (resized d) rs
+unfolding stored_rows
+laid_sized d at [] s all = refl
+laid_sized d at (r ∷ rs) s all =
+    let first : unwrap_or (row_of d (spelling d r.values)) [] ≡ r.values = ap (λ (o : Option Values). unwrap_or o []) (row-reads d r.values s all.0.fits) in
+    let next : ℕ = at + stored_size d r in
+    let sizes : List ℕ = map (λ (a : Range). a.1 - a.0) (ranges_from at (group d r)) in
+    ap (λ (w : Values). record { values = w; sizes = sizes } ∷ map (sized_row d) (stored_rows d next rs)) first
+    ∙ ap (λ (ns : List ℕ). record { values = r.values; sizes = ns } ∷ map (sized_row d) (stored_rows d next rs)) (ranges_sizes at (group d r))
+    ∙ ap (λ (rows : List SizedRow). resized d r ∷ rows) (laid_sized d next rs s all.1)
+
+pub kept_again : (d : Defs) (any extend : Bool) (x : List ℕ) → AreDefs d → AreBytes x → length (new_data d extend x) < 2 ^ 64 - 1 → kept d any (new_data d extend x) ≡ map (resized d) (kept d extend x)
+kept_again d any extend x are bytes near =
+    let rows : List SizedRow = kept d extend x in
+    let apart : AreDistinct d [] (values_in (map (resized d) rows)) = subst (AreDistinct d []) (sym (values_resized d rows)) (kept_distinct d extend x) in
+    kept_of d any (new_data d extend x)
+    ∙ ap (λ (read : List Row). first_rows d (map (sized_row d) read)) (new_rows d any extend x are bytes near)
+    ∙ ap (first_rows d) (laid_sized d 0 rows (sound d are) (kept_each d extend x are bytes))
+    ∙ all_kept d (map (resized d) rows) apart
+
+pub settled : (d : Defs) (any extend : Bool) (x : List ℕ) → AreDefs d → AreBytes x → length (new_data d extend x) < 2 ^ 64 - 1 → values_in (kept d any (new_data d extend x)) ≡ values_in (kept d extend x)
+settled d any extend x are bytes near = ap values_in (kept_again d any extend x are bytes near) ∙ values_resized d (kept d extend x)
+
+-- ---- in these sizes they are stored as they were
 
 -- the same bytes, the same number of blocks and the same places
 pub record AreAlike (d : Defs) (one other : List SizedRow) : Type 0 where
@@ -119,80 +152,52 @@ pub record AreAlike (d : Defs) (one other : List SizedRow) : Type 0 where
   pub placed : placed_from d 0 one ≡ placed_from d 0 other
   pub count : length one ≡ length other
 
-module _ (d : Defs) (s : IsSound d) where
-  bare_size : (r : SizedRow) → fits d r.values ≡ true → stored_size d r ≡ stored_size d (record { values = r.values; sizes = [] })
-  bare_size r fit = size_one d r s fit ∙ sym (size_one d (record { values = r.values; sizes = [] }) s fit)
+module _ (d : Defs) where
+  group_same : (r : SizedRow) → group d (resized d r) ≡ group d r
+  unfolding group
+  group_same r = group_again d.format r.sizes (length (spelling d r.values))
 
-  bare_stored : (at : ℕ) (r : SizedRow) → fits d r.values ≡ true → stored d at r ≡ stored d at (record { values = r.values; sizes = [] })
-  bare_stored at r fit = stored_one d r s fit at ∙ sym (stored_one d (record { values = r.values; sizes = [] }) s fit at)
+  size_same : (r : SizedRow) → stored_size d (resized d r) ≡ stored_size d r
+  size_same r = ap (λ (g : List Share). sum_by (λ (s : Share). s.size) g) (group_same r)
 
-  bare_group : (r : SizedRow) → fits d r.values ≡ true → length (group d r) ≡ length (group d (record { values = r.values; sizes = [] }))
-  bare_group r fit = ap (λ (g : List Share). length g) (group_one d r s fit ∙ sym (group_one d (record { values = r.values; sizes = [] }) s fit))
+  stored_same : (at : ℕ) (r : SizedRow) → stored d at (resized d r) ≡ stored d at r
+  unfolding stored group
+  stored_same at r = stored_again d.format at r.sizes (spelling d r.values)
 
-  bare_from : (at : ℕ) (rs : List SizedRow) → AllByRecursion (IsStorable d) rs → stored_from d at rs ≡ stored_from d at (bare (values_in rs))
-  unfolding bare
-  bare_from at [] all = refl
-  bare_from at (r ∷ rs) all =
-      ap (λ b. b ++ stored_from d (at + stored_size d r) rs) (bare_stored at r all.0.fits)
-      ∙ ap (λ b. stored d at (record { values = r.values; sizes = [] }) ++ b) (bare_from (at + stored_size d r) rs all.1)
-      ∙ ap (λ n. stored d at (record { values = r.values; sizes = [] }) ++ stored_from d (at + n) (bare (values_in rs))) (bare_size r all.0.fits)
+  from_same : (at : ℕ) (rs : List SizedRow) → stored_from d at (map (resized d) rs) ≡ stored_from d at rs
+  from_same at [] = refl
+  from_same at (r ∷ rs) =
+      ap (λ b. b ++ stored_from d (at + stored_size d (resized d r)) (map (resized d) rs)) (stored_same at r)
+      ∙ ap (λ n. stored d at r ++ stored_from d (at + n) (map (resized d) rs)) (size_same r)
+      ∙ ap (λ bs. stored d at r ++ bs) (from_same (at + stored_size d r) rs)
 
-  bare_placed : (at : ℕ) (rs : List SizedRow) → AllByRecursion (IsStorable d) rs → placed_from d at rs ≡ placed_from d at (bare (values_in rs))
-  unfolding bare
-  bare_placed at [] all = refl
-  bare_placed at (r ∷ rs) all =
-      ap (λ (ps : List PlacedRow). (at, r.values) ∷ ps) (bare_placed (at + stored_size d r) rs all.1)
-      ∙ ap (λ n. (at, r.values) ∷ placed_from d (at + n) (bare (values_in rs))) (bare_size r all.0.fits)
+  placed_same : (at : ℕ) (rs : List SizedRow) → placed_from d at (map (resized d) rs) ≡ placed_from d at rs
+  placed_same at [] = refl
+  placed_same at (r ∷ rs) =
+      ap (λ n. (at, r.values) ∷ placed_from d (at + n) (map (resized d) rs)) (size_same r) ∙ ap (λ (ps : List PlacedRow). (at, r.values) ∷ ps) (placed_same (at + stored_size d r) rs)
 
-  bare_blocks : (rs : List SizedRow) → AllByRecursion (IsStorable d) rs → block_count d rs ≡ block_count d (bare (values_in rs))
-  unfolding bare
-  bare_blocks [] all = refl
-  bare_blocks (r ∷ rs) all =
-      let e : SizedRow = record { values = r.values; sizes = [] } in
-      sum_by-cons (λ (r : SizedRow). length (group d r)) r rs
-      ∙ omega (arith, bare_group r all.0.fits, bare_blocks rs all.1)
-      ∙ sym (sum_by-cons (λ (r : SizedRow). length (group d r)) e (bare (values_in rs)))
+  blocks_same : (rs : List SizedRow) → block_count d (map (resized d) rs) ≡ block_count d rs
+  blocks_same [] = refl
+  blocks_same (r ∷ rs) =
+      sum_by-cons (λ (r : SizedRow). length (group d r)) (resized d r) (map (resized d) rs)
+      ∙ omega (arith, ap (λ (g : List Share). length g) (group_same r), blocks_same rs)
+      ∙ sym (sum_by-cons (λ (r : SizedRow). length (group d r)) r rs)
 
-  bare_count : (rs : List SizedRow) → length rs ≡ length (bare (values_in rs))
-  unfolding bare
-  bare_count [] = refl
-  bare_count (r ∷ rs) = ap suc (bare_count rs)
+  count_same : (rs : List SizedRow) → length (map (resized d) rs) ≡ length rs
+  count_same [] = refl
+  count_same (r ∷ rs) = ap suc (count_same rs)
 
-  bare_alike : (rs : List SizedRow) → AllByRecursion (IsStorable d) rs → AreAlike d rs (bare (values_in rs))
+  alike_resized : (rs : List SizedRow) → AreAlike d (map (resized d) rs) rs
   unfolding stored_file
-  bare_alike rs all = record { file = bare_from 0 rs all; blocks = bare_blocks rs all; placed = bare_placed 0 rs all; count = bare_count rs }
-
-  pub alike : (one other : List SizedRow) → AllByRecursion (IsStorable d) one → AllByRecursion (IsStorable d) other → values_in one ≡ values_in other → AreAlike d one other
-  alike one other first second same =
-      let a = bare_alike one first in
-      let b = subst (λ vs. AreAlike d other (bare vs)) (sym same) (bare_alike other second) in
-      record { file = a.file ∙ sym b.file; blocks = a.blocks ∙ sym b.blocks; placed = a.placed ∙ sym b.placed; count = a.count ∙ sym b.count }
-
-  -- what can be stored is told by the values
-
-  values_fit : (rs : List SizedRow) → AllByRecursion (IsStorable d) rs → AllByRecursion (λ v. fits d v ≡ true) (values_in rs)
-  values_fit [] all = tt
-  values_fit (r ∷ rs) all = (all.0.fits, values_fit rs all.1)
-
-  storable_of : (rs : List SizedRow) → AllByRecursion (λ v. fits d v ≡ true) (values_in rs) → AllByRecursion (IsStorable d) rs
-  storable_of [] all = tt
-  storable_of (r ∷ rs) all = (
-    record { fits = all.0; held = λ dynamic long. absurd (omega (arith, long, row-short d r.values s dynamic all.0)) },
-    storable_of rs all.1,
-  )
-
-  pub alike_with : (one other : List SizedRow) → AllByRecursion (IsStorable d) other → values_in one ≡ values_in other → AreAlike d one other
-  alike_with one other all same =
-      alike one other (storable_of one (subst (AllByRecursion (λ v. fits d v ≡ true)) (sym same) (values_fit other all))) all same
+  alike_resized rs = record { file = from_same 0 rs; blocks = blocks_same rs; placed = placed_same 0 rs; count = count_same rs }
 
 data_of : (d : Defs) (extend : Bool) (x : List ℕ) → new_data d extend x ≡ stored_file d (kept d extend x)
 unfolding new_data
 data_of d extend x = refl
 
 -- what a repair keeps of its own data file is stored as it was
-pub settled_alike : (d : Defs) (any extend : Bool) (x : List ℕ) → AreDefs d → AreBytes x → AreAlike d (kept d any (new_data d extend x)) (kept d extend x)
-settled_alike d any extend x are bytes =
-    alike_with d (sound d are) (kept d any (new_data d extend x)) (kept d extend x) (kept_each d extend x are bytes) (settled d any extend x are bytes)
+pub settled_alike : (d : Defs) (any extend : Bool) (x : List ℕ) → AreDefs d → AreBytes x → length (new_data d extend x) < 2 ^ 64 - 1 → AreAlike d (kept d any (new_data d extend x)) (kept d extend x)
+settled_alike d any extend x are bytes near = subst (λ (rs : List SizedRow). AreAlike d rs (kept d extend x)) (sym (kept_again d any extend x are bytes near)) (alike_resized d (kept d extend x))
 
-pub settled_data : (d : Defs) (any extend : Bool) (x : List ℕ) → AreDefs d → AreBytes x → new_data d any (new_data d extend x) ≡ new_data d extend x
-settled_data d any extend x are bytes = data_of d any (new_data d extend x) ∙ (settled_alike d any extend x are bytes).file ∙ sym (data_of d extend x)
+pub settled_data : (d : Defs) (any extend : Bool) (x : List ℕ) → AreDefs d → AreBytes x → length (new_data d extend x) < 2 ^ 64 - 1 → new_data d any (new_data d extend x) ≡ new_data d extend x
+settled_data d any extend x are bytes near = data_of d any (new_data d extend x) ∙ (settled_alike d any extend x are bytes near).file ∙ sym (data_of d extend x)

@@ -1,14 +1,11 @@
--- A laid file is covered by its rows, one range each, and no deleted block is left in it.
-use Rattle.std.proofs.Common.{◌≡◌, ℕ, suc, ◌+◌, ◌<◌, ◌≤◌, Bool, true, false, cond, ◌&&◌, ◌||◌, List, [], ◌∷◌, ◌++◌, length, length-append, map, filter, nat_le, nat_lt, unwrap_or, Option, refl, sym, ap, ◌∙◌, arith}
+-- A laid file is covered by the blocks of its rows, and no deleted block is left in it.
+use Rattle.std.proofs.Common.{◌≡◌, ℕ, suc, ◌+◌, ◌<◌, ◌≤◌, Bool, true, false, cond, ◌&&◌, ◌||◌, List, [], ◌∷◌, ◌++◌, length, length-append, map, filter, nat_le, nat_lt, sum_by, unwrap_or, Option, refl, sym, ap, ◌∙◌, arith}
 use Rattle.std.specs.List.{list_any, AllByRecursion}
 use Rattle.std.proofs.lemmas.Bool.{and_from, and_left, and_right, or_left, or_right, or_cases, or_from, le-leb, lt-leb, leb-true, ltb-true, ltb-false, and_parts}
 use Rattle.std.proofs.Common.{◌⊎◌, inl, inr}
 use Rattle.myi_base.specs.Ranges.{Range, are_apart, is_apart}
-use Rattle.myi_defs.specs.declared.types.RowFormat.{RowFormat}
-use Rattle.myi_defs.specs.declared.types.RowFormat.TheVariants.{Static, Dynamic}
 use Rattle.myi_defs.specs.declared.types.Defs.{Defs}
 use Rattle.myi_defs.specs.Sound.{IsSound}
-use Rattle.myi_frames.proofs.CallerLemmas.{least-sized}
 use Rattle.myi_pack.specs.Packed.{Values}
 use Rattle.myi_pack.specs.Unpacking.{row_of}
 use Rattle.myi_pack.specs.Spelling.{spelling}
@@ -17,40 +14,42 @@ use Rattle.myi_chain.specs.Readable.{frees_of}
 use Rattle.myi_chain.specs.Meeting.{ranges_of}
 use Rattle.myi_data.specs.Readable.{items_in, readable, deleted}
 use Rattle.myi_data.specs.Stored.{SizedRow, Share, group, stored_size, block_count, ranges_from, stored_rows, IsStorable}
-use Rattle.myi_data.proofs.CallerLemmas.{group_one, size_one}
+use Rattle.myi_data.proofs.CallerLemmas.{stored_some}
+use Rattle.std.proofs.lemmas.List.Folds.{list_any-append}
 use Rattle.std.proofs.lemmas.List.Sums.{sum_by-cons}
 use Rattle.myi_pair.specs.KeyList.{PlacedRow}
 use Rattle.myi_pair.specs.Clean.{placed_row, covers}
 use Rattle.myi_pair.specs.RecoveredBytes.{placed_from}
 use Rattle.myi_pair.proofs.ReadLaws.{IsInFile, frees_fine}
 use Rattle.myi_pair.proofs.SizedLaws.{IsNear}
-use Rattle.myi_pair.proofs.ShorterLaws.{stored_length, length-slot, length-own}
+use Rattle.myi_pair.proofs.ShorterLaws.{stored_length}
 
 step_length : (d : Defs) (r : SizedRow) (rs : List SizedRow) → stored_length d (r ∷ rs) ≡ stored_size d r + stored_length d rs
 step_length d r rs = sum_by-cons (λ q. stored_size d q) r rs
 
--- the range of a row
-row_range : (d : Defs) (at : ℕ) (r : SizedRow) → IsSound d → IsStorable d r → ranges_from at (group d r) ≡ (at, at + stored_size d r) ∷ []
-row_range d at r s can = ap (ranges_from at) (group_one d r s can.fits) ∙ ap (λ n. (at, at + n) ∷ []) (sym (size_one d r s can.fits))
+-- every byte belongs to a block of a row
 
-rows_ranges : (d : Defs) (at : ℕ) (r : SizedRow) (rs : List SizedRow) → IsSound d → IsStorable d r → ranges_of (stored_rows d at (r ∷ rs)) ≡ (at, at + stored_size d r) ∷ ranges_of (stored_rows d (at + stored_size d r) rs)
-unfolding stored_rows
-rows_ranges d at r rs s can = ap (λ b. b ++ ranges_of (stored_rows d (at + stored_size d r) rs)) (row_range d at r s can)
-
--- every byte belongs to a row
-
-pub laid_covered : (d : Defs) (at p : ℕ) (rs : List SizedRow) → IsSound d → AllByRecursion (IsStorable d) rs → at ≤ p → p < at + stored_length d rs → list_any (covers p) (ranges_of (stored_rows d at rs)) ≡ true
-laid_covered d at p [] s all low high = absurd (omega arith)
-laid_covered d at p (r ∷ rs) s all low high =
-    ap (list_any (covers p)) (rows_ranges d at r rs s all.0)
-    ∙ by (nat_lt p (at + stored_size d r)) refl (λ past. laid_covered d (at + stored_size d r) p rs s all.1 past (omega (arith, step_length d r rs)))
+ranges_covered : (at p : ℕ) (g : List Share) → at ≤ p → p < at + sum_by (λ (s : Share). s.size) g → list_any (covers p) (ranges_from at g) ≡ true
+ranges_covered at p [] low high = absurd (omega arith)
+ranges_covered at p (s ∷ g) low high = by (nat_lt p (at + s.size)) refl (λ past. ranges_covered (at + s.size) p g past (omega (arith, high, sum_by-cons (λ (s : Share). s.size) s g)))
   where
-    others : List Range
-    others = ranges_of (stored_rows d (at + stored_size d r) rs)
+    by : (b : Bool) → nat_lt p (at + s.size) ≡ b → (at + s.size ≤ p → list_any (covers p) (ranges_from (at + s.size) g) ≡ true) → (covers p (at, at + s.size) || list_any (covers p) (ranges_from (at + s.size) g)) ≡ true
+    by true is again = or_left (covers p (at, at + s.size)) (list_any (covers p) (ranges_from (at + s.size) g)) (and_from (nat_le at p) (nat_lt p (at + s.size)) (le-leb at p low) is)
+    by false is again = or_right (covers p (at, at + s.size)) (list_any (covers p) (ranges_from (at + s.size) g)) (again (ltb-false p (at + s.size) is))
 
-    by : (b : Bool) → nat_lt p (at + stored_size d r) ≡ b → (at + stored_size d r ≤ p → list_any (covers p) others ≡ true) → (covers p (at, at + stored_size d r) || list_any (covers p) others) ≡ true
-    by true is again = or_left (covers p (at, at + stored_size d r)) (list_any (covers p) others) (and_from (nat_le at p) (nat_lt p (at + stored_size d r)) (le-leb at p low) is)
-    by false is again = or_right (covers p (at, at + stored_size d r)) (list_any (covers p) others) (again (ltb-false p (at + stored_size d r) is))
+pub laid_covered : (d : Defs) (at p : ℕ) (rs : List SizedRow) → at ≤ p → p < at + stored_length d rs → list_any (covers p) (ranges_of (stored_rows d at rs)) ≡ true
+unfolding stored_rows
+laid_covered d at p [] low high = absurd (omega arith)
+laid_covered d at p (r ∷ rs) low high =
+    by (nat_lt p (at + stored_size d r)) refl (λ past. laid_covered d (at + stored_size d r) p rs past (omega (arith, step_length d r rs)))
+  where
+    by : (b : Bool) → nat_lt p (at + stored_size d r) ≡ b → (at + stored_size d r ≤ p → list_any (covers p) (ranges_of (stored_rows d (at + stored_size d r) rs)) ≡ true) → list_any (covers p) (ranges_from at (group d r) ++ ranges_of (stored_rows d (at + stored_size d r) rs)) ≡ true
+    by true is again =
+        list_any-append (covers p) (ranges_from at (group d r)) (ranges_of (stored_rows d (at + stored_size d r) rs))
+        ∙ or_left (list_any (covers p) (ranges_from at (group d r))) (list_any (covers p) (ranges_of (stored_rows d (at + stored_size d r) rs))) (ranges_covered at p (group d r) low (ltb-true _ _ is))
+    by false is again =
+        list_any-append (covers p) (ranges_from at (group d r)) (ranges_of (stored_rows d (at + stored_size d r) rs))
+        ∙ or_right (list_any (covers p) (ranges_from at (group d r))) (list_any (covers p) (ranges_of (stored_rows d (at + stored_size d r) rs))) (again (ltb-false p (at + stored_size d r) is))
 
 -- so no deleted block is apart from them
 
@@ -95,12 +94,11 @@ laid_split d at (r ∷ rs) =
     ∙ omega (arith, ranges_count at (group d r), laid_split d (at + stored_size d r) rs)
     ∙ sym (sum_by-cons (λ (q : SizedRow). length (group d q)) r rs)
 
--- as long as each row stands alone
-pub few_blocks : (d : Defs) (rs : List SizedRow) → IsSound d → AllByRecursion (IsStorable d) rs → block_count d rs ≡ length rs
-few_blocks d [] s all = refl
+-- no more blocks than bytes
+pub few_blocks : (d : Defs) (rs : List SizedRow) → IsSound d → AllByRecursion (IsStorable d) rs → block_count d rs ≤ stored_length d rs
+few_blocks d [] s all = omega arith
 few_blocks d (r ∷ rs) s all =
-    sum_by-cons (λ (q : SizedRow). length (group d q)) r rs
-    ∙ omega (arith, ap (λ (g : List Share). length g) (group_one d r s all.0.fits), few_blocks d rs s all.1)
+    omega (arith, sum_by-cons (λ (q : SizedRow). length (group d q)) r rs, (stored_some d r s all.0).1, few_blocks d rs s all.1, step_length d r rs)
 
 -- the rows with their places
 
@@ -118,13 +116,6 @@ near_from d at len (r ∷ rs) all inside = ((omega arith, all.0.fits), near_from
 
 -- no more rows than bytes
 
-some_bytes : (d : Defs) (r : SizedRow) → IsSound d → IsStorable d r → 0 < stored_size d r
-some_bytes d r s can = of_format d.format refl
-  where
-    of_format : (f : RowFormat) → d.format ≡ f → 0 < stored_size d r
-    of_format Static is = omega (arith, length-slot d r s is can, s.slot_pointer is)
-    of_format Dynamic is = omega (arith, length-own d r s is can, (least-sized (length (spelling d r.values))).least)
-
 pub few_rows : (d : Defs) (rs : List SizedRow) → IsSound d → AllByRecursion (IsStorable d) rs → length rs ≤ stored_length d rs
 few_rows d [] s all = omega arith
-few_rows d (r ∷ rs) s all = omega (arith, step_length d r rs, some_bytes d r s all.0, few_rows d rs s all.1)
+few_rows d (r ∷ rs) s all = omega (arith, step_length d r rs, (stored_some d r s all.0).0, few_rows d rs s all.1)

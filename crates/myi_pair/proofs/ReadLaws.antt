@@ -1,6 +1,6 @@
--- What holds of each readable row: its bytes are bytes and pack a row, and its blocks lie in the file and have room for
--- each row that is no longer.
-use Rattle.std.proofs.Common.{◌≡◌, ℕ, zero, suc, ◌+◌, ◌-◌, ◌*◌, ◌/◌, ◌<◌, ◌≤◌, Bool, true, List, [], ◌∷◌, ◌++◌, length, take, drop, Option, Some, None, refl, sym, ap, subst, arith, length-append, length-drop, div-mul-le_self, suc-mul}
+-- What holds of each readable row: its bytes are bytes and pack a row, and its blocks lie in the file, have room for
+-- each row that is no longer, and held as many bytes.
+use Rattle.std.proofs.Common.{◌≡◌, ℕ, zero, suc, ◌+◌, ◌-◌, ◌*◌, ◌/◌, ◌<◌, ◌≤◌, Bool, true, List, [], ◌∷◌, ◌++◌, length, map, take, drop, Option, Some, None, refl, sym, ap, subst, ◌∙◌, arith, length-append, length-drop, div-mul-le_self, suc-mul}
 use Rattle.std.specs.List.{flat_map, AllByRecursion}
 use Rattle.std.proofs.lemmas.List.{length-take-le}
 use Rattle.std.proofs.lemmas.List.Sums.{sum_by-cons}
@@ -22,6 +22,7 @@ use Rattle.myi_chain.proofs.CallerLemmas.{blocks_read}
 use Rattle.myi_chain.proofs.CallerLemmas.{rest_fine}
 use Rattle.myi_data.specs.Slots.{Slot, slots}
 use Rattle.myi_data.specs.Readable.{packs, slot_row, slot_items, items_at, items_by, items_in, readable}
+use Rattle.myi_data.specs.Stored.{HaveHeld}
 use Rattle.myi_data.proofs.CallerLemmas.{slot_cases}
 use Rattle.myi_pair.specs.Trees.{total}
 
@@ -29,11 +30,16 @@ abbrev pub HasRoom : RowFormat → Defs → Row → Type 0
 HasRoom Static d r = d.slot_length ≤ total r.blocks
 HasRoom Dynamic d r = (n : ℕ) → 0 < n → n ≤ length r.bytes → least_size n ≤ total r.blocks
 
+abbrev pub HasHeld : RowFormat → Row → Type 0
+HasHeld Static r = Unit {0}
+HasHeld Dynamic r = (n : ℕ) → n ≤ length r.bytes → HaveHeld (map (λ (a : Range). a.1 - a.0) r.blocks) n
+
 pub record IsFine (format : RowFormat) (d : Defs) (len : ℕ) (r : Row) : Type 0 where
   pub bytes : AreBytes r.bytes
   pub packed : packs d r.bytes ≡ true
   pub inside : AllByRecursion (λ (a : Range). a.1 ≤ len) r.blocks
   pub room : HasRoom format d r
+  pub held : HasHeld format r
 
 -- slots
 
@@ -55,6 +61,7 @@ slots_fine d (suc n) at len xs are whole inside =
       packed = is;
       inside = (omega (arith, step), tt);
       room = omega (arith, one_range at size (length (take size xs)) long);
+      held = tt;
     } in
     slot_cases (λ (is : List Item). AllByRecursion (IsFine Static d len) (rows_of (is ++ more))) (packs d) slot (λ _. behind) (λ is. (fine is, behind)) behind
 
@@ -104,6 +111,12 @@ blocks_fine x (b ∷ bs) are t =
       size = omega (arith, size, range, others.size);
     }
 
+sizes_are : (bs : List Block) → map (λ (b : Block). b.size) bs ≡ map (λ (a : Range). a.1 - a.0) (ranges bs)
+sizes_are [] = refl
+sizes_are (b ∷ bs) =
+    let size : b.size ≡ b.at + b.size - b.at = omega arith in
+    ap (λ n. n ∷ map (λ (b : Block). b.size) bs) size ∙ ap (λ (ns : List ℕ). (b.at + b.size - b.at) ∷ ns) (sizes_are bs)
+
 row_fine : (d : Defs) (x : List ℕ) (r : Row) → AreBytes x → IsRowOf (block_of x) (packs d) r → IsFine Dynamic d (length x) r
 row_fine d x r are is =
     let bs : List Block = is.chain in
@@ -117,6 +130,15 @@ row_fine d x r are is =
       room = λ n some few.
           let least = least-together n bs fine.sized some (omega (arith, few, same, fine.held)) in
           omega (arith, least, all, fine.size);
+      held = λ n few. record {
+        file = x;
+        bytes = are;
+        at = r.at;
+        blocks = bs;
+        chain = is.is;
+        sized = sizes_are bs ∙ ap (map (λ (a : Range). a.1 - a.0)) (sym is.blocks);
+        room = omega (arith, few, same, fine.held);
+      };
     }
 
 items_fine : (d : Defs) (x : List ℕ) (is : List Item) → AreBytes x → AllByRecursion (IsItemOf (block_of x) (packs d)) is → AllByRecursion (IsFine Dynamic d (length x)) (rows_of is)

@@ -32,7 +32,7 @@ use Rattle.myi_pair.specs.RecoveredBytes.{kept, new_data, placed_from, LaidTrees
 use Rattle.myi_pair.specs.Recovered.{IsRepairable, Recovered}
 use Rattle.myi_pair.proofs.FirstRowsLaws.{distinct, all_kept}
 use Rattle.myi_pair.proofs.KeptLaws.{new_rows, new_values, values_sized}
-use Rattle.myi_pair.proofs.ShorterLaws.{stored_length, new_reached, shorter}
+use Rattle.myi_pair.proofs.ShorterLaws.{stored_length, new_reached, new_near, shorter}
 use Rattle.myi_pair.proofs.SameDefs.{with_raw, readable_same, deleted_same, values_same, placed_same, addressable_same, distinct_same, trees_same}
 use Rattle.myi_pair.proofs.LaidLaws.{laid_covered, none_deleted, laid_count, laid_split, laid_placed}
 use Rattle.myi_pair.proofs.HeaderLaws.{IsNewIndex}
@@ -113,7 +113,7 @@ record AreClean (d : Defs) (vs : List SizedRow) (e y : List ℕ) (roots : List (
 
 covered_rows : (d : Defs) (vs : List SizedRow) (e y : List ℕ) (roots : List (Option ℕ)) → IsSound d → AreClean d vs e y roots → (p : ℕ) → p < length e → list_any (covers p) (ranges_of (readable d false e)) ≡ true
 covered_rows d vs e y roots s are p inside =
-    ap (λ (rows : List Row). list_any (covers p) (ranges_of rows)) are.rows ∙ laid_covered d 0 p vs s are.stored (omega arith) (omega (arith, are.long))
+    ap (λ (rows : List Row). list_any (covers p) (ranges_of rows)) are.rows ∙ laid_covered d 0 p vs (omega arith) (omega (arith, are.long))
 
 no_deleted : (d : Defs) (vs : List SizedRow) (e y : List ℕ) (roots : List (Option ℕ)) → IsSound d → AreClean d vs e y roots → deleted d e ≡ []
 no_deleted d vs e y roots s are = none_deleted d e s (covered_rows d vs e y roots s are)
@@ -199,13 +199,14 @@ module _ (d : Defs) (extend : Bool) (x : List ℕ) (now : ℕ) (can : IsRepairab
   the_clean =
       let s : IsSound d = sound d can.defined in
       let vs : List SizedRow = kept d extend x in
-      let rows = new_rows d false extend x can.defined can.bytes in
+      let near = new_near d extend x can.defined can.bytes can.reached in
+      let rows = new_rows d false extend x can.defined can.bytes near in
       let t = there d extend x now can in
       let same = trees_are d vs in
       record {
         rows = rows;
         stored = all_stored d extend x now can;
-        values = new_values d false extend x can.defined can.bytes;
+        values = new_values d false extend x can.defined can.bytes near;
         placed = ap (map (placed_row d)) rows ∙ laid_placed d 0 vs s (all_stored d extend x now can);
         long = data_long d extend x now can;
         distinct = kept_distinct;
@@ -240,7 +241,7 @@ module _ (d : Defs) (extend : Bool) (x : List ℕ) (now : ℕ) (can : IsRepairab
       let shown : IsNewIndex d (recovered_state d extend x now) y = index_shows d extend x now can in
       let read = elsewhere d y can.defined shown.elsewhere in
       record {
-        rows = new_values d false extend x can.defined can.bytes;
+        rows = new_values d false extend x can.defined can.bytes (new_near d extend x can.defined can.bytes can.reached);
         laid = data_is;
         shorter = shorter d extend x can.defined can.bytes;
         definitions = read;

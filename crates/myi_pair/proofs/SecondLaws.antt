@@ -33,6 +33,7 @@ use Rattle.myi_pair.specs.Clean.{sized_row}
 use Rattle.myi_pair.specs.RecoveredBytes.{kept, new_data, placed_from, LaidTrees, pages_then, laid_trees, key_lists, new_trees, without_free_pages, new_state, recovered_state, new_index}
 use Rattle.myi_pair.specs.Recovered.{IsRepairable}
 use Rattle.myi_pair.proofs.KeptLaws.{AreAlike, settled_alike}
+use Rattle.myi_pair.proofs.ShorterLaws.{new_near}
 use Rattle.myi_pair.proofs.HeaderLaws.{IsNewIndex}
 use Rattle.myi_pair.proofs.NewIndexLaws.{index_shows}
 use Rattle.myi_pair.proofs.RecoveredLaws.{IsLike, front_number, layout_same, first_same, state_same, header_like, same_defs, recovered}
@@ -199,7 +200,7 @@ module _ (d : Defs) (extend : Bool) (x : List ℕ) (now : ℕ) (can : IsRepairab
   kept_again any = kept_same d header_read any (new_data d extend x)
 
   alike : (any : Bool) → AreAlike d (kept d any (new_data d extend x)) (kept d extend x)
-  alike any = settled_alike d any extend x can.defined can.bytes
+  alike any = settled_alike d any extend x can.defined can.bytes (new_near d extend x can.defined can.bytes can.reached)
 
   data_again : (any : Bool) → new_data (with_raw d header_read) any (new_data d extend x) ≡ new_data d extend x
   unfolding new_data

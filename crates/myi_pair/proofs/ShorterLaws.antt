@@ -1,9 +1,9 @@
 -- A repaired data file is no longer than the one before.
-use Rattle.std.proofs.Common.{◌≡◌, ℕ, zero, suc, ◌+◌, ◌-◌, ◌*◌, ◌/◌, ◌^◌, ◌<◌, ◌≤◌, min, Bool, true, false, cond, ◌⊎◌, inl, inr, List, [], ◌∷◌, ◌++◌, length, map, nat_le, nat_lt, sum_by, refl, sym, ap, subst, ◌∙◌, arith, length-append, div-mul-le_self, le-div_iff_mul-le}
+use Rattle.std.proofs.Common.{◌≡◌, ℕ, zero, suc, ◌+◌, ◌-◌, ◌*◌, ◌/◌, ◌^◌, ◌<◌, ◌≤◌, min, Bool, true, false, cond, ◌⊎◌, inl, inr, List, [], ◌∷◌, ◌++◌, length, map, nat_le, nat_lt, sum, sum_by, refl, sym, ap, subst, ◌∙◌, arith, length-append, div-mul-le_self, le-div_iff_mul-le}
 use Rattle.std.specs.List.{list_any, AllByRecursion}
 use Rattle.std.proofs.lemmas.Bool.{and_parts, and_from, or_cases, or_left, or_right, leb-true, leb-false, le-leb, ltb-true, lt-ltb}
 use Rattle.std.proofs.lemmas.List.Folds.{list_all-append}
-use Rattle.std.proofs.lemmas.List.Sums.{sum_by-cons, sum_by-append}
+use Rattle.std.proofs.lemmas.List.Sums.{sum_by-cons, sum_by-append, sum-map}
 use Rattle.myi_base.specs.Numbers.{AreBytes}
 use Rattle.myi_base.specs.Ranges.{Range, are_apart, is_apart, AreDisjoint}
 use Rattle.myi_defs.specs.declared.types.RowFormat.{RowFormat}
@@ -21,8 +21,8 @@ use Rattle.myi_chain.specs.Chain.{AreApart}
 use Rattle.myi_chain.specs.Readable.{Row}
 use Rattle.myi_chain.specs.Meeting.{ranges_of}
 use Rattle.myi_data.specs.Readable.{readable}
-use Rattle.myi_data.specs.Stored.{SizedRow, stored_size, stored, stored_from, stored_file, IsStorable}
-use Rattle.myi_data.proofs.CallerLemmas.{spelling_some, size_alone, size_one, stored_sized}
+use Rattle.myi_data.specs.Stored.{SizedRow, Share, shares, group_by, group, stored_size, stored, stored_from, stored_file, IsStorable}
+use Rattle.myi_data.proofs.CallerLemmas.{spelling_some, stored_long, shares_less}
 use Rattle.myi_data.proofs.CallerLemmas.{rows_apart}
 use Rattle.myi_pair.specs.FirstRows.{repeats, first_after, first_rows}
 use Rattle.myi_pair.specs.Trees.{total}
@@ -111,13 +111,26 @@ few_in len rs apart inside = omega (arith, total_filled len rs inside, few_bytes
 
 -- how long a stored row is
 
+abbrev taken : List Share → ℕ
+taken g = sum_by (λ (s : Share). s.size) g
+
+size_in : (d : Defs) (r : SizedRow) (f : RowFormat) → d.format ≡ f → stored_size d r ≡ taken (group_by f r.sizes (length (spelling d r.values)))
+unfolding group
+size_in d r f is = ap (λ g. taken (group_by g r.sizes (length (spelling d r.values)))) is
+
 pub length-slot : (d : Defs) (r : SizedRow) → IsSound d → d.format ≡ Static → IsStorable d r → stored_size d r ≡ d.slot_length
 length-slot d r s static can =
+    let n : ℕ = length (spelling d r.values) in
     let is : IsStaticRow d.fields d.slot_length r.values (spelling d r.values) = subst (λ (f : RowFormat). IsRow f d r.values (spelling d r.values)) static (row-spelled d r.values s can.fits) in
-    size_one d r s can.fits ∙ ap (λ f. size_alone f (length (spelling d r.values))) static ∙ is.slot
+    size_in d r Static static ∙ sum_by-cons (λ (s : Share). s.size) (record { size = n; taken = n }) [] ∙ (let e : n + 0 ≡ n = omega arith in e) ∙ is.slot
 
-pub length-own : (d : Defs) (r : SizedRow) → IsSound d → d.format ≡ Dynamic → IsStorable d r → stored_size d r ≡ least_size (length (spelling d r.values))
-length-own d r s dynamic can = size_one d r s can.fits ∙ ap (λ f. size_alone f (length (spelling d r.values))) dynamic
+-- blocks that have room for a row and held one as long take no more when it is stored anew
+dynamic_room : (sizes : List ℕ) (n most : ℕ) → least_size n ≤ most → sum sizes ≤ most → taken (group_by Dynamic sizes n) ≤ most
+dynamic_room sizes n most least all = by (nat_lt n (2 ^ 24))
+  where
+    by : (b : Bool) → taken (cond b (record { size = least_size n; taken = n } ∷ []) (shares sizes n)) ≤ most
+    by true = omega (arith, least, sum_by-cons (λ (s : Share). s.size) (record { size = least_size n; taken = n }) [])
+    by false = omega (arith, all, shares_less sizes n)
 
 stored_room : (d : Defs) (len : ℕ) (r : Row) → AreDefs d → IsFine d.format d len r → stored_size d (sized_row d r) ≤ total r.blocks
 stored_room d len r are fine = of_format d.format refl
@@ -136,9 +149,11 @@ stored_room d len r are fine = of_format d.format refl
         let room : HasRoom Static d r = subst (λ f. HasRoom f d r) is fine.room in
         omega (arith, room, length-slot d v s is can)
     of_format Dynamic is =
+        let n : ℕ = length (spelling d v.values) in
         let room : HasRoom Dynamic d r = subst (λ f. HasRoom f d r) is fine.room in
-        let few : length (spelling d v.values) ≤ length r.bytes = row-least d v.values r.bytes s (packs_values d len r s fine) in
-        omega (arith, room (length (spelling d v.values)) (spelling_some d v.values s can.fits) few, length-own d v s is can)
+        let few : n ≤ length r.bytes = row-least d v.values r.bytes s (packs_values d len r s fine) in
+        let all : sum v.sizes ≡ total r.blocks = sum-map (λ (a : Range). a.1 - a.0) r.blocks in
+        omega (arith, size_in d v Dynamic is, dynamic_room v.sizes n (total r.blocks) (room n (spelling_some d v.values s can.fits) few) (omega (arith, all)))
 
 -- all rows together
 
@@ -149,7 +164,7 @@ length-from : (d : Defs) (at : ℕ) (rs : List SizedRow) → IsSound d → AllBy
 length-from d at [] s all = refl
 length-from d at (r ∷ rs) s all =
     length-append (stored d at r) (stored_from d (at + stored_size d r) rs)
-    ∙ omega (arith, stored_sized d r s all.0.fits at, length-from d (at + stored_size d r) rs s all.1, sum_by-cons (λ r. stored_size d r) r rs)
+    ∙ omega (arith, stored_long d r s all.0 at, length-from d (at + stored_size d r) rs s all.1, sum_by-cons (λ r. stored_size d r) r rs)
 
 pub length-laid : (d : Defs) (rs : List SizedRow) → IsSound d → AllByRecursion (IsStorable d) rs → length (stored_file d rs) ≡ stored_length d rs
 unfolding stored_file
@@ -208,3 +223,11 @@ reach_less d n m s less reached =
 
 pub new_reached : (d : Defs) (extend : Bool) (x : List ℕ) → AreDefs d → AreBytes x → is_addressable d (length x) ≡ true → is_addressable d (length (new_data d extend x)) ≡ true
 new_reached d extend x are bytes reached = reach_less d (length x) (length (new_data d extend x)) (sound d are) (shorter d extend x are bytes) reached
+
+-- so each place of it is a number of eight bytes
+pub new_near : (d : Defs) (extend : Bool) (x : List ℕ) → AreDefs d → AreBytes x → is_addressable d (length x) ≡ true → length (new_data d extend x) < 2 ^ 64 - 1
+unfolding is_addressable
+new_near d extend x are bytes reached =
+    let both = and_parts (nat_le (length x) (2 ^ 40)) (nat_lt (pointers d.format d.slot_length (length x)) (256 ^ d.rec_ref - 1)) reached in
+    let most : length x ≤ 2 ^ 40 = leb-true _ _ both.0 in
+    omega (arith, most, shorter d extend x are bytes)

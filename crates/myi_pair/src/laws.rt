@@ -53,23 +53,28 @@ pub fn class_numbers_keep_first_rows()
 {}
 
 /// Each readable row of a file of bytes can be stored anew, and so can each that a repair keeps. The new
-/// data file is read as the kept rows, whether every place is tried or not.
+/// data file of one within reach is read as the kept rows, whether every place is tried or not.
 pub fn kept_rows_are_stored()
     ensures rows { (d : Defs) (extend : Bool) (x : List ℕ) → AreDefs d → AreBytes x
         → AllByRecursion (λ r. IsStorable d (sized_row d r)) (readable d extend x) }
     ensures storable { (d : Defs) (extend : Bool) (x : List ℕ) → AreDefs d → AreBytes x
         → All (IsStorable d) (kept d extend x) }
     ensures laid { (d : Defs) (any extend : Bool) (x : List ℕ) → AreDefs d → AreBytes x
+        → is_addressable d (length x) ≡ true
         → readable d any (new_data d extend x) ≡ stored_rows d 0 (kept d extend x) }
     ensures values { (d : Defs) (any extend : Bool) (x : List ℕ) → AreDefs d → AreBytes x
+        → is_addressable d (length x) ≡ true
         → map (values_of d) (readable d any (new_data d extend x)) ≡ values_in (kept d extend x) }
 {}
 
-/// A repair of a data file that a repair left keeps all its rows, and writes the same file.
+/// A repair of a data file that a repair left of one within reach keeps all its rows, and writes the same
+/// file.
 pub fn repairs_settle()
     ensures kept { (d : Defs) (any extend : Bool) (x : List ℕ) → AreDefs d → AreBytes x
+        → is_addressable d (length x) ≡ true
         → values_in (kept d any (new_data d extend x)) ≡ values_in (kept d extend x) }
     ensures data_file { (d : Defs) (any extend : Bool) (x : List ℕ) → AreDefs d → AreBytes x
+        → is_addressable d (length x) ≡ true
         → new_data d any (new_data d extend x) ≡ new_data d extend x }
 {}
 

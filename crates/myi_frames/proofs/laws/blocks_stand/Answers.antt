@@ -1,5 +1,5 @@
-use Rattle.myi_frames.proofs.CallerLemmas.{block-stands, block-bytes, block-sized}
-use Rattle.myi_frames.proofs.BlockLemmas.{block-short, block-unaligned, block-unknown, block-bounded}
+use Rattle.myi_frames.proofs.CallerLemmas.{block-stands, block-bytes, block-bounded, block-sized}
+use Rattle.myi_frames.proofs.BlockLemmas.{block-short, block-unaligned, block-unknown}
 use Rattle.myi_frames.proofs.laws.blocks_stand.Goals as goal
 
 pub returns : goal.returns

@@ -1,5 +1,5 @@
-use Rattle.myi_frames.proofs.CallerLemmas.{least-writable, least-sized, least-together}
-use Rattle.myi_frames.proofs.SizeLemmas.{writable-sized, least-least}
+use Rattle.myi_frames.proofs.CallerLemmas.{least-writable, least-sized, least-least, least-together}
+use Rattle.myi_frames.proofs.SizeLemmas.{writable-sized}
 use Rattle.myi_frames.proofs.laws.least_sizes_are_least.Goals as goal
 
 pub returns : goal.returns
