@@ -8,26 +8,35 @@ use Rattle.myi_chain.specs.declared.piece.Piece.{Piece}
 use Rattle.myi_chain.specs.declared.piece.Item.{Item as Answer}
 use Rattle.myi_chain.specs.declared.piece.Item.TheVariants as item
 use Rattle.myi_chain.specs.declared.piece.ScanFault.{ScanFault}
+use Rattle.myi_chain.specs.declared.piece.Wanted.{Wanted}
+use Rattle.myi_chain.specs.declared.piece.Wanted.TheVariants.{Items, Rows}
 use Rattle.myi_chain.specs.declared.step.FoundRow.{FoundRow}
+use Rattle.myi_chain.specs.declared.step.Found.{Found}
+use Rattle.myi_chain.specs.declared.step.Found.TheVariants as found
 use Rattle.myi_chain.specs.declared.step.Position.{Position}
 use Rattle.myi_chain.specs.declared.step.RowBuffer.{RowBuffer}
 use Rattle.myi_frames.specs.Block.{Block, block_of}
 use Rattle.myi_window.specs.Excerpt.{nothing, StandsIn}
 use Rattle.myi_window.specs.declared.window.TheConstants.{WINDOW}
 use Rattle.myi_chain.specs.Laid.{AreLaid}
-use Rattle.myi_chain.specs.Readable.{Item, row, free, rest, items_in}
+use Rattle.myi_chain.specs.Readable.{Row, Item, row, free, rest, items_in, rows_of}
 use Rattle.myi_chain.specs.Pieces.{piece_bytes}
 use Rattle.myi_chain.specs.Used.{joined}
 use Rattle.myi_chain.specs.Chain.{ranges_at}
-use Rattle.myi_chain.specs.Source.{SourceModel, read_blocks, IsReady, ReadsOn}
-use Rattle.myi_chain.specs.Found.{met_at, row_held, found_at, found_blocks, LiesRow, MeetsShortAt, WentPlain}
-use Rattle.myi_chain.specs.ScanModel.{Scanning, scanned, IsSameScan, IsCurrent, FirstItem, NoItem, FirstRow, NoRow, IsItem, IsRow, LendsBlock, EndsInside, AreBlocksAt, StandsItem, StandsRow, items_left, Answers, Keeps, IsBehind, MeetsPlain, ScansPlain, AfterItem, AfterRow}
+use Rattle.myi_chain.specs.Source.{SourceModel, read_blocks, IsReady, ReadsOn, EndStaysOr}
+use Rattle.myi_chain.specs.Found.{met_at, row_held, item_at, found_at, found_blocks, LiesRow, MeetsShortAt, WentPlain, place_of, IsBetween, IsMeant}
+use Rattle.myi_chain.specs.ScanModel.{Scanning, scanned, FallsToKept, IsSameScan, IsCurrent, IsItem, IsWanted, LendsBlock, place_in, EndsInside, AreBlocksAt, StandsItem, ArePassed, PassesTo, ComesFirst, items_left, Answers, HasEnded, Keeps, IsBehind, MeetsPlain, ScansPlain, MayLack, After}
 use Rattle.myi_chain.proofs.BlockLemmas.{blocks_read}
 use Rattle.myi_chain.proofs.ReadableLemmas.{rest_end}
-use Rattle.myi_chain.proofs.StepLemmas.{met_same, meets_same}
+use Rattle.myi_chain.proofs.StepLemmas.{met_same}
 
 pub err_same : {T E : Type 0} {x y : E} → ◌≡◌ {A = Result T E} (Err x) (Err y) → x ≡ y
 err_same is = cc
+
+-- a deleted block that is found is answered where it is wanted
+pub free_meant : (wanted : Wanted) (at size : ℕ) → IsMeant wanted (found.Free at size) → IsWanted wanted (item.Free at size)
+free_meant Items at size is = tt
+free_meant Rows at size is = absurd cc
 
 abbrev pub scan_of : {A : Type 0} → SourceModel → A → Bool → Position → List (ℕ × ℕ) → Scanning A
 scan_of s test extend p blocks = record { name = s.name; test = test; extend = extend; end = s.end; place = p.place; used = p.used; blocks = blocks; kept = s.kept }
@@ -36,7 +45,7 @@ module _ {A : Type 0} (h : Option Holding) (old : Scanning A) (s : SourceModel) 
   pub ready_scan : IfTold h (IsReady s)
   ready_scan m held = let is = subst (λ (o : Scanning A). IsCurrent o m) (sym view) (current m held) in record { kept = is.kept; long = is.long }
 
-  module _ (gives : A → List ℕ → Bool) (mid : SourceModel) (q : Position) (r : RowBuffer) (on : ReadsOn h s mid) where
+  module _ (gives : A → List ℕ → Bool) (mid : SourceModel) (q : Position) (r : RowBuffer) (on : ReadsOn h s mid) (fell : EndStaysOr s mid) where
     left_before : (m : Holding) → items_left gives old m ≡ met_at extend (gives test) s p m
     left_before m = subst (λ (o : Scanning A). items_left gives o m ≡ met_at extend (gives test) s p m) view refl
 
@@ -58,44 +67,62 @@ module _ {A : Type 0} (h : Option Holding) (old : Scanning A) (s : SourceModel) 
     whole_scan : IfTold h (λ m. mid.end ≡ old.end)
     whole_scan m held = on.end m held ∙ sym old_end
 
+    falls_scan : (now : List (ℕ × ℕ)) → FallsToKept old (scan_of mid test extend q now)
+    falls_scan now = elim fell [
+      | inl e ↦ inl (e ∙ sym old_end)
+      | inr cut ↦ inr cut
+    ]
+
     old_blocks : old.blocks ≡ blocks
     old_blocks = sym (ap (λ (o : Scanning A). o.blocks) view)
 
-    pub row_answered : (f : FoundRow) (at : ℕ) (piece : Piece) (now : List (ℕ × ℕ)) → (p.place < q.place) × (q.place ≤ mid.end) → IfTold h (λ m. FirstRow (row_held mid r f) (met_at extend (gives test) s p m) (met_at extend (gives test) s q m))
-        → piece_bytes piece ≡ (row_held mid r f).bytes → found_at f ≡ at → now ≡ found_blocks r.chain.taken f → LendsBlock piece now → LiesRow mid r f → Answers (items_left gives) FirstRow NoRow IsRow StandsRow IsCurrent h old (at, piece) (scan_of mid test extend q now)
-    row_answered f at piece now rises told is here kept lends lies = record {
+    -- what was found is the first that was wanted
+    comes_first : (wanted : Wanted) (f : Found) (answer : Answer) (now : List (ℕ × ℕ)) → IsItem (item_at mid r f) answer blocks now
+        → IfTold h (λ m. PassesTo wanted (met_at extend (gives test) s p m) (item_at mid r f ∷ met_at extend (gives test) s q m))
+        → IfTold h (λ m. ComesFirst wanted (items_left gives old m) (items_left gives (scan_of mid test extend q now) m) answer old.blocks now)
+    comes_first wanted f answer now is told m held =
+        let t = told m held in
+        record {
+          first = item_at mid r f;
+          next = (t.0, t.1, left_before m ∙ t.2 ∙ ap (λ (js : List Item). t.0 ++ item_at mid r f ∷ js) (sym (left_behind now m held)));
+          is = subst (λ (b : List (ℕ × ℕ)). IsItem (item_at mid r f) answer b now) (sym old_blocks) is;
+        }
+
+    answered : (wanted : Wanted) (f : Found) (answer : Answer) (now : List (ℕ × ℕ)) → IsBetween p.place q.place f × (q.place ≤ mid.end) → place_of f ≡ place_in answer → IsItem (item_at mid r f) answer blocks now → StandsItem answer old (scan_of mid test extend q now)
+        → IfTold h (λ m. PassesTo wanted (met_at extend (gives test) s p m) (item_at mid r f ∷ met_at extend (gives test) s q m))
+        → Answers (items_left gives) IsCurrent wanted h old answer (scan_of mid test extend q now)
+    answered wanted f answer now rises here is stands told = record {
       same = same_scan now;
-      rises = omega (arith, old_place, rises.0);
+      rises = omega (arith, old_place, rises.0.0, rises.0.1);
+      between = (omega (arith, old_place, here, rises.0.0), omega (arith, here, rises.0.1));
       within = rises.1;
+      falls = falls_scan now;
       whole = whole_scan;
-      stands = (lends, subst (λ n. AreBlocksAt n mid.end now) here (subst (AreBlocksAt (found_at f) mid.end) (sym kept) lies));
-      told = λ m held.
-          let t = told m held in
-          (row_held mid r f, (t.0, t.1, left_before m ∙ t.2 ∙ ap (λ (is : List Item). t.0 ++ row (row_held mid r f) ∷ is) (sym (left_behind now m held))), (here, is, ap ranges_at kept));
+      stands = stands;
+      told = comes_first wanted f answer now is told;
       current = current_scan now;
     }
 
-    pub item_answered : (f : FoundRow) (at : ℕ) (piece : Piece) (now : List (ℕ × ℕ)) → (p.place < q.place) × (q.place ≤ mid.end) → IfTold h (λ m. met_at extend (gives test) s p m ≡ row (row_held mid r f) ∷ met_at extend (gives test) s q m)
-        → piece_bytes piece ≡ (row_held mid r f).bytes → found_at f ≡ at → now ≡ found_blocks r.chain.taken f → LendsBlock piece now → LiesRow mid r f → Answers (items_left gives) FirstItem NoItem IsItem StandsItem IsCurrent h old (item.Row at piece) (scan_of mid test extend q now)
-    item_answered f at piece now rises told is here kept lends lies = record {
-      same = same_scan now;
-      rises = omega (arith, old_place, rises.0);
-      within = rises.1;
-      whole = whole_scan;
-      stands = (lends, subst (λ n. AreBlocksAt n mid.end now) here (subst (AreBlocksAt (found_at f) mid.end) (sym kept) lies));
-      told = λ m held. (row (row_held mid r f), left_before m ∙ told m held ∙ ap (λ (is : List Item). row (row_held mid r f) ∷ is) (sym (left_behind now m held)), (here, is, ap ranges_at kept));
-      current = current_scan now;
-    }
+    pub row_answered : (wanted : Wanted) (f : FoundRow) (at : ℕ) (piece : Piece) (now : List (ℕ × ℕ)) → IsBetween p.place q.place (found.Row f) × (q.place ≤ mid.end)
+        → IfTold h (λ m. PassesTo wanted (met_at extend (gives test) s p m) (row (row_held mid r f) ∷ met_at extend (gives test) s q m))
+        → piece_bytes piece ≡ (row_held mid r f).bytes → found_at f ≡ at → now ≡ found_blocks r.chain.taken f → LendsBlock piece now → LiesRow mid r f
+        → Answers (items_left gives) IsCurrent wanted h old (item.Row at piece) (scan_of mid test extend q now)
+    row_answered wanted f at piece now rises told is here kept lends lies =
+        answered wanted (found.Row f) (item.Row at piece) now rises here (here, is, ap ranges_at kept) (lends, subst (λ n. AreBlocksAt n mid.end now) here (subst (AreBlocksAt (found_at f) mid.end) (sym kept) lies)) told
 
-    pub free_answered : (at size : ℕ) → EndsInside mid.end (at, size) → (p.place < q.place) × (q.place ≤ mid.end) → IfTold h (λ m. met_at extend (gives test) s p m ≡ free (at, at + size) ∷ met_at extend (gives test) s q m)
-        → Answers (items_left gives) FirstItem NoItem IsItem StandsItem IsCurrent h old (item.Free at size) (scan_of mid test extend q blocks)
-    free_answered at size lies rises told = record {
+    pub free_answered : (wanted : Wanted) (at size : ℕ) → EndsInside mid.end (at, size) → IsBetween p.place q.place (found.Free at size) × (q.place ≤ mid.end)
+        → IfTold h (λ m. PassesTo wanted (met_at extend (gives test) s p m) (free (at, at + size) ∷ met_at extend (gives test) s q m))
+        → Answers (items_left gives) IsCurrent wanted h old (item.Free at size) (scan_of mid test extend q blocks)
+    free_answered wanted at size lies rises told = answered wanted (found.Free at size) (item.Free at size) blocks rises refl (refl, refl) (sym old_blocks, lies) told
+
+    pub ended : (wanted : Wanted) → q.place ≡ mid.end → IfTold h (λ m. ArePassed wanted (met_at extend (gives test) s p m) × (met_at extend (gives test) s q m ≡ [])) → HasEnded (items_left gives) IsCurrent wanted h old (scan_of mid test extend q blocks)
+    ended wanted last told = record {
       same = same_scan blocks;
-      rises = omega (arith, old_place, rises.0);
-      within = rises.1;
+      ended = last;
+      falls = falls_scan blocks;
       whole = whole_scan;
-      stands = (sym old_blocks, lies);
-      told = λ m held. (free (at, at + size), left_before m ∙ told m held ∙ ap (λ (is : List Item). free (at, at + size) ∷ is) (sym (left_behind blocks m held)), (refl, sym old_blocks));
+      blocks = sym old_blocks;
+      told = λ m held. (subst (ArePassed wanted) (sym (left_before m)) (told m held).0, left_behind blocks m held ∙ (told m held).1);
       current = current_scan blocks;
     }
 
@@ -103,45 +130,35 @@ module _ {A : Type 0} (h : Option Holding) (old : Scanning A) (s : SourceModel) 
     plain_cases m meets = subst (λ (o : Scanning A). MeetsPlain gives o m) (sym view) meets
 
     -- while only rows in one block are met, one after the other
-    pub goes_on_plain : (p.place < q.place) × (q.place ≤ mid.end) → (m : Holding) → (MeetsShortAt (gives test) s p m → WentPlain (read_blocks s m) p.place q.place q.used) → MeetsPlain gives old m → IsBehind (block_of (scanned old m)) old.place q.place × (q.used ≡ joined q.place)
-    goes_on_plain rises m short meets = elim (plain_cases m meets) [
-      | inl ended ↦ absurd (omega (arith, ended, rises.0, rises.1, on.falls))
+    pub goes_on_plain : (f : Found) → IsBetween p.place q.place f × (q.place ≤ mid.end) → (m : Holding) → (MeetsShortAt (gives test) s p m → WentPlain (read_blocks s m) p.place q.place q.used) → MeetsPlain gives old m → IsBehind (block_of (scanned old m)) old.place q.place × (q.used ≡ joined q.place)
+    goes_on_plain f rises m short meets = elim (plain_cases m meets) [
+      | inl last ↦ absurd (omega (arith, last, rises.0.0, rises.0.1, rises.1, on.falls))
       | inr next ↦
           let t = short next in
           (subst (λ (o : Scanning A). IsBehind (block_of (scanned o m)) o.place q.place) view t.0, t.1)
     ]
 
-    -- after a refusal the same is left, and a row in one block that came next comes next still
-    pub kept_after : {X Found : Type 0} (First : X → List Item → List Item → Type 0) (NoneLeft : List Item → Type 0) (Is : X → Found → List (ℕ × ℕ) → List (ℕ × ℕ) → Type 0) (Stands : Found → Scanning A → Scanning A → Type 0) → p.place ≤ q.place → q.place ≤ mid.end → IfTold h (λ m. met_at extend (gives test) s q m ≡ met_at extend (gives test) s p m)
-        → Keeps (items_left gives) First NoneLeft Is Stands IsCurrent h old (scan_of mid test extend q blocks)
-    kept_after First NoneLeft Is Stands later within told = record {
+    -- after a refusal the scan stands where it stood
+    pub kept_after : (wanted : Wanted) → q ≡ p → q.place ≤ mid.end → Keeps (items_left gives) IsCurrent wanted h old (scan_of mid test extend q blocks)
+    kept_after wanted same within = record {
       same = same_scan blocks;
-      later = omega (arith, old_place, later);
+      place = ap (λ (r : Position). r.place) same ∙ sym old_place;
+      used = ap (λ (r : Position). r.used) same ∙ ap (λ (o : Scanning A). o.used) view;
       within = within;
+      falls = falls_scan blocks;
       whole = whole_scan;
       blocks = sym old_blocks;
-      told = λ m held. left_behind blocks m held ∙ told m held ∙ sym (left_before m);
+      told = λ m held. left_behind blocks m held ∙ ap (λ (r : Position). met_at extend (gives test) s r m) same ∙ sym (left_before m);
       current = current_scan blocks;
     }
-
-    pub stays_plain : p.place < s.end → IfTold h (λ m. MeetsShortAt (gives test) s p m → q ≡ p) → IfTold h (λ m. MeetsPlain gives old m → (q.place ≡ old.place) × (q.used ≡ old.used) × MeetsPlain gives (scan_of mid test extend q blocks) m)
-    stays_plain some stays m held meets = elim (plain_cases m meets) [
-      | inl ended ↦ absurd (omega (arith, ended, some))
-      | inr next ↦
-          let same : q ≡ p = stays m held next in (
-            ap (λ (r : Position). r.place) same ∙ sym old_place,
-            ap (λ (r : Position). r.used) same ∙ ap (λ (o : Scanning A). o.used) view,
-            inr (subst (λ (r : Position). MeetsShortAt (gives test) mid r m) (sym same) (meets_same h (gives test) s mid p m held on next)),
-          )
-    ]
 
     pub some_left : p.place < s.end → old.place < old.end
     some_left some = omega (arith, old_place, old_end, some)
 
-    pub never_plain : p.place < s.end → (m : Holding) → (MeetsShortAt (gives test) s p m → ⊥) → MeetsPlain gives old m → ⊥
-    never_plain some m never meets = elim (plain_cases m meets) [
-      | inl ended ↦ absurd (omega (arith, ended, some))
-      | inr next ↦ never next
+    pub never_plain : p.place < s.end → IfTold h (λ m. MeetsShortAt (gives test) s p m → ⊥) → MayLack gives h old
+    never_plain some never m held meets = elim (plain_cases m meets) [
+      | inl last ↦ absurd (omega (arith, last, some))
+      | inr next ↦ never m held next
     ]
 
     pub packs_old : (bytes : List ℕ) → gives test bytes ≡ true → gives old.test bytes ≡ true
@@ -204,20 +221,25 @@ plain_stays gives old new m same end place used is =
     record { plain = used ∙ is.plain ∙ ap joined (sym place); blocks = is.blocks; laid = subst (λ t. AreLaid (block_of (scanned new m)) (gives t) (length (scanned new m)) new.place is.blocks) (sym same.test) read; short = is.short }
 
 -- whatever a call answers but the end, the scan goes on so
-pub plain_item : {A : Type 0} (gives : A → List ℕ → Bool) (h : Option Holding) (old new : Scanning A) (r : Result (Option Answer) ScanFault) → r ≢ Ok None → IfTold h (IsCurrent old) → AfterItem gives h old r new → IfTold h (λ m. ScansPlain gives old m → ScansPlain gives new m)
-plain_item gives h old new (Ok None) some current after m held is = absurd (some refl)
-plain_item gives h old new (Ok (Some found)) some current after m held is =
+pub plain_after : {A : Type 0} (gives : A → List ℕ → Bool) (wanted : Wanted) (h : Option Holding) (old new : Scanning A) (r : Result (Option Answer) ScanFault) → r ≢ Ok None → IfTold h (IsCurrent old) → After gives wanted h old r new → IfTold h (λ m. ScansPlain gives old m → ScansPlain gives new m)
+plain_after gives wanted h old new (Ok None) some current after m held is = absurd (some refl)
+plain_after gives wanted h old new (Ok (Some found)) some current after m held is =
     let t = after.1 m held (plain_meets gives old m (current m held) is) in
     plain_goes gives old new m after.0.same (after.0.whole m held) after.0.rises after.0.within (current m held) t.0 t.1 is
-plain_item gives h old new (Err e) some current after m held is =
-    let t = after.1 m held (plain_meets gives old m (current m held) is) in
-    plain_stays gives old new m after.0.same (after.0.whole m held) t.0 t.1 is
+plain_after gives wanted h old new (Err e) some current after m held is =
+    plain_stays gives old new m after.0.same (after.0.whole m held) after.0.place after.0.used is
 
-pub plain_row : {A : Type 0} (gives : A → List ℕ → Bool) (h : Option Holding) (old new : Scanning A) (r : Result (Option (ℕ × Piece)) ScanFault) → r ≢ Ok None → IfTold h (IsCurrent old) → AfterRow gives h old r new → IfTold h (λ m. ScansPlain gives old m → ScansPlain gives new m)
-plain_row gives h old new (Ok None) some current after m held is = absurd (some refl)
-plain_row gives h old new (Ok (Some found)) some current after m held is =
-    let t = after.1 m held (plain_meets gives old m (current m held) is) in
-    plain_goes gives old new m after.0.same (after.0.whole m held) after.0.rises after.0.within (current m held) t.0 t.1 is
-plain_row gives h old new (Err e) some current after m held is =
-    let t = after.1 m held (plain_meets gives old m (current m held) is) in
-    plain_stays gives old new m after.0.same (after.0.whole m held) t.0 t.1 is
+-- ---- rows
+
+-- over deleted blocks the rows begin with the row behind them
+over_frees : (passed : List Item) (i : Item) (after : List Item) → rows_of passed ≡ [] → rows_of (passed ++ i ∷ after) ≡ rows_of (i ∷ after)
+over_frees [] i after none = refl
+over_frees (row q ∷ passed) i after none = absurd cc
+over_frees (free a ∷ passed) i after none = over_frees passed i after none
+
+pub row_first : (before after : List Item) (at : ℕ) (p : Piece) (old new : List (ℕ × ℕ)) → ComesFirst Rows before after (item.Row at p) old new → (r : Row) × (rows_of before ≡ r ∷ rows_of after) × IsItem (row r) (item.Row at p) old new
+row_first before after at p old new first = by first.first first.next.2 first.is
+  where
+    by : (i : Item) → before ≡ first.next.0 ++ i ∷ after → IsItem i (item.Row at p) old new → (r : Row) × (rows_of before ≡ r ∷ rows_of after) × IsItem (row r) (item.Row at p) old new
+    by (row r) next is = (r, ap rows_of next ∙ over_frees first.next.0 (row r) after first.next.1, is)
+    by (free a) next is = absurd is

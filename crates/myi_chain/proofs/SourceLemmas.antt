@@ -1,5 +1,5 @@
 -- A file that is read through a window: what one call leaves, and what it appends.
-use Rattle.std.proofs.Common.{◌≡◌, ◌∙◌, ℕ, ◌+◌, ◌-◌, ◌<◌, ◌≤◌, Bool, true, eqb, leb, List, [], ◌∷◌, ◌++◌, length, take, drop, min, Option, Some, None, refl, sym, ap, subst, arith, append_assoc}
+use Rattle.std.proofs.Common.{◌≡◌, ◌∙◌, ℕ, ◌+◌, ◌-◌, ◌<◌, ◌≤◌, Bool, true, eqb, leb, List, [], ◌∷◌, ◌++◌, length, take, drop, min, Option, Some, None, refl, sym, ap, subst, arith, append_assoc, inl, inr}
 use Rattle.std.specs.Prelude.{replicate}
 use Rattle.std.proofs.lemmas.Bool.{eq-eqb, le-leb}
 use Rattle.std.proofs.lemmas.List.{append-nil, length-append, length-take, length-take-le, length-drop, drop-drop, length-replicate, take_all, take_at, take-take, drop_all}
@@ -12,9 +12,9 @@ use Rattle.myi_frames.specs.Seeing.{Heads, HeadsBlock, IsPartAt}
 use Rattle.myi_frames.specs.declared.head.Header.{Header}
 use Rattle.myi_frames.proofs.CallerLemmas.{block-stands}
 use Rattle.std.specs.List.{AllByRecursion}
-use Rattle.myi_chain.specs.ScanModel.{EndsInside, BeginsAt, AreBlocksAt}
+use Rattle.myi_chain.specs.ScanModel.{EndsInside, BeginsAt, AreBlocksAt, IsCutOff}
 use Rattle.myi_chain.specs.Used.{IsRange}
-use Rattle.myi_chain.specs.Source.{SourceModel, read_bytes, read_blocks, IsReady, ReadsOn, IsHeader, IsKept, kept_bytes, range_by}
+use Rattle.myi_chain.specs.Source.{SourceModel, read_bytes, read_blocks, IsReady, ReadsOn, EndsWithKept, MayFall, EndStaysOr, StaysAt, IsHeader, IsKept, kept_bytes, range_by}
 
 -- the file is read on
 pub reads_on : (holds : Option Holding) (s : SourceModel) (name file : List ℕ) (end : ℕ) (w v : Excerpt) → record { name = name; end = end; kept = w } ≡ s → file ≡ name → IfTold holds (IsReady s) → ((m : Holding) → holds ≡ Some m → StandsIn w (bytes_of file m) → StandsIn v (bytes_of file m)) → ReadsOn holds s (record { name = name; end = end; kept = v })
@@ -34,6 +34,42 @@ held_here at v from =
     let order : leb v.from at ≡ true = le-leb v.from at (omega (arith, from)) in
     let none : at - v.from ≡ 0 = omega (arith, from) in
     rw (order, none) refl
+
+-- ---- where the end falls to
+
+-- where the file ends behind the bytes that are kept, those from a place among them on are all up to the end
+pub kept_rest : (at end : ℕ) (e : Excerpt) → IsCutOff e end → e.from ≤ at → at ≤ end → length (bytes_from at e) ≡ end - at
+kept_rest at end e cut order inside =
+    let test : leb e.from at ≡ true = le-leb e.from at order in
+    let is : bytes_from at e ≡ drop (at - e.from) e.bytes = rw test refl in
+    omega (arith, ap (λ (xs : List ℕ). length xs) is, length-drop (at - e.from) e.bytes, cut.0)
+
+pub falls_none : (at : ℕ) (old new : SourceModel) → new.end ≡ old.end → MayFall at old new
+falls_none at old new e = inl e
+
+pub falls_then : (at next : ℕ) (old mid new : SourceModel) → at ≤ next → MayFall at old mid → MayFall at mid new → StaysAt at mid new → MayFall next old new
+falls_then at next old mid new order first more stays = elim first [
+  | inr fell ↦
+      let same : new ≡ mid = stays fell.0 fell.1 in
+      inr (subst EndsWithKept (sym same) fell.0, omega (arith, order, fell.1, ap (λ (s : SourceModel). s.kept.from) same))
+  | inl e ↦ elim more [
+    | inl f ↦ inl (f ∙ e)
+    | inr fell ↦ inr (fell.0, omega (arith, order, fell.1))
+  ]
+]
+
+pub stays_then : (at : ℕ) (old mid new : SourceModel) → StaysAt at old mid → StaysAt at mid new → StaysAt at old new
+stays_then at old mid new first more ends order =
+    let same : mid ≡ old = first ends order in
+    more (subst EndsWithKept (sym same) ends) (omega (arith, order, ap (λ (s : SourceModel). s.kept.from) same)) ∙ same
+
+pub falls_or : (at : ℕ) (old new : SourceModel) → MayFall at old new → EndStaysOr old new
+falls_or at old new falls = elim falls [
+  | inl e ↦ inl e
+  | inr fell ↦ inr fell.0
+]
+
+-- ---- what is read
 
 -- a window that is not full holds all up to the end, where the file is long enough
 not_full : (at end : ℕ) (v : Excerpt) (d : List ℕ) → at ≤ end → end ≤ length d → v.from ≡ at → v.bytes ≡ take WINDOW (drop at (take end d)) → length (bytes_from at v) < WINDOW → at + length (bytes_from at v) ≡ end

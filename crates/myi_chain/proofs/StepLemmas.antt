@@ -22,9 +22,11 @@ use Rattle.myi_chain.specs.Chain.{range_of, ranges, row_bytes, first_link, chain
 use Rattle.myi_chain.specs.Readable.{Row, Item, row, free, Step, end_of, skip_by, free_by, past, row_at, row_step, step_of, rows_of}
 use Rattle.myi_chain.specs.Used.{joined, SameFrom, AddsBlocks, NeedsMemory}
 use Rattle.myi_chain.specs.Chain.{placed, ranges_at}
-use Rattle.myi_chain.specs.ScanModel.{MeetsShort, IsBehind, FirstRow}
+use Rattle.myi_chain.specs.declared.piece.Wanted.{Wanted}
+use Rattle.myi_chain.specs.declared.piece.Wanted.TheVariants.{Items, Rows}
+use Rattle.myi_chain.specs.ScanModel.{MeetsShort, IsBehind, ArePassed, PassesTo}
 use Rattle.myi_chain.specs.Source.{SourceModel, IsHeader, IsReady, ReadsOn, read_bytes, read_blocks, AreRead, first_by}
-use Rattle.myi_chain.specs.Found.{is_short, found_at, found_bytes, found_blocks, found_row, found_items, met_from, NoRowAt, FindsRow, IsPassed, IsBlockOf, IsFree, LiesItem, HoldsItem, met_at, MeetsShortAt, FindsShort, FindsShortAt}
+use Rattle.myi_chain.specs.Found.{is_short, found_at, found_bytes, found_blocks, found_row, found_items, met_from, NoRowAt, FindsRow, IsPassed, IsBlockOf, IsFree, LiesItem, HoldsItem, met_at, items_at, MeetsShortAt, FindsShort, FindsShortAt, KeepsUsed, IsBetween, picked, IsMeant}
 use Rattle.myi_chain.proofs.BlockLemmas.{blocks_read}
 use Rattle.myi_chain.proofs.CodeLemmas.{placed_ranges}
 use Rattle.myi_chain.proofs.ChainLemmas.{chain_sound}
@@ -253,6 +255,12 @@ free_lies at s r h (Some (found.Free p size)) place is =
     let lies = lies_block at s.end h place in
     (omega (arith, is.0, is.1, lies.0), omega (arith, is.0, is.1, lies.1))
 
+-- it stands at the place at which the block does
+pub free_between : (at to : ℕ) (h : Header) (f : Option Found) → h.head.at ≡ at → at < to → IfSome f (IsBlockOf h) → IfSome f (IsBetween at to)
+free_between at to h None here order is = tt
+free_between at to h (Some (found.Row q)) here order is = absurd is
+free_between at to h (Some (found.Free p size)) here order is = (omega (arith, is.0, here), omega (arith, is.0, here, order))
+
 -- nothing is met at the end
 pub met_end : (extend : Bool) (accepts : List ℕ → Bool) (s : SourceModel) (p : Position) (m : Holding) → IsReady s m → s.end ≤ p.place → met_at extend accepts s p m ≡ []
 met_end extend accepts s p m ready ended = rest_end (read_blocks s m) (length (read_bytes s m)) (blocks_read (read_bytes s m)) extend accepts p.place p.used (omega (arith, long_bytes s m ready))
@@ -270,25 +278,45 @@ short_ended accepts s p m ready ended meets =
     let stands = blocks_read (read_bytes s m) p.place meets.block meets.whole.here in
     absurd (omega (arith, stands.inside, stands.least, long_bytes s m ready))
 
--- ---- deleted blocks that are passed on the way to a row
+-- ---- what is passed on the way to what is wanted
 
 rows-append : (is js : List Item) → rows_of (is ++ js) ≡ rows_of is ++ rows_of js
 rows-append [] js = refl
 rows-append (row r ∷ is) js = ap (λ (rs : List Row). r ∷ rs) (rows-append is js)
 rows-append (free a ∷ is) js = rows-append is js
 
--- only deleted blocks come before the rest of a list
-abbrev pub OverFrees : List Item → List Item → Type 0
-OverFrees before after = (frees : List Item) × (rows_of frees ≡ []) × (before ≡ frees ++ after)
+passed_none : (w : Wanted) → ArePassed w []
+passed_none Items = refl
+passed_none Rows = refl
 
-pub over_same : (a b : List Item) → a ≡ b → OverFrees a b
-over_same a b e = ([], refl, e)
+passed_both : (w : Wanted) (is js : List Item) → ArePassed w is → ArePassed w js → ArePassed w (is ++ js)
+passed_both Items is js a b = ap (λ (xs : List Item). xs ++ js) a ∙ b
+passed_both Rows is js a b = rows-append is js ∙ ap (λ (rs : List Row). rs ++ rows_of js) a ∙ b
 
-pub over_free : (a b c : List Item) (r : Range) → OverFrees a b → b ≡ free r ∷ c → OverFrees a c
-over_free a b c r over is = (over.0 ++ free r ∷ [], rows-append over.0 (free r ∷ []) ∙ ap (λ (rs : List Row). rs ++ []) over.1, over.2 ∙ ap (λ (xs : List Item). over.0 ++ xs) is ∙ sym (append_assoc over.0 (free r ∷ []) c))
+pub to_same : (w : Wanted) (a b : List Item) → a ≡ b → PassesTo w a b
+to_same w a b e = ([], passed_none w, e)
 
-pub over_row : (a b c : List Item) (r : Row) → OverFrees a b → b ≡ row r ∷ c → FirstRow r a c
-over_row a b c r over is = (over.0, over.1, over.2 ∙ ap (λ (xs : List Item). over.0 ++ xs) is)
+pub to_more : (w : Wanted) (a b c is : List Item) → PassesTo w a b → ArePassed w is → b ≡ is ++ c → PassesTo w a c
+to_more w a b c is over passed e = (over.0 ++ is, passed_both w over.0 is over.1 passed, over.2 ∙ ap (λ (xs : List Item). over.0 ++ xs) e ∙ sym (append_assoc over.0 is c))
 
-pub over_end : (a b : List Item) → OverFrees a b → b ≡ [] → rows_of a ≡ []
-over_end a b over is = ap rows_of (over.2 ∙ ap (λ (xs : List Item). over.0 ++ xs) is) ∙ rows-append over.0 [] ∙ append-nil (rows_of over.0) ∙ over.1
+pub to_end : (w : Wanted) (a b : List Item) → PassesTo w a b → b ≡ [] → ArePassed w a
+to_end w a b over e = subst (ArePassed w) (sym (over.2 ∙ ap (λ (xs : List Item). over.0 ++ xs) e)) (passed_both w over.0 [] over.1 (passed_none w))
+
+-- what was found is the one that was picked, and it is wanted
+pub picked_is : (w : Wanted) (o : Option Found) (f : Found) → picked w o ≡ Some f → (o ≡ Some f) × IsMeant w f
+picked_is w None f e = absurd cc
+picked_is w (Some (found.Row r)) f e = (e, subst (IsMeant w) (let same : found.Row r ≡ f = cc in same) refl)
+picked_is Items (Some (found.Free at size)) f e = (e, subst (IsMeant Items) (let same : found.Free at size ≡ f = cc in same) refl)
+picked_is Rows (Some (found.Free at size)) f e = absurd cc
+
+-- what was found and not picked is passed, and the used ranges stay
+pub picked_none : (w : Wanted) (o : Option Found) → picked w o ≡ None → (s : SourceModel) (r : RowBuffer) (u v : List Range) → KeepsUsed u v o → ArePassed w (items_at s r o) × (v ≡ u)
+picked_none w None e s r u v kept = (passed_none w, kept)
+picked_none w (Some (found.Row q)) e s r u v kept = absurd cc
+picked_none Items (Some (found.Free at size)) e s r u v kept = absurd cc
+picked_none Rows (Some (found.Free at size)) e s r u v kept = (refl, kept)
+
+pub picked_short : (w : Wanted) (o : Option Found) → picked w o ≡ None → (s : SourceModel) (m : Holding) (p q : Position) → FindsShortAt s m p o q → ⊥
+picked_short w None e s m p q short = short
+picked_short w (Some (found.Row r)) e s m p q short = absurd cc
+picked_short w (Some (found.Free at size)) e s m p q short = short

@@ -8,6 +8,8 @@ use Rattle.myi_window.specs.Excerpt.{Excerpt}
 use Rattle.myi_window.specs.declared.window.TheConstants.{WINDOW}
 use Rattle.myi_chain.specs.declared.chain.Link.{Link}
 use Rattle.myi_chain.specs.declared.chain.Link.TheVariants.{Broken, Last, More}
+use Rattle.myi_chain.specs.declared.piece.Wanted.{Wanted}
+use Rattle.myi_chain.specs.declared.piece.Wanted.TheVariants.{Items, Rows}
 use Rattle.myi_chain.specs.declared.step.FoundRow.{FoundRow}
 use Rattle.myi_chain.specs.declared.step.FoundRow.TheVariants.{Kept, Joined}
 use Rattle.myi_chain.specs.declared.step.Found.{Found}
@@ -18,7 +20,7 @@ use Rattle.myi_chain.specs.Chain.{Reading, row_bytes}
 use Rattle.myi_chain.specs.Readable.{Row, Item, row, free, rest, skip_by, free_by}
 use Rattle.myi_chain.specs.Pieces.{is_lent}
 use Rattle.myi_chain.specs.Used.{joined}
-use Rattle.myi_chain.specs.ScanModel.{MeetsShort, IsBehind, EndsInside, AreBlocksAt, FirstItem, FirstRow, NoRow}
+use Rattle.myi_chain.specs.ScanModel.{MeetsShort, IsBehind, EndsInside, AreBlocksAt, ArePassed, PassesTo}
 use Rattle.myi_chain.specs.Chain.{placed, ranges_at}
 use Rattle.myi_chain.specs.Source.{SourceModel, read_bytes, read_blocks, IsKept, kept_bytes}
 
@@ -36,6 +38,11 @@ is_short More h = false
 abbrev pub found_at : FoundRow → ℕ
 found_at (Kept h) = h.head.at
 found_at (Joined p) = p
+
+-- the place of what was found
+abbrev pub place_of : Found → ℕ
+place_of (found.Row r) = found_at r
+place_of (found.Free at size) = at
 
 -- its bytes: kept in a window, or those that were joined
 abbrev pub found_bytes : Excerpt → List ℕ → FoundRow → List ℕ
@@ -145,15 +152,21 @@ MeetsShortAt accepts s p m = MeetsShort accepts (read_bytes s m) p.place p.used
 abbrev pub FindsShortAt : SourceModel → Holding → Position → Option Found → Position → Type 0
 FindsShortAt s m p f q = FindsShort (read_blocks s m) p.place f q.place q.used
 
--- this is the first item of those that were to come, and the others are to come
-abbrev pub FindsItem : SourceModel → RowBuffer → List Item → List Item → Option Found → Type 0
-FindsItem s r old new None = (old ≡ []) × (new ≡ [])
-FindsItem s r old new (Some f) = FirstItem (item_at s r f) old new
+-- what was found, where it is wanted
+abbrev pub picked : Wanted → Option Found → Option Found
+picked wanted None = None
+picked wanted (Some (found.Row r)) = Some (found.Row r)
+picked Items (Some (found.Free at size)) = Some (found.Free at size)
+picked Rows (Some (found.Free at size)) = None
 
--- this is the first row of those that were to come, and the items behind it are to come
-abbrev pub FindsNextRow : SourceModel → RowBuffer → List Item → List Item → Option FoundRow → Type 0
-FindsNextRow s r old new None = NoRow old × (new ≡ [])
-FindsNextRow s r old new (Some f) = FirstRow (row_held s r f) old new
+-- it is wanted
+abbrev pub IsMeant : Wanted → Found → Type 0
+IsMeant wanted f = picked wanted (Some f) ≡ Some f
+
+-- this is the first item that is wanted of those that were to come, and those behind it are to come
+abbrev pub FindsItem : SourceModel → RowBuffer → Wanted → List Item → List Item → Option Found → Type 0
+FindsItem s r wanted old new None = ArePassed wanted old × (new ≡ [])
+FindsItem s r wanted old new (Some f) = PassesTo wanted old (item_at s r f ∷ new)
 
 -- the used ranges are those of before, where no row was found
 abbrev pub KeepsUsed : List Range → List Range → Option Found → Type 0
@@ -161,12 +174,11 @@ KeepsUsed old new None = new ≡ old
 KeepsUsed old new (Some (found.Free at size)) = new ≡ old
 KeepsUsed old new (Some (found.Row r)) = Unit {0}
 
--- the row in the block at a place was found
-abbrev pub FindsShortRowAt : SourceModel → Holding → Position → Option FoundRow → Position → Type 0
-FindsShortRowAt s m p None q = ⊥
-FindsShortRowAt s m p (Some f) q = WentPlain (read_blocks s m) p.place q.place q.used
+-- what was found stands between two places
+abbrev pub IsBetween : ℕ → ℕ → Found → Type 0
+IsBetween from to f = (from ≤ place_of f) × (place_of f < to)
 
--- where a call ends that goes from a place up to an end: behind it where something was found, and else at the end
-abbrev pub Rises : {X : Type 0} → ℕ → ℕ → ℕ → Option X → Type 0
+-- where a call ends that goes from a place up to an end: behind what was found, and else at the end
+abbrev pub Rises : ℕ → ℕ → ℕ → Option Found → Type 0
 Rises from to end None = to ≡ end
-Rises from to end (Some f) = (from < to) × (to ≤ end)
+Rises from to end (Some f) = IsBetween from to f × (to ≤ end)

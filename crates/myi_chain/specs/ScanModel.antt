@@ -1,7 +1,8 @@
--- A scan of a data file: where it stands, what of the file is left then, and what its calls leave. What is left, and when
--- the file is as the scan knows it, are parameters of the latter, so that it holds for each format of data files; so is
--- what a call asks for, an item or a row. They are said here of dynamic rows, for any test of what packs a row.
-use Rattle.std.specs.Prelude.{◌≡◌, ◌⊎◌, ◌≤◌, ◌<◌, ◌+◌, ◌^◌, ℕ, Bool, true, false, List, [], ◌∷◌, ◌++◌, length, take, Option, Some, None, Result, Ok, Err}
+-- A scan of a data file: where it stands, what of the file is left then, what its calls answer and what they leave. What
+-- is left, and when the file is as the scan knows it, are parameters, so that one definition of a call's outcome holds for
+-- each format of data files. A call is asked for items, or for rows alone; the answer of a call for rows is seen as that
+-- of one for items. Of dynamic rows all is said here, for any test of what packs a row.
+use Rattle.std.specs.Prelude.{◌≡◌, ◌⊎◌, ◌≤◌, ◌<◌, ◌+◌, ◌^◌, ℕ, Bool, true, false, List, [], ◌∷◌, ◌++◌, length, take, Option, Some, None, Result, Ok, Err, IfOk, IfErr, IfSome, OnErr}
 use Rattle.std.specs.List.{AllByRecursion}
 use Rattle.myi_base.specs.Holding.{Holding, bytes_of, IfTold}
 use Rattle.myi_base.specs.Ranges.{Range}
@@ -13,8 +14,11 @@ use Rattle.myi_chain.specs.declared.piece.Piece.TheVariants as piece
 use Rattle.myi_chain.specs.declared.piece.Item.{Item}
 use Rattle.myi_chain.specs.declared.piece.Item.TheVariants as item
 use Rattle.myi_chain.specs.declared.piece.ScanFault.{ScanFault}
+use Rattle.myi_chain.specs.declared.piece.ScanFault.TheVariants.{Memory}
+use Rattle.myi_chain.specs.declared.piece.Wanted.{Wanted}
+use Rattle.myi_chain.specs.declared.piece.Wanted.TheVariants.{Items, Rows}
 use Rattle.myi_chain.specs.Pieces.{piece_bytes, is_lent}
-use Rattle.myi_chain.specs.Readable.{Row, row, free, rows_of, rest}
+use Rattle.myi_chain.specs.Readable.{row, free, rows_of, rest}
 use Rattle.myi_chain.specs.Readable as readable
 use Rattle.myi_chain.specs.Laid.{IsWholeRow, AreLaid}
 use Rattle.myi_chain.specs.Used.{joined}
@@ -52,6 +56,14 @@ pub record IsSameScan {A : Type 0} (old new : Scanning A) : Type 0 where
   pub extend : new.extend ≡ old.extend
   pub end : new.end ≤ old.end
 
+-- fewer bytes than a window holds are kept of a file, and they end where it does
+abbrev pub IsCutOff : Excerpt → ℕ → Type 0
+IsCutOff kept end = (kept.from + length kept.bytes ≡ end) × (length kept.bytes < WINDOW)
+
+-- the end stays, or falls to behind the bytes that the scan keeps then, which are fewer than a window holds
+abbrev pub FallsToKept : {A : Type 0} → Scanning A → Scanning A → Type 0
+FallsToKept old new = (new.end ≡ old.end) ⊎ IsCutOff new.kept new.end
+
 -- ---- what is answered
 
 -- the answer is this row or this deleted block; the blocks that are kept are then those of the row
@@ -61,17 +73,31 @@ IsItem (row r) (item.Free at size) old new = ⊥
 IsItem (free a) (item.Row at p) old new = ⊥
 IsItem (free a) (item.Free at size) old new = (a ≡ (at, at + size)) × (new ≡ old)
 
--- the answer is this row
-abbrev pub IsRow : Row → ℕ × Piece → List (ℕ × ℕ) → List (ℕ × ℕ) → Type 0
-IsRow r found old new = (r.at ≡ found.0) × (piece_bytes found.1 ≡ r.bytes) × (ranges_at new ≡ r.blocks)
-
 -- the bytes of an answered row pass the test
 abbrev pub Passes : (List ℕ → Bool) → Item → Type 0
 Passes accepts (item.Row at p) = accepts (piece_bytes p) ≡ true
 Passes accepts (item.Free at size) = Unit {0}
 
-abbrev pub PassesRow : (List ℕ → Bool) → ℕ × Piece → Type 0
-PassesRow accepts found = accepts (piece_bytes found.1) ≡ true
+-- deleted blocks are answered where items are wanted
+abbrev pub IsWanted : Wanted → Item → Type 0
+IsWanted wanted (item.Row at p) = Unit {0}
+IsWanted Items (item.Free at size) = Unit {0}
+IsWanted Rows (item.Free at size) = ⊥
+
+-- a row that a call for rows answers, by its place and its bytes
+abbrev pub as_item : ℕ × Piece → Item
+as_item found = item.Row found.0 found.1
+
+-- the answer of a call for rows
+abbrev pub as_items : Result (Option (ℕ × Piece)) ScanFault → Result (Option Item) ScanFault
+as_items (Err e) = Err e
+as_items (Ok None) = Ok None
+as_items (Ok (Some found)) = Ok (Some (as_item found))
+
+-- the place of an answer
+abbrev pub place_in : Item → ℕ
+place_in (item.Row at p) = at
+place_in (item.Free at size) = at
 
 -- A row's bytes are lent exactly where the row is one block that a window can hold; these are its blocks.
 abbrev pub LendsBlock : Piece → List (ℕ × ℕ) → Type 0
@@ -97,74 +123,75 @@ abbrev pub StandsItem : {A : Type 0} → Item → Scanning A → Scanning A → 
 StandsItem (item.Row at p) old new = LendsBlock p new.blocks × AreBlocksAt at new.end new.blocks
 StandsItem (item.Free at size) old new = (new.blocks ≡ old.blocks) × EndsInside new.end (at, size)
 
-abbrev pub StandsRow : {A : Type 0} → ℕ × Piece → Scanning A → Scanning A → Type 0
-StandsRow found old new = LendsBlock found.1 new.blocks × AreBlocksAt found.0 new.end new.blocks
-
 -- ---- what comes first
 
--- the item is the first of a list, and these are the others
-abbrev pub FirstItem : readable.Item → List readable.Item → List readable.Item → Type 0
-FirstItem i before after = before ≡ i ∷ after
+-- these are passed on the way to what is wanted: deleted blocks, where rows are, and else nothing
+abbrev pub ArePassed : Wanted → List readable.Item → Type 0
+ArePassed Items is = is ≡ []
+ArePassed Rows is = rows_of is ≡ []
 
-abbrev pub NoItem : List readable.Item → Type 0
-NoItem is = is ≡ []
+-- of some items those that are passed stand before the others
+abbrev pub PassesTo : Wanted → List readable.Item → List readable.Item → Type 0
+PassesTo wanted before after = (passed : List readable.Item) × ArePassed wanted passed × (before ≡ passed ++ after)
 
--- the row is the first of a list, behind deleted blocks alone, and these are the items behind it
-abbrev pub FirstRow : Row → List readable.Item → List readable.Item → Type 0
-FirstRow r before after = (frees : List readable.Item) × (rows_of frees ≡ []) × (before ≡ frees ++ row r ∷ after)
+-- Of some items this answer is the first that is wanted, and these are behind it. The blocks that are kept before and then
+-- are given too.
+pub record ComesFirst (wanted : Wanted) (before after : List readable.Item) (found : Item) (old new : List (ℕ × ℕ)) : Type 0 where
+  pub first : readable.Item
+  pub next : PassesTo wanted before (first ∷ after)
+  pub is : IsItem first found old new
 
-abbrev pub NoRow : List readable.Item → Type 0
-NoRow is = rows_of is ≡ []
+-- ---- what a call answers, and what it leaves
 
--- ---- what a call leaves
+-- What a call answers, whatever the files tell. An answer is of the kind that is given, and it is one that is wanted; a
+-- refusal is Memory only where memory may be lacking; and a call is refused only before the scan's end.
+pub record Says {A : Type 0} (IsOfKind : Item → Type 0) (MayLackMemory : Type 0) (wanted : Wanted) (old : Scanning A) (result : Result (Option Item) ScanFault) : Type 0 where
+  pub packs : IfOk result (λ found. IfSome found IsOfKind)
+  pub meant : IfOk result (λ found. IfSome found (IsWanted wanted))
+  pub never : IfErr result (λ e. e ≡ Memory → MayLackMemory)
+  pub failing : OnErr result (old.place < old.end)
 
--- For calls that answer things of a kind X: `left` is the items that are left, `First` says which X comes first of them
--- and which items are left behind it, and `NoneLeft` that no X is among them; `Is` says what an answer is, `Stands` where it
--- lies in the file and when its bytes are lent, and `Current` when the file is as the scan knows it.
-module _ {A X Found : Type 0} (left : Scanning A → Holding → List readable.Item) (First : X → List readable.Item → List readable.Item → Type 0) (NoneLeft : List readable.Item → Type 0)
-    (Is : X → Found → List (ℕ × ℕ) → List (ℕ × ℕ) → Type 0) (Stands : Found → Scanning A → Scanning A → Type 0) (Current : Scanning A → Holding → Type 0) (holds : Option Holding) (old : Scanning A) where
-  -- One was answered: the first that was left, and what is behind it is left. A file that tells what it holds is scanned
-  -- to the same end.
-  pub record Answers (found : Found) (new : Scanning A) : Type 0 where
+-- `left` is the items that are left, and `Current` says when the file is as the scan knows it.
+module _ {A : Type 0} (left : Scanning A → Holding → List readable.Item) (Current : Scanning A → Holding → Type 0) (wanted : Wanted) (holds : Option Holding) (old : Scanning A) where
+  -- One was answered: the first that was left, and what is behind it is left. Its place is where the scan stood or behind
+  -- it, and the scan stands behind that then. A file that tells what it holds is scanned to the same end.
+  pub record Answers (found : Item) (new : Scanning A) : Type 0 where
     pub same : IsSameScan old new
     pub rises : old.place < new.place
+    pub between : (old.place ≤ place_in found) × (place_in found < new.place)
     pub within : new.place ≤ new.end
+    pub falls : FallsToKept old new
     pub whole : IfTold holds (λ m. new.end ≡ old.end)
-    pub stands : Stands found old new
-    pub told : IfTold holds (λ m. (x : X) × First x (left old m) (left new m) × Is x found old.blocks new.blocks)
+    pub stands : StandsItem found old new
+    pub told : IfTold holds (λ m. ComesFirst wanted (left old m) (left new m) found old.blocks new.blocks)
     pub current : IfTold holds (Current new)
 
   -- none was left: the scan stands at its end
   pub record HasEnded (new : Scanning A) : Type 0 where
     pub same : IsSameScan old new
     pub ended : new.place ≡ new.end
+    pub falls : FallsToKept old new
     pub whole : IfTold holds (λ m. new.end ≡ old.end)
     pub blocks : new.blocks ≡ old.blocks
-    pub told : IfTold holds (λ m. NoneLeft (left old m) × (left new m ≡ []))
+    pub told : IfTold holds (λ m. ArePassed wanted (left old m) × (left new m ≡ []))
     pub current : IfTold holds (Current new)
 
-  -- nothing was answered: the same is left
+  -- nothing was answered: the scan stands where it stood, and the same is left
   pub record Keeps (new : Scanning A) : Type 0 where
     pub same : IsSameScan old new
-    pub later : old.place ≤ new.place
+    pub place : new.place ≡ old.place
+    pub used : new.used ≡ old.used
     pub within : new.place ≤ new.end
+    pub falls : FallsToKept old new
     pub whole : IfTold holds (λ m. new.end ≡ old.end)
     pub blocks : new.blocks ≡ old.blocks
     pub told : IfTold holds (λ m. left new m ≡ left old m)
     pub current : IfTold holds (Current new)
 
-  abbrev pub Leaves : Result (Option Found) ScanFault → Scanning A → Type 0
+  abbrev pub Leaves : Result (Option Item) ScanFault → Scanning A → Type 0
   Leaves (Err e) new = Keeps new
   Leaves (Ok None) new = HasEnded new
   Leaves (Ok (Some found)) new = Answers found new
-
--- a call that answers items, and one that answers rows
-module _ {A : Type 0} (left : Scanning A → Holding → List readable.Item) (Current : Scanning A → Holding → Type 0) where
-  abbrev pub LeavesItemsOf : Option Holding → Scanning A → Result (Option Item) ScanFault → Scanning A → Type 0
-  LeavesItemsOf = Leaves left FirstItem NoItem IsItem StandsItem Current
-
-  abbrev pub LeavesRowsOf : Option Holding → Scanning A → Result (Option (ℕ × Piece)) ScanFault → Scanning A → Type 0
-  LeavesRowsOf = Leaves left FirstRow NoRow IsRow StandsRow Current
 
 -- ---- dynamic rows
 
@@ -176,13 +203,6 @@ pub record IsCurrent {A : Type 0} (s : Scanning A) (m : Holding) : Type 0 where
 -- what is left, where the files hold this, by what each test accepts
 abbrev pub items_left : {A : Type 0} → (A → List ℕ → Bool) → Scanning A → Holding → List readable.Item
 items_left gives s m = rest s.extend (block_of (scanned s m)) (length (scanned s m)) (gives s.test) s.place s.used
-
--- the scan after a call of next_item, and after one of next_row
-abbrev pub LeavesItems : {A : Type 0} → (A → List ℕ → Bool) → Option Holding → Scanning A → Result (Option Item) ScanFault → Scanning A → Type 0
-LeavesItems gives = LeavesItemsOf (items_left gives) IsCurrent
-
-abbrev pub LeavesRows : {A : Type 0} → (A → List ℕ → Bool) → Option Holding → Scanning A → Result (Option (ℕ × Piece)) ScanFault → Scanning A → Type 0
-LeavesRows gives = LeavesRowsOf (items_left gives) IsCurrent
 
 -- ---- rows for which no memory is taken
 
@@ -202,19 +222,22 @@ MeetsPlain gives s m = (s.end ≤ s.place) ⊎ MeetsShort (gives s.test) (scanne
 abbrev pub IsBehind : Reading → ℕ → ℕ → Type 0
 IsBehind read p next = (b : Block) → read p ≡ Some b → next ≡ p + b.size
 
--- Once such a row is answered, the scan goes on behind its block, and all before is one used range again. After a refusal
--- it stands where it stood, and such a row comes next still.
-abbrev pub GoesOnPlain : {A Found : Type 0} → (A → List ℕ → Bool) → Option Holding → Scanning A → Result (Option Found) ScanFault → Scanning A → Type 0
-GoesOnPlain gives holds old (Err e) new = IfTold holds (λ m. MeetsPlain gives old m → (new.place ≡ old.place) × (new.used ≡ old.used) × MeetsPlain gives new m)
+-- once such a row is answered, the scan goes on behind its block, and all before is one used range again
+abbrev pub GoesOnPlain : {A : Type 0} → (A → List ℕ → Bool) → Option Holding → Scanning A → Result (Option Item) ScanFault → Scanning A → Type 0
+GoesOnPlain gives holds old (Err e) new = Unit {0}
 GoesOnPlain gives holds old (Ok None) new = Unit {0}
 GoesOnPlain gives holds old (Ok (Some found)) new = IfTold holds (λ m. MeetsPlain gives old m → IsBehind (block_of (scanned old m)) old.place new.place × (new.used ≡ joined new.place))
 
--- the scan after a call
-abbrev pub AfterItem : {A : Type 0} → (A → List ℕ → Bool) → Option Holding → Scanning A → Result (Option Item) ScanFault → Scanning A → Type 0
-AfterItem gives holds old result new = LeavesItems gives holds old result new × GoesOnPlain gives holds old result new
+-- where the files tell what they hold, a call takes memory only if no such row comes next
+abbrev pub MayLack : {A : Type 0} → (A → List ℕ → Bool) → Option Holding → Scanning A → Type 0
+MayLack gives holds old = IfTold holds (λ m. MeetsPlain gives old m → ⊥)
 
-abbrev pub AfterRow : {A : Type 0} → (A → List ℕ → Bool) → Option Holding → Scanning A → Result (Option (ℕ × Piece)) ScanFault → Scanning A → Type 0
-AfterRow gives holds old result new = LeavesRows gives holds old result new × GoesOnPlain gives holds old result new
+-- what a call answers, by what each test accepts, and the scan after it
+abbrev pub Finds : {A : Type 0} → (A → List ℕ → Bool) → Wanted → Option Holding → Scanning A → Result (Option Item) ScanFault → Type 0
+Finds gives wanted holds old result = Says (Passes (gives old.test)) (MayLack gives holds old) wanted old result
+
+abbrev pub After : {A : Type 0} → (A → List ℕ → Bool) → Wanted → Option Holding → Scanning A → Result (Option Item) ScanFault → Scanning A → Type 0
+After gives wanted holds old result new = Leaves (items_left gives) IsCurrent wanted holds old result new × GoesOnPlain gives holds old result new
 
 -- All before the scan's place is one used range, and from there up to its end the file is nothing but rows in one block
 -- each that a window can hold, one after the other.

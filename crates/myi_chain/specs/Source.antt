@@ -12,7 +12,7 @@ use Rattle.myi_window.specs.declared.window.TheConstants.{WINDOW}
 use Rattle.myi_chain.specs.declared.chain.Link.{Link}
 use Rattle.myi_chain.specs.declared.chain.Link.TheVariants.{Broken, Last, More}
 use Rattle.myi_chain.specs.Chain.{Reading, by_kind, AreApart}
-use Rattle.myi_chain.specs.ScanModel.{AreBlocksAt}
+use Rattle.myi_chain.specs.ScanModel.{AreBlocksAt, IsCutOff}
 use Rattle.myi_chain.specs.Used.{IsRange}
 use Rattle.myi_chain.specs.Chain.{placed, ranges_at}
 
@@ -42,6 +42,22 @@ pub record ReadsOn (holds : Option Holding) (old new : SourceModel) : Type 0 whe
   pub falls : new.end ≤ old.end
   pub end : IfTold holds (λ m. new.end ≡ old.end)
   pub ready : IfTold holds (IsReady new)
+
+-- the bytes that are kept, fewer than a window holds, end where the file does
+abbrev pub EndsWithKept : SourceModel → Type 0
+EndsWithKept s = IsCutOff s.kept s.end
+
+-- The end stayed, or the file was found to end behind the bytes that are kept then, which begin at a place or before it.
+abbrev pub MayFall : ℕ → SourceModel → SourceModel → Type 0
+MayFall at old new = (new.end ≡ old.end) ⊎ (EndsWithKept new × (new.kept.from ≤ at))
+
+-- the end stayed, or the file was found to end behind the bytes that are kept then
+abbrev pub EndStaysOr : SourceModel → SourceModel → Type 0
+EndStaysOr old new = (new.end ≡ old.end) ⊎ EndsWithKept new
+
+-- where the file is known to end behind the bytes that are kept, no other bytes are read for a place among them
+abbrev pub StaysAt : ℕ → SourceModel → SourceModel → Type 0
+StaysAt at old new = EndsWithKept old → old.kept.from ≤ at → new ≡ old
 
 -- from a place on a whole window is kept, or all up to the end
 abbrev pub IsFilledAt : ℕ → SourceModel → Type 0

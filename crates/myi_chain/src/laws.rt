@@ -8,13 +8,17 @@ ghost use Rattle.myi_frames.specs.declared.form.FrameKind.TheVariants.{Deleted, 
 ghost use Rattle.myi_frames.specs.Block.{Block, block_of};
 ghost use Rattle.myi_chain.specs.Chain.{Reading, IsReading, AreApart, IsChain, range_of, ranges, row_bytes, chain_of};
 ghost use Rattle.myi_chain.specs.Readable.{Row, row, free, row_at, end_of, items, places, rest, rows_of, readable, items_in};
+ghost use Rattle.myi_chain.specs.Readable as readable;
 ghost use Rattle.myi_chain.specs.Meeting.{IsItemOf, IsRowOf, IsDeletedOf, ranges_of, AreRising, ItemsRise, HasNoRow};
 ghost use Rattle.myi_chain.specs.Laid.{AreLaid, whole_row};
 ghost use Rattle.myi_chain.specs.Parts.{Part, IsMadeOf, parts_met, has_byte};
-ghost use Rattle.myi_chain.specs.ScanModel.{Scanning, scanned, fresh_scan, items_left, IsCurrent, MeetsPlain, ScansPlain, AfterItem, AfterRow};
+ghost use Rattle.myi_chain.specs.ScanModel.{Scanning, scanned, fresh_scan, items_left, IsCurrent, MeetsPlain, ScansPlain, After, ArePassed, PassesTo, ComesFirst, IsItem};
 ghost use Rattle.myi_chain.specs.Used.{joined, SameFrom};
 ghost use Rattle.myi_chain.specs.declared.piece.Piece.{Piece};
+ghost use Rattle.myi_chain.specs.declared.piece.Wanted.{Wanted};
+ghost use Rattle.myi_chain.specs.declared.piece.Wanted.TheVariants.{Rows};
 ghost use Rattle.myi_chain.specs.declared.piece.Item.{Item};
+ghost use Rattle.myi_chain.specs.declared.piece.Item.TheVariants as item;
 ghost use Rattle.myi_chain.specs.declared.piece.ScanFault.{ScanFault};
 ghost use Rattle.myi_window.specs.Excerpt.{nothing};
 ghost use Rattle.myi_window.specs.declared.window.TheConstants.{WINDOW};
@@ -146,8 +150,8 @@ pub fn joined_ranges_serve()
 
 /// A scan of a file that is nothing but rows in one block each, of at most 131,072 bytes, one directly after
 /// the other, takes no memory. It is one that `ScansPlain` speaks of at first (`begin`) and, whatever a call
-/// answers but the end, ever after (`items`, `rows`); so it stands before such a row or at its end
-/// (`meets`), and there no call answers that there is no memory.
+/// answers but the end, ever after (`goes`); so it stands before such a row or at its end (`meets`), and
+/// there no call answers that there is no memory.
 pub fn plain_scans_take_no_memory<A: Accepts>()
     ensures begin { (name : List ℕ) (test : A) (extend : Bool) (end : ℕ) (m : Holding)
         → (bs : List Block) → AreLaid (block_of (take end (bytes_of name m)))
@@ -156,14 +160,24 @@ pub fn plain_scans_take_no_memory<A: Accepts>()
         → ScansPlain A.accepts_gives (fresh_scan name test extend end) m }
     ensures meets { (s : Scanning A) (m : Holding) → IsCurrent s m
         → ScansPlain A.accepts_gives s m → MeetsPlain A.accepts_gives s m }
-    ensures items { (h : Option Holding) (old new : Scanning A)
+    ensures goes { (wanted : Wanted) (h : Option Holding) (old new : Scanning A)
         (r : Result (Option Item) ScanFault) → r ≢ Ok None → IfTold h (IsCurrent old)
-        → AfterItem A.accepts_gives h old r new
+        → After A.accepts_gives wanted h old r new
         → IfTold h (λ m. ScansPlain A.accepts_gives old m → ScansPlain A.accepts_gives new m) }
-    ensures rows { (h : Option Holding) (old new : Scanning A)
-        (r : Result (Option (ℕ × Piece)) ScanFault) → r ≢ Ok None → IfTold h (IsCurrent old)
-        → AfterRow A.accepts_gives h old r new
-        → IfTold h (λ m. ScansPlain A.accepts_gives old m → ScansPlain A.accepts_gives new m) }
+{}
+
+/// What is passed on the way to what is wanted. What a call for rows answers is the first of the rows that
+/// were left, and the other rows are left.
+pub fn rows_come_first()
+    ensures none { (wanted : Wanted) (is : List readable.Item) → PassesTo wanted is is }
+    ensures more { (wanted : Wanted) (before mid after is : List readable.Item)
+        → PassesTo wanted before mid → ArePassed wanted is → mid ≡ is ++ after
+        → PassesTo wanted before after }
+    ensures ended { (wanted : Wanted) (is : List readable.Item)
+        → PassesTo wanted is [] → ArePassed wanted is }
+    ensures row { (before after : List readable.Item) (at : ℕ) (p : Piece) (old new : List (ℕ × ℕ))
+        → ComesFirst Rows before after (item.Row at p) old new
+        → (r : Row) × (rows_of before ≡ r ∷ rows_of after) × IsItem (row r) (item.Row at p) old new }
 {}
 
 /// A scan of which nothing was read has all rows and deleted blocks of its file left, and one that stands

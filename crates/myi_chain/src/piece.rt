@@ -1,8 +1,8 @@
 //! What a scan is given and what it answers.
 //!
 //! `Accepts` is the test of what packs a row, and `ScanSetup` says how far and how a file is scanned.
-//! A `Piece` is the bytes of one row, and an `Item` a row or a deleted block. A `ScanFault` says why a
-//! scan did not go on.
+//! A `Piece` is the bytes of one row, and an `Item` a row or a deleted block; `Wanted` says which of them a
+//! call is to answer. A `ScanFault` says why a scan did not go on.
 ghost use Rattle.std.specs.Prelude.{◌≡◌, ℕ, Bool, List};
 ghost use Rattle.myi_chain.specs.declared.piece.ScanFault.TheVariants.{Memory};
 
@@ -59,6 +59,15 @@ pub enum Item<'w> {
     Row(u64, Piece<'w>),
     /// A deleted block, by its place and its size in bytes.
     Free { at: u64, size: u32 },
+}
+
+/// What a call on a scan is to answer.
+#[derive(Clone, Copy, Debug, PartialEq, Eq)]
+pub enum Wanted {
+    /// The next row or deleted block.
+    Items,
+    /// The next row. Deleted blocks before it are passed.
+    Rows,
 }
 
 /// Why a scan did not go on. The next call tries the same place again.

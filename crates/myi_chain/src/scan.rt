@@ -3,17 +3,18 @@
 //! The file is read through a window that slides forward. A row in one block that a window can hold is
 //! lent as a slice of it; the bytes of any other row are joined in a buffer of the scan. The model of a
 //! `Scan` is where it stands, from which the definition of readable rows says what is left of the file.
-ghost use Rattle.std.specs.Prelude.{◌≡◌, ◌≤◌, ◌<◌, ◌∷◌, [], OnErr, IfOk, IfErr, IfSome};
+ghost use Rattle.std.specs.Prelude.{◌≡◌, ◌≤◌, ◌∷◌, [], IfOk};
 ghost use Rattle.std.specs.Borrow.{sem};
 ghost use Rattle.std.specs.Io.BufRead.{Rests};
 ghost use Rattle.myi_base.specs.Holding.{IfTold};
 ghost use Rattle.myi_base.specs.Causes.{HasCause};
-ghost use Rattle.myi_chain.specs.declared.piece.ScanFault.TheVariants.{File, Memory};
+ghost use Rattle.myi_chain.specs.declared.piece.ScanFault.TheVariants.{File};
+ghost use Rattle.myi_chain.specs.declared.piece.Wanted.TheVariants.{Items, Rows};
 
 use crate::chain::Chain;
-use crate::piece::{Accepts, Item, Piece, ScanFault, ScanSetup};
+use crate::piece::{Accepts, Item, Piece, ScanFault, ScanSetup, Wanted};
 use crate::source::Source;
-use crate::step::{Found, FoundRow, Position, RowBuffer, Rules, advance, advance_row};
+use crate::step::{Found, FoundRow, Position, RowBuffer, Rules, advance};
 use crate::used::Used;
 use myi_io::Files;
 use std::alloc::{AllocError, Global};
@@ -115,13 +116,14 @@ impl<A: Accepts> Model for Scan<A> {
 }
 
 impl<A: Accepts> Scan<A> {
-    ghost use Rattle.std.specs.Prelude.{◌≡◌, ◌<◌, Option, OnErr, IfOk, IfErr, IfSome};
+    ghost use Rattle.std.specs.Prelude.{◌≡◌, Option, IfOk};
     ghost use Rattle.std.specs.Borrow.{sem};
     ghost use Rattle.std.specs.Io.BufRead.{Rests};
     ghost use Rattle.myi_base.specs.Holding.{IfTold};
     ghost use Rattle.myi_base.specs.Causes.{HasCause};
-    ghost use Rattle.myi_chain.specs.declared.piece.ScanFault.TheVariants.{File, Memory};
-    ghost use Rattle.myi_chain.specs.ScanModel.{Scanning, fresh_scan, IsCurrent, Passes, PassesRow, MeetsPlain, AfterItem, AfterRow};
+    ghost use Rattle.myi_chain.specs.declared.piece.ScanFault.TheVariants.{File};
+    ghost use Rattle.myi_chain.specs.declared.piece.Wanted.TheVariants.{Items, Rows};
+    ghost use Rattle.myi_chain.specs.ScanModel.{Scanning, fresh_scan, IsCurrent, Finds, After, as_items};
     ghost use Rattle.myi_chain.specs.contracts.scan.Scan.{the_row};
 
     /// A scan of the file of a name. Nothing is read yet; the memory of its window is taken. For want of
@@ -156,21 +158,21 @@ impl<A: Accepts> Scan<A> {
         })
     }
 
-    /// The next row or deleted block, and None where none is left. The bytes of a row pass the test. After
-    /// an error the same is left. Where the files tell what they hold: while only rows in one block of at
-    /// most 131,072 bytes are met, one directly after the other from the file's start on, the answer is not
-    /// Memory.
-    pub fn next_item<F: Files>(&mut self, files: &mut F) -> Result<Option<Item<'_>>, ScanFault>
+    /// The next row or deleted block, or the next row, and None where none is left. The bytes of a row pass
+    /// the test. After an error the scan stands where it stood. Where the files tell what they hold: while
+    /// only rows in one block of at most 131,072 bytes are met, one directly after the other from the
+    /// file's start on, the answer is not Memory.
+    pub fn next_wanted<F: Files>(
+        &mut self,
+        files: &mut F,
+        wanted: Wanted,
+    ) -> Result<Option<Item<'_>>, ScanFault>
         requires current { IfTold (F.holds files.old) (IsCurrent self.old) }
-        ensures packs { IfOk result (λ found. IfSome found
-            (Passes (A.accepts_gives self.old.test))) }
-        ensures never { IfErr result (λ e. e ≡ Memory → IfTold (F.holds files.old) (λ m.
-            MeetsPlain A.accepts_gives self.old m → ⊥)) }
-        ensures failing { OnErr result (self.old.place < self.old.end) }
+        ensures says { Finds A.accepts_gives wanted (F.holds files.old) self.old result }
         ensures holds { F.holds files.new ≡ F.holds files.old }
         ensures cause { HasCause File (F.faults files.old) (F.faults files.new) result }
         ensures* after { sem 𝓛 (Rests (the_row A.row A.Accepts) self.entry
-            (AfterItem A.accepts_gives (F.holds files.old) self.old result)) }
+            (After A.accepts_gives wanted (F.holds files.old) self.old result)) }
     {
         let Some(found) = advance(
             files,
@@ -178,6 +180,7 @@ impl<A: Accepts> Scan<A> {
             &mut self.source,
             &mut self.position,
             &mut self.row,
+            wanted,
         )?
         else {
             return Ok(None);
@@ -198,43 +201,37 @@ impl<A: Accepts> Scan<A> {
         }
     }
 
+    /// The next row or deleted block, and None where none is left: `next_wanted` for items.
+    pub fn next_item<F: Files>(&mut self, files: &mut F) -> Result<Option<Item<'_>>, ScanFault>
+        requires current { IfTold (F.holds files.old) (IsCurrent self.old) }
+        ensures says { Finds A.accepts_gives Items (F.holds files.old) self.old result }
+        ensures holds { F.holds files.new ≡ F.holds files.old }
+        ensures cause { HasCause File (F.faults files.old) (F.faults files.new) result }
+        ensures* after { sem 𝓛 (Rests (the_row A.row A.Accepts) self.entry
+            (After A.accepts_gives Items (F.holds files.old) self.old result)) }
+    {
+        self.next_wanted(files, Wanted::Items)
+    }
+
     /// The next row with its position, and None where no row is left. Deleted blocks before it are
-    /// passed. Otherwise as `next_item`.
+    /// passed: `next_wanted` for rows.
     pub fn next_row<F: Files>(
         &mut self,
         files: &mut F,
     ) -> Result<Option<(u64, Piece<'_>)>, ScanFault>
         requires current { IfTold (F.holds files.old) (IsCurrent self.old) }
-        ensures packs { IfOk result (λ found. IfSome found
-            (PassesRow (A.accepts_gives self.old.test))) }
-        ensures never { IfErr result (λ e. e ≡ Memory → IfTold (F.holds files.old) (λ m.
-            MeetsPlain A.accepts_gives self.old m → ⊥)) }
-        ensures failing { OnErr result (self.old.place < self.old.end) }
+        ensures says { Finds A.accepts_gives Rows (F.holds files.old) self.old (as_items result) }
         ensures holds { F.holds files.new ≡ F.holds files.old }
         ensures cause { HasCause File (F.faults files.old) (F.faults files.new) result }
         ensures* after { sem 𝓛 (Rests (the_row A.row A.Accepts) self.entry
-            (AfterRow A.accepts_gives (F.holds files.old) self.old result)) }
+            (After A.accepts_gives Rows (F.holds files.old) self.old (as_items result))) }
     {
-        let Some(found) = advance_row(
-            files,
-            &self.rules,
-            &mut self.source,
-            &mut self.position,
-            &mut self.row,
-        )?
-        else {
+        let Some(item) = self.next_wanted(files, Wanted::Rows)? else {
             return Ok(None);
         };
-        match found {
-            FoundRow::Kept(block) => {
-                let at = block.head.at;
-                self.blocks.set_one(at, block.head.size);
-                Ok(Some((at, Piece::Lent(self.source.row_bytes(&block)))))
-            }
-            FoundRow::Joined(at) => {
-                self.blocks.take(&mut self.row.chain);
-                Ok(Some((at, Piece::Joined(&self.row.joined))))
-            }
+        match item {
+            Item::Row(at, piece) => Ok(Some((at, piece))),
+            Item::Free { .. } => unreachable!(),
         }
     }
 

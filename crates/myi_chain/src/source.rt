@@ -127,7 +127,7 @@ impl Source {
     ghost use Rattle.myi_window.specs.declared.window.TheConstants.{WINDOW};
     ghost use Rattle.myi_window.specs.Excerpt.{nothing, bytes_from};
     ghost use Rattle.myi_chain.specs.declared.piece.ScanFault.TheVariants.{File};
-    ghost use Rattle.myi_chain.specs.Source.{read_bytes, read_blocks, IsReady, ReadsOn, IsFilledAt, IsHeader, HoldsShort, kept_bytes, IsKept};
+    ghost use Rattle.myi_chain.specs.Source.{read_bytes, read_blocks, IsReady, ReadsOn, MayFall, StaysAt, IsFilledAt, IsHeader, HoldsShort, kept_bytes, IsKept};
 
     /// The file of a name up to an end, of which nothing is read yet. Its window takes its memory here.
     pub(crate) fn new(alloc: Global, name: &str, end: u64) -> Result<Source, AllocError>
@@ -150,6 +150,7 @@ impl Source {
         requires order { at ≤ self.old.end }
         requires ready { IfTold (F.holds files.old) (IsReady self.old) }
         ensures full { OnOk result (IsFilledAt at self.new) }
+        ensures falls { MayFall at self.old self.new }
         ensures behind { at ≤ self.new.end }
         ensures reads { ReadsOn (F.holds files.old) self.old self.new }
         ensures failed { IfErr result (λ e. e ≡ Failed) }
@@ -175,6 +176,8 @@ impl Source {
             → size ≤ length (bytes_from at self.new.kept)) }
         ensures inside { IfOk result (λ is. is ≡ true → at + size ≤ self.new.end) }
         ensures short { IfOk result (λ is. is ≡ false → self.new.end < at + size) }
+        ensures falls { MayFall at self.old self.new }
+        ensures stays { StaysAt at self.old self.new }
         ensures behind { at ≤ self.new.end }
         ensures reads { ReadsOn (F.holds files.old) self.old self.new }
         ensures failed { IfErr result (λ e. e ≡ Failed) }
@@ -201,6 +204,8 @@ impl Source {
             → IsHeader block.now.head.at self.new.end block.now) }
         ensures short { IfOk result (λ is. is ≡ false
             → self.new.end < block.now.head.at + block.now.head.size) }
+        ensures falls { MayFall block.now.head.at self.old self.new }
+        ensures stays { StaysAt block.now.head.at self.old self.new }
         ensures behind { block.now.head.at ≤ self.new.end }
         ensures reads { ReadsOn (F.holds files.old) self.old self.new }
         ensures failed { IfErr result (λ e. e ≡ Failed) }
@@ -228,6 +233,8 @@ impl Source {
             HeadsBlock (read_bytes self.old m) found (read_blocks self.old m at))) }
         ensures place { IfOk result (λ found. IfSome found (IsHeader at self.new.end)) }
         ensures held { IfOk result (λ found. IfSome found (λ h. HoldsShort h self.new.kept)) }
+        ensures falls { MayFall at self.old self.new }
+        ensures stays { StaysAt at self.old self.new }
         ensures behind { at ≤ self.new.end }
         ensures reads { ReadsOn (F.holds files.old) self.old self.new }
         ensures failed { IfErr result (λ e. e ≡ Failed) }

@@ -1,8 +1,8 @@
 //! What a scan finds in a file, one place after the other.
 //!
 //! `step` does what the definition of readable rows says of one place: it looks at the used ranges and at
-//! the block there, and at its chain where one may start. `advance` does steps up to the next row or
-//! deleted block, a `Found`, and `advance_row` up to the next row, a `FoundRow`. `Rules` says what packs
+//! the block there, and at its chain where one may start. `advance` does steps up to what is wanted,
+//! a `Found`: the next row, or the next row or deleted block. `Rules` says what packs
 //! a row and how the file is scanned, `Position` where the scan stands, and a `RowBuffer` holds a row
 //! of several blocks while it is looked for.
 ghost use Rattle.std.specs.Prelude.{◌≡◌, ℕ, ◌+◌, ◌-◌, ◌<◌, ◌≤◌, ◌++◌, true, false, List, OnOk, OnErr, IfOk, IfErr, IfSome, Some};
@@ -20,11 +20,11 @@ ghost use Rattle.myi_chain.specs.Pieces.{is_lent};
 ghost use Rattle.myi_chain.specs.ScanModel.{AreBlocksAt};
 ghost use Rattle.myi_chain.specs.Used.{AddsBlocks, NeedsMemory};
 ghost use Rattle.myi_chain.specs.Chain.{placed, ranges_at};
-ghost use Rattle.myi_chain.specs.Source.{read_bytes, read_blocks, IsReady, ReadsOn, IsHeader, HoldsShort, IsKept, kept_bytes, first_by, HasFollowed, CanAdd, AreRead, StandsThere};
-ghost use Rattle.myi_chain.specs.Found.{is_short, found_at, found_blocks, LiesRow, LiesItem, FindsRow, IsPassed, IsBlockOf, IsFree, met_at, items_at, HoldsItem, HoldsRow, MeetsShortAt, FindsShortAt, FindsShortRowAt, FindsItem, FindsNextRow, KeepsUsed, Rises};
+ghost use Rattle.myi_chain.specs.Source.{read_bytes, read_blocks, IsReady, ReadsOn, MayFall, StaysAt, EndStaysOr, IsHeader, HoldsShort, IsKept, kept_bytes, first_by, HasFollowed, CanAdd, AreRead, StandsThere};
+ghost use Rattle.myi_chain.specs.Found.{is_short, found_at, found_blocks, LiesRow, LiesItem, FindsRow, IsPassed, IsBlockOf, IsFree, met_at, items_at, HoldsItem, HoldsRow, MeetsShortAt, FindsShortAt, FindsItem, KeepsUsed, IsBetween, Rises, picked, IsMeant};
 
 use crate::chain::{Chain, Link, first_link, follow, join};
-use crate::piece::{Accepts, ScanFault};
+use crate::piece::{Accepts, ScanFault, Wanted};
 use crate::source::Source;
 use crate::used::Used;
 use myi_frames::{FrameKind, Header};
@@ -257,8 +257,8 @@ fn step<A: Accepts, F: Files>(
     ensures held { IfOk result (λ found. IfSome found
         (HoldsItem (A.accepts_gives rules.now.test) source.new row.new)) }
     ensures lies { IfOk result (λ found. IfSome found (LiesItem source.new row.new)) }
-    ensures rises { IfOk result (λ found. IfSome found (λ _.
-        position.old.place < position.new.place)) }
+    ensures rises { IfOk result (λ found. IfSome found
+        (IsBetween position.old.place position.new.place)) }
     ensures within { OnOk result ((position.old.place ≤ position.new.place)
         × (position.new.place ≤ source.new.end)) }
     ensures nearer { OnOk result (source.new.end - position.new.place
@@ -271,6 +271,8 @@ fn step<A: Accepts, F: Files>(
         → FindsShortAt source.old m position.old found position.new)) }
     ensures never { IfErr result (λ e. e ≡ Memory → IfTold (F.holds files.old) (λ m.
         MeetsShortAt (A.accepts_gives rules.now.test) source.old position.old m → ⊥)) }
+    ensures falls { MayFall position.old.place source.old source.new }
+    ensures stays { StaysAt position.old.place source.old source.new }
     ensures reads { ReadsOn (F.holds files.old) source.old source.new }
     ensures holds { F.holds files.new ≡ F.holds files.old }
     ensures cause { HasCause File (F.faults files.old) (F.faults files.new) result }
@@ -296,99 +298,62 @@ fn step<A: Accepts, F: Files>(
     Ok(found)
 }
 
-/// Goes to the next row or deleted block. After a failure the same is to come.
+// What was found, if it is wanted.
+fn pick(found: Option<Found>, wanted: Wanted) -> Option<Found>
+    ensures { result ≡ picked wanted found }
+{
+    match (found?, wanted) {
+        (Found::Free(..), Wanted::Rows) => None,
+        (found, _) => Some(found),
+    }
+}
+
+/// Goes to the next thing that is wanted, over what is not. After a failure nothing is done.
 pub(crate) fn advance<A: Accepts, F: Files>(
     files: &mut F,
     rules: &Rules<A>,
     source: &mut Source,
     position: &mut Position,
     row: &mut RowBuffer,
+    wanted: Wanted,
 ) -> Result<Option<Found>, ScanFault>
     requires within { position.old.place ≤ source.old.end }
     requires ready { IfTold (F.holds files.old) (IsReady source.old) }
     ensures told { IfOk result (λ found. IfTold (F.holds files.old) (λ m.
-        FindsItem source.new row.new
+        FindsItem source.new row.new wanted
         (met_at rules.now.extend (A.accepts_gives rules.now.test) source.old position.old m)
         (met_at rules.now.extend (A.accepts_gives rules.now.test) source.old position.new m)
         found)) }
+    ensures meant { IfOk result (λ found. IfSome found (IsMeant wanted)) }
     ensures held { IfOk result (λ found. IfSome found
         (HoldsItem (A.accepts_gives rules.now.test) source.new row.new)) }
     ensures lies { IfOk result (λ found. IfSome found (LiesItem source.new row.new)) }
-    ensures rises { IfOk result (Rises position.old.place position.new.place source.new.end) }
-    ensures later { position.old.place ≤ position.new.place }
-    ensures within { position.new.place ≤ source.new.end }
-    ensures err { OnErr result (IfTold (F.holds files.old) (λ m.
-        met_at rules.now.extend (A.accepts_gives rules.now.test) source.old position.new m
-        ≡ met_at rules.now.extend (A.accepts_gives rules.now.test) source.old position.old m)) }
-    ensures kept { IfOk result (KeepsUsed position.old.used position.new.used) }
-    ensures same { OnErr result (position.new.used ≡ position.old.used) }
-    ensures stays { OnErr result (IfTold (F.holds files.old) (λ m.
-        MeetsShortAt (A.accepts_gives rules.now.test) source.old position.old m
-        → position.new ≡ position.old)) }
-    ensures some { OnErr result (position.old.place < source.old.end) }
-    ensures short { IfOk result (λ found. IfTold (F.holds files.old) (λ m.
-        MeetsShortAt (A.accepts_gives rules.now.test) source.old position.old m
-        → FindsShortAt source.old m position.old found position.new)) }
-    ensures never { IfErr result (λ e. e ≡ Memory → IfTold (F.holds files.old) (λ m.
-        MeetsShortAt (A.accepts_gives rules.now.test) source.old position.old m → ⊥)) }
-    ensures reads { ReadsOn (F.holds files.old) source.old source.new }
-    ensures holds { F.holds files.new ≡ F.holds files.old }
-    ensures cause { HasCause File (F.faults files.old) (F.faults files.new) result }
-{
-    while position.place < source.end() {
-        if let Some(found) = step(files, rules, source, position, row)? {
-            return Ok(Some(found));
-        }
-    }
-    Ok(None)
-}
-
-/// Goes to the next row, over deleted blocks. After a failure nothing is done.
-pub(crate) fn advance_row<A: Accepts, F: Files>(
-    files: &mut F,
-    rules: &Rules<A>,
-    source: &mut Source,
-    position: &mut Position,
-    row: &mut RowBuffer,
-) -> Result<Option<FoundRow>, ScanFault>
-    requires within { position.old.place ≤ source.old.end }
-    requires ready { IfTold (F.holds files.old) (IsReady source.old) }
-    ensures told { IfOk result (λ found. IfTold (F.holds files.old) (λ m.
-        FindsNextRow source.new row.new
-        (met_at rules.now.extend (A.accepts_gives rules.now.test) source.old position.old m)
-        (met_at rules.now.extend (A.accepts_gives rules.now.test) source.old position.new m)
-        found)) }
-    ensures held { IfOk result (λ found. IfSome found
-        (HoldsRow (A.accepts_gives rules.now.test) source.new row.new)) }
-    ensures lies { IfOk result (λ found. IfSome found (LiesRow source.new row.new)) }
     ensures rises { IfOk result (Rises position.old.place position.new.place source.new.end) }
     ensures within { position.new.place ≤ source.new.end }
     ensures err { OnErr result (position.new ≡ position.old) }
     ensures some { OnErr result (position.old.place < source.old.end) }
     ensures short { IfOk result (λ found. IfTold (F.holds files.old) (λ m.
         MeetsShortAt (A.accepts_gives rules.now.test) source.old position.old m
-        → FindsShortRowAt source.old m position.old found position.new)) }
+        → FindsShortAt source.old m position.old found position.new)) }
     ensures never { IfErr result (λ e. e ≡ Memory → IfTold (F.holds files.old) (λ m.
         MeetsShortAt (A.accepts_gives rules.now.test) source.old position.old m → ⊥)) }
+    ensures falls { EndStaysOr source.old source.new }
     ensures reads { ReadsOn (F.holds files.old) source.old source.new }
     ensures holds { F.holds files.new ≡ F.holds files.old }
     ensures cause { HasCause File (F.faults files.old) (F.faults files.new) result }
 {
     let from = position.place;
-    loop {
-        let found = match advance(files, rules, source, position, row) {
+    while position.place < source.end() {
+        let found = match step(files, rules, source, position, row) {
             Ok(found) => found,
             Err(fault) => {
                 position.place = from;
                 return Err(fault);
             }
         };
-        let Some(found) = found else {
-            return Ok(None);
-        };
-        match found {
-            Found::Row(found) => return Ok(Some(found)),
-            Found::Free(..) => {}
+        if let Some(found) = pick(found, wanted) {
+            return Ok(Some(found));
         }
     }
+    Ok(None)
 }

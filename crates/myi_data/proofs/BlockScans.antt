@@ -1,20 +1,18 @@
 -- A scan of blocks, seen as a scan of a dynamic table.
-use Rattle.std.proofs.Common.{◌≡◌, ◌∙◌, ℕ, List, Option, Some, None, Result, Ok, Err, refl, sym, ap, subst}
-use Rattle.std.specs.Prelude.{IfOk, IfErr, IfSome}
-use Rattle.myi_base.specs.Holding.{Holding, IfTold}
-use Rattle.myi_chain.specs.declared.piece.ScanFault.TheVariants.{Memory}
+use Rattle.std.proofs.Common.{◌≡◌, ◌∙◌, ◌∷◌, List, Option, Some, None, Result, Ok, Err, refl, sym, ap, subst}
+use Rattle.myi_base.specs.Holding.{Holding}
 use Rattle.myi_defs.specs.declared.types.RowFormat.{RowFormat}
 use Rattle.myi_defs.specs.declared.types.RowFormat.TheVariants.{Static, Dynamic}
 use Rattle.myi_defs.specs.declared.types.Defs.{Defs}
-use Rattle.myi_chain.specs.declared.piece.Piece.{Piece}
+use Rattle.myi_chain.specs.declared.piece.Wanted.{Wanted}
 use Rattle.myi_chain.specs.declared.piece.Item.{Item as Answer}
 use Rattle.myi_chain.specs.declared.piece.Item.TheVariants as item
 use Rattle.myi_chain.specs.declared.piece.ScanFault.{ScanFault}
 use Rattle.myi_chain.specs.Readable.{Item}
-use Rattle.myi_chain.specs.ScanModel.{scanned, FirstItem, NoItem, FirstRow, NoRow, IsItem, IsRow, StandsItem, StandsRow, Leaves}
+use Rattle.myi_chain.specs.ScanModel.{scanned, ArePassed, PassesTo}
 use Rattle.myi_chain.specs.ScanModel as blocks
 use Rattle.myi_data.specs.Readable.{packs}
-use Rattle.myi_data.specs.Scanning.{TableScan, left_by, items_ahead, IsAsKnown, MeetsPlainRow, IsSlotItem, IsSlotRow, AfterTableItem, AfterTableRow}
+use Rattle.myi_data.specs.Scanning.{TableScan, left_by, items_ahead, IsAsKnown, IsOfTable, FindsInTable, AfterTable}
 
 module _ (h : Option Holding) (old : TableScan) (dynamic : old.test.format ≡ Dynamic) where
   format_of : (s : TableScan) → s.test ≡ old.test → s.test.format ≡ Dynamic
@@ -30,47 +28,53 @@ module _ (h : Option Holding) (old : TableScan) (dynamic : old.test.format ≡ D
   known_to m c = record { kept = c.kept; long = c.long dynamic }
 
   -- what a call leaves of blocks is what it leaves of the table
-  module _ {X Found : Type 0} (First : X → List Item → List Item → Type 0) (NoneLeft : List Item → Type 0) (Is : X → Found → List (ℕ × ℕ) → List (ℕ × ℕ) → Type 0) (Stands : Found → TableScan → TableScan → Type 0) where
-    leaves_of : (r : Result (Option Found) ScanFault) (new : TableScan) → Leaves (blocks.items_left packs) First NoneLeft Is Stands blocks.IsCurrent h old r new → Leaves items_ahead First NoneLeft Is Stands IsAsKnown h old r new
-    leaves_of (Err e) new k = record {
+  pub after_of : (wanted : Wanted) (r : Result (Option Answer) ScanFault) (new : TableScan) → blocks.After packs wanted h old r new → AfterTable wanted h old r new
+  after_of wanted (Err e) new (k, goes) = (
+    record {
       same = k.same;
-      later = k.later;
+      place = k.place;
+      used = k.used;
       within = k.within;
+      falls = k.falls;
       whole = k.whole;
       blocks = k.blocks;
       told = λ m held. sym (same_items new k.same.test m) ∙ k.told m held ∙ same_items old refl m;
       current = λ m held. known_of new k.same.test m (k.current m held);
-    }
-    leaves_of (Ok None) new k = record {
+    },
+    λ e. goes,
+  )
+  after_of wanted (Ok None) new (k, goes) = (
+    record {
       same = k.same;
       ended = k.ended;
+      falls = k.falls;
       whole = k.whole;
       blocks = k.blocks;
-      told = λ m held. (subst NoneLeft (same_items old refl m) (k.told m held).0, sym (same_items new k.same.test m) ∙ (k.told m held).1);
+      told = λ m held. (subst (ArePassed wanted) (same_items old refl m) (k.told m held).0, sym (same_items new k.same.test m) ∙ (k.told m held).1);
       current = λ m held. known_of new k.same.test m (k.current m held);
-    }
-    leaves_of (Ok (Some found)) new k = record {
+    },
+    λ e. goes,
+  )
+  after_of wanted (Ok (Some found)) new (k, goes) = (
+    record {
       same = k.same;
       rises = k.rises;
+      between = k.between;
       within = k.within;
+      falls = k.falls;
       whole = k.whole;
       stands = k.stands;
       told = λ m held.
           let t = k.told m held in
-          (t.0, subst (First t.0 (items_ahead old m)) (same_items new k.same.test m) (subst (λ (is : List Item). First t.0 is (blocks.items_left packs new m)) (same_items old refl m) t.1), t.2);
+          record {
+            first = t.first;
+            next = subst (λ (is : List Item). PassesTo wanted (items_ahead old m) (t.first ∷ is)) (same_items new k.same.test m) (subst (λ (is : List Item). PassesTo wanted is (t.first ∷ blocks.items_left packs new m)) (same_items old refl m) t.next);
+            is = t.is;
+          };
       current = λ m held. known_of new k.same.test m (k.current m held);
-    }
-
-  pub item_after : (r : Result (Option Answer) ScanFault) (new : TableScan) → blocks.AfterItem packs h old r new → AfterTableItem h old r new
-  item_after r new l = (leaves_of FirstItem NoItem IsItem StandsItem r new l.0, λ e. l.1)
-
-  pub row_after : (r : Result (Option (ℕ × Piece)) ScanFault) (new : TableScan) → blocks.AfterRow packs h old r new → AfterTableRow h old r new
-  row_after r new l = (leaves_of FirstRow NoRow IsRow StandsRow r new l.0, λ e. l.1)
-
-  -- where no memory is taken of blocks, none is of the table
-  pub plain_to : {Found : Type 0} (r : Result (Option Found) ScanFault) → IfErr r (λ e. e ≡ Memory → IfTold h (λ m. blocks.MeetsPlain packs old m → ⊥)) → IfErr r (λ e. e ≡ Memory → IfTold h (λ m. MeetsPlainRow old m → ⊥))
-  plain_to (Ok found) never = tt
-  plain_to (Err e) never = λ is m held meets. never is m held meets.1
+    },
+    λ e. goes,
+  )
 
   pub no_static : {P : Type 0} → old.test.format ≡ Static → P
   no_static e = absurd (none (sym e ∙ dynamic))
@@ -79,13 +83,12 @@ module _ (h : Option Holding) (old : TableScan) (dynamic : old.test.format ≡ D
       none e = absurd cc
 
   -- nothing is said of slots
-  pub items_slot : (r : Result (Option Answer) ScanFault) → IfOk r (λ found. IfSome found (IsSlotItem old))
-  items_slot (Err e) = tt
-  items_slot (Ok None) = tt
-  items_slot (Ok (Some (item.Row at p))) = λ e. no_static e
-  items_slot (Ok (Some (item.Free at size))) = λ e. no_static e
+  of_table : (found : Answer) → blocks.Passes (packs old.test) found → IsOfTable old found
+  of_table (item.Row at p) is = (is, λ e. no_static e)
+  of_table (item.Free at size) is = (is, λ e. no_static e)
 
-  pub rows_slot : (r : Result (Option (ℕ × Piece)) ScanFault) → IfOk r (λ found. IfSome found (IsSlotRow old))
-  rows_slot (Err e) = tt
-  rows_slot (Ok None) = tt
-  rows_slot (Ok (Some found)) = λ e. no_static e
+  -- what a call answers of blocks it answers of the table
+  pub says_of : (wanted : Wanted) (r : Result (Option Answer) ScanFault) → blocks.Finds packs wanted h old r → FindsInTable wanted h old r
+  says_of wanted (Err e) is = record { packs = tt; meant = tt; never = λ memory. (dynamic, is.never memory); failing = is.failing }
+  says_of wanted (Ok None) is = record { packs = tt; meant = tt; never = tt; failing = tt }
+  says_of wanted (Ok (Some found)) is = record { packs = of_table found is.packs; meant = is.meant; never = tt; failing = tt }

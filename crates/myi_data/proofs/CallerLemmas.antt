@@ -10,6 +10,6 @@ pub use Rattle.myi_data.proofs.AloneLemmas.{size_alone, bytes_alone, group_alone
 pub use Rattle.myi_data.proofs.KeyLemmas.{can_weigh, key_is, key_is_at, segments_at, values_fit}
 pub use Rattle.myi_data.proofs.SpellingLemmas.{spelling_some}
 -- scans_begin_with_all
-pub use Rattle.myi_data.proofs.FreshScans.{fresh_ahead, fresh_known, ahead_ended, ahead_same, known_same, items_known, rows_known, rows_first}
+pub use Rattle.myi_data.proofs.FreshScans.{fresh_ahead, fresh_known, ahead_ended, ahead_same, known_same, after_known}
 -- This goes by the cases of a slot for any fact, which no clause can say.
 pub use Rattle.myi_data.proofs.RowsLemmas.{slot_cases}

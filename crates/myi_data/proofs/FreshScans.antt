@@ -1,19 +1,18 @@
 -- A scan of which nothing was read, and what a change of other files leaves of a scan.
-use Rattle.std.proofs.Common.{◌≡◌, ◌∙◌, ◌≤◌, ℕ, Bool, List, [], ◌∷◌, ◌++◌, length, take, Option, Some, None, Result, Ok, Err, refl, sym, ap, subst, arith}
+use Rattle.std.proofs.Common.{◌≡◌, ◌≤◌, ℕ, Bool, List, [], length, take, Option, Some, None, Result, Ok, Err, refl, sym, ap, subst, arith}
 use Rattle.myi_base.specs.Holding.{Holding, IfTold, bytes_of}
 use Rattle.myi_defs.specs.declared.types.RowFormat.{RowFormat}
 use Rattle.myi_defs.specs.declared.types.RowFormat.TheVariants.{Static, Dynamic}
 use Rattle.myi_defs.specs.declared.types.Defs.{Defs}
-use Rattle.myi_chain.specs.Readable.{Row, rows_of}
 use Rattle.myi_chain.specs.Readable as chains
-use Rattle.myi_chain.specs.ScanModel.{fresh_scan, scanned, FirstRow}
+use Rattle.myi_chain.specs.ScanModel.{fresh_scan, scanned}
 use Rattle.myi_chain.proofs.CallerLemmas.{scan_ended}
 use Rattle.myi_window.specs.Excerpt.{StandsIn}
 use Rattle.myi_data.specs.Readable.{packs, items_at, items_by, items_in}
-use Rattle.myi_chain.specs.declared.piece.Piece.{Piece}
+use Rattle.myi_chain.specs.declared.piece.Wanted.{Wanted}
 use Rattle.myi_chain.specs.declared.piece.Item.{Item}
 use Rattle.myi_chain.specs.declared.piece.ScanFault.{ScanFault}
-use Rattle.myi_data.specs.Scanning.{TableScan, left_by, items_ahead, IsAsKnown, AfterTableItem, AfterTableRow}
+use Rattle.myi_data.specs.Scanning.{TableScan, left_by, items_ahead, IsAsKnown, AfterTable}
 use Rattle.myi_defs.specs.Sound.{IsSound}
 use Rattle.myi_data.proofs.SlotLaws.{drop_none}
 use Rattle.myi_data.proofs.NextSlotLemmas.{end_left}
@@ -48,21 +47,7 @@ known_same s m n same current = record {
 }
 
 -- whatever a call answers, the file is then as the scan knows it
-pub items_known : (h : Option Holding) (old new : TableScan) (r : Result (Option Item) ScanFault) → AfterTableItem h old r new → IfTold h (IsAsKnown new)
-items_known h old new (Err e) l = l.0.current
-items_known h old new (Ok None) l = l.0.current
-items_known h old new (Ok (Some found)) l = l.0.current
-
-pub rows_known : (h : Option Holding) (old new : TableScan) (r : Result (Option (ℕ × Piece)) ScanFault) → AfterTableRow h old r new → IfTold h (IsAsKnown new)
-rows_known h old new (Err e) l = l.0.current
-rows_known h old new (Ok None) l = l.0.current
-rows_known h old new (Ok (Some found)) l = l.0.current
-
--- the rows that are ahead, where one comes first
-pub rows_first : (r : Row) (before after : List chains.Item) → FirstRow r before after → rows_of before ≡ r ∷ rows_of after
-rows_first r before after first = ap rows_of first.2 ∙ over first.0 after first.1
-  where
-    over : (fs js : List chains.Item) → rows_of fs ≡ [] → rows_of (fs ++ chains.row r ∷ js) ≡ r ∷ rows_of js
-    over [] js none = refl
-    over (chains.row q ∷ fs) js none = absurd cc
-    over (chains.free a ∷ fs) js none = over fs js none
+pub after_known : (wanted : Wanted) (h : Option Holding) (old new : TableScan) (r : Result (Option Item) ScanFault) → AfterTable wanted h old r new → IfTold h (IsAsKnown new)
+after_known wanted h old new (Err e) l = l.0.current
+after_known wanted h old new (Ok None) l = l.0.current
+after_known wanted h old new (Ok (Some found)) l = l.0.current

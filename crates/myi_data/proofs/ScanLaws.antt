@@ -1,5 +1,5 @@
 -- What a scan of slots leaves, from what was found between two places of its file.
-use Rattle.std.proofs.Common.{◌≡◌, ◌∙◌, ◌+◌, ◌^◌, ◌<◌, ◌≤◌, ℕ, Bool, true, List, [], ◌∷◌, length, take, drop, sym, ap, subst, arith, refl, Option, Some, None, Ok, Err}
+use Rattle.std.proofs.Common.{◌≡◌, ◌∙◌, ◌+◌, ◌^◌, ◌<◌, ◌≤◌, ℕ, Bool, true, List, [], ◌∷◌, length, take, drop, sym, ap, subst, arith, refl, Option, Some, None, Ok, Err, inl}
 use Rattle.std.proofs.lemmas.Bool.{le-leb, lt-leb}
 use Rattle.std.proofs.lemmas.List.{length-take-le}
 use Rattle.myi_base.specs.Holding.{Holding, bytes_of}
@@ -15,11 +15,13 @@ use Rattle.myi_chain.specs.declared.piece.ScanFault.TheVariants.{File}
 use Rattle.myi_chain.specs.Readable.{Item, row, free}
 use Rattle.myi_chain.specs.Chain.{ranges_at}
 use Rattle.myi_chain.specs.Pieces.{piece_bytes}
-use Rattle.myi_chain.specs.ScanModel.{IsSameScan, FirstItem, NoItem, FirstRow, NoRow, IsItem, IsRow, LendsBlock, EndsInside, StandsItem, StandsRow, HasEnded, Keeps}
+use Rattle.myi_chain.specs.declared.piece.Wanted.{Wanted}
+use Rattle.myi_chain.specs.declared.piece.Wanted.TheVariants.{Items}
+use Rattle.myi_chain.specs.ScanModel.{IsSameScan, IsWanted, ArePassed, PassesTo, LendsBlock, EndsInside}
 use Rattle.myi_data.specs.Readable.{packs}
 use Rattle.myi_data.specs.SlotBytes.{IsFormOf}
 use Rattle.myi_data.specs.NextSlot.{row_in_slot, items_from, IsSlotBetween}
-use Rattle.myi_data.specs.Scanning.{TableScan, left_by, items_ahead, IsAsKnown, MeetsPlainRow, IsSlotAt, AfterTableItem, AfterTableRow}
+use Rattle.myi_data.specs.Scanning.{TableScan, left_by, items_ahead, IsAsKnown, IsSlotAt, AfterTable}
 use Rattle.myi_data.proofs.NextSlotLemmas.{front_cut, end_left}
 
 -- a scan of a static table
@@ -39,13 +41,16 @@ lends_slot : (size at : ℕ) (p : Piece) → IsFormOf size p → LendsBlock p ((
 lends_slot size at (Lent bytes) form = le-leb _ _ (omega (arith, form))
 lends_slot size at (Joined bytes) form = lt-leb _ _ (omega (arith, form))
 
+-- a deleted slot is answered where items are wanted
+pub free_meant : (wanted : Wanted) (at size : ℕ) → wanted ≡ Items → IsWanted wanted (item.Free at size)
+free_meant wanted at size items = subst (λ w. IsWanted w (item.Free at size)) (sym items) tt
+
 -- a scan went from one place of its file to another
 pub record Went (holds : Option Holding) (old : TableScan) (name : List ℕ) (test : Defs) (extend : Bool) (end from to : ℕ) (blocks : List (ℕ × ℕ)) (w v : Excerpt) (size : ℕ) : Type 0 where
   pub view : slot_scan name test extend end from blocks w ≡ old
   pub static : test.format ≡ Static
   pub sized : size ≡ test.slot_length
   pub some : 0 < size
-  pub later : from ≤ to
   pub within : to ≤ end
   pub small : end < 2 ^ 64
   pub inside : EndsBy end v
@@ -54,13 +59,12 @@ pub record Went (holds : Option Holding) (old : TableScan) (name : List ℕ) (te
 
 -- so it did, where a call that looks for the next slot has found what it says
 pub went : (holds : Option Holding) (old : TableScan) (name told : List ℕ) (test : Defs) (extend : Bool) (end from to : ℕ) (blocks : List (ℕ × ℕ)) (w v : Excerpt) (size : ℕ) → name ≡ told → slot_scan told test extend end from blocks w ≡ old → test.format ≡ Static → 0 < test.slot_length → size ≡ test.slot_length
-    → from ≤ to → to ≤ end → end < 2 ^ 64 → EndsBy end v → ((m : Holding) → holds ≡ Some m → IsAsKnown old m) → ((m : Holding) → holds ≡ Some m → StandsIn w (bytes_of name m) → StandsIn v (bytes_of name m)) → Went holds old name test extend end from to blocks w v size
-went holds old name told test extend end from to blocks w v size same view static some sized later within small inside current stands = record {
+    → to ≤ end → end < 2 ^ 64 → EndsBy end v → ((m : Holding) → holds ≡ Some m → IsAsKnown old m) → ((m : Holding) → holds ≡ Some m → StandsIn w (bytes_of name m) → StandsIn v (bytes_of name m)) → Went holds old name test extend end from to blocks w v size
+went holds old name told test extend end from to blocks w v size same view static some sized within small inside current stands = record {
   view = ap (λ n. slot_scan n test extend end from blocks w) same ∙ view;
   static = static;
   sized = sized;
   some = omega (arith, some, sized);
-  later = later;
   within = within;
   small = small;
   inside = inside;
@@ -120,101 +124,80 @@ module _ (holds : Option Holding) (old : TableScan) (name : List ℕ) (test : De
       let long : length (take size (drop at (file m))) ≡ size = ap (λ (xs : List ℕ). length xs) same ∙ length-take-le size (bytes_from at v) few in
       (is ∙ sym same, ap (λ n. (at, at + n) ∷ []) (sym long))
 
-  -- what comes first of the file comes first of what is ahead
-  ahead : {X : Type 0} (First : X → List Item → List Item → Type 0) (x : X) (blocks_now : List (ℕ × ℕ)) (m : Holding) → First x (left m from) (left m to) → First x (items_ahead old m) (items_ahead (slot_scan name test extend end to blocks_now v) m)
-  ahead First x blocks_now m is = subst (First x (items_ahead old m)) (sym (left_at to blocks_now v m)) (subst (λ (is : List Item). First x is (left m to)) (sym (left_before m)) is)
+  -- what is left of the file is what is ahead
+  ahead : (wanted : Wanted) (i : Item) (now : List (ℕ × ℕ)) (m : Holding) → PassesTo wanted (left m from) (i ∷ left m to) → PassesTo wanted (items_ahead old m) (i ∷ items_ahead (slot_scan name test extend end to now v) m)
+  ahead wanted i now m is = subst (λ (is : List Item). PassesTo wanted (items_ahead old m) (i ∷ is)) (sym (left_at to now v m)) (subst (λ (is : List Item). PassesTo wanted is (i ∷ left m to)) (sym (left_before m)) is)
 
-  pub row_answered : (at : ℕ) (p : Piece) → IsSlotBetween size from to end at → size ≤ length (bytes_from at v) → piece_bytes p ≡ take size (bytes_from at v) → IsFormOf size p
-      → ((m : Holding) → holds ≡ Some m → StandsIn w (bytes_of name m) → FirstRow (row_in_slot size (file m) at) (left m from) (left m to))
-      → AfterTableRow holds old (Ok (Some (at, p))) (slot_scan name test extend end to ((at, size) ∷ []) v)
-  row_answered at p placed few is form told = (
+  pub row_answered : (wanted : Wanted) (at : ℕ) (p : Piece) → IsSlotBetween size from to end at → size ≤ length (bytes_from at v) → piece_bytes p ≡ take size (bytes_from at v) → IsFormOf size p
+      → ((m : Holding) → holds ≡ Some m → StandsIn w (bytes_of name m) → PassesTo wanted (left m from) (row (row_in_slot size (file m) at) ∷ left m to))
+      → AfterTable wanted holds old (Ok (Some (item.Row at p))) (slot_scan name test extend end to ((at, size) ∷ []) v)
+  row_answered wanted at p placed few is form told = (
     record {
       same = same_scan to ((at, size) ∷ []) v;
       rises = omega (arith, old_place, placed.0, placed.1, k.some);
+      between = (omega (arith, old_place, placed.0), omega (arith, placed.1, k.some));
       within = k.within;
+      falls = inl (sym old_end);
       whole = whole_scan;
       stands = (lends_slot size at p form, (refl, (slot_inside at placed, tt)));
       told = λ m held.
           let here = slot_here at p m held (omega (arith, placed.1, placed.2)) few is in
-          (row_in_slot size (file m) at, ahead FirstRow (row_in_slot size (file m) at) ((at, size) ∷ []) m (told m held (stood m held)), (refl, here.0, here.1));
+          record { first = row (row_in_slot size (file m) at); next = ahead wanted _ ((at, size) ∷ []) m (told m held (stood m held)); is = (refl, here.0, here.1) };
       current = known_now ((at, size) ∷ []);
     },
     λ e. not_dynamic old.test.format old_static e,
   )
 
-  pub item_answered : (at : ℕ) (p : Piece) → IsSlotBetween size from to end at → size ≤ length (bytes_from at v) → piece_bytes p ≡ take size (bytes_from at v) → IsFormOf size p
-      → ((m : Holding) → holds ≡ Some m → StandsIn w (bytes_of name m) → FirstItem (row (row_in_slot size (file m) at)) (left m from) (left m to))
-      → AfterTableItem holds old (Ok (Some (item.Row at p))) (slot_scan name test extend end to ((at, size) ∷ []) v)
-  item_answered at p placed few is form told = (
-    record {
-      same = same_scan to ((at, size) ∷ []) v;
-      rises = omega (arith, old_place, placed.0, placed.1, k.some);
-      within = k.within;
-      whole = whole_scan;
-      stands = (lends_slot size at p form, (refl, (slot_inside at placed, tt)));
-      told = λ m held.
-          let here = slot_here at p m held (omega (arith, placed.1, placed.2)) few is in
-          (row (row_in_slot size (file m) at), ahead FirstItem (row (row_in_slot size (file m) at)) ((at, size) ∷ []) m (told m held (stood m held)), (refl, here.0, here.1));
-      current = known_now ((at, size) ∷ []);
-    },
-    λ e. not_dynamic old.test.format old_static e,
-  )
-
-  pub free_answered : (at : ℕ) → IsSlotBetween size from to end at
-      → ((m : Holding) → holds ≡ Some m → StandsIn w (bytes_of name m) → FirstItem (free (at, at + size)) (left m from) (left m to))
-      → AfterTableItem holds old (Ok (Some (item.Free at size))) (slot_scan name test extend end to blocks v)
-  free_answered at placed told = (
+  pub free_answered : (wanted : Wanted) (at : ℕ) → IsSlotBetween size from to end at
+      → ((m : Holding) → holds ≡ Some m → StandsIn w (bytes_of name m) → PassesTo wanted (left m from) (free (at, at + size) ∷ left m to))
+      → AfterTable wanted holds old (Ok (Some (item.Free at size))) (slot_scan name test extend end to blocks v)
+  free_answered wanted at placed told = (
     record {
       same = same_scan to blocks v;
       rises = omega (arith, old_place, placed.0, placed.1, k.some);
+      between = (omega (arith, old_place, placed.0), omega (arith, placed.1, k.some));
       within = k.within;
+      falls = inl (sym old_end);
       whole = whole_scan;
       stands = (sym old_blocks, slot_inside at placed);
-      told = λ m held. (free (at, at + size), ahead FirstItem (free (at, at + size)) blocks m (told m held (stood m held)), (refl, sym old_blocks));
+      told = λ m held. record { first = free (at, at + size); next = ahead wanted _ blocks m (told m held (stood m held)); is = (refl, sym old_blocks) };
       current = known_now blocks;
     },
     λ e. not_dynamic old.test.format old_static e,
   )
 
-  module _ {X Found : Type 0} (First : X → List Item → List Item → Type 0) (NoneLeft : List Item → Type 0) (Is : X → Found → List (ℕ × ℕ) → List (ℕ × ℕ) → Type 0) (Stands : Found → TableScan → TableScan → Type 0) where
-    ended : to ≡ end → ((m : Holding) → holds ≡ Some m → StandsIn w (bytes_of name m) → NoneLeft (left m from)) → HasEnded items_ahead First NoneLeft Is Stands IsAsKnown holds old (slot_scan name test extend end to blocks v)
-    ended last told = record {
+  pub ended : (wanted : Wanted) → to ≡ end → ((m : Holding) → holds ≡ Some m → StandsIn w (bytes_of name m) → ArePassed wanted (left m from)) → AfterTable wanted holds old (Ok None) (slot_scan name test extend end to blocks v)
+  ended wanted last told = (
+    record {
       same = same_scan to blocks v;
       ended = last;
+      falls = inl (sym old_end);
       whole = whole_scan;
       blocks = sym old_blocks;
-      told = λ m held. (subst NoneLeft (sym (left_before m)) (told m held (stood m held)), left_at to blocks v m ∙ end_left (packs test) size end to (bytes_of name m) k.some (omega arith));
+      told = λ m held. (subst (ArePassed wanted) (sym (left_before m)) (told m held (stood m held)), left_at to blocks v m ∙ end_left (packs test) size end to (bytes_of name m) k.some (omega arith));
       current = known_now blocks;
-    }
+    },
+    λ e. tt,
+  )
 
-    kept : ((m : Holding) → holds ≡ Some m → StandsIn w (bytes_of name m) → left m to ≡ left m from) → Keeps items_ahead First NoneLeft Is Stands IsAsKnown holds old (slot_scan name test extend end to blocks v)
-    kept told = record {
+  pub kept : (wanted : Wanted) → to ≡ from → AfterTable wanted holds old (Err File) (slot_scan name test extend end to blocks v)
+  kept wanted same = (
+    record {
       same = same_scan to blocks v;
-      later = omega (arith, old_place, k.later);
+      place = same ∙ sym old_place;
+      used = ap (λ (s : TableScan). s.used) k.view;
       within = k.within;
+      falls = inl (sym old_end);
       whole = whole_scan;
       blocks = sym old_blocks;
-      told = λ m held. left_at to blocks v m ∙ told m held (stood m held) ∙ sym (left_before m);
+      told = λ m held. left_at to blocks v m ∙ ap (left m) same ∙ sym (left_before m);
       current = known_now blocks;
-    }
-
-  pub items_ended : to ≡ end → ((m : Holding) → holds ≡ Some m → StandsIn w (bytes_of name m) → NoItem (left m from)) → AfterTableItem holds old (Ok None) (slot_scan name test extend end to blocks v)
-  items_ended last told = (ended FirstItem NoItem IsItem StandsItem last told, λ e. tt)
-
-  pub rows_ended : to ≡ end → ((m : Holding) → holds ≡ Some m → StandsIn w (bytes_of name m) → NoRow (left m from)) → AfterTableRow holds old (Ok None) (slot_scan name test extend end to blocks v)
-  rows_ended last told = (ended FirstRow NoRow IsRow StandsRow last told, λ e. tt)
-
-  pub items_kept : ((m : Holding) → holds ≡ Some m → StandsIn w (bytes_of name m) → left m to ≡ left m from) → AfterTableItem holds old (Err File) (slot_scan name test extend end to blocks v)
-  items_kept told = (kept FirstItem NoItem IsItem StandsItem told, λ e. not_dynamic old.test.format old_static e)
-
-  pub rows_kept : to ≡ from → AfterTableRow holds old (Err File) (slot_scan name test extend end to blocks v)
-  rows_kept same = (kept FirstRow NoRow IsRow StandsRow (λ m held stood. ap (left m) same), λ e. not_dynamic old.test.format old_static e)
+    },
+    λ e. tt,
+  )
 
   pub some_ahead : from < end → old.place < old.end
   some_ahead some = omega (arith, old_place, old_end, some)
-
-  pub no_plain : {P : Type 0} (m : Holding) → MeetsPlainRow old m → P
-  no_plain m meets = not_dynamic old.test.format old_static meets.0
 
   -- the bytes that are answered pack a row of the scan's table, and are a slot of its file
   pub row_packs : (bytes : List ℕ) (at : ℕ) → bytes ≡ take size (bytes_from at v) → packs test (take size (bytes_from at v)) ≡ true → packs old.test bytes ≡ true

@@ -1,4 +1,6 @@
--- A scan of a table's data file: what of the file is left, in either format, and when the file is as the scan knows it.
+-- A scan of a table's data file: what of the file is left, in either format, when the file is as the scan knows it, and
+-- what its calls answer and leave. A call is asked for items, or for rows alone; the answer of a call for rows is seen as
+-- that of one for items.
 use Rattle.std.specs.Prelude.{◌≡◌, ◌≤◌, ◌+◌, ℕ, Bool, List, length, drop, Option, Result}
 use Rattle.myi_base.specs.Holding.{Holding, bytes_of}
 use Rattle.myi_base.specs.Ranges.{Range}
@@ -6,14 +8,14 @@ use Rattle.myi_defs.specs.declared.types.RowFormat.{RowFormat}
 use Rattle.myi_defs.specs.declared.types.RowFormat.TheVariants.{Static, Dynamic}
 use Rattle.myi_defs.specs.declared.types.Defs.{Defs}
 use Rattle.myi_frames.specs.Block.{block_of}
-use Rattle.myi_chain.specs.declared.piece.Piece.{Piece}
 use Rattle.myi_chain.specs.declared.piece.Item.{Item}
 use Rattle.myi_chain.specs.declared.piece.Item.TheVariants as item
 use Rattle.myi_chain.specs.declared.piece.ScanFault.{ScanFault}
 use Rattle.myi_chain.specs.Readable.{Row, rows_of, rest}
 use Rattle.myi_chain.specs.Readable as chains
 use Rattle.myi_chain.specs.Pieces.{piece_bytes}
-use Rattle.myi_chain.specs.ScanModel.{Scanning, scanned, KeptStands, Passes, PassesRow, MeetsPlain, GoesOnPlain, LeavesItemsOf, LeavesRowsOf}
+use Rattle.myi_chain.specs.declared.piece.Wanted.{Wanted}
+use Rattle.myi_chain.specs.ScanModel.{Scanning, scanned, KeptStands, Passes, MayLack, Says, Leaves, GoesOnPlain}
 use Rattle.myi_data.specs.Readable.{packs, items_at}
 
 -- A scan of a table's data file up to its end: its `test` is the definitions of the table.
@@ -38,13 +40,6 @@ pub record IsAsKnown (s : TableScan) (m : Holding) : Type 0 where
   pub kept : KeptStands s m
   pub long : s.test.format ≡ Dynamic → s.end ≤ length (bytes_of s.name m)
 
--- the bytes of an answered row pack a row of the table
-abbrev pub PacksItem : TableScan → Item → Type 0
-PacksItem s found = Passes (packs s.test) found
-
-abbrev pub PacksRow : TableScan → ℕ × Piece → Type 0
-PacksRow s found = PassesRow (packs s.test) found
-
 -- so many bytes at a place are a slot of the file, if the table is static
 abbrev pub IsSlotAt : TableScan → ℕ → ℕ → Type 0
 IsSlotAt s at size = s.test.format ≡ Static → (size ≡ s.test.slot_length) × (at + s.test.slot_length ≤ s.end)
@@ -54,16 +49,18 @@ abbrev pub IsSlotItem : TableScan → Item → Type 0
 IsSlotItem s (item.Row at p) = IsSlotAt s at (length (piece_bytes p))
 IsSlotItem s (item.Free at size) = IsSlotAt s at size
 
-abbrev pub IsSlotRow : TableScan → ℕ × Piece → Type 0
-IsSlotRow s found = IsSlotAt s found.0 (length (piece_bytes found.1))
+-- an answered row packs a row of the table, and what is answered of a static table is a slot
+abbrev pub IsOfTable : TableScan → Item → Type 0
+IsOfTable s found = Passes (packs s.test) found × IsSlotItem s found
 
--- in a dynamic table a row is met, as were all before it, for which no memory is taken
-abbrev pub MeetsPlainRow : TableScan → Holding → Type 0
-MeetsPlainRow s m = (s.test.format ≡ Dynamic) × MeetsPlain packs s m
+-- A call takes memory only of a dynamic table; there, where the files tell what they hold, only if no row comes next for
+-- which none is taken.
+abbrev pub MayLackMemory : Option Holding → TableScan → Type 0
+MayLackMemory holds s = (s.test.format ≡ Dynamic) × MayLack packs holds s
 
--- the scan after a call of next_item, and after one of next_row
-abbrev pub AfterTableItem : Option Holding → TableScan → Result (Option Item) ScanFault → TableScan → Type 0
-AfterTableItem holds old result new = LeavesItemsOf items_ahead IsAsKnown holds old result new × (old.test.format ≡ Dynamic → GoesOnPlain packs holds old result new)
+-- what a call answers, and the scan after it
+abbrev pub FindsInTable : Wanted → Option Holding → TableScan → Result (Option Item) ScanFault → Type 0
+FindsInTable wanted holds old result = Says (IsOfTable old) (MayLackMemory holds old) wanted old result
 
-abbrev pub AfterTableRow : Option Holding → TableScan → Result (Option (ℕ × Piece)) ScanFault → TableScan → Type 0
-AfterTableRow holds old result new = LeavesRowsOf items_ahead IsAsKnown holds old result new × (old.test.format ≡ Dynamic → GoesOnPlain packs holds old result new)
+abbrev pub AfterTable : Wanted → Option Holding → TableScan → Result (Option Item) ScanFault → TableScan → Type 0
+AfterTable wanted holds old result new = Leaves items_ahead IsAsKnown wanted holds old result new × (old.test.format ≡ Dynamic → GoesOnPlain packs holds old result new)

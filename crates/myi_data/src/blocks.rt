@@ -1,15 +1,15 @@
 //! `BlockScan`: the blocks of a dynamic table's data file, seen as a scan of a table.
-ghost use Rattle.std.specs.Prelude.{◌≡◌, ◌<◌, OnErr, IfOk, IfErr, IfSome};
+ghost use Rattle.std.specs.Prelude.{◌≡◌, IfOk};
 ghost use Rattle.std.specs.Borrow.{sem};
 ghost use Rattle.std.specs.Io.BufRead.{Rests};
 ghost use Rattle.myi_base.specs.Holding.{IfTold};
 ghost use Rattle.myi_base.specs.Causes.{HasCause};
-ghost use Rattle.myi_defs.specs.declared.types.RowFormat.TheVariants.{Static, Dynamic};
-ghost use Rattle.myi_chain.specs.declared.piece.ScanFault.TheVariants.{File, Memory};
-ghost use Rattle.myi_data.specs.Scanning.{IsAsKnown, MeetsPlainRow, PacksItem, PacksRow, IsSlotItem, IsSlotRow, AfterTableItem, AfterTableRow};
+ghost use Rattle.myi_defs.specs.declared.types.RowFormat.TheVariants.{Dynamic};
+ghost use Rattle.myi_chain.specs.declared.piece.ScanFault.TheVariants.{File};
+ghost use Rattle.myi_data.specs.Scanning.{IsAsKnown, FindsInTable, AfterTable};
 
 use crate::row_test::RowTest;
-use myi_chain::{Item, Piece, Scan, ScanFault, ScanSetup};
+use myi_chain::{Item, Scan, ScanFault, ScanSetup, Wanted};
 use myi_io::Files;
 use std::alloc::{AllocError, Global};
 use std::marker::Model;
@@ -33,15 +33,15 @@ impl Model for BlockScan {
 }
 
 impl BlockScan {
-    ghost use Rattle.std.specs.Prelude.{◌≡◌, ◌<◌, OnErr, IfOk, IfErr, IfSome};
+    ghost use Rattle.std.specs.Prelude.{◌≡◌, IfOk};
     ghost use Rattle.std.specs.Borrow.{sem};
     ghost use Rattle.std.specs.Io.BufRead.{Rests};
     ghost use Rattle.myi_base.specs.Holding.{IfTold};
     ghost use Rattle.myi_base.specs.Causes.{HasCause};
-    ghost use Rattle.myi_defs.specs.declared.types.RowFormat.TheVariants.{Static, Dynamic};
-    ghost use Rattle.myi_chain.specs.declared.piece.ScanFault.TheVariants.{File, Memory};
+    ghost use Rattle.myi_defs.specs.declared.types.RowFormat.TheVariants.{Dynamic};
+    ghost use Rattle.myi_chain.specs.declared.piece.ScanFault.TheVariants.{File};
+    ghost use Rattle.myi_data.specs.Scanning.{IsAsKnown, FindsInTable, AfterTable};
     ghost use Rattle.myi_chain.specs.ScanModel.{fresh_scan};
-    ghost use Rattle.myi_data.specs.Scanning.{IsAsKnown, MeetsPlainRow, PacksItem, PacksRow, IsSlotItem, IsSlotRow, AfterTableItem, AfterTableRow};
     ghost use Rattle.myi_data.specs.contracts.blocks.BlockScan.{the_row};
 
     /// A scan of the file of that name, of a dynamic table that the test is for. Nothing is read yet.
@@ -59,44 +59,20 @@ impl BlockScan {
         Ok(BlockScan { scan })
     }
 
-    /// The next row or deleted block, and None where none is left.
-    pub(crate) fn next_item<F: Files>(
+    /// The next row or deleted block that is wanted, and None where none is left.
+    pub(crate) fn next_wanted<F: Files>(
         &mut self,
         files: &mut F,
+        wanted: Wanted,
     ) -> Result<Option<Item<'_>>, ScanFault>
         requires { IfTold (F.holds files.old) (IsAsKnown self.old) }
-        ensures packs { IfOk result (λ found. IfSome found (PacksItem self.old)) }
-        ensures slot { IfOk result (λ found. IfSome found (IsSlotItem self.old)) }
-        ensures never { self.old.test.format ≡ Static → IfErr result (λ e. e ≡ File) }
-        ensures plain { IfErr result (λ e. e ≡ Memory
-            → IfTold (F.holds files.old) (λ m. MeetsPlainRow self.old m → ⊥)) }
-        ensures failing { OnErr result (self.old.place < self.old.end) }
+        ensures says { FindsInTable wanted (F.holds files.old) self.old result }
         ensures holds { F.holds files.new ≡ F.holds files.old }
         ensures cause { HasCause File (F.faults files.old) (F.faults files.new) result }
         ensures* after { sem 𝓛 (Rests the_row self.entry
-            (AfterTableItem (F.holds files.old) self.old result)) }
+            (AfterTable wanted (F.holds files.old) self.old result)) }
     {
-        self.scan.next_item(files)
-    }
-
-    /// The next row with its position, and None where no row is left.
-    pub(crate) fn next_row<F: Files>(
-        &mut self,
-        files: &mut F,
-    ) -> Result<Option<(u64, Piece<'_>)>, ScanFault>
-        requires { IfTold (F.holds files.old) (IsAsKnown self.old) }
-        ensures packs { IfOk result (λ found. IfSome found (PacksRow self.old)) }
-        ensures slot { IfOk result (λ found. IfSome found (IsSlotRow self.old)) }
-        ensures never { self.old.test.format ≡ Static → IfErr result (λ e. e ≡ File) }
-        ensures plain { IfErr result (λ e. e ≡ Memory
-            → IfTold (F.holds files.old) (λ m. MeetsPlainRow self.old m → ⊥)) }
-        ensures failing { OnErr result (self.old.place < self.old.end) }
-        ensures holds { F.holds files.new ≡ F.holds files.old }
-        ensures cause { HasCause File (F.faults files.old) (F.faults files.new) result }
-        ensures* after { sem 𝓛 (Rests the_row self.entry
-            (AfterTableRow (F.holds files.old) self.old result)) }
-    {
-        self.scan.next_row(files)
+        self.scan.next_wanted(files, wanted)
     }
 
     /// The blocks of the row that was answered last.

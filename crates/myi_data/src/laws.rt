@@ -21,15 +21,15 @@ ghost use Rattle.myi_data.specs.Keys.{content, seg_of, key_at, segments_of, Tell
 ghost use Rattle.myi_pack.specs.Packed.{Values};
 ghost use Rattle.myi_chain.specs.Chain.{AreApart};
 ghost use Rattle.myi_chain.specs.Meeting.{ranges_of, AreRising};
-ghost use Rattle.myi_chain.specs.declared.piece.Piece.{Piece};
+ghost use Rattle.myi_chain.specs.declared.piece.Wanted.{Wanted};
 ghost use Rattle.myi_chain.specs.declared.piece.Item.{Item};
 ghost use Rattle.myi_chain.specs.declared.piece.ScanFault.{ScanFault};
-ghost use Rattle.myi_chain.specs.ScanModel.{fresh_scan, FirstRow};
+ghost use Rattle.myi_chain.specs.ScanModel.{fresh_scan};
 ghost use Rattle.myi_chain.specs.Readable.{Row, rows_of};
 ghost use Rattle.myi_chain.specs.Readable as chains;
 ghost use Rattle.myi_data.specs.Slots.{Slot, slots_in};
 ghost use Rattle.myi_data.specs.Readable.{packs, slot_range, slot_row, slot_items, items_in, readable, deleted};
-ghost use Rattle.myi_data.specs.Scanning.{TableScan, items_ahead, IsAsKnown, AfterTableItem, AfterTableRow};
+ghost use Rattle.myi_data.specs.Scanning.{TableScan, items_ahead, IsAsKnown, AfterTable};
 ghost use Rattle.myi_data.specs.Plain.{IsPlain, plain_rows};
 ghost use Rattle.myi_data.specs.Stored.{SizedRow, PackARow, IsStorable, own_block, group_by, stored_by};
 ghost use Rattle.myi_data.specs.Stored.{stored_size, stored, stored_file, stored_rows};
@@ -120,8 +120,7 @@ pub fn null_bits_tell()
 /// A scan of which nothing was read has all of its file ahead, and knows of it only how long it is at
 /// least. At its end a scan has nothing ahead, so that a new scan of an empty file has ended. What is
 /// ahead, and whether the file is as the scan knows it, hangs on that file's bytes alone; after a call of
-/// the scan the file is as the scan knows it then. A row that comes first of what is ahead is the first of
-/// the rows.
+/// the scan the file is as the scan knows it then.
 pub fn scans_begin_with_all()
     ensures fresh { (name : List ℕ) (d : Defs) (extend : Bool) (end : ℕ) (m : Holding)
         → items_ahead (fresh_scan name d extend end) m
@@ -135,11 +134,7 @@ pub fn scans_begin_with_all()
         → items_ahead s n ≡ items_ahead s m }
     ensures stays { (s : TableScan) (m n : Holding) → bytes_of s.name n ≡ bytes_of s.name m
         → IsAsKnown s m → IsAsKnown s n }
-    ensures items { (h : Option Holding) (old new : TableScan) (r : Result (Option Item) ScanFault)
-        → AfterTableItem h old r new → IfTold h (IsAsKnown new) }
-    ensures rows { (h : Option Holding) (old new : TableScan)
-        (r : Result (Option (ℕ × Piece)) ScanFault)
-        → AfterTableRow h old r new → IfTold h (IsAsKnown new) }
-    ensures first { (r : Row) (before after : List chains.Item) → FirstRow r before after
-        → rows_of before ≡ r ∷ rows_of after }
+    ensures after { (wanted : Wanted) (h : Option Holding) (old new : TableScan)
+        (r : Result (Option Item) ScanFault)
+        → AfterTable wanted h old r new → IfTold h (IsAsKnown new) }
 {}

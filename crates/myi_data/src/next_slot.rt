@@ -1,7 +1,7 @@
 //! The slots of a static table's data file, one after the other, as their bytes are read.
 //!
 //! `first_slot` looks at the bytes at hand alone; what it says holds of every file in which they stand.
-//! `next_slot` and `next_row_slot` go through a file, a `SlotFile`, from a place on.
+//! `next_slot` goes through a file, a `SlotFile`, from a place on.
 ghost use Rattle.std.specs.Prelude.{◌≡◌, ◌≤◌, ◌<◌, ◌+◌, length, take, IfOk, IfErr, OnErr};
 ghost use Rattle.myi_base.specs.Holding.{IfTold};
 ghost use Rattle.myi_base.specs.Causes.{HasCause};
@@ -10,13 +10,23 @@ ghost use Rattle.myi_window.specs.Excerpt.{bytes_from, EndsBy, GoesOnStanding};
 ghost use Rattle.myi_chain.specs.Pieces.{piece_bytes};
 ghost use Rattle.myi_data.specs.Readable.{packs};
 ghost use Rattle.myi_data.specs.SlotBytes.{IsFormOf};
-ghost use Rattle.myi_data.specs.NextSlot.{IsFirst, IsPlaced, IsHeld, Finds, IsRowPlaced, IsRowHeld, FindsRow, MeetsSame};
+ghost use Rattle.myi_data.specs.NextSlot.{IsKind, IsFirst, IsPlaced, IsHeld, Finds};
 
 use crate::row_test::RowTest;
 use crate::slot_bytes::SlotBytes;
-use myi_chain::{Accepts, Piece};
+use myi_chain::{Accepts, Piece, Wanted};
 use myi_io::{FileErr, Files};
 use myi_window::WINDOW;
+
+/// What a slot is.
+#[derive(Clone, Copy)]
+pub(crate) enum SlotKind {
+    Row,
+    /// Its first byte is 0.
+    Free,
+    /// Nothing that is wanted.
+    Neither,
+}
 
 /// What stands first in some bytes of slots.
 #[derive(Clone, Copy)]
@@ -25,7 +35,7 @@ pub(crate) enum FirstSlot {
     Row(usize),
     /// A slot whose first byte is 0, behind so many bytes.
     Free(usize),
-    /// Slots of so many bytes, none of which is a row or deleted.
+    /// Slots of so many bytes, none of which is wanted.
     Neither(usize),
 }
 
@@ -49,92 +59,56 @@ pub(crate) struct SlotFile<'a> {
     pub(crate) end: u64,
 }
 
-/// The first slot of these bytes that is a row or deleted.
-fn first_slot(bytes: &[u8], test: &RowTest, size: usize) -> FirstSlot
+/// What a slot of these bytes is.
+fn slot_kind(slot: &[u8], test: &RowTest, wanted: Wanted) -> SlotKind
+    requires { 0 < length slot.now }
+    ensures { IsKind wanted (packs test.now) slot.now result }
+{
+    if slot[0] == 0 {
+        return match wanted {
+            Wanted::Items => SlotKind::Free,
+            Wanted::Rows => SlotKind::Neither,
+        };
+    }
+    if test.accepts(slot) {
+        return SlotKind::Row;
+    }
+    SlotKind::Neither
+}
+
+/// The first slot of these bytes that is wanted.
+fn first_slot(bytes: &[u8], test: &RowTest, size: usize, wanted: Wanted) -> FirstSlot
     requires { 0 < size }
-    ensures { IsFirst (packs test.now) size bytes.now result }
+    ensures { IsFirst wanted (packs test.now) size bytes.now result }
 {
     let mut at = 0;
     while bytes.len() - at >= size {
-        if bytes[at] == 0 {
-            return FirstSlot::Free(at);
+        match slot_kind(&bytes[at..at + size], test, wanted) {
+            SlotKind::Row => return FirstSlot::Row(at),
+            SlotKind::Free => return FirstSlot::Free(at),
+            SlotKind::Neither => at += size,
         }
-        if test.accepts(&bytes[at..at + size]) {
-            return FirstSlot::Row(at);
-        }
-        at += size;
     }
     FirstSlot::Neither(at)
 }
 
-/// Goes behind the next slot that is a row or deleted, and says where it stands.
+/// Goes behind the next slot that is wanted, and says where it stands. After an error the place is as
+/// before.
 pub(crate) fn next_slot<F: Files>(
     files: &mut F,
     file: &SlotFile<'_>,
     bytes: &mut SlotBytes,
     place: &mut u64,
+    wanted: Wanted,
 ) -> Result<Option<NextSlot>, FileErr>
     requires some { 0 < file.now.size }
     requires sized { bytes.old.size ≡ file.now.size }
     requires order { place.old ≤ file.now.end }
     requires inside { EndsBy file.now.end bytes.old.held }
-    ensures placed { IfOk result (IsPlaced file.now.size place.old place.new file.now.end) }
+    ensures placed { IfOk result (IsPlaced wanted file.now.size place.old place.new file.now.end) }
     ensures held { IfOk result (IsHeld (packs file.now.test.now) file.now.size bytes.new.held) }
     ensures found { IfOk result (λ found. IfTold (F.holds files.old)
-        (Finds file.now bytes.old.held place.old place.new found)) }
-    ensures later { place.old ≤ place.new }
-    ensures within { place.new ≤ file.now.end }
-    ensures err { OnErr result (IfTold (F.holds files.old)
-        (MeetsSame file.now bytes.old.held place.old place.new)) }
-    ensures size { bytes.new.size ≡ bytes.old.size }
-    ensures stands { IfTold (F.holds files.old)
-        (GoesOnStanding file.now.name.now bytes.old.held bytes.new.held) }
-    ensures inside { EndsBy file.now.end bytes.new.held }
-    ensures failing { OnErr result (place.old < file.now.end) }
-    ensures failed { IfErr result (λ e. e ≡ Failed) }
-    ensures holds { F.holds files.new ≡ F.holds files.old }
-    ensures cause { HasCause Failed (F.faults files.old) (F.faults files.new) result }
-{
-    while file.size as u64 <= file.end - *place {
-        if !bytes.reach(files, file.name, *place, file.end)? {
-            *place = file.end;
-            return Ok(None);
-        }
-        match first_slot(bytes.bytes_from(*place), file.test, file.size) {
-            FirstSlot::Neither(skip) => *place += skip as u64,
-            FirstSlot::Free(skip) => {
-                let at = *place + skip as u64;
-                *place = at + file.size as u64;
-                return Ok(Some(NextSlot::Free(at)));
-            }
-            FirstSlot::Row(skip) => {
-                let at = *place + skip as u64;
-                *place = at + file.size as u64;
-                return Ok(Some(NextSlot::Row(at)));
-            }
-        }
-    }
-    *place = file.end;
-    Ok(None)
-}
-
-/// Goes behind the next slot that is a row, over deleted ones, and says where it stands. After an error
-/// the place is as before.
-pub(crate) fn next_row_slot<F: Files>(
-    files: &mut F,
-    file: &SlotFile<'_>,
-    bytes: &mut SlotBytes,
-    place: &mut u64,
-) -> Result<Option<u64>, FileErr>
-    requires some { 0 < file.now.size }
-    requires sized { bytes.old.size ≡ file.now.size }
-    requires order { place.old ≤ file.now.end }
-    requires inside { EndsBy file.now.end bytes.old.held }
-    ensures placed { IfOk result (IsRowPlaced file.now.size place.old place.new file.now.end) }
-    ensures held { IfOk result (IsRowHeld (packs file.now.test.now) file.now.size bytes.new.held) }
-    ensures found { IfOk result (λ found. IfTold (F.holds files.old)
-        (FindsRow file.now bytes.old.held place.old place.new found)) }
-    ensures later { place.old ≤ place.new }
+        (Finds wanted file.now bytes.old.held place.old place.new found)) }
     ensures within { place.new ≤ file.now.end }
     ensures err { OnErr result (place.new ≡ place.old) }
     ensures size { bytes.new.size ≡ bytes.old.size }
@@ -147,13 +121,22 @@ pub(crate) fn next_row_slot<F: Files>(
     ensures cause { HasCause Failed (F.faults files.old) (F.faults files.new) result }
 {
     let mut behind = *place;
-    while behind < file.end {
-        match next_slot(files, file, bytes, &mut behind)? {
-            None => behind = file.end,
-            Some(NextSlot::Free(_)) => {}
-            Some(NextSlot::Row(at)) => {
-                *place = behind;
-                return Ok(Some(at));
+    while file.size as u64 <= file.end - behind {
+        if !bytes.reach(files, file.name, behind, file.end)? {
+            *place = file.end;
+            return Ok(None);
+        }
+        match first_slot(bytes.bytes_from(behind), file.test, file.size, wanted) {
+            FirstSlot::Neither(skip) => behind += skip as u64,
+            FirstSlot::Free(skip) => {
+                let at = behind + skip as u64;
+                *place = at + file.size as u64;
+                return Ok(Some(NextSlot::Free(at)));
+            }
+            FirstSlot::Row(skip) => {
+                let at = behind + skip as u64;
+                *place = at + file.size as u64;
+                return Ok(Some(NextSlot::Row(at)));
             }
         }
     }

@@ -4,19 +4,19 @@
 //! definitions as the test of what packs a row. Where it stands, and so what of the file is left, is its
 //! model, a `TableScan` of `specs/Scanning`, the same for both. Nothing is known of bytes that were not
 //! read: each call is told that the file is as the one before left it.
-ghost use Rattle.std.specs.Prelude.{◌≡◌, ◌<◌, OnErr, IfOk, IfErr, IfSome};
+ghost use Rattle.std.specs.Prelude.{◌≡◌, IfOk};
 ghost use Rattle.std.specs.Borrow.{sem};
 ghost use Rattle.std.specs.Io.BufRead.{Rests};
 ghost use Rattle.myi_base.specs.Holding.{IfTold};
 ghost use Rattle.myi_base.specs.Causes.{HasCause};
-ghost use Rattle.myi_defs.specs.declared.types.RowFormat.TheVariants.{Static};
-ghost use Rattle.myi_chain.specs.declared.piece.ScanFault.TheVariants.{File, Memory};
-ghost use Rattle.myi_data.specs.Scanning.{IsAsKnown, MeetsPlainRow, PacksItem, PacksRow, IsSlotItem, IsSlotRow, AfterTableItem, AfterTableRow};
+ghost use Rattle.myi_chain.specs.declared.piece.ScanFault.TheVariants.{File};
+ghost use Rattle.myi_chain.specs.declared.piece.Wanted.TheVariants.{Items, Rows};
+ghost use Rattle.myi_data.specs.Scanning.{IsAsKnown, FindsInTable, AfterTable};
 
 use crate::blocks::BlockScan;
 use crate::row_test::RowTest;
 use crate::slots::SlotScan;
-use myi_chain::{Item, Piece, ScanFault, ScanSetup};
+use myi_chain::{Item, Piece, ScanFault, ScanSetup, Wanted};
 use myi_defs::RowFormat;
 use myi_io::Files;
 use std::alloc::AllocError;
@@ -51,15 +51,15 @@ impl Model for DataScan {
 }
 
 impl DataScan {
-    ghost use Rattle.std.specs.Prelude.{◌≡◌, ◌<◌, OnErr, IfOk, IfErr, IfSome};
+    ghost use Rattle.std.specs.Prelude.{◌≡◌, IfOk};
     ghost use Rattle.std.specs.Borrow.{sem};
     ghost use Rattle.std.specs.Io.BufRead.{Rests};
     ghost use Rattle.myi_base.specs.Holding.{IfTold};
     ghost use Rattle.myi_base.specs.Causes.{HasCause};
-    ghost use Rattle.myi_defs.specs.declared.types.RowFormat.TheVariants.{Static};
-    ghost use Rattle.myi_chain.specs.declared.piece.ScanFault.TheVariants.{File, Memory};
-    ghost use Rattle.myi_chain.specs.ScanModel.{fresh_scan};
-    ghost use Rattle.myi_data.specs.Scanning.{IsAsKnown, MeetsPlainRow, PacksItem, PacksRow, IsSlotItem, IsSlotRow, AfterTableItem, AfterTableRow};
+    ghost use Rattle.myi_chain.specs.declared.piece.ScanFault.TheVariants.{File};
+    ghost use Rattle.myi_chain.specs.declared.piece.Wanted.TheVariants.{Items, Rows};
+    ghost use Rattle.myi_data.specs.Scanning.{IsAsKnown, FindsInTable, AfterTable};
+    ghost use Rattle.myi_chain.specs.ScanModel.{fresh_scan, as_items};
     ghost use Rattle.myi_data.specs.contracts.scan.DataScan.{the_row};
 
     /// A scan of the file of that name, of a table that the test is for. Nothing is read yet.
@@ -75,50 +75,59 @@ impl DataScan {
         Ok(DataScan { inner })
     }
 
-    /// The next row or deleted block, and None where none is left. In a static table a slot whose first
-    /// byte is 0 is a deleted block. Deleted blocks come as they are passed, also those that a later
-    /// row's block meets. After an error the next call answers as this one would have.
-    pub fn next_item<F: Files>(&mut self, files: &mut F) -> Result<Option<Item<'_>>, ScanFault>
+    // The next row or deleted block that is wanted, and None where none is left.
+    fn next_wanted<F: Files>(
+        &mut self,
+        files: &mut F,
+        wanted: Wanted,
+    ) -> Result<Option<Item<'_>>, ScanFault>
         requires { IfTold (F.holds files.old) (IsAsKnown self.old) }
-        ensures packs { IfOk result (λ found. IfSome found (PacksItem self.old)) }
-        ensures slot { IfOk result (λ found. IfSome found (IsSlotItem self.old)) }
-        ensures never { self.old.test.format ≡ Static → IfErr result (λ e. e ≡ File) }
-        ensures plain { IfErr result (λ e. e ≡ Memory
-            → IfTold (F.holds files.old) (λ m. MeetsPlainRow self.old m → ⊥)) }
-        ensures failing { OnErr result (self.old.place < self.old.end) }
+        ensures says { FindsInTable wanted (F.holds files.old) self.old result }
         ensures holds { F.holds files.new ≡ F.holds files.old }
         ensures cause { HasCause File (F.faults files.old) (F.faults files.new) result }
         ensures* after { sem 𝓛 (Rests the_row self.entry
-            (AfterTableItem (F.holds files.old) self.old result)) }
+            (AfterTable wanted (F.holds files.old) self.old result)) }
     {
         match &mut self.inner {
-            Inner::Slots(scan) => scan.next_item(files),
-            Inner::Blocks(scan) => scan.next_item(files),
+            Inner::Slots(scan) => scan.next_wanted(files, wanted),
+            Inner::Blocks(scan) => scan.next_wanted(files, wanted),
         }
     }
 
-    /// The next row with its position, and None where no row is left. Deleted blocks before it are
-    /// passed. A row is lent where it is one block or slot of at most 131,072 bytes. After an error the
-    /// next call answers as this one would have.
+    /// The next row or deleted block, and None where none is left. In a static table a slot whose first
+    /// byte is 0 is a deleted block. Deleted blocks come as they are passed, also those that a later
+    /// row's block meets. A row is lent where it is one block or slot of at most 131,072 bytes. After an
+    /// error the scan stands where it stood, and the next call answers as this one would have.
+    pub fn next_item<F: Files>(&mut self, files: &mut F) -> Result<Option<Item<'_>>, ScanFault>
+        requires { IfTold (F.holds files.old) (IsAsKnown self.old) }
+        ensures says { FindsInTable Items (F.holds files.old) self.old result }
+        ensures holds { F.holds files.new ≡ F.holds files.old }
+        ensures cause { HasCause File (F.faults files.old) (F.faults files.new) result }
+        ensures* after { sem 𝓛 (Rests the_row self.entry
+            (AfterTable Items (F.holds files.old) self.old result)) }
+    {
+        self.next_wanted(files, Wanted::Items)
+    }
+
+    /// The next row with its position, and None where no row is left: as `next_item`, with deleted blocks
+    /// passed.
     pub fn next_row<F: Files>(
         &mut self,
         files: &mut F,
     ) -> Result<Option<(u64, Piece<'_>)>, ScanFault>
         requires { IfTold (F.holds files.old) (IsAsKnown self.old) }
-        ensures packs { IfOk result (λ found. IfSome found (PacksRow self.old)) }
-        ensures slot { IfOk result (λ found. IfSome found (IsSlotRow self.old)) }
-        ensures never { self.old.test.format ≡ Static → IfErr result (λ e. e ≡ File) }
-        ensures plain { IfErr result (λ e. e ≡ Memory
-            → IfTold (F.holds files.old) (λ m. MeetsPlainRow self.old m → ⊥)) }
-        ensures failing { OnErr result (self.old.place < self.old.end) }
+        ensures says { FindsInTable Rows (F.holds files.old) self.old (as_items result) }
         ensures holds { F.holds files.new ≡ F.holds files.old }
         ensures cause { HasCause File (F.faults files.old) (F.faults files.new) result }
         ensures* after { sem 𝓛 (Rests the_row self.entry
-            (AfterTableRow (F.holds files.old) self.old result)) }
+            (AfterTable Rows (F.holds files.old) self.old (as_items result))) }
     {
-        match &mut self.inner {
-            Inner::Slots(scan) => scan.next_row(files),
-            Inner::Blocks(scan) => scan.next_row(files),
+        let Some(item) = self.next_wanted(files, Wanted::Rows)? else {
+            return Ok(None);
+        };
+        match item {
+            Item::Row(at, piece) => Ok(Some((at, piece))),
+            Item::Free { .. } => unreachable!(),
         }
     }
 

@@ -3,19 +3,19 @@
 //! A row is lent as a slice of the window; one that is longer than a window is read whole into a
 //! buffer of the scan. No memory is taken once the scan is made. Where it stands, and so what of the
 //! file is left, is its model, a `TableScan` of `specs/Scanning`.
-ghost use Rattle.std.specs.Prelude.{◌≡◌, ◌<◌, OnErr, IfOk, IfErr, IfSome};
+ghost use Rattle.std.specs.Prelude.{◌≡◌, IfOk};
 ghost use Rattle.std.specs.Borrow.{sem};
 ghost use Rattle.std.specs.Io.BufRead.{Rests};
 ghost use Rattle.myi_base.specs.Holding.{IfTold};
 ghost use Rattle.myi_base.specs.Causes.{HasCause};
 ghost use Rattle.myi_defs.specs.declared.types.RowFormat.TheVariants.{Static};
-ghost use Rattle.myi_chain.specs.declared.piece.ScanFault.TheVariants.{File, Memory};
-ghost use Rattle.myi_data.specs.Scanning.{IsAsKnown, MeetsPlainRow, PacksItem, PacksRow, IsSlotItem, IsSlotRow, AfterTableItem, AfterTableRow};
+ghost use Rattle.myi_chain.specs.declared.piece.ScanFault.TheVariants.{File};
+ghost use Rattle.myi_data.specs.Scanning.{IsAsKnown, FindsInTable, AfterTable};
 
-use crate::next_slot::{NextSlot, SlotFile, next_row_slot, next_slot, slot_at};
+use crate::next_slot::{NextSlot, SlotFile, next_slot, slot_at};
 use crate::row_test::RowTest;
 use crate::slot_bytes::SlotBytes;
-use myi_chain::{Item, Piece, ScanFault, ScanSetup};
+use myi_chain::{Item, ScanFault, ScanSetup, Wanted};
 use myi_io::Files;
 use std::alloc::{AllocError, Global};
 use std::marker::Model;
@@ -72,15 +72,15 @@ impl Model for SlotScan {
 }
 
 impl SlotScan {
-    ghost use Rattle.std.specs.Prelude.{◌≡◌, ◌<◌, OnErr, IfOk, IfErr, IfSome};
+    ghost use Rattle.std.specs.Prelude.{◌≡◌, IfOk};
     ghost use Rattle.std.specs.Borrow.{sem};
     ghost use Rattle.std.specs.Io.BufRead.{Rests};
     ghost use Rattle.myi_base.specs.Holding.{IfTold};
     ghost use Rattle.myi_base.specs.Causes.{HasCause};
     ghost use Rattle.myi_defs.specs.declared.types.RowFormat.TheVariants.{Static};
-    ghost use Rattle.myi_chain.specs.declared.piece.ScanFault.TheVariants.{File, Memory};
+    ghost use Rattle.myi_chain.specs.declared.piece.ScanFault.TheVariants.{File};
+    ghost use Rattle.myi_data.specs.Scanning.{IsAsKnown, FindsInTable, AfterTable};
     ghost use Rattle.myi_chain.specs.ScanModel.{fresh_scan};
-    ghost use Rattle.myi_data.specs.Scanning.{IsAsKnown, MeetsPlainRow, PacksItem, PacksRow, IsSlotItem, IsSlotRow, AfterTableItem, AfterTableRow};
     ghost use Rattle.myi_data.specs.contracts.slots.SlotScan.{the_row};
 
     /// A scan of the file of that name, of a static table that the test is for. Its memory is taken,
@@ -108,22 +108,18 @@ impl SlotScan {
         })
     }
 
-    /// The next row or deleted slot, and None where none is left.
-    pub(crate) fn next_item<F: Files>(
+    /// The next slot that is wanted, a row or deleted, and None where none is left.
+    pub(crate) fn next_wanted<F: Files>(
         &mut self,
         files: &mut F,
+        wanted: Wanted,
     ) -> Result<Option<Item<'_>>, ScanFault>
         requires { IfTold (F.holds files.old) (IsAsKnown self.old) }
-        ensures packs { IfOk result (λ found. IfSome found (PacksItem self.old)) }
-        ensures slot { IfOk result (λ found. IfSome found (IsSlotItem self.old)) }
-        ensures never { self.old.test.format ≡ Static → IfErr result (λ e. e ≡ File) }
-        ensures plain { IfErr result (λ e. e ≡ Memory
-            → IfTold (F.holds files.old) (λ m. MeetsPlainRow self.old m → ⊥)) }
-        ensures failing { OnErr result (self.old.place < self.old.end) }
+        ensures says { FindsInTable wanted (F.holds files.old) self.old result }
         ensures holds { F.holds files.new ≡ F.holds files.old }
         ensures cause { HasCause File (F.faults files.old) (F.faults files.new) result }
         ensures* after { sem 𝓛 (Rests the_row self.entry
-            (AfterTableItem (F.holds files.old) self.old result)) }
+            (AfterTable wanted (F.holds files.old) self.old result)) }
     {
         let size = self.test.slot_length() as usize;
         let file = SlotFile {
@@ -132,7 +128,7 @@ impl SlotScan {
             size,
             end: self.end,
         };
-        let Some(slot) = next_slot(files, &file, &mut self.bytes, &mut self.place)? else {
+        let Some(slot) = next_slot(files, &file, &mut self.bytes, &mut self.place, wanted)? else {
             return Ok(None);
         };
         match slot {
@@ -145,37 +141,6 @@ impl SlotScan {
                 Ok(Some(Item::Row(at, slot_at(&self.bytes, at, size))))
             }
         }
-    }
-
-    /// The next row with its position, and None where no row is left.
-    pub(crate) fn next_row<F: Files>(
-        &mut self,
-        files: &mut F,
-    ) -> Result<Option<(u64, Piece<'_>)>, ScanFault>
-        requires { IfTold (F.holds files.old) (IsAsKnown self.old) }
-        ensures packs { IfOk result (λ found. IfSome found (PacksRow self.old)) }
-        ensures slot { IfOk result (λ found. IfSome found (IsSlotRow self.old)) }
-        ensures never { self.old.test.format ≡ Static → IfErr result (λ e. e ≡ File) }
-        ensures plain { IfErr result (λ e. e ≡ Memory
-            → IfTold (F.holds files.old) (λ m. MeetsPlainRow self.old m → ⊥)) }
-        ensures failing { OnErr result (self.old.place < self.old.end) }
-        ensures holds { F.holds files.new ≡ F.holds files.old }
-        ensures cause { HasCause File (F.faults files.old) (F.faults files.new) result }
-        ensures* after { sem 𝓛 (Rests the_row self.entry
-            (AfterTableRow (F.holds files.old) self.old result)) }
-    {
-        let size = self.test.slot_length() as usize;
-        let file = SlotFile {
-            name: self.name.as_str(),
-            test: &self.test,
-            size,
-            end: self.end,
-        };
-        let Some(at) = next_row_slot(files, &file, &mut self.bytes, &mut self.place)? else {
-            return Ok(None);
-        };
-        self.last = Some((at, size as u32));
-        Ok(Some((at, slot_at(&self.bytes, at, size))))
     }
 
     /// The slot of the row that was answered last.

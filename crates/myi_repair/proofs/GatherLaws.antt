@@ -13,11 +13,13 @@ use Rattle.myi_chain.specs.declared.piece.Piece.{Piece}
 use Rattle.myi_chain.specs.declared.piece.ScanFault.{ScanFault}
 use Rattle.myi_chain.specs.Readable.{Row, rows_of}
 use Rattle.myi_chain.specs.Pieces.{piece_bytes}
-use Rattle.myi_chain.specs.ScanModel.{fresh_scan, IsSameScan}
+use Rattle.myi_chain.specs.declared.piece.Wanted.TheVariants.{Rows}
+use Rattle.myi_chain.specs.ScanModel.{fresh_scan, IsSameScan, as_item, as_items}
+use Rattle.myi_chain.proofs.CallerLemmas.{row_first}
 use Rattle.myi_data.specs.Stored.{SizedRow, values_in, stored_file}
 use Rattle.myi_data.specs.Readable.{items_in, readable}
-use Rattle.myi_data.specs.Scanning.{TableScan, items_ahead, rows_ahead, IsAsKnown, AfterTableRow}
-use Rattle.myi_data.proofs.CallerLemmas.{fresh_ahead, fresh_known, ahead_same, known_same, rows_first}
+use Rattle.myi_data.specs.Scanning.{TableScan, items_ahead, rows_ahead, IsAsKnown, AfterTable}
+use Rattle.myi_data.proofs.CallerLemmas.{fresh_ahead, fresh_known, ahead_same, known_same}
 use Rattle.myi_pair.specs.Clean.{values_of, sized_row}
 use Rattle.myi_pair.specs.FirstRows.{repeats, first_after, first_rows}
 use Rattle.myi_repair.specs.declared.kept.KeptRows.{KeptRows}
@@ -33,11 +35,11 @@ use Rattle.myi_repair.proofs.OpenLaws.{is_opened}
 -- ---- one row
 
 -- what a call answered, and what it leaves
-pub answered_of : (h : Option Holding) (old new : TableScan) (r : Result (Option (ℕ × Piece)) ScanFault) (o : Option (ℕ × Piece)) (x : ℕ × Piece) → r ≡ Ok o → o ≡ Some x → AfterTableRow h old r new → AfterTableRow h old (Ok (Some x)) new
-answered_of h old new r o x ok some leaves = subst (λ o. AfterTableRow h old (Ok o) new) some (subst (λ r. AfterTableRow h old r new) ok leaves)
+pub answered_of : (h : Option Holding) (old new : TableScan) (r : Result (Option (ℕ × Piece)) ScanFault) (o : Option (ℕ × Piece)) (x : ℕ × Piece) → r ≡ Ok o → o ≡ Some x → AfterTable Rows h old (as_items r) new → AfterTable Rows h old (Ok (Some (as_item x))) new
+answered_of h old new r o x ok some leaves = subst (λ o. AfterTable Rows h old (as_items (Ok o)) new) some (subst (λ r. AfterTable Rows h old (as_items r) new) ok leaves)
 
-pub ended_of : (h : Option Holding) (old new : TableScan) (r : Result (Option (ℕ × Piece)) ScanFault) (o : Option (ℕ × Piece)) → r ≡ Ok o → o ≡ None → AfterTableRow h old r new → AfterTableRow h old (Ok None) new
-ended_of h old new r o ok none leaves = subst (λ o. AfterTableRow h old (Ok o) new) none (subst (λ r. AfterTableRow h old r new) ok leaves)
+pub ended_of : (h : Option Holding) (old new : TableScan) (r : Result (Option (ℕ × Piece)) ScanFault) (o : Option (ℕ × Piece)) → r ≡ Ok o → o ≡ None → AfterTable Rows h old (as_items r) new → AfterTable Rows h old (Ok None) new
+ended_of h old new r o ok none leaves = subst (λ o. AfterTable Rows h old (as_items (Ok o)) new) none (subst (λ r. AfterTable Rows h old (as_items r) new) ok leaves)
 
 -- a file of another name keeps its bytes
 pub same_name : (file name : List ℕ) (m n : Holding) → (name ≡ file → ⊥) → OthersStay file m n → bytes_of name n ≡ bytes_of name m
@@ -107,16 +109,16 @@ same_then a b c p q = record { name = q.name ∙ p.name; test = q.test ∙ p.tes
 
 -- ---- the first row that is left was taken
 
-pub took_row : (d : Defs) (file : List ℕ) (h : Option Holding) (old new : TableScan) (k l : KeptRows) (m n : Holding) (found : ℕ × Piece) (view : Values) (bytes : List ℕ) → h ≡ Some m → (old.name ≡ file → ⊥) → OthersStay file m n → AfterTableRow h old (Ok (Some found)) new → bytes ≡ piece_bytes found.1 → row_of d bytes ≡ Some view
+pub took_row : (d : Defs) (file : List ℕ) (h : Option Holding) (old new : TableScan) (k l : KeptRows) (m n : Holding) (found : ℕ × Piece) (view : Values) (bytes : List ℕ) → h ≡ Some m → (old.name ≡ file → ⊥) → OthersStay file m n → AfterTable Rows h old (Ok (Some (as_item found))) new → bytes ≡ piece_bytes found.1 → row_of d bytes ≡ Some view
     → l.kept + l.repeats ≡ k.kept + k.repeats + 1 → ((sizes : List ℕ) → TakesIn d (with_sizes view sizes) k l)
     → ((sizes : List ℕ) → WritesIn d file (with_sizes view sizes) k m n) → TakesRow d file old new k l m n
 took_row d file h old new k l m n found view bytes told apart others answered shows read one kept written =
-    let answer = answered.0.told m told in
+    let answer = row_first (items_ahead old m) (items_ahead new m) found.0 found.1 old.blocks new.blocks (answered.0.told m told) in
     let row = answer.0 in
     let values : values_of d row ≡ view = ap (λ b. unwrap_or (row_of d b) []) (sym (shows ∙ answer.2.1)) ∙ ap (λ o. unwrap_or o []) read in
     record {
       row = row;
-      first = rows_first row (items_ahead old m) (items_ahead new m) answer.1 ∙ ap (λ (rs : List Row). row ∷ rs) (sym (rows_same new m n (same_name file new.name m n (λ e. apart (sym answered.0.same.name ∙ e)) others)));
+      first = answer.1 ∙ ap (λ (rs : List Row). row ∷ rs) (sym (rows_same new m n (same_name file new.name m n (λ e. apart (sym answered.0.same.name ∙ e)) others)));
       counted = one;
       kept = subst (λ v. TakesIn d (with_sizes v (sized_row d row).sizes) k l) (sym values) (kept (sized_row d row).sizes);
       written = subst (λ v. WritesIn d file (with_sizes v (sized_row d row).sizes) k m n) (sym values) (written (sized_row d row).sizes);

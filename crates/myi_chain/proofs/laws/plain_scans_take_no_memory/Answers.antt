@@ -1,5 +1,5 @@
 use Rattle.std.proofs.Common.{refl}
-use Rattle.myi_chain.proofs.ScanLemmas.{plain_meets, plain_item, plain_row}
+use Rattle.myi_chain.proofs.ScanLemmas.{plain_meets, plain_after}
 use Rattle.myi_chain.proofs.laws.plain_scans_take_no_memory.Goals as goal
 
 pub returns : goal.returns
@@ -8,6 +8,5 @@ returns g c =
     record {
       begin = λ name test extend end m bs laid short. record { plain = refl; blocks = bs; laid = laid; short = short };
       meets = plain_meets gives;
-      items = plain_item gives;
-      rows = plain_row gives;
+      goes = plain_after gives;
     }

@@ -1,4 +1,4 @@
-use Rattle.std.proofs.Common.{◌≡◌, ◌∙◌, None, refl, subst, arith}
+use Rattle.std.proofs.Common.{◌≡◌, ◌∙◌, ◌+◌, None, refl, subst, arith}
 use Rattle.std.specs.Prelude.{IfSome}
 use Rattle.myi_frames.specs.Seeing.{HeadsBlock}
 use Rattle.myi_chain.specs.Source.{read_bytes, read_blocks, CanAdd}
@@ -6,7 +6,7 @@ use Rattle.myi_base.specs.Holding.{IfTold}
 use Rattle.myi_chain.specs.declared.piece.ScanFault.TheVariants.{Memory}
 use Rattle.myi_chain.specs.Found.{MeetsShortAt, IsHeld, found_at, found_blocks}
 use Rattle.myi_chain.proofs.SourceLemmas.{long_bytes}
-use Rattle.myi_chain.proofs.StepLemmas.{over_used, over_none, over_block, found_at_place, short_refused, short_adds, short_needs, if_err, heads_now, finds_here, free_held, free_lies, behind_block}
+use Rattle.myi_chain.proofs.StepLemmas.{over_used, over_none, over_block, found_at_place, short_refused, short_adds, short_needs, if_err, heads_now, finds_here, free_held, free_lies, free_between, behind_block}
 use Rattle.myi_chain.proofs.step.step.Goals as goal
 
 pub returns-then-at-used_end-clause-told : goal.returns-then-at-used_end-clause-told
@@ -93,6 +93,19 @@ returns-clause-short g c m held meets =
     let place = subst (λ o. IfSome o (Rattle.myi_chain.specs.Source.IsHeader p c.slide_to.new.self.end)) c.in-Some.is c.in_ok-block.ensures.place in
     let none = finds_here (g.F.Files.holds a.files.now) a.source.now c.slide_to.new.self m held c.in-Some.block.head.at p used accepts c.slide_to.new.self.kept c.row_at.new.row.chain.taken c.row_at.new.row.joined.items _ None c.slide_to.ensures.reads place.here c.in_default-2.is (c.in_ok-found.ensures.told m (c.slide_to.ensures.holds ∙ held)) in
     absurd (short_refused x accepts p used meets none)
+
+pub returns-clause-rises : goal.returns-clause-rises
+returns-clause-rises g c =
+    let end = c.slide_to.new.self.end in
+    let place = subst (λ o. IfSome o (Rattle.myi_chain.specs.Source.IsHeader c.args.position.now.place end)) c.in-Some.is c.in_ok-block.ensures.place in
+    free_between c.args.position.now.place (c.args.position.now.place + c.min-2.result) c.in-Some.block c.past-skip.result.1 place.here (omega (arith, c.past-skip.ensures.rises, c.min-2.ensures, c.end-2.ensures, place.place)) c.past-skip.ensures.here
+
+pub returns-in-Some-2-clause-rises : goal.returns-in-Some-2-clause-rises
+returns-in-Some-2-clause-rises g c =
+    let used = c.args.position.now.used in
+    let place = subst (λ o. IfSome o (Rattle.myi_chain.specs.Source.IsHeader c.args.position.now.place c.slide_to.new.self.end)) c.in-Some.is c.in_ok-block.ensures.place in
+    let can = subst (λ o. IfSome o (λ r. (found_at r ≡ c.in-Some.block.head.at) × CanAdd used (found_blocks c.row_at.new.row.chain.taken r))) c.in-Some-2.is c.in_ok-found.ensures.can in
+    (omega (arith, can.0, place.here), omega (arith, can.0, place.here, place.place.least))
 
 pub returns-clause-lies : goal.returns-clause-lies
 returns-clause-lies g c =

@@ -1,4 +1,4 @@
-use Rattle.myi_data.proofs.CallerLemmas.{fresh_ahead, fresh_known, ahead_ended, ahead_same, known_same, items_known, rows_known, rows_first}
+use Rattle.myi_data.proofs.CallerLemmas.{fresh_ahead, fresh_known, ahead_ended, ahead_same, known_same, after_known}
 use Rattle.myi_data.proofs.laws.scans_begin_with_all.Goals as goal
 
 pub returns : goal.returns
@@ -8,7 +8,5 @@ returns c = record {
   ended = ahead_ended;
   ahead = ahead_same;
   stays = known_same;
-  items = items_known;
-  rows = rows_known;
-  first = rows_first;
+  after = after_known;
 }

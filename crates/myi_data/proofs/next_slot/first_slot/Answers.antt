@@ -1,27 +1,33 @@
-use Rattle.std.proofs.Common.{◌∙◌, sym, arith, true, false}
+use Rattle.std.proofs.Common.{subst, arith}
 use Rattle.myi_data.specs.Readable.{packs}
-use Rattle.myi_data.proofs.SlotLemmas.{cut_same}
+use Rattle.myi_data.specs.NextSlot.{IsKind}
+use Rattle.myi_data.proofs.SlotLemmas.{cut_here}
 use Rattle.myi_data.proofs.NextSlotLemmas.{free_met, row_met, other_met, none_met}
 use Rattle.myi_data.proofs.next_slot.first_slot.Goals as goal
 
 pub loop-at-init : goal.loop-at-init
-loop-at-init c = record { inside = omega arith; whole = λ some. absurd (omega arith); passes = none_met (packs c.args.test.now) c.args.size c.args.bytes.now c.requires }
+loop-at-init c = record { inside = omega arith; whole = λ some. absurd (omega arith); passes = none_met c.args.wanted (packs c.args.test.now) c.args.size c.args.bytes.now c.requires }
 
-pub returns-then-bytes-at-eq0 : goal.returns-then-bytes-at-eq0
-returns-then-bytes-at-eq0 c = (omega arith, free_met (packs c.args.test.now) c.args.size c.args.bytes.now c.requires c.loop-at.at c.loop-at.invariant.passes (omega arith) c.if-bytes-at-eq0.true)
+pub returns-in-Free : goal.returns-in-Free
+returns-in-Free c =
+    let is = subst (λ b. IsKind c.args.wanted (packs c.args.test.now) b c.slot_kind.result) (cut_here c.loop-at.at c.args.size c.args.bytes.now) c.slot_kind.ensures in
+    let kind = subst (IsKind c.args.wanted (packs c.args.test.now) _) c.in-Free.is is in
+    (omega arith, kind.0, free_met c.args.wanted (packs c.args.test.now) c.args.size c.args.bytes.now c.requires c.loop-at.at c.loop-at.invariant.passes (omega arith) kind)
 
-pub returns-then-accepts : goal.returns-then-accepts
-returns-then-accepts c =
-    let packed = cut_same (packs c.args.test.now) c.loop-at.at c.args.size c.args.bytes.now true (sym c.accepts.ensures ∙ c.if-accepts.true) in
-    (omega arith, packed, row_met (packs c.args.test.now) c.args.size c.args.bytes.now c.requires c.loop-at.at c.loop-at.invariant.passes (omega arith) c.if-bytes-at-eq0.false packed)
+pub returns-in-Row : goal.returns-in-Row
+returns-in-Row c =
+    let is = subst (λ b. IsKind c.args.wanted (packs c.args.test.now) b c.slot_kind.result) (cut_here c.loop-at.at c.args.size c.args.bytes.now) c.slot_kind.ensures in
+    let kind = subst (IsKind c.args.wanted (packs c.args.test.now) _) c.in-Row.is is in
+    (omega arith, kind.0, row_met c.args.wanted (packs c.args.test.now) c.args.size c.args.bytes.now c.requires c.loop-at.at c.loop-at.invariant.passes (omega arith) kind)
 
 pub loop-at-preserved : goal.loop-at-preserved
 loop-at-preserved c =
-    let other = cut_same (packs c.args.test.now) c.loop-at.at c.args.size c.args.bytes.now false (sym c.accepts.ensures ∙ c.if-accepts.false) in
+    let is = subst (λ b. IsKind c.args.wanted (packs c.args.test.now) b c.slot_kind.result) (cut_here c.loop-at.at c.args.size c.args.bytes.now) c.slot_kind.ensures in
+    let kind = subst (IsKind c.args.wanted (packs c.args.test.now) _) c.in-Neither.is is in
     record {
       inside = omega arith;
       whole = λ some. omega arith;
-      passes = other_met (packs c.args.test.now) c.args.size c.args.bytes.now c.requires c.loop-at.at c.loop-at.invariant.passes (omega arith) c.if-bytes-at-eq0.false other;
+      passes = other_met c.args.wanted (packs c.args.test.now) c.args.size c.args.bytes.now c.requires c.loop-at.at c.loop-at.invariant.passes (omega arith) kind;
     }
 
 pub returns : goal.returns

@@ -7,7 +7,7 @@ abbrev pub invariant-loop-at : goal.invariant-loop-at
 invariant-loop-at l = record {
   inside : l.at ≤ length l.bytes;
   whole : 0 < l.at → l.size ≤ l.at;
-  passes : HoldNone (packs l.test) l.size l.bytes l.at;
+  passes : HoldNone l.wanted (packs l.test) l.size l.bytes l.at;
 }
 
 abbrev pub decreases-loop-at : goal.decreases-loop-at

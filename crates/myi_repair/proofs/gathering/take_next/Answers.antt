@@ -1,9 +1,10 @@
-use Rattle.std.proofs.Common.{◌≡◌, ◌∙◌, ℕ, refl, sym, ap, subst, true, arith}
-use Rattle.std.specs.Prelude.{IfSome}
+use Rattle.std.proofs.Common.{◌≡◌, ◌∙◌, ℕ, refl, Ok, sym, ap, subst, true, arith}
 use Rattle.myi_defs.proofs.CallerLemmas.{sound}
 use Rattle.myi_pack.proofs.CallerLemmas.{row-fits}
 use Rattle.myi_data.specs.Readable.{packs}
-use Rattle.myi_data.specs.Scanning.{PacksRow}
+use Rattle.myi_chain.specs.declared.piece.Wanted.TheVariants.{Rows}
+use Rattle.myi_chain.specs.ScanModel.{as_items}
+use Rattle.myi_data.specs.Scanning.{FindsInTable}
 use Rattle.myi_chain.specs.declared.piece.Piece.{Piece}
 use Rattle.myi_repair.proofs.FilesLaws.{told_and, told_from}
 use Rattle.myi_repair.proofs.GatherLaws.{answered_of, ended_of, took_row, stays_known}
@@ -15,8 +16,8 @@ view_packed-row-requires-clause-sound g c = sound c.args.defs.now c.requires.def
 
 pub view_packed-row-requires-clause-packed : goal.view_packed-row-requires-clause-packed
 view_packed-row-requires-clause-packed g c =
-    let passed = subst (λ o. IfSome o (PacksRow c.args.scan.now)) c.in-Some.is c.in_ok-piece.ensures.packs in
-    subst (λ d. packs d c.bytes.result.now ≡ true) c.requires.test (ap (packs c.args.scan.now.test) c.bytes.ensures ∙ passed)
+    let says = subst (λ o. FindsInTable Rows (g.F.Files.holds c.args.files.now) c.args.scan.now (as_items (Ok o))) c.in-Some.is c.in_ok-piece.ensures.says in
+    subst (λ d. packs d c.bytes.result.now ≡ true) c.requires.test (ap (packs c.args.scan.now.test) c.bytes.ensures ∙ says.packs.0)
 
 pub take-requires-clause-row : goal.take-requires-clause-row
 take-requires-clause-row g c κs lives = row-fits c.args.defs.now c.view_packed-row.result c.bytes.result.now (sound c.args.defs.now c.requires.defs) c.view_packed-row.ensures.packs

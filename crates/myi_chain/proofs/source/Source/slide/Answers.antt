@@ -1,9 +1,9 @@
-use Rattle.std.proofs.Common.{◌<◌, ◌≤◌, ◌+◌, ℕ, List, length, ap, subst, arith}
+use Rattle.std.proofs.Common.{◌≡◌, ◌<◌, ◌≤◌, ◌+◌, ◌∙◌, ℕ, List, length, ap, subst, arith, inr}
 use Rattle.std.specs.Prelude.{string_bytes}
 use Rattle.myi_window.specs.Excerpt.{bytes_from}
 use Rattle.myi_window.specs.declared.window.TheConstants.{WINDOW}
 use Rattle.myi_chain.specs.Source.{SourceModel}
-use Rattle.myi_chain.proofs.SourceLemmas.{reads_on, reads_cut}
+use Rattle.myi_chain.proofs.SourceLemmas.{reads_on, reads_cut, held_here}
 use Rattle.myi_chain.proofs.source.Source.slide.Goals as goal
 
 pub returns-in_err-slide-clause-reads : goal.returns-in_err-slide-clause-reads
@@ -22,3 +22,8 @@ returns-clause-reads g c =
     let order : c.args.at ≤ i.end = omega (arith, c.requires.order, ap (λ (s : SourceModel). s.end) c.self.view_is) in
     let few : length (bytes_from c.args.at c.slide.new.self) < WINDOW = subst (λ (xs : List ℕ). length xs < WINDOW) c.bytes_from-count.ensures.bytes c.if-count-ge-WINDOW.false in
     reads_cut (g.F.Files.holds c.args.files.now) c.args.self.now (string_bytes i.name) c.as_str.result.now i.end (c.args.at + length c.bytes_from-count.result.now) c.args.at i.window c.slide.new.self c.self.view_is c.as_str.ensures.value order c.requires.ready c.slide.ensures.stands c.slide.ensures.from c.in_ok-slide.ensures.full few c.slide.ensures.inside (ap (λ (xs : List ℕ). c.args.at + length xs) c.bytes_from-count.ensures.bytes)
+
+pub returns-clause-falls : goal.returns-clause-falls
+returns-clause-falls g c =
+    let count : length c.bytes_from-count.result.now ≡ length c.slide.new.self.bytes = ap (λ (xs : List ℕ). length xs) (c.bytes_from-count.ensures.bytes ∙ held_here c.args.at c.slide.new.self c.slide.ensures.from) in
+    inr ((omega (arith, count, c.slide.ensures.from), omega (arith, count, c.if-count-ge-WINDOW.false)), omega (arith, c.slide.ensures.from))
