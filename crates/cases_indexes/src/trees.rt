@@ -287,10 +287,34 @@ fn laid(words: &Words, args: &[&str]) -> Result<String, Fault> {
     Ok(out)
 }
 
+/// `lay LENGTH POINTER WIDTH COUNT`: the same tree laid from place 0: its root and its pages.
+fn lay(words: &Words, args: &[&str]) -> Result<String, Fault> {
+    let [block_length, rec_ref, width, count] = args else {
+        return Err(Fault::Unread);
+    };
+    let alloc = words.alloc();
+    let place = unrooted(*block_length, *rec_ref)?;
+    let (width, count) = (size(*width)?, four_bytes(*count)?);
+    if width > MOST_WEIGHTS {
+        return Err(Fault::Unread);
+    }
+    let pairs = numbered_pairs(alloc, width, count)?;
+    if !are_sized(place, &pairs) {
+        return Err(Fault::Unread);
+    }
+    let laid = myi_btree::lay(alloc, &place, &pairs)?;
+    let mut out = String::new(alloc);
+    let root = PlaceText(laid.place.root);
+    write!(out, "root {root} ")?;
+    push_word(&mut out, &laid.pages)?;
+    Ok(out)
+}
+
 /// The answer to a call of this module, and None where the name is no such call.
 pub fn answer(words: &Words, name: &str, args: &[&str]) -> Option<Result<String, Fault>> {
     match name {
         "laid" => Some(laid(words, args)),
+        "lay" => Some(lay(words, args)),
         "build" => Some(build(words, args)),
         "walk" => Some(walk(words, args)),
         _ => None,

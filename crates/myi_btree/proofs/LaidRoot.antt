@@ -1,10 +1,11 @@
 -- The root of a tree that is laid.
-use Rattle.std.proofs.Common.{◌≡◌, ℕ, suc, ◌+◌, ◌-◌, ◌*◌, ◌≤◌, Bool, true, false, ltb, Option, Some, List, [], ◌∷◌, length, refl, sym, ap, ◌∙◌, arith}
+use Rattle.std.proofs.Common.{◌≡◌, ℕ, suc, ◌+◌, ◌-◌, ◌*◌, ◌≤◌, Bool, true, false, ltb, Option, Some, None, List, [], ◌∷◌, length, refl, sym, ap, ◌∙◌, arith}
 use Rattle.std.proofs.lemmas.List.{length-append}
 use Rattle.myi_keylist.specs.declared.pair.Pair.{Pair}
 use Rattle.myi_btree.specs.declared.place.Place.{Place}
 use Rattle.myi_btree.specs.Walk.{Node}
-use Rattle.myi_btree.specs.Sizes.{fits_in}
+use Rattle.std.specs.Option.{SomeIff}
+use Rattle.myi_btree.specs.Sizes.{IsPlaced, fits_in}
 use Rattle.myi_btree.specs.LaidPages.{Level, level_of, places_from, above, levels_from}
 use Rattle.myi_btree.specs.Building.{laid_at, built_at}
 use Rattle.myi_btree.proofs.BuildClear.{root_some}
@@ -29,3 +30,12 @@ root_is place first end pairs some is =
     let k = laid_some place first pairs some in
     let at : end - place.block_length ≡ first + place.block_length * k.0 = omega (arith, is, ap (λ (n : ℕ). place.block_length * n) k.1) in
     ap {A = Option ℕ} {B = Place} (λ r. record place { root = r }) (ap Some at ∙ sym (root_some place.block_length first k.0 (laid_at place first pairs) k.1))
+
+-- the root of pages from place 0 on, which is none where there is no page
+pub root_behind : (place : Place) (end : ℕ) (pairs : List Pair) (root : Option ℕ) → IsPlaced place → end ≡ place.block_length * length (laid_at place 0 pairs) → SomeIff root (place.block_length ≤ end) (end - place.block_length)
+    → ◌≡◌ {A = Place} (record place { root = root }) (built_at place 0 pairs)
+root_behind place end [] None placed is none = refl
+root_behind place end [] (Some x) placed is some = absurd (omega (arith, is, some.0, placed.least))
+root_behind place end (p ∷ ps) None placed is none = absurd (none (ends_behind place 0 end (p ∷ ps) (λ e. omega (arith, e)) (omega (arith, is))))
+root_behind place end (p ∷ ps) (Some x) placed is some =
+    ap {A = Option ℕ} {B = Place} (λ r. record place { root = r }) (ap Some some.1) ∙ root_is place 0 end (p ∷ ps) (λ e. omega (arith, e)) (omega (arith, is))

@@ -3,6 +3,7 @@ use Rattle.std.proofs.Common.{◌≡◌, ◌⊎◌, ℕ, Option, Some, None, zer
 use Rattle.std.specs.List.{AllByRecursion}
 use Rattle.std.proofs.Math.Seq.{drop-cons}
 use Rattle.std.proofs.lemmas.Bool.{lt-ltb, ne_eqb, cases_lt}
+use Rattle.std.proofs.lemmas.Grind.{flat_map-append}
 use Rattle.std.proofs.lemmas.List.{length-append, length-map, length-drop, take_all, drop_all}
 use Rattle.myi_keypage.specs.Page.{page_with, IsPlace, IsBranching}
 use Rattle.myi_keys.specs.declared.values.KeySeg.{KeySeg}
@@ -13,7 +14,7 @@ use Rattle.myi_btree.specs.Walk.{Node, node_with}
 use Rattle.myi_btree.specs.Nodes.{entry_of, entries_of, page_of_node}
 use Rattle.myi_btree.specs.Sizes.{IsPlaced, IsSized, AreSized, fits_in, IsCount}
 use Rattle.myi_btree.specs.LaidPages.{Fits, Level, level_of, with_page, places_from}
-use Rattle.myi_btree.specs.Building.{laid_at}
+use Rattle.myi_btree.specs.Building.{laid_at, page_for, pages_bytes}
 use Rattle.myi_btree.specs.Levels.{FitsPage, CanLevel, upper}
 use Rattle.myi_btree.specs.declared.laying.Laying.{Laying}
 use Rattle.myi_btree.specs.declared.laying.Level.{Level as LaidLevel}
@@ -246,3 +247,11 @@ end_more block first at end done node e f = by (length (done ++ node ∷ [])) (l
 pub none_left : (old : Laying) (page : List ℕ) (r : Option ℕ) (new : Laying) (nodes : List Node) → ((x : ℕ) → r ≡ Some x → ⊥) → GivesNext old page r new nodes → (nodes ≡ []) × (new.end ≡ old.end)
 none_left old page None new nodes not next = next
 none_left old page (Some x) new nodes not next = absurd (not x refl)
+
+pub end_on : (block at end : ℕ) (done : List Node) (node : Node) → at ≡ block * length done → end ≡ at + block → end ≡ block * length (done ++ node ∷ [])
+end_on block at end done node e f = let k = end_more block 0 at end done node (omega (arith, e)) f in omega (arith, k)
+
+-- the bytes of one more page
+pub bytes_more : (place : Place) (before : List ℕ) (done : List Node) (node : Node) (page : List ℕ) → page ≡ page_for place node → (before ++ pages_bytes place done) ++ page ≡ before ++ pages_bytes place (done ++ node ∷ [])
+bytes_more place before done node page e =
+    append_assoc before (pages_bytes place done) page ∙ ap (λ (t : List ℕ). before ++ t) (ap (λ (t : List ℕ). pages_bytes place done ++ t) (e ∙ sym (append-nil (page_for place node))) ∙ sym (flat_map-append (page_for place) done (node ∷ [])))

@@ -27,6 +27,7 @@ pub mod LaidOnce
 pub mod LaidRanges
 pub mod BuildClear
 pub mod LaidRoot
+pub mod LaidMoves
 pub mod FewMet
 pub mod StartLaws
 pub mod CanLaws

@@ -1,7 +1,7 @@
 -- What building a tree does to a key cache and the files.
 use Rattle.std.specs.Prelude.{◌≡◌, ◌⊎◌, ℕ, ◌+◌, ◌≤◌, true, List, [], ◌∷◌, length, Option, Some}
 use Rattle.myi_base.specs.Holding.{Holding, Told, overwritten, OthersStay}
-use Rattle.std.specs.List.{AllByRecursion}
+use Rattle.std.specs.List.{AllByRecursion, flat_map}
 use Rattle.myi_keys.specs.Limits.{IsKey}
 use Rattle.myi_keypage.specs.declared.entry.Entry.{Entry}
 use Rattle.myi_keypage.specs.Page.{Page as IndexPage, page_with, page_bytes, is_node, IsBranching, IsWritable}
@@ -36,6 +36,10 @@ page_made place entries children = whole_page place (page_with entries children)
 -- the page of a node
 unfoldable pub page_for : Place → Node → List ℕ
 page_for place node = whole_page place (page_of_node node)
+
+-- the pages of these nodes, one behind the other
+abbrev pub pages_bytes : Place → List Node → List ℕ
+pages_bytes place nodes = flat_map (page_for place) nodes
 
 -- the key of each pair is a key
 abbrev pub AreKeys : List Pair → Type 0

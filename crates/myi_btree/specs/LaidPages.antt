@@ -1,7 +1,7 @@
 -- The pages that building puts, level by level (this project's own). The lowest level has the pairs. A page takes from
 -- the left as many of its level's entries as fit, but does not leave exactly one; the next entry is set aside, and the
 -- next page begins behind it. The entries set aside are the level above, and the pages are its children.
-use Rattle.std.specs.Prelude.{◌≡◌, ℕ, zero, suc, ◌+◌, ◌-◌, ◌*◌, ◌<◌, List, [], ◌∷◌, ◌++◌, length, take, drop, Bool, true, false, not, ◌&&◌, nat_lt, ◌==◌, Option, Some, None, if◌then◌else◌}
+use Rattle.std.specs.Prelude.{◌≡◌, ℕ, zero, suc, ◌+◌, ◌-◌, ◌*◌, ◌<◌, List, [], ◌∷◌, ◌++◌, length, map, take, drop, Bool, true, false, not, ◌&&◌, nat_lt, ◌==◌, Option, Some, None, if◌then◌else◌}
 use Rattle.myi_keylist.specs.declared.pair.Pair.{Pair}
 use Rattle.myi_btree.specs.Walk.{Node, node_with, Places, Walked, walk_of, content}
 
@@ -79,3 +79,7 @@ pub record IsRooted (read : Places) (block first total : ℕ) (pairs : List Pair
 abbrev pub root_of : ℕ → ℕ → List Node → Option ℕ
 root_of block first [] = None
 root_of block first (page ∷ pages) = Some (first + block * length pages)
+
+-- a page whose children stand so many bytes further on
+abbrev pub moved : ℕ → Node → Node
+moved by node = node_with node.pairs (map (λ (child : ℕ). child + by) node.children)

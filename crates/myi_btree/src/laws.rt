@@ -1,9 +1,9 @@
 //! Laws over walks and laid pages. Each is the contract of a function that does nothing, so that it is
 //! proved with the crate and stands for the crates above.
-ghost use Rattle.std.specs.Prelude.{◌≡◌, ℕ, Bool, suc, ◌+◌, ◌*◌, ◌%◌, ◌^◌, ◌<◌, ◌≤◌, List, ◌∷◌, length, Option, Some, Result, Ok};
+ghost use Rattle.std.specs.Prelude.{◌≡◌, ℕ, Bool, suc, ◌+◌, ◌*◌, ◌%◌, ◌^◌, ◌<◌, ◌≤◌, List, ◌∷◌, length, map, Option, Some, Result, Ok};
 ghost use Rattle.myi_keylist.specs.declared.pair.Pair.{Pair};
 ghost use Rattle.myi_btree.specs.Walk.{Node, Places, Walked, walk_of, Agree, IsNode, AreNodes};
-ghost use Rattle.myi_btree.specs.LaidPages.{Fits, count_of, level_of, places_from, laid, Stands, IsRooted, root_of};
+ghost use Rattle.myi_btree.specs.LaidPages.{Fits, count_of, level_of, places_from, laid, moved, Stands, IsRooted, root_of};
 ghost use Rattle.myi_btree.specs.LaidOnce.{WalksOnce};
 ghost use Rattle.myi_btree.specs.Visit.{Finds, HasWalk};
 ghost use Rattle.std.specs.List.{AllByRecursion};
@@ -111,6 +111,13 @@ pub fn levels_are_laid()
         → (at + block * n) % 1024 ≡ 0 }
     ensures ends { (place : Place) (first count : ℕ) (old new : List Page) → EndBefore old first
         → AddsLaid place first count old new → EndBefore new (first + place.block_length * count) }
+{}
+
+/// Laid from so many bytes further on, the pages of a tree are the same, with each child so many bytes
+/// further on.
+pub fn laid_pages_move()
+    ensures { (fits : Fits) (block at by : ℕ) (pairs : List Pair)
+        → laid fits block (at + by) pairs ≡ map (moved by) (laid fits block at pairs) }
 {}
 
 /// The pages that are laid can be written, and the bytes of a page that can be written are read as it.

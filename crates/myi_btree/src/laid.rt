@@ -1,0 +1,64 @@
+//! The pages of a tree in memory, laid from place 0.
+ghost use Rattle.std.specs.Prelude.{◌≡◌, ◌+◌, ◌*◌, ◌++◌, length, IfOk, OnOk};
+ghost use Rattle.myi_btree.specs.Sizes.{IsPlaced, AreSized};
+ghost use Rattle.myi_btree.specs.Building.{laid_at, built_at, pages_bytes};
+
+use crate::fault::TreeFault;
+use crate::laying::Laying;
+use crate::place::{Place, TreeSetup};
+use myi_keylist::PairList;
+use std::alloc::{AllocError, Global};
+
+/// The pages of a tree, one behind the other, as they stand where the first one stands at 0; and the
+/// sizes of pages and row pointers, with the root.
+#[derive(Debug)]
+pub struct Laid {
+    pub pages: Vec<u8>,
+    pub place: Place,
+}
+
+impl Drop for Laid {
+    fn drop(self) {
+        let Laid { pages: _, place: _ } = self;
+    }
+}
+
+// Appends the pages of a tree, and answers the place behind them.
+fn append_pages(setup: TreeSetup, pairs: &PairList, pages: &mut Vec<u8>) -> Result<u64, TreeFault>
+    requires placed { IsPlaced setup.place }
+    requires sized { AreSized setup.place pairs.now }
+    ensures pages { OnOk result (pages.new.items
+        ≡ pages.old.items ++ pages_bytes setup.place (laid_at setup.place 0 pairs.now)) }
+    ensures end { IfOk result (λ end. end
+        ≡ setup.place.block_length * length (laid_at setup.place 0 pairs.now)) }
+{
+    let mut page = vec![in setup.alloc; 0u8; setup.place.block_length as usize]?;
+    let mut laying = Laying::new(setup, 0, pairs);
+    'pages: while let Some(_) = laying.next_page(&mut page)? {
+        pages.extend_from_slice(&page)?;
+    }
+    Ok(laying.end())
+}
+
+/// The pages of a tree of these pairs, for first place 0. The root that `place` names is not looked at.
+pub fn lay(alloc: Global, place: &Place, pairs: &PairList) -> Result<Laid, AllocError>
+    requires placed { IsPlaced place.now }
+    requires sized { AreSized place.now pairs.now }
+    ensures pages { IfOk result (λ laid. laid.pages.items
+        ≡ pages_bytes place.now (laid_at place.now 0 pairs.now)) }
+    ensures place { IfOk result (λ laid. laid.place ≡ built_at place.now 0 pairs.now) }
+{
+    let mut pages = Vec::new(alloc);
+    let setup = TreeSetup {
+        alloc,
+        place: *place,
+    };
+    let Ok(end) = append_pages(setup, pairs, &mut pages) else {
+        return Err(AllocError);
+    };
+    let root = end.checked_sub(place.block_length as u64);
+    Ok(Laid {
+        pages,
+        place: Place { root, ..*place },
+    })
+}
