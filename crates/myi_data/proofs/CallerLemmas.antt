@@ -5,7 +5,7 @@ pub use Rattle.myi_data.proofs.RowsLemmas.{rows_apart}
 -- stored_files_are_read
 pub use Rattle.myi_data.proofs.StoredLemmas.{stored_read}
 -- giant_rows_stand
-pub use Rattle.myi_data.proofs.ShareLemmas.{group_again, stored_again, shares_less}
+pub use Rattle.myi_data.proofs.ShareLemmas.{group_again, stored_again, shares_less, end_writable, end_short, room_short}
 pub use Rattle.myi_data.proofs.StandLemmas.{stored_long, stored_some}
 -- rows_stand_alone
 pub use Rattle.myi_data.proofs.AloneLemmas.{size_alone, bytes_alone, group_alone, stored_alone, length_alone, group_one, size_one, stored_one, stored_sized}

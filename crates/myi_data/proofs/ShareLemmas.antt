@@ -180,7 +180,7 @@ abbrev pub Fill : List Share → ℕ → Type 0
 Fill [] n = ⊥
 Fill (s ∷ ss) n = (0 < s.taken) × (s.taken ≤ n) × IsWritable (start_spec n None) s.taken s.size × FillBehind ss (n - s.taken)
 
-end_writable : (rest size : ℕ) → size % 4 ≡ 0 → 20 ≤ size → is_end rest size ≡ true → IsWritable end_spec rest (end_size rest size)
+pub end_writable : (rest size : ℕ) → size % 4 ≡ 0 → 20 ≤ size → is_end rest size ≡ true → IsWritable end_spec rest (end_size rest size)
 end_writable rest size multiple least e =
     let both = end_parts rest size e in
     by (nat_le (least_size rest + 20) size) refl both.0 both.1
@@ -193,6 +193,14 @@ end_writable rest size multiple least e =
         let under : size < least_size rest + 20 = leb-false _ _ is in
         let has : HasRoom (row_header rest) rest size = record { room = omega (arith, room, le); few = omega (arith, close, under) } in
         record { multiple = multiple; least = least; few = few; kind = (has, refl, refl, refl); next = tt; prev = tt }
+
+-- no end is longer than the longest row bytes that three bytes count, a header and what may be unused
+pub end_short : (rest size : ℕ) → is_end rest size ≡ true → end_size rest size < 2 ^ 24 + 64
+end_short rest size e =
+    let both = end_parts rest size e in
+    let close = least_close rest in
+    let header = (header_few rest).1 in
+    omega (arith, both.0, close, header, (end_bounds rest size both.1).2)
 
 fill_more : (s : Share) (ss : List Share) (rest : ℕ) → 0 < s.taken → s.taken ≤ rest → IsWritable (middle_spec None) s.taken s.size → FillBehind ss (rest - s.taken) → FillBehind (s ∷ ss) rest
 fill_more s [] rest some le w f = absurd f

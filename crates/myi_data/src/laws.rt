@@ -33,7 +33,9 @@ ghost use Rattle.myi_data.specs.Readable.{packs, slot_range, slot_row, slot_item
 ghost use Rattle.myi_data.specs.Scanning.{TableScan, items_ahead, IsAsKnown, AfterTable};
 ghost use Rattle.myi_data.specs.Plain.{IsPlain, plain_rows};
 ghost use Rattle.myi_data.specs.Stored.{SizedRow, PackARow, HaveHeld, IsStorable, own_block, group_by, stored_by};
-ghost use Rattle.myi_data.specs.Stored.{Share, shares, shared_bytes, ranges_from, group};
+ghost use Rattle.myi_data.specs.Stored.{Share, is_end, end_size, shares, shared_bytes, ranges_from, group};
+ghost use Rattle.myi_frames.specs.Sizes.{middle_room};
+ghost use Rattle.myi_frames.specs.Writing.{IsWritable, end_spec};
 ghost use Rattle.myi_data.specs.Stored.{stored_size, stored, stored_file, stored_rows};
 
 /// The readable rows of any bytes, in both formats. Each packs a row; they come in order of their
@@ -80,7 +82,9 @@ pub fn rows_stand_alone()
 /// the sizes of blocks that held as many bytes, at any place of a file that eight bytes can name, it is the
 /// row of a chain, and its blocks stand one directly after the other (`chain`); they take the bytes of their
 /// sizes (`long`), never more than there were (`less`). Written again into the sizes of the blocks in which it
-/// stands, any row takes the same blocks (`again`) and has the same bytes there (`same`).
+/// stands, any row takes the same blocks (`again`) and has the same bytes there (`same`). What is left of it
+/// can be written as an end where the block has room for it (`end`), and else goes on behind the middle that
+/// the block is then (`middle`).
 pub fn giant_rows_stand()
     ensures chain { (sizes b front back : List ℕ) → HaveHeld sizes (length b)
         → 2 ^ 24 ≤ length b → length b < 2 ^ 32 → length front % 4 ≡ 0
@@ -102,6 +106,10 @@ pub fn giant_rows_stand()
     ensures same { (f : RowFormat) (at : ℕ) (sizes b : List ℕ)
         → stored_by f at (map (λ s. s.size) (group_by f sizes (length b))) b
         ≡ stored_by f at sizes b }
+    ensures end { (rest size : ℕ) → size % 4 ≡ 0 → 20 ≤ size → is_end rest size ≡ true
+        → IsWritable end_spec rest (end_size rest size) × (end_size rest size < 2 ^ 24 + 64) }
+    ensures middle { (rest size : ℕ) → size % 4 ≡ 0 → 20 ≤ size → middle_room size < 2 ^ 24
+        → is_end rest size ≡ false → middle_room size < rest }
 {}
 
 /// What is met in the data file of a static table is what each of its slots is, slot after slot: a deleted

@@ -7,3 +7,4 @@ pub mod KeepLaws
 pub mod TreeLaws
 pub mod GatherLaws
 pub mod RepairLaws
+pub mod GiantLaws

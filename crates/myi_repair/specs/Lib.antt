@@ -20,3 +20,5 @@ pub mod Sized
 pub mod Keeping
 -- the trees that are built so far
 pub mod Building
+-- the start of a row of 2^24 bytes and more
+pub mod Giant

@@ -23,6 +23,7 @@
 mod fault;
 mod finishing;
 mod gathering;
+mod giant;
 mod kept;
 mod names;
 mod opening;

@@ -5,14 +5,16 @@ ghost use Rattle.myi_base.specs.Causes.{HasCause};
 ghost use Rattle.myi_io.specs.declared.files.FileErr.TheVariants.{Failed};
 ghost use Rattle.myi_data.specs.Stored.{group_by, stored_by, own_block};
 
+use crate::giant::put_giant;
 use myi_defs::{Defs, RowFormat};
-use myi_frames::{FrameKind, FrameSpec, least_size, write_frame};
+use myi_frames::{FrameKind, FrameSpec, GIANT, least_size, write_frame};
 use myi_io::{FileErr, Files};
 use std::alloc::{AllocError, Global};
 
 /// Writes a row at a place of the file of that name, in its slot or its blocks, and answers the place behind
-/// them and their number. `packed` is the row's spelling. `sizes`, the sizes of the blocks that held it,
-/// matters only to rows of 2^24 bytes and more, which are not built: it is not read.
+/// them and their number. `packed` is the row's spelling. `sizes`, the sizes of the blocks that held it, are
+/// read only for a row of 2^24 bytes and more; where they do not hold it, the answer is that there is no
+/// memory.
 pub fn put_row<F: Files>(
     files: &mut F,
     file: &str,
@@ -22,7 +24,7 @@ pub fn put_row<F: Files>(
     sizes: &[u32],
 ) -> Result<(u64, u64), FileErr>
     requires writable { IsTrue F.writable }
-    requires short { length packed.now < 2 ^ 24 }
+    requires few { length packed.now < 2 ^ 32 }
     requires place { at ≤ 2 ^ 40 }
     ensures ok { OnOk result (Told (F.holds files.old) (F.holds files.new)
         (Writes file.now at (stored_by defs.now.format at sizes.now packed.now))) }
@@ -37,6 +39,9 @@ pub fn put_row<F: Files>(
     match defs.format {
         RowFormat::Static => write_row(files, file, at, packed),
         RowFormat::Dynamic => {
+            if packed.len() >= GIANT as usize {
+                return put_giant(defs.raw.allocator(), files, file, at, packed, sizes);
+            }
             let block = block_of(defs.raw.allocator(), packed)?;
             write_row(files, file, at, &block)
         }

@@ -1,6 +1,6 @@
 use Rattle.std.proofs.Common.{length, refl}
 use Rattle.myi_data.specs.Stored.{shares}
-use Rattle.myi_data.proofs.ShareLemmas.{group_again, stored_again, shares_less}
+use Rattle.myi_data.proofs.ShareLemmas.{group_again, stored_again, shares_less, end_writable, end_short, room_short}
 use Rattle.myi_data.proofs.GiantLemmas.{held_fill, shared_blocks, shared_row, shared_ranges, shared_long, shared_chain}
 use Rattle.myi_data.proofs.laws.giant_rows_stand.Goals as goal
 
@@ -18,4 +18,6 @@ returns c = record {
   less = shares_less;
   again = group_again;
   same = stored_again;
+  end = λ rest size multiple least e. (end_writable rest size multiple least e, end_short rest size e);
+  middle = room_short;
 }
