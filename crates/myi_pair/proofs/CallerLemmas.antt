@@ -3,7 +3,7 @@
 -- first_rows_are_distinct
 pub use Rattle.myi_pair.proofs.FirstRowsLaws.{first_by_keys}
 -- pairs_are_sized
-pub use Rattle.myi_pair.proofs.SizedLaws.{placed, is_key, sized}
+pub use Rattle.myi_pair.proofs.SizedLaws.{placed, is_key, laid_short}
 -- laid_pages_stand_behind
 pub use Rattle.myi_pair.proofs.FileLaws.{tree_behind}
 -- recovered_bytes_recover

@@ -14,6 +14,7 @@ ghost use Rattle.myi_header.specs.StateOf.{rest_length, state_of};
 ghost use Rattle.myi_pack.specs.Packed.{Values};
 ghost use Rattle.myi_pack.specs.Spelling.{fits};
 ghost use Rattle.myi_keys.specs.Limits.{IsKey};
+ghost use Rattle.myi_keylist.specs.PairOrder.{pair_with};
 ghost use Rattle.myi_keylist.specs.FirstBy.{first_by, repeats_in};
 ghost use Rattle.myi_data.specs.Readable.{readable};
 ghost use Rattle.myi_data.specs.Keys.{IsKeyNumber, key_of};
@@ -72,6 +73,9 @@ pub fn pairs_are_sized()
     ensures keys { (d : Defs) → IsSound d → (k : ℕ) → IsKeyNumber d k → (row : Values)
         → fits d row ≡ true
         → IsKey (key_of d k row) }
+    ensures pointed { (d : Defs) → IsSound d → (k : ℕ) → IsKeyNumber d k → (row : Values)
+        → fits d row ≡ true → (pointer : ℕ) → pointer < 256 ^ d.rec_ref
+        → IsSized (place_of d k) (entry_of (pair_with (key_of d k row) pointer)) }
     ensures pair { (d : Defs) (k at len : ℕ) (row : Values) → IsSound d → IsKeyNumber d k
         → fits d row ≡ true → is_addressable d len ≡ true → at ≤ len
         → IsSized (place_of d k) (entry_of (pair_of d k (at, row))) }

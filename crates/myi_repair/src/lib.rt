@@ -23,13 +23,13 @@
 mod fault;
 mod finishing;
 mod gathering;
-mod kept;
 mod names;
+mod new_rows;
+mod next_row;
 mod opening;
 mod repair;
 mod report;
 mod trees;
-mod unique;
 mod writing;
 
 pub use fault::{RepairFault, TableFile};

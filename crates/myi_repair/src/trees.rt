@@ -23,7 +23,8 @@ use myi_defs::Defs;
 use myi_header::first_page;
 use myi_io::Files;
 use myi_keycache::{CacheFault, CacheSetup, KeyCache};
-use myi_keylist::Pair;
+use myi_keylist::{Pair, PairList};
+use myi_keys::KeyVal;
 use std::alloc::{AllocError, Global};
 
 /// How a repair keeps index pages.
@@ -67,7 +68,7 @@ pub(crate) fn build_trees<F: Files>(
     files: &mut F,
     file: &str,
     defs: &Defs,
-    pairs: Vec<Sequence<Pair>>,
+    pairs: Vec<PairList>,
 ) -> Result<Trees, RepairFault>
     requires writable { IsTrue F.writable }
     requires defs { AreDefs defs.now }
@@ -95,7 +96,7 @@ fn lay_trees<F: Files>(
     files: &mut F,
     cache: &mut KeyCache,
     defs: &Defs,
-    pairs: Vec<Sequence<Pair>>,
+    pairs: Vec<PairList>,
 ) -> Result<Trees, RepairFault>
     requires writable { IsTrue F.writable }
     requires sound { IsSound defs.now }
@@ -145,7 +146,7 @@ fn build_tree<F: Files>(
     cache: &mut KeyCache,
     place: Place,
     room: &mut Room,
-    pairs: Sequence<Pair>,
+    mut pairs: PairList,
 ) -> Result<Option<u64>, RepairFault>
     requires writable { IsTrue F.writable }
     requires placed { IsPlaced place }
@@ -166,12 +167,23 @@ fn build_tree<F: Files>(
         (λ m n. CanLay cache.old m room.old.end → OthersStay cache.old.name m n) }
     ensures cause { HasCause RepairFault.File (F.faults files.old) (F.faults files.new) result }
 {
-    let mut pairs = pairs.into_vec();
-    pairs.sort_unstable();
-    match Tree::build(alloc, files, cache, place, room, &pairs) {
+    pairs.sort();
+    let copied = copied_pairs(alloc, &pairs)?;
+    match Tree::build(alloc, files, cache, place, room, &copied) {
         Ok(tree) => Ok(tree.root()),
         Err(fault) => Err(of_build(fault)),
     }
+}
+
+fn copied_pairs(alloc: Global, list: &PairList) -> Result<Vec<Pair>, AllocError>
+    ensures { IfOk result (λ v. v.items ≡ list.now) }
+{
+    let mut pairs = Vec::with_capacity(alloc, list.len())?;
+    for i in 0..list.len() {
+        let code = Vec::from_slice(alloc, list.code(i))?;
+        pairs.push(Pair { key: KeyVal::of_code(code), row: list.row(i) })?;
+    }
+    Ok(pairs)
 }
 
 fn of_build(fault: TreeFault) -> RepairFault
