@@ -1,16 +1,17 @@
 //! Trees of an index file, whose first page stands at 1024.
 ghost use Rattle.std.specs.Prelude.{◌≡◌, ◌≤◌, ◌^◌, ◌<◌, true, IfOk};
+ghost use Rattle.myi_keypage.specs.Page.{entry_with};
 ghost use Rattle.myi_btree.specs.Sizes.{IsPlaced, IsSized, AreSized};
-ghost use Rattle.myi_btree.specs.Nodes.{entry_of};
 
+use crate::pairs::push_pair;
 use case_lines::{
-    Fault, PlaceText, Words, four_bytes, key_of_code, number, one_byte, place, push_word, sides,
-    size, two_bytes,
+    Fault, PlaceText, Words, four_bytes, one_byte, place, push_word, size, two_bytes,
 };
 use myi_base::Sequence;
 use myi_btree::{Pair, Place, Room, Tree, TreeFault};
 use myi_io::MemFiles;
 use myi_keycache::{CacheFault, CacheSetup, KeyCache};
+use myi_keylist::PairList;
 use myi_keys::{KeySeg, KeyVal, MOST_WEIGHTS, WeightList, encode, key_with};
 use std::alloc::{AllocError, Global};
 
@@ -40,31 +41,26 @@ fn is_row(rec_ref: u8, row: u64) -> bool
     }
 }
 
-fn is_sized(alloc: Global, place: Place, pair: &Pair) -> Result<bool, AllocError>
+fn is_sized(place: Place, code: &[u8], row: u64) -> bool
     requires { place.rec_ref ≤ 8 }
-    ensures { IfOk result (λ sized. sized ≡ true → IsSized place (entry_of pair.now)) }
+    ensures { result ≡ true → IsSized place (entry_with code.now row) }
 {
-    let code = encode(alloc, &pair.key)?;
-    let row = pair.row;
-    let most = place.block_length as usize;
-    Ok(
-        code.len() <= 16_384
-            && 2 * (code.len() + 13 + place.rec_ref as usize) + 9 <= most
-            && is_row(place.rec_ref, row),
-    )
+    code.len() <= 16_384
+        && 2 * (code.len() + 13 + place.rec_ref as usize) + 9 <= place.block_length as usize
+        && is_row(place.rec_ref, row)
 }
 
 // Whether two such entries fit into a page, and the rows into the row pointers.
-fn are_sized(alloc: Global, place: Place, pairs: &[Pair]) -> Result<bool, AllocError>
+fn are_sized(place: Place, pairs: &PairList) -> bool
     requires { place.rec_ref ≤ 8 }
-    ensures { IfOk result (λ sized. sized ≡ true → AreSized place pairs.now) }
+    ensures { result ≡ true → AreSized place pairs.now }
 {
-    for pair in pairs {
-        if !is_sized(alloc, place, pair)? {
-            return Ok(false);
+    for i in 0..pairs.len() {
+        if !is_sized(place, pairs.code(i), pairs.row(i)) {
+            return false;
         }
     }
-    Ok(true)
+    true
 }
 
 // A tree that has no root yet.
@@ -129,13 +125,13 @@ fn push_built(
     out: &mut String,
     index: &mut Index,
     place: Place,
-    pairs: &[Pair],
+    pairs: &PairList,
 ) -> Result<Option<u64>, Fault>
     requires { IsPlaced place }
 {
     let alloc = *out.allocator();
     let end = index.room.end;
-    if end % 1024 != 0 || !are_sized(alloc, place, pairs)? {
+    if end % 1024 != 0 || !are_sized(place, pairs) {
         return Err(Fault::Unread);
     }
     let Index { files, cache, room } = index;
@@ -163,14 +159,10 @@ fn push_flushed(out: &mut String, index: &mut Index) -> Result<(), Fault> {
     }
 }
 
-fn pairs(words: &Words, args: &[&str]) -> Result<Vec<Pair>, Fault> {
-    let mut pairs = Vec::new(words.alloc());
+fn pairs(words: &Words, args: &[&str]) -> Result<PairList, Fault> {
+    let mut pairs = PairList::new(words.alloc());
     for arg in args {
-        let (code, row) = sides(*arg, ':')?;
-        pairs.push(Pair {
-            key: key_of_code(words, code)?,
-            row: number(row)?,
-        })?;
+        push_pair(&mut pairs, words, *arg)?;
     }
     Ok(pairs)
 }
@@ -246,16 +238,13 @@ fn numbered(alloc: Global, width: usize, number: u32) -> Result<KeyVal, AllocErr
     key_with(alloc, &[KeySeg::Weights(weights)])
 }
 
-fn numbered_pairs(alloc: Global, width: usize, count: u32) -> Result<Vec<Pair>, AllocError>
+fn numbered_pairs(alloc: Global, width: usize, count: u32) -> Result<PairList, AllocError>
     requires { width ≤ 1000 }
 {
-    let mut pairs = Vec::new(alloc);
+    let mut pairs = PairList::new(alloc);
     for number in 0..count {
         let key = numbered(alloc, width, number + 1)?;
-        pairs.push(Pair {
-            key,
-            row: number as u64 * 8,
-        })?;
+        pairs.push(key.code(), number as u64 * 8)?;
     }
     Ok(pairs)
 }

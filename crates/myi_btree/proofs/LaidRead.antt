@@ -1,13 +1,14 @@
 -- Laid pages are read as they were laid.
-use Rattle.std.proofs.Common.{◌≡◌, ℕ, zero, suc, ◌+◌, ◌-◌, ◌*◌, ◌%◌, ◌^◌, ◌<◌, ◌≤◌, Bool, true, false, not, ◌&&◌, eqb, ltb, Some, List, [], ◌∷◌, ◌++◌, length, replicate, take, drop, append-nil, refl, sym, ap, subst, ◌∙◌, arith, inl, inr}
+use Rattle.std.proofs.Common.{◌≡◌, ℕ, zero, suc, ◌+◌, ◌-◌, ◌*◌, ◌%◌, ◌^◌, ◌<◌, ◌≤◌, Bool, true, false, not, ◌&&◌, eqb, ltb, Some, List, [], ◌∷◌, ◌++◌, length, replicate, take, drop, refl, sym, ap, subst, ◌∙◌, arith, inl, inr}
 use Rattle.std.specs.List.{AllByRecursion}
 use Rattle.std.proofs.lemmas.Bool.{cases_lt, cases_Bool, le-leb, leb-true, ltb-true, eq-eqb, ne_eqb, and_from, and_parts}
-use Rattle.std.proofs.lemmas.List.{length-append, length-map, length-drop}
+use Rattle.std.proofs.Math.Seq.{drop-cons}
+use Rattle.std.proofs.lemmas.List.{length-append, length-drop}
 use Rattle.myi_base.specs.Holding.{Holding}
 use Rattle.myi_keys.specs.Limits.{IsKey}
 use Rattle.myi_keys.proofs.CallerLemmas.{key_read}
 use Rattle.myi_keypage.specs.declared.entry.Entry.{Entry}
-use Rattle.myi_keypage.specs.Page.{Page, page_with, page_bytes, is_node, IsPlace, IsBranching, IsWritable}
+use Rattle.myi_keypage.specs.Page.{page_with, page_bytes, IsPlace, IsBranching}
 use Rattle.myi_keypage.specs.Fitting.{used_length}
 use Rattle.myi_keypage.specs.Views.{page_in}
 use Rattle.myi_keypage.proofs.CallerLemmas.{page_again, page_writable}
@@ -20,13 +21,12 @@ use Rattle.myi_btree.specs.CachedTrees.{node_lent}
 use Rattle.myi_btree.specs.Sizes.{IsPlaced, IsSized, AreSized, fits_in, IsCount}
 use Rattle.myi_btree.specs.LaidPages.{greatest, count_of, Level, after_page, level_of, places_from, levels_from, laid, Stands}
 use Rattle.myi_btree.specs.Building.{page_for, AreKeys, IsWritten, AreLent, Lays}
-use Rattle.myi_btree.specs.Levels.{FitsPage}
+use Rattle.myi_btree.specs.Levels.{FitsPage, upper}
 use Rattle.myi_btree.proofs.NodeLaws.{pairs_again, node_again}
 use Rattle.myi_btree.proofs.CountLaws.{not_one}
 use Rattle.myi_btree.proofs.FitCount.{one_fits, two_fit, entries-take}
-use Rattle.myi_btree.proofs.SplitLaws.{split_at}
 use Rattle.myi_btree.proofs.BodyLaws.{body, last, all_take, all_drop}
-use Rattle.myi_btree.proofs.LevelsLaws.{level_count, level_all, levels_step, upper, places_are, branches_above, multiple}
+use Rattle.myi_btree.proofs.LevelsLaws.{level_count, level_all, levels_step, places_are, branches_above, multiple}
 use Rattle.myi_btree.specs.LaidOnce.{WalksOnce}
 use Rattle.myi_btree.proofs.LaidWalks.{level_lt, count_pos, length-places_from}
 use Rattle.myi_btree.proofs.LaidRanges.{walks_once}
@@ -84,9 +84,9 @@ good_count place node ps sized some =
 
 -- ---- each laid page is one that is read back
 
-written_page : (place : Place) (node : Node) (page : Page) → IsPlaced place → page ≡ page_of_node node → FitsPage place page → AreKeys node.pairs → IsWritten place node
-written_page place node page placed is fits keys =
-    record { page = subst (λ (p : Page). IsWritable place.rec_ref p) is (page_writable place.rec_ref page fits.branching fits.some fits.rows fits.places (omega (arith, placed.most, fits.fits))); branching = subst IsBranching is fits.branching; keys = keys; fits = subst (λ (p : Page). used_length place.rec_ref (is_node p) p.entries ≤ place.block_length) is fits.fits }
+written_page : (place : Place) (node : Node) → IsPlaced place → FitsPage place (page_of_node node) → AreKeys node.pairs → IsWritten place node
+written_page place node placed fits keys =
+    record { page = page_writable place.rec_ref (page_of_node node) fits.branching fits.some fits.rows fits.places (omega (arith, placed.most, fits.fits)); branching = fits.branching; keys = keys; fits = fits.fits }
 
 pub level_written : (n : ℕ) (place : Place) (node : Bool) (left : List Pair) (children : List ℕ) → IsPlaced place → length left ≤ n → 0 < length left → AreSized place left → AreKeys left → not (eqb (length children) 0) ≡ node → IsBranching (page_with (entries_of left) children) → AllByRecursion IsPlace children
     → AllByRecursion (IsWritten place) (level_of n (fits_in place node) left children).pages
@@ -100,18 +100,16 @@ level_written (suc n) place node left children placed le some sized keys flag br
         → AllByRecursion (IsWritten place) (after_page (level_of n (fits_in place node)) count left children tail).pages
     step count is [] e again =
         let none : length left ≤ count = omega (arith, ap length e, length-drop count left) in
-        let l = last place node left count children (entries_of left) [] is sized flag branching places (append-nil (entries_of left)) none (omega (arith, is.inside, length-map left entry_of)) in
-        (written_page place (node_with left children) (page_with (entries_of left) children) placed refl l.page keys, tt)
+        let l = last place node left count children is sized flag branching places none in
+        (written_page place (node_with left children) placed l keys, tt)
     step count is (s ∷ r) e again =
-        let long : length (entries_of left) ≡ length left = length-map left entry_of in
         let lt : count < length left = omega (arith, ap length e, length-drop count left) in
-        let sp = split_at (entries_of left) [] left count (append-nil (entries_of left)) (omega (arith, lt, long)) in
-        let rest_is : sp.rest ≡ r = ap (drop 1) (sym sp.is ∙ e) in
+        let rest_is : drop (suc count) left ≡ r = ap (drop 1) (sym (drop-cons left count s lt) ∙ e) in
         let one : suc count ≡ count + 1 = omega arith in
-        let b = body place node left count children (entries_of left) [] (take (suc count) children) (drop (suc count) children) sp is sized flag branching places lt (ap (λ (t : ℕ). take t children) one) (ap (λ (t : ℕ). drop t children) one) in
+        let b = body place node left count children (take (suc count) children) (drop (suc count) children) s is sized flag branching places lt (ap (λ (t : ℕ). take t children) one) (ap (λ (t : ℕ). drop t children) one) in
         let keys_left : AreKeys (s ∷ r) = subst AreKeys e (all_drop (λ (p : Pair). IsKey p.key) count left keys) in (
-          written_page place (node_with (take count left) (take (suc count) children)) (page_with (take count (entries_of left)) (take (suc count) children)) placed b.node_is b.page (all_take (λ (p : Pair). IsKey p.key) count left keys),
-          again r (drop (suc count) children) (omega (arith, ap length rest_is, b.len, le, is.some)) (subst (λ (t : List Pair). 0 < length t) rest_is b.some) (subst (AreSized place) rest_is b.sized) keys_left.1 b.flag (subst (λ (t : List Pair). IsBranching (page_with (entries_of t) (drop (suc count) children))) rest_is b.others_branching) b.others_places,
+          written_page place (node_with (take count left) (take (suc count) children)) placed b.page (all_take (λ (p : Pair). IsKey p.key) count left keys),
+          again r (drop (suc count) children) (omega (arith, ap length rest_is, length-drop (suc count) left, le, is.some)) (subst (λ (t : List Pair). 0 < length t) rest_is b.some) (subst (AreSized place) rest_is b.sized) keys_left.1 b.flag (subst (λ (t : List Pair). IsBranching (page_with (entries_of t) (drop (suc count) children))) rest_is b.others_branching) b.others_places,
         )
 
 pub all_both : {A : Type 0} (P : A → Type 0) (xs ys : List A) → AllByRecursion P xs → AllByRecursion P ys → AllByRecursion P (xs ++ ys)

@@ -1,6 +1,5 @@
 -- The root of a tree that is laid.
-use Rattle.std.proofs.Common.{◌≡◌, ℕ, suc, ◌+◌, ◌-◌, ◌*◌, ◌≤◌, Bool, true, false, eqb, ltb, Option, Some, List, [], ◌∷◌, length, refl, sym, ap, ◌∙◌, arith}
-use Rattle.std.proofs.lemmas.Bool.{eq-eqb}
+use Rattle.std.proofs.Common.{◌≡◌, ℕ, suc, ◌+◌, ◌-◌, ◌*◌, ◌≤◌, Bool, true, false, ltb, Option, Some, List, [], ◌∷◌, length, refl, sym, ap, ◌∙◌, arith}
 use Rattle.std.proofs.lemmas.List.{length-append}
 use Rattle.myi_keylist.specs.declared.pair.Pair.{Pair}
 use Rattle.myi_btree.specs.declared.place.Place.{Place}
@@ -21,9 +20,6 @@ laid_some place first (p ∷ ps) some =
     let level : Level = level_of (length (p ∷ ps)) (fits_in place false) (p ∷ ps) [] in
     some_above level (λ l. levels_from (length ps) (fits_in place) place.block_length (first + place.block_length * length l.pages) true l.separators (places_from (length l.pages) place.block_length first)) (ltb 1 (length level.pages))
     (level_count (length (p ∷ ps)) (fits_in place false) (p ∷ ps) [])
-
-pub not_empty : (n : ℕ) (b : Bool) → b ≡ eqb n 0 → b ≡ false → n ≡ 0 → ⊥
-not_empty n b e f z = let t : false ≡ true = sym f ∙ e ∙ eq-eqb n 0 z in absurd cc
 
 pub ends_behind : (place : Place) (first end : ℕ) (pairs : List Pair) → (length pairs ≡ 0 → ⊥) → end ≡ first + place.block_length * length (laid_at place first pairs) → place.block_length ≤ end
 ends_behind place first end pairs some is = let k = laid_some place first pairs some in omega (arith, is, ap (λ (n : ℕ). place.block_length * n) k.1)

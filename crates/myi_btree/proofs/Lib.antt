@@ -6,11 +6,11 @@ pub mod LaidWalks
 pub mod NodeLaws
 pub mod CountLaws
 pub mod FitCount
-pub mod Ahead
 pub mod PutLaws
+pub mod CachePutLaws
 pub mod LevelLaws
-pub mod SplitLaws
 pub mod BodyLaws
+pub mod LayingLaws
 pub mod LevelsLaws
 pub mod VisitLaws
 pub mod VisitWalks

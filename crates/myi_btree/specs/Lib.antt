@@ -20,10 +20,12 @@ pub mod Visit
 pub mod CachedTrees
 -- what serves private contracts
 
--- the coded entries of a level
-pub mod Entries
+-- what a put of a page does to a key cache
+pub mod CachePuts
 -- what a level is laid of, and what it leaves
 pub mod Levels
+-- a tree that is laid page by page
+pub mod Laying
 -- pages that a walk went into
 pub mod Visited
 -- what a cache goes on lending

@@ -1,27 +1,20 @@
 -- The node that bytes are: a page each of whose keys is the code of a key.
-use Rattle.std.specs.Prelude.{ℕ, List, map, Option, Some, None, Result, Ok, Err}
+use Rattle.std.specs.Prelude.{ℕ, List, Option, Some, None, Result, Ok, Err}
 use Rattle.myi_keypage.specs.declared.entry.Entry.{Entry}
 use Rattle.myi_keypage.specs.Page.{Page, page_with}
 use Rattle.myi_keypage.specs.Views.{page_in}
 use Rattle.myi_keys.specs.declared.values.KeySeg.{KeySeg}
 use Rattle.myi_keys.specs.declared.codes.KeyFault.{KeyFault}
-use Rattle.myi_keys.specs.Codes.{key_code}
 use Rattle.myi_keys.specs.Decoding.{key_at}
 use Rattle.myi_keylist.specs.declared.pair.Pair.{Pair}
 use Rattle.myi_keylist.specs.PairOrder.{pair_with}
+pub use Rattle.myi_keylist.specs.PairEntries.{entry_of, entries_of}
 use Rattle.myi_btree.specs.declared.node.NodeData.{NodeData}
 use Rattle.myi_btree.specs.Walk.{◌>>=◌, each, Node, node_with}
 
 -- what a node of the code is
 abbrev pub node_view : NodeData → Node
 node_view n = node_with n.pairs.items n.children.items
-
--- a pair as it stands on a page
-abbrev pub entry_of : Pair → Entry
-entry_of p = record { key = key_code p.key; row = p.row }
-
-abbrev pub entries_of : List Pair → List Entry
-entries_of pairs = map entry_of pairs
 
 -- the page that a node stands as
 abbrev pub page_of_node : Node → Page

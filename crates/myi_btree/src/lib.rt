@@ -23,9 +23,9 @@
 #![tactic(auto)]
 
 mod build;
-mod entries;
 mod fault;
 mod laws;
+mod laying;
 mod level;
 mod node;
 mod place;

@@ -1,16 +1,15 @@
 //! What stands on a page: its pairs with their keys, and its children.
 //!
-//! `read_node` reads a `Node` from the bytes of a page, and `entry_of` gives the entry of a pair.
+//! `read_node` reads a `Node` from the bytes of a page.
 ghost use Rattle.std.specs.Prelude.{◌≡◌, ◌≤◌, ◌++◌, take, IfOk, OnOk, option_map};
 ghost use Rattle.std.specs.Option.{option_to_list};
-ghost use Rattle.myi_btree.specs.Nodes.{node_view, key_in, node_in, entry_of, entries_of};
+ghost use Rattle.myi_btree.specs.Nodes.{node_view, key_in, node_in};
 ghost use Rattle.myi_btree.specs.Visited.{node_left};
 
 use crate::visited::OpenPage;
-use myi_base::Sequence;
 use myi_keylist::Pair;
-use myi_keypage::{Entry, read_page};
-use myi_keys::{KeyFault, KeyVal, decode, encode};
+use myi_keypage::read_page;
+use myi_keys::{KeyFault, KeyVal, decode};
 use std::alloc::{AllocError, Global};
 
 /// A page that is read: its pairs, and the places of its children, of which a leaf has none.
@@ -99,29 +98,4 @@ pub(crate) fn read_node(
         push_child(&mut children, item.child)?;
     }
     Ok(Some(NodeData { pairs, children }))
-}
-
-/// A pair as it stands on a page, with its key's code.
-pub(crate) fn entry_of(alloc: Global, pair: &Pair) -> Result<Entry, AllocError>
-    ensures { IfOk result (λ entry. entry ≡ entry_of pair.now) }
-{
-    let code = encode(alloc, &pair.key)?;
-    Ok(Entry {
-        key: Sequence::new(code),
-        row: pair.row,
-    })
-}
-
-/// Appends the entries of pairs.
-pub(crate) fn append_entries(
-    alloc: Global,
-    entries: &mut Vec<Entry>,
-    pairs: &[Pair],
-) -> Result<(), AllocError>
-    ensures { OnOk result (entries.new.items ≡ entries.old.items ++ entries_of pairs.now) }
-{
-    for pair in pairs {
-        entries.push(entry_of(alloc, pair)?)?;
-    }
-    Ok(())
 }

@@ -11,14 +11,14 @@ ghost use Rattle.myi_btree.specs.CachedTrees.{node_lent, CanWalk, ReadsOnly, Add
 ghost use Rattle.myi_btree.specs.Faults.{DamagedAt, IsFileOrMemory};
 ghost use Rattle.myi_btree.specs.Visit.{FindsPairs, FindsBad};
 
-use crate::build::lay_levels;
+use crate::build::lay_cached;
 use crate::fault::TreeFault;
 use crate::place::{Place, Room, TreeSetup};
 use crate::visited::Visited;
 use crate::walk::{climb, descend};
 use myi_io::Files;
 use myi_keycache::KeyCache;
-use myi_keylist::Pair;
+use myi_keylist::{Pair, PairList};
 use std::alloc::Global;
 use std::marker::Model;
 
@@ -119,7 +119,7 @@ impl Tree {
         cache: &mut KeyCache,
         place: Place,
         room: &mut Room,
-        pairs: &[Pair],
+        pairs: &PairList,
     ) -> Result<Tree, TreeFault>
         requires writable { IsTrue F.writable }
         requires placed { IsPlaced place }
@@ -155,7 +155,7 @@ impl Tree {
         ensures cause { HasCause File (F.faults files.old) (F.faults files.new) result }
         ensures reads { F.reads files.new ≡ F.reads files.old }
     {
-        if pairs.is_empty() {
+        if pairs.len() == 0 {
             return Ok(Tree {
                 place: Place {
                     root: None,
@@ -163,7 +163,7 @@ impl Tree {
                 },
             });
         }
-        let end = lay_levels(TreeSetup { alloc, place }, files, cache, room.end, pairs)?;
+        let end = lay_cached(TreeSetup { alloc, place }, files, cache, room.end, pairs)?;
         room.end = end;
         let root = end - place.block_length as u64;
         Ok(Tree {

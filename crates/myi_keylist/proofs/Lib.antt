@@ -1,4 +1,5 @@
 pub mod CallerLemmas
+pub mod EntryLaws
 pub mod SortedLaws
 pub mod MarkLaws
 pub mod TogetherLaws

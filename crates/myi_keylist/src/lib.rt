@@ -8,6 +8,7 @@
 //! - `PairList::push` adds a pair by the code of its key, `sort` puts the pairs in order, `code` and
 //!   `row` give them back, and `has_repeat` finds out whether a complete key is there twice
 //!   (`specs/Repeats`).
+//! - A `PairList` is a list of entries, from which pages are written (`specs/PairEntries`).
 //! - `keep_first` says which rows are kept where keys repeat (`specs/FirstBy`), by class numbers: two
 //!   rows share one exactly where one repeats the other (`specs/Classes`). `PairList::number` gives the
 //!   numbers of one key (`specs/Columns`), `retain` takes the other rows out, and `point` puts row
@@ -34,6 +35,7 @@
 mod class_numbers;
 mod laws;
 mod pair;
+mod pair_entries;
 mod pair_list;
 
 pub use class_numbers::keep_first;

@@ -1,9 +1,10 @@
 -- Writing into a slice.
-use Rattle.std.proofs.Common.{Bool, true, false, not, eqb, replicate, cond, ◌≡◌, ℕ, zero, suc, ◌+◌, ◌-◌, ◌*◌, ◌/◌, ◌%◌, ◌^◌, ◌<◌, ◌≤◌, List, [], ◌∷◌, ◌++◌, length, get_or, set, take, drop, refl, sym, ap, ◌∙◌, append_assoc, arith, inl, inr}
-use Rattle.std.proofs.lemmas.List.{drop_more, drop_all, append-nil, length-append, length-drop, length-take, drop-take, drop_at}
+use Rattle.std.proofs.Common.{Bool, true, false, not, eqb, replicate, cond, ◌≡◌, ℕ, zero, suc, ◌+◌, ◌-◌, ◌*◌, ◌/◌, ◌%◌, ◌^◌, ◌<◌, ◌≤◌, List, [], ◌∷◌, ◌++◌, length, get_or, set, take, drop, min, refl, sym, ap, subst, ◌∙◌, append_assoc, arith, inl, inr}
+use Rattle.std.proofs.lemmas.List.{drop_more, drop_all, append-nil, length-append, length-drop, length-take, drop-take, drop_at, get_or-take, get_or-drop, get_or_default}
+use Rattle.std.specs.List.{AllByRecursion}
 use Rattle.std.proofs.lemmas.Bool.{eqb-true, ne_eqb, lt-ltb, cases_lt}
 use Rattle.myi_base.specs.Numbers.{num_bytes}
-use Rattle.myi_keypage.specs.Page.{shared, Page, body_bytes, entry_bytes, entries_bytes, child_bytes, packed_bytes, number_bytes, page_with, page_bytes, IsBranching, is_node, head_bytes}
+use Rattle.myi_keypage.specs.Page.{shared, entry_with, Page, body_bytes, entry_bytes, entries_bytes, child_bytes, packed_bytes, number_bytes, page_with, page_bytes, IsBranching, is_node, head_bytes}
 use Rattle.myi_keypage.specs.declared.entry.Entry.{Entry}
 use Rattle.myi_base.proofs.CallerLemmas.{length-num_bytes}
 use Rattle.myi_keypage.specs.Writing.{Puts, filled_up}
@@ -20,6 +21,31 @@ Puts-then old at mid end new last a b p q = record {
 }
 
 pub ruleset lengths = (length-num_bytes, length-append)
+
+-- the entry at an index, by its key and its row
+pub entry_at : (es : List Entry) (i : ℕ) (key : List ℕ) (row : ℕ) → ((d : Entry) → key ≡ (get_or es i d).key) → ((d : Entry) → row ≡ (get_or es i d).row) → entry_with key row ≡ get_or es i (entry_with key row)
+entry_at es i key row k r =
+    let x : Entry = get_or es i (entry_with key row) in
+    ap (λ (t : List ℕ). entry_with t row) (k (entry_with key row)) ∙ ap (λ (t : ℕ). entry_with x.key t) (r (entry_with key row))
+
+-- the entry at an index, whose key is known
+pub keyed_at : (es : List Entry) (i : ℕ) (key : List ℕ) → i < length es → ((d : Entry) → key ≡ (get_or es i d).key) → (row : ℕ) × (entry_with key row ≡ get_or es i (entry_with key row))
+keyed_at es i key lt k =
+    let x : Entry = get_or es i (entry_with key 0) in
+    (x.row, entry_at es i key x.row k (λ d. ap (λ (e : Entry). e.row) (get_or_default es i (entry_with key 0) d lt)))
+
+pub row_at : (es : List Entry) (rec_ref i row : ℕ) → i < length es → ((d : Entry) → row ≡ (get_or es i d).row) → AllByRecursion (λ (e : Entry). e.row < 256 ^ rec_ref) es → row < 256 ^ rec_ref
+row_at [] rec_ref i row lt r all = absurd (omega arith)
+row_at (e ∷ es) rec_ref zero row lt r all = subst (λ (t : ℕ). t < 256 ^ rec_ref) (sym (r e)) all.0
+row_at (e ∷ es) rec_ref (suc i) row lt r all = row_at es rec_ref i row (omega arith) r all.1
+
+-- the entry at an index of a part of a list
+pub part_at : (es : List Entry) (start count i : ℕ) (d : Entry) → i < length (take count (drop start es)) → (start + i < length es) × (get_or es (min start (length es) + i) d ≡ get_or (take count (drop start es)) i d)
+part_at es start count i d lt =
+    let few : i < count = omega (arith, length-take count (drop start es)) in
+    let inside : start + i < length es = omega (arith, length-take count (drop start es), length-drop start es) in
+    let at : min start (length es) + i ≡ start + i = omega arith in
+    (inside, ap (λ (n : ℕ). get_or es n d) at ∙ sym (get_or-drop start es i d) ∙ sym (get_or-take count (drop start es) i d few))
 
 pub tail_at : (es : List Entry) (i : ℕ) (e : Entry) → i < length es → e ≡ get_or es i e → drop i es ≡ e ∷ drop (i + 1) es
 tail_at es i e lt is = drop_more es i e lt ∙ ap (λ (x : Entry). x ∷ drop (i + 1) es) (sym is)

@@ -5,6 +5,9 @@ use Rattle.std.specs.List.{AllByRecursion}
 use Rattle.myi_base.specs.Numbers.{num_bytes}
 use Rattle.myi_keypage.specs.declared.entry.Entry.{Entry}
 
+abbrev pub entry_with : List ℕ → ℕ → Entry
+entry_with key row = record { key = key; row = row }
+
 -- the entries in their order, and the places of the children; a leaf has none, a node one more than entries
 pub record Page : Type 0 where
   pub entries : List Entry

@@ -29,13 +29,15 @@ mod entry;
 mod fit;
 mod item;
 mod laws;
+mod list;
 mod prefix;
 mod view;
 mod write;
 
 pub use entry::Entry;
-pub use fit::{fits, fitting};
+pub use fit::{fits, fitting, fitting_of};
 pub use item::PageItem;
 pub use laws::{entries_fit, pages_read_back, views_show_pages};
+pub use list::{EntryList, Part};
 pub use view::{PageView, PageWalk, read_page};
-pub use write::write_page;
+pub use write::{write_page, write_page_of};

@@ -6,7 +6,7 @@ ghost use Rattle.std.specs.Prelude.{◌≡◌, ◌+◌, ◌-◌, ◌^◌, ◌<�
 ghost use Rattle.std.specs.Prelude.{[], length, take, drop, replicate, Some};
 ghost use Rattle.std.specs.List.{AllByRecursion};
 ghost use Rattle.myi_base.specs.Numbers.{num_bytes};
-ghost use Rattle.myi_keypage.specs.Page.{page_with, number_bytes, child_bytes, entry_bytes};
+ghost use Rattle.myi_keypage.specs.Page.{page_with, entry_with, number_bytes, child_bytes, entry_bytes};
 ghost use Rattle.myi_keypage.specs.Page.{entries_bytes, body_bytes, head_bytes, page_bytes};
 ghost use Rattle.myi_keypage.specs.Page.{is_node, IsPlace, IsBranching, IsPage};
 ghost use Rattle.myi_keypage.specs.Views.{page_in};
@@ -15,6 +15,7 @@ ghost use Rattle.myi_keypage.specs.Writing.{Puts, IsMatching, filled_up};
 
 use crate::entry::{Entry, shared_length};
 use crate::item::{CHILD_LENGTH, HEAD_LENGTH, NODE_BIT, PLACE_UNIT, WIDE};
+use crate::list::EntryList;
 
 fn put(into: &mut [u8], at: usize, bytes: &[u8]) -> usize
     requires { at + length bytes.now ≤ length into.old }
@@ -53,21 +54,31 @@ fn put_pointer(into: &mut [u8], at: usize, count: usize, number: u64) -> usize
     at + count
 }
 
+// An entry behind the key before it.
 #[tactic(auto, using(crate::proofs::WriteLaws::lengths))]
-fn put_entry(into: &mut [u8], at: usize, rec_ref: usize, before: &[u8], entry: &Entry) -> usize
+fn put_entry(
+    into: &mut [u8],
+    at: usize,
+    rec_ref: usize,
+    before: &[u8],
+    key: &[u8],
+    row: u64,
+) -> usize
     requires narrow { rec_ref ≤ 8 }
-    requires row { entry.now.row < 256 ^ rec_ref }
-    requires few { length before.now + length (entry_bytes rec_ref before.now entry.now) < 65536 }
-    requires room { at + length (entry_bytes rec_ref before.now entry.now) ≤ length into.old }
-    ensures { Puts into.old at into.new result (entry_bytes rec_ref before.now entry.now) }
+    requires row { row < 256 ^ rec_ref }
+    requires few { length before.now
+        + length (entry_bytes rec_ref before.now (entry_with key.now row)) < 65536 }
+    requires room { at + length (entry_bytes rec_ref before.now (entry_with key.now row))
+        ≤ length into.old }
+    ensures { Puts into.old at into.new result
+        (entry_bytes rec_ref before.now (entry_with key.now row)) }
 {
-    let key = entry.key.as_slice();
     let prefix = shared_length(before, key);
     let rest = &key[prefix..];
     let at = put_number(into, at, prefix);
     let at = put_number(into, at, rest.len());
     let at = put(into, at, rest);
-    put_pointer(into, at, rec_ref, entry.row)
+    put_pointer(into, at, rec_ref, row)
 }
 
 fn put_child(into: &mut [u8], at: usize, place: u64) -> usize
@@ -78,29 +89,31 @@ fn put_child(into: &mut [u8], at: usize, place: u64) -> usize
 }
 
 // The entries, and the child after each in a node.
-fn put_entries(
+fn put_entries<L: EntryList>(
     into: &mut [u8],
     at: usize,
     rec_ref: usize,
-    entries: &[Entry],
+    entries: &L,
     children: &[u64],
 ) -> usize
     requires narrow { rec_ref ≤ 8 }
-    requires rows { AllByRecursion (λ e. e.row < 256 ^ rec_ref) entries.now }
-    requires matching { IsMatching entries.now children.now }
+    requires rows { AllByRecursion (λ e. e.row < 256 ^ rec_ref) (L.entries entries.now) }
+    requires matching { IsMatching (L.entries entries.now) children.now }
     requires few { length into.old ≤ 16384 }
-    requires room { at + length (entries_bytes rec_ref [] entries.now children.now)
+    requires room { at + length (entries_bytes rec_ref [] (L.entries entries.now) children.now)
         ≤ length into.old }
-    ensures { Puts into.old at into.new result (entries_bytes rec_ref [] entries.now children.now) }
+    ensures { Puts into.old at into.new result
+        (entries_bytes rec_ref [] (L.entries entries.now) children.now) }
 {
     let mut at = at;
     let mut before: &[u8] = &[];
-    for (i, entry) in entries.iter().enumerate() {
-        at = put_entry(into, at, rec_ref, before, entry);
+    for i in 0..entries.count() {
+        let key = entries.code(i);
+        at = put_entry(into, at, rec_ref, before, key, entries.row(i));
         if i < children.len() {
             at = put_child(into, at, children[i]);
         }
-        before = entry.key.as_slice();
+        before = key;
     }
     at
 }
@@ -116,21 +129,22 @@ fn put_head(into: &mut [u8], node: bool, used: usize)
     into[1] = (used % 256) as u8;
 }
 
-fn put_body(
+fn put_body<L: EntryList>(
     into: &mut [u8],
     at: usize,
     rec_ref: usize,
-    entries: &[Entry],
+    entries: &L,
     children: &[u64],
 ) -> usize
     requires narrow { rec_ref ≤ 8 }
-    requires rows { AllByRecursion (λ e. e.row < 256 ^ rec_ref) entries.now }
-    requires branching { IsBranching (page_with entries.now children.now) }
+    requires rows { AllByRecursion (λ e. e.row < 256 ^ rec_ref) (L.entries entries.now) }
+    requires branching { IsBranching (page_with (L.entries entries.now) children.now) }
     requires few { length into.old ≤ 16384 }
-    requires room { at + length (body_bytes rec_ref (page_with entries.now children.now))
+    requires room { at
+        + length (body_bytes rec_ref (page_with (L.entries entries.now) children.now))
         ≤ length into.old }
     ensures { Puts into.old at into.new result
-        (body_bytes rec_ref (page_with entries.now children.now)) }
+        (body_bytes rec_ref (page_with (L.entries entries.now) children.now)) }
 {
     match children {
         [] => put_entries(into, at, rec_ref, entries, children),
@@ -146,6 +160,32 @@ fn put_zeros(into: &mut [u8], at: usize)
     ensures { into.new ≡ take at into.old ++ replicate (length into.old - at) 0 }
 {
     into[at..].fill(0);
+}
+
+/// Writes a page of a list's entries, with row pointers of `rec_ref` bytes, into a block of at most
+/// 16,384 bytes, with zeros behind the used length. It has at least one entry, and no children or one
+/// more than entries; the children are places, multiples of 1024, and the entries fit.
+pub fn write_page_of<L: EntryList>(entries: &L, children: &[u64], rec_ref: u8, into: &mut [u8])
+    requires wide { 2 ≤ rec_ref }
+    requires narrow { rec_ref ≤ 8 }
+    requires limit { length into.old ≤ 16384 }
+    requires some { 0 < length (L.entries entries.now) }
+    requires rows { AllByRecursion (λ e. e.row < 256 ^ rec_ref) (L.entries entries.now) }
+    requires places { AllByRecursion IsPlace children.now }
+    requires branching { IsBranching (page_with (L.entries entries.now) children.now) }
+    requires fits { used_length rec_ref
+        (is_node (page_with (L.entries entries.now) children.now)) (L.entries entries.now)
+        ≤ length into.old }
+    ensures read { page_in rec_ref into.new
+        ≡ Some (page_with (L.entries entries.now) children.now) }
+    ensures page { IsPage rec_ref into.new (page_with (L.entries entries.now) children.now) }
+    ensures written { into.new
+        ≡ filled_up (page_bytes rec_ref (page_with (L.entries entries.now) children.now))
+        (length into.old) }
+{
+    let used = put_body(into, HEAD_LENGTH, rec_ref as usize, entries, children);
+    put_head(into, !children.is_empty(), used);
+    put_zeros(into, used);
 }
 
 /// Writes a page with row pointers of `rec_ref` bytes into a block of at most 16,384 bytes, with zeros
@@ -166,7 +206,5 @@ pub fn write_page(entries: &[Entry], children: &[u64], rec_ref: u8, into: &mut [
     ensures written { into.new
         ≡ filled_up (page_bytes rec_ref (page_with entries.now children.now)) (length into.old) }
 {
-    let used = put_body(into, HEAD_LENGTH, rec_ref as usize, entries, children);
-    put_head(into, !children.is_empty(), used);
-    put_zeros(into, used);
+    write_page_of(&entries, children, rec_ref, into);
 }

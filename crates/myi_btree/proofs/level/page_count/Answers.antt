@@ -1,28 +1,29 @@
+use Rattle.std.proofs.Common.{◌≡◌, ◌-◌, ℕ, List, length, drop, arith, subst, sym, ap, ◌∙◌}
+use Rattle.std.proofs.lemmas.List.{length-drop}
+use Rattle.myi_keypage.specs.declared.entry.Entry.{Entry}
 use Rattle.myi_btree.specs.Sizes.{IsFitting}
-use Rattle.myi_btree.proofs.FitCount.{page_of, one_of, then_count, else_count}
+use Rattle.myi_btree.proofs.BodyLaws.{rest_is}
+use Rattle.myi_btree.proofs.FitCount.{takes, one_of, then_count, else_count}
 use Rattle.myi_btree.proofs.level.page_count.Goals as goal
 
 pub overflow_sub-result : goal.overflow_sub-result
 overflow_sub-result c =
-    let f : IsFitting c.args.place c.args.node c.args.coded.now c.fitting-most.result = record { inside = c.fitting-most.ensures.inside; exact = c.fitting-most.ensures.exact } in
-    one_of c.args.place c.args.node c.args.coded.now c.fitting-most.result c.requires.sized f c.requires.some
+    let whole = rest_is (c.len.result - c.args.start) c.args.start c.args.pairs.now (ap (λ (n : ℕ). n - c.args.start) c.len.ensures) in
+    let f = subst (λ (t : List Entry). IsFitting c.args.place c.args.node t c.fitting_of-most.result) whole (record { inside = c.fitting_of-most.ensures.inside; exact = c.fitting_of-most.ensures.exact }) in
+    one_of c.args.place c.args.node (drop c.args.start c.args.pairs.now) c.fitting_of-most.result c.requires.sized f (omega (arith, length-drop c.args.start c.args.pairs.now, c.requires.some))
 
-pub returns-then-left-most-eq1-clause-some : goal.returns-then-left-most-eq1-clause-some
-returns-then-left-most-eq1-clause-some c =
-    let f : IsFitting c.args.place c.args.node c.args.coded.now c.fitting-most.result = record { inside = c.fitting-most.ensures.inside; exact = c.fitting-most.ensures.exact } in
-    (page_of c.args.place c.args.node c.args.coded.now c.args.left c.fitting-most.result _ c.requires.placed c.requires.sized f c.requires.some c.requires.inside c.requires.ahead (then_count c.args.left c.fitting-most.result c.if-left-most-eq1.true)).some
+pub returns-then-left-most-eq1-clause-count : goal.returns-then-left-most-eq1-clause-count
+returns-then-left-most-eq1-clause-count c =
+    let whole = rest_is (c.len.result - c.args.start) c.args.start c.args.pairs.now (ap (λ (n : ℕ). n - c.args.start) c.len.ensures) in
+    let f = subst (λ (t : List Entry). IsFitting c.args.place c.args.node t c.fitting_of-most.result) whole (record { inside = c.fitting_of-most.ensures.inside; exact = c.fitting_of-most.ensures.exact }) in
+    let left : c.len.result - c.args.start ≡ length (drop c.args.start c.args.pairs.now) = omega (arith, c.len.ensures, length-drop c.args.start c.args.pairs.now) in
+    takes c.args.place c.args.node (drop c.args.start c.args.pairs.now) c.fitting_of-most.result _ c.requires.sized f (omega (arith, length-drop c.args.start c.args.pairs.now, c.requires.some))
+    (then_count (length (drop c.args.start c.args.pairs.now)) c.fitting_of-most.result (sym (ap (λ (n : ℕ). n - c.fitting_of-most.result) left) ∙ c.if-left-most-eq1.true))
 
-pub returns-then-left-most-eq1-clause-one : goal.returns-then-left-most-eq1-clause-one
-returns-then-left-most-eq1-clause-one c =
-    let f : IsFitting c.args.place c.args.node c.args.coded.now c.fitting-most.result = record { inside = c.fitting-most.ensures.inside; exact = c.fitting-most.ensures.exact } in
-    (page_of c.args.place c.args.node c.args.coded.now c.args.left c.fitting-most.result _ c.requires.placed c.requires.sized f c.requires.some c.requires.inside c.requires.ahead (then_count c.args.left c.fitting-most.result c.if-left-most-eq1.true)).one
-
-pub returns-else-left-most-eq1-clause-some : goal.returns-else-left-most-eq1-clause-some
-returns-else-left-most-eq1-clause-some c =
-    let f : IsFitting c.args.place c.args.node c.args.coded.now c.fitting-most.result = record { inside = c.fitting-most.ensures.inside; exact = c.fitting-most.ensures.exact } in
-    (page_of c.args.place c.args.node c.args.coded.now c.args.left c.fitting-most.result _ c.requires.placed c.requires.sized f c.requires.some c.requires.inside c.requires.ahead (else_count c.args.left c.fitting-most.result c.if-left-most-eq1.false)).some
-
-pub returns-else-left-most-eq1-clause-more : goal.returns-else-left-most-eq1-clause-more
-returns-else-left-most-eq1-clause-more c =
-    let f : IsFitting c.args.place c.args.node c.args.coded.now c.fitting-most.result = record { inside = c.fitting-most.ensures.inside; exact = c.fitting-most.ensures.exact } in
-    (page_of c.args.place c.args.node c.args.coded.now c.args.left c.fitting-most.result _ c.requires.placed c.requires.sized f c.requires.some c.requires.inside c.requires.ahead (else_count c.args.left c.fitting-most.result c.if-left-most-eq1.false)).more
+pub returns-else-left-most-eq1-clause-count : goal.returns-else-left-most-eq1-clause-count
+returns-else-left-most-eq1-clause-count c =
+    let whole = rest_is (c.len.result - c.args.start) c.args.start c.args.pairs.now (ap (λ (n : ℕ). n - c.args.start) c.len.ensures) in
+    let f = subst (λ (t : List Entry). IsFitting c.args.place c.args.node t c.fitting_of-most.result) whole (record { inside = c.fitting_of-most.ensures.inside; exact = c.fitting_of-most.ensures.exact }) in
+    let left : c.len.result - c.args.start ≡ length (drop c.args.start c.args.pairs.now) = omega (arith, c.len.ensures, length-drop c.args.start c.args.pairs.now) in
+    takes c.args.place c.args.node (drop c.args.start c.args.pairs.now) c.fitting_of-most.result _ c.requires.sized f (omega (arith, length-drop c.args.start c.args.pairs.now, c.requires.some))
+    (else_count (length (drop c.args.start c.args.pairs.now)) c.fitting_of-most.result (λ e. c.if-left-most-eq1.false (ap (λ (n : ℕ). n - c.fitting_of-most.result) left ∙ e)))

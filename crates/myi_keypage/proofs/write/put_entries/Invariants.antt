@@ -3,9 +3,9 @@ use Rattle.myi_keypage.proofs.write.put_entries.Given as goal
 use Rattle.myi_keypage.specs.Page.{entries_bytes}
 
 abbrev pub invariant-loop-i : goal.invariant-loop-i
-invariant-loop-i l =
-    let rest = entries_bytes l.rec_ref l.before (drop l.i l.entries) (drop l.i l.children) in
-    let whole = entries_bytes l.rec_ref [] l.entries l.children in
+invariant-loop-i g l =
+    let rest = entries_bytes l.rec_ref l.before (drop l.i (g.L.EntryList.entries l.entries)) (drop l.i l.children) in
+    let whole = entries_bytes l.rec_ref [] (g.L.EntryList.entries l.entries) l.children in
     record {
       text : take l.at l.into ++ rest ≡ take l.fn.at l.fn.into ++ whole;
       ends : l.at + length rest ≡ l.fn.at + length whole;
