@@ -130,9 +130,10 @@ taking_more d start now next file choose b rows w v row old mid new apart ends s
       written = adds r read.prepared choose rows is so_far.written;
       few = omega (arith, so_far.few, read.rises, length_push rows r);
       inside = omega (arith, so_far.few, read.rises, read.within, ends, length_push rows r);
-      told = told_then _ _ _ _ _ _ so_far.told step (λ m k n before came.
-          (append_assoc rows (r ∷ []) (sized_ahead next n) ∙ ap (λ rs. rows ++ rs) (sym came.0) ∙ before.0,
-          came.1 choose rows is so_far.written before.1));
+      told = told_then _ _ _ _ _ _ so_far.told step (λ m k n before came. (
+        append_assoc rows (r ∷ []) (sized_ahead next n) ∙ ap (λ rs. rows ++ rs) (sym came.0) ∙ before.0,
+        came.1 choose rows is so_far.written before.1,
+      ));
     }
 
 -- no row was left

@@ -31,4 +31,3 @@ blocks_more d rows row = sum_by-append (λ (r : SizedRow). length (group d r)) r
 pub stored_more : (d : Defs) (rows : List SizedRow) (row : SizedRow) → AllByRecursion (IsStorable d) rows → IsStorable d row → AllByRecursion (IsStorable d) (rows ++ row ∷ [])
 stored_more d [] row all one = (one, tt)
 stored_more d (r ∷ rows) row all one = (all.0, stored_more d rows row all.1 one)
-

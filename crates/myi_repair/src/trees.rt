@@ -23,8 +23,7 @@ use myi_defs::Defs;
 use myi_header::first_page;
 use myi_io::Files;
 use myi_keycache::{CacheFault, CacheSetup, KeyCache};
-use myi_keylist::{Pair, PairList};
-use myi_keys::KeyVal;
+use myi_keylist::PairList;
 use std::alloc::{AllocError, Global};
 
 /// How a repair keeps index pages.
@@ -168,22 +167,10 @@ fn build_tree<F: Files>(
     ensures cause { HasCause RepairFault.File (F.faults files.old) (F.faults files.new) result }
 {
     pairs.sort();
-    let copied = copied_pairs(alloc, &pairs)?;
-    match Tree::build(alloc, files, cache, place, room, &copied) {
+    match Tree::build(alloc, files, cache, place, room, &pairs) {
         Ok(tree) => Ok(tree.root()),
         Err(fault) => Err(of_build(fault)),
     }
-}
-
-fn copied_pairs(alloc: Global, list: &PairList) -> Result<Vec<Pair>, AllocError>
-    ensures { IfOk result (λ v. v.items ≡ list.now) }
-{
-    let mut pairs = Vec::with_capacity(alloc, list.len())?;
-    for i in 0..list.len() {
-        let code = Vec::from_slice(alloc, list.code(i))?;
-        pairs.push(Pair { key: KeyVal::of_code(code), row: list.row(i) })?;
-    }
-    Ok(pairs)
 }
 
 fn of_build(fault: TreeFault) -> RepairFault

@@ -9,7 +9,8 @@
 //! The rest are laws over the definitions.
 //!
 //! ```
-//! keys.push(defs, &view_packed(defs, row.bytes()), rows.count() as u64)?;
+//! let row = view_packed(defs, &next.bytes);
+//! keys.push(defs, &row, rows.pointers.len() as u64)?;
 //! ```
 //!
 //! `crates/myi_repair/src/gathering.rt` has it.
