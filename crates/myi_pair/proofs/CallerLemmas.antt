@@ -1,11 +1,9 @@
 -- What the crates above cite. Each lemma states a clause of the law of its group in src/laws.rt.
 
 -- first_rows_are_distinct
-pub use Rattle.myi_pair.proofs.FirstRowsLaws.{noted}
--- class_numbers_keep_first_rows
-pub use Rattle.myi_pair.proofs.FirstByClasses.{classes_keep_first}
+pub use Rattle.myi_pair.proofs.FirstRowsLaws.{first_by_keys}
 -- pairs_are_sized
-pub use Rattle.myi_pair.proofs.SizedLaws.{placed, is_key, sized}
+pub use Rattle.myi_pair.proofs.SizedLaws.{placed, is_key, laid_short}
 -- laid_pages_stand_behind
 pub use Rattle.myi_pair.proofs.FileLaws.{tree_behind}
 -- recovered_bytes_recover

@@ -19,7 +19,8 @@ use Rattle.myi_chain.specs.Readable.{Row}
 use Rattle.myi_data.specs.Readable.{readable}
 use Rattle.myi_data.specs.Stored.{SizedRow, values_in, Share, group, stored_size, stored, stored_from, stored_file, block_count, ranges_from, stored_rows, HaveHeld, IsStorable}
 use Rattle.myi_data.proofs.CallerLemmas.{stored_read, group_again, stored_again}
-use Rattle.myi_pair.specs.FirstRows.{repeats, first_after, first_rows, AreDistinct}
+use Rattle.myi_pair.specs.FirstRows.{repeats, repeats_row, first_rows, AreDistinct}
+use Rattle.myi_keylist.specs.FirstBy.{first_after}
 use Rattle.myi_pair.specs.KeyList.{PlacedRow}
 use Rattle.myi_pair.specs.Clean.{values_of, sized_row}
 use Rattle.myi_pair.specs.RecoveredBytes.{kept, new_data, placed_from}
@@ -59,18 +60,18 @@ all-mapped : {X Y : Type 0} (P : Y → Type 0) (f : X → Y) (xs : List X) → A
 all-mapped P f [] all = tt
 all-mapped P f (x ∷ xs) all = (all.0, all-mapped P f xs all.1)
 
-first_after_all : (P : SizedRow → Type 0) (d : Defs) (before : List Values) (rows : List SizedRow) → AllByRecursion P rows → AllByRecursion P (first_after d before rows)
-first_after_all P d before [] all = tt
-first_after_all P d before (row ∷ rows) all = choose (list_any (repeats d row.values) before) (first_after_all P d before rows all.1) (first_after_all P d (before ++ row.values ∷ []) rows all.1)
+first_after_all : (P : SizedRow → Type 0) (repeats : SizedRow → SizedRow → Bool) (before rows : List SizedRow) → AllByRecursion P rows → AllByRecursion P (first_after repeats before rows)
+first_after_all P repeats before [] all = tt
+first_after_all P repeats before (row ∷ rows) all = choose (list_any (repeats row) before) (first_after_all P repeats before rows all.1) (first_after_all P repeats (before ++ row ∷ []) rows all.1)
   where
-    choose : (b : Bool) → AllByRecursion P (first_after d before rows) → AllByRecursion P (first_after d (before ++ row.values ∷ []) rows) → AllByRecursion P (cond b (first_after d before rows) (row ∷ first_after d (before ++ row.values ∷ []) rows))
+    choose : (b : Bool) → AllByRecursion P (first_after repeats before rows) → AllByRecursion P (first_after repeats (before ++ row ∷ []) rows) → AllByRecursion P (cond b (first_after repeats before rows) (row ∷ first_after repeats (before ++ row ∷ []) rows))
     choose true dropped added = dropped
     choose false dropped added = (all.0, added)
 
 pub kept_each : (d : Defs) (extend : Bool) (x : List ℕ) → AreDefs d → AreBytes x → AllByRecursion (IsStorable d) (kept d extend x)
 unfolding kept first_rows
 kept_each d extend x are bytes =
-    first_after_all (IsStorable d) d [] (map (sized_row d) (readable d extend x)) (all-mapped (IsStorable d) (sized_row d) (readable d extend x) (readable_storable d extend x are bytes))
+    first_after_all (IsStorable d) (repeats_row d) [] (map (sized_row d) (readable d extend x)) (all-mapped (IsStorable d) (sized_row d) (readable d extend x) (readable_storable d extend x are bytes))
 
 pub kept_storable : (d : Defs) (extend : Bool) (x : List ℕ) → AreDefs d → AreBytes x → All (IsStorable d) (kept d extend x)
 kept_storable d extend x are bytes = All-from_recursion (IsStorable d) (kept d extend x) (kept_each d extend x are bytes)

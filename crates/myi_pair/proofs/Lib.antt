@@ -1,6 +1,5 @@
 pub mod CallerLemmas
 pub mod FirstRowsLaws
-pub mod FirstByClasses
 pub mod ReadLaws
 pub mod KeptLaws
 pub mod SizedLaws

@@ -1,5 +1,5 @@
 -- A second repair leaves the files that the first would have left at its time.
-use Rattle.std.proofs.Common.{◌≡◌, ℕ, ◌+◌, ◌-◌, ◌*◌, ◌≤◌, Bool, cond, Option, List, [], ◌∷◌, ◌++◌, length, map, take, drop, replicate, sum_by, Ok, refl, sym, ap, subst, ◌∙◌, arith, append_assoc, length-append}
+use Rattle.std.proofs.Common.{◌||◌, ◌≡◌, ℕ, ◌+◌, ◌-◌, ◌*◌, ◌≤◌, Bool, cond, Option, List, [], ◌∷◌, ◌++◌, length, map, take, drop, replicate, sum_by, Ok, refl, sym, ap, subst, ◌∙◌, arith, append_assoc, length-append}
 use Rattle.std.specs.List.{list_any}
 use Rattle.std.proofs.lemmas.List.Sums.{sum_by-cons}
 use Rattle.std.proofs.lemmas.List.{take_at, drop_at, drop-take, take-take, take_all, length-take-le, length-replicate}
@@ -26,7 +26,8 @@ use Rattle.myi_keylist.specs.declared.pair.Pair.{Pair}
 use Rattle.myi_btree.specs.Walk.{Node}
 use Rattle.myi_btree.specs.Sizes.{fits_in}
 use Rattle.myi_btree.specs.LaidPages.{laid}
-use Rattle.myi_pair.specs.FirstRows.{key_numbers, repeats, first_after, first_rows}
+use Rattle.myi_pair.specs.FirstRows.{key_numbers, repeats_row, first_rows}
+use Rattle.myi_keylist.specs.FirstBy.{first_after}
 use Rattle.myi_pair.specs.KeyList.{PlacedRow, key_list}
 use Rattle.myi_pair.specs.Trees.{block_of_key, place_of}
 use Rattle.myi_pair.specs.Clean.{sized_row}
@@ -42,18 +43,23 @@ use Rattle.myi_pair.proofs.SameDefs.{with_raw, readable_same, sized_same, repeat
 -- what definitions with another header say of kept rows, stored rows and trees
 
 module _ (d : Defs) (r : List ℕ) where
-  after_same : (before : List Values) (rows : List SizedRow) → first_after (with_raw d r) before rows ≡ first_after d before rows
+  any_again : (p q : SizedRow → Bool) → ((row : SizedRow) → p row ≡ q row) → (rows : List SizedRow) → list_any p rows ≡ list_any q rows
+  any_again p q same [] = refl
+  any_again p q same (row ∷ rows) = ap (λ b. b || list_any p rows) (same row) ∙ ap (λ b. q row || b) (any_again p q same rows)
+
+  after_same : (before rows : List SizedRow) → first_after (repeats_row (with_raw d r)) before rows ≡ first_after (repeats_row d) before rows
   after_same before [] = refl
   after_same before (row ∷ rows) =
-      ap (λ (p : Values → Bool). cond (list_any p before) (first_after (with_raw d r) before rows) (row ∷ first_after (with_raw d r) (before ++ row.values ∷ []) rows)) (repeats_same d r row.values)
-      ∙ ap (λ rs. cond (list_any (repeats d row.values) before) rs (row ∷ first_after (with_raw d r) (before ++ row.values ∷ []) rows)) (after_same before rows)
-      ∙ ap (λ rs. cond (list_any (repeats d row.values) before) (first_after d before rows) (row ∷ rs)) (after_same (before ++ row.values ∷ []) rows)
+      ap (λ b. cond b (first_after (repeats_row (with_raw d r)) before rows) (row ∷ first_after (repeats_row (with_raw d r)) (before ++ row ∷ []) rows))
+      (any_again (repeats_row (with_raw d r) row) (repeats_row d row) (λ other. ap (λ (p : Values → Bool). p other.values) (repeats_same d r row.values)) before)
+      ∙ ap (λ rs. cond (list_any (repeats_row d row) before) rs (row ∷ first_after (repeats_row (with_raw d r)) (before ++ row ∷ []) rows)) (after_same before rows)
+      ∙ ap (λ rs. cond (list_any (repeats_row d row) before) (first_after (repeats_row d) before rows) (row ∷ rs)) (after_same (before ++ row ∷ []) rows)
 
   pub kept_same : (extend : Bool) (x : List ℕ) → kept (with_raw d r) extend x ≡ kept d extend x
   unfolding kept first_rows
   kept_same extend x =
-      ap (λ rows. first_after (with_raw d r) [] (map (sized_row (with_raw d r)) rows)) (readable_same d r extend x)
-      ∙ ap (first_after (with_raw d r) []) (sized_same d r (readable d extend x))
+      ap (λ rows. first_after (repeats_row (with_raw d r)) [] (map (sized_row (with_raw d r)) rows)) (readable_same d r extend x)
+      ∙ ap (first_after (repeats_row (with_raw d r)) []) (sized_same d r (readable d extend x))
       ∙ after_same [] (map (sized_row d) (readable d extend x))
 
   spelled_same : (f : RowFormat) (v : Values) → spelled_row f (with_raw d r) v ≡ spelled_row f d v

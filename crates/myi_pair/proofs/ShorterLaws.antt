@@ -14,7 +14,7 @@ use Rattle.myi_defs.specs.Addressable.{pointers, is_addressable}
 use Rattle.myi_defs.specs.ReadDefs.{AreDefs}
 use Rattle.myi_defs.proofs.CallerLemmas.{sound}
 use Rattle.myi_frames.specs.Sizes.{least_size}
-use Rattle.myi_pack.specs.Packed.{Values, IsStaticRow, IsRow}
+use Rattle.myi_pack.specs.Packed.{IsStaticRow, IsRow}
 use Rattle.myi_pack.specs.Spelling.{spelling}
 use Rattle.myi_pack.proofs.CallerLemmas.{row-spelled, row-least}
 use Rattle.myi_chain.specs.Chain.{AreApart}
@@ -24,7 +24,8 @@ use Rattle.myi_data.specs.Readable.{readable}
 use Rattle.myi_data.specs.Stored.{SizedRow, Share, shares, group_by, group, stored_size, stored, stored_from, stored_file, IsStorable}
 use Rattle.myi_data.proofs.CallerLemmas.{spelling_some, stored_long, shares_less}
 use Rattle.myi_data.proofs.CallerLemmas.{rows_apart}
-use Rattle.myi_pair.specs.FirstRows.{repeats, first_after, first_rows}
+use Rattle.myi_pair.specs.FirstRows.{repeats_row, first_rows}
+use Rattle.myi_keylist.specs.FirstBy.{first_after}
 use Rattle.myi_pair.specs.Trees.{total}
 use Rattle.myi_pair.specs.Clean.{sized_row}
 use Rattle.myi_pair.specs.RecoveredBytes.{kept, new_data}
@@ -187,13 +188,13 @@ rows_inside f d len (r ∷ rows) fine = inside-append len r.blocks (ranges_of ro
 
 -- leaving rows out makes them no longer
 
-first_after_less : (d : Defs) (before : List Values) (rows : List SizedRow) → stored_length d (first_after d before rows) ≤ stored_length d rows
-first_after_less d before [] = omega arith
-first_after_less d before (row ∷ rows) = choose (list_any (repeats d row.values) before) (first_after_less d before rows) (first_after_less d (before ++ row.values ∷ []) rows)
+first_after_less : (d : Defs) (repeats : SizedRow → SizedRow → Bool) (before rows : List SizedRow) → stored_length d (first_after repeats before rows) ≤ stored_length d rows
+first_after_less d repeats before [] = omega arith
+first_after_less d repeats before (row ∷ rows) = choose (list_any (repeats row) before) (first_after_less d repeats before rows) (first_after_less d repeats (before ++ row ∷ []) rows)
   where
-    choose : (b : Bool) → stored_length d (first_after d before rows) ≤ stored_length d rows → stored_length d (first_after d (before ++ row.values ∷ []) rows) ≤ stored_length d rows → stored_length d (cond b (first_after d before rows) (row ∷ first_after d (before ++ row.values ∷ []) rows)) ≤ stored_length d (row ∷ rows)
+    choose : (b : Bool) → stored_length d (first_after repeats before rows) ≤ stored_length d rows → stored_length d (first_after repeats (before ++ row ∷ []) rows) ≤ stored_length d rows → stored_length d (cond b (first_after repeats before rows) (row ∷ first_after repeats (before ++ row ∷ []) rows)) ≤ stored_length d (row ∷ rows)
     choose true dropped added = omega (arith, sum_by-cons (λ r. stored_size d r) row rows)
-    choose false dropped added = omega (arith, sum_by-cons (λ r. stored_size d r) row rows, sum_by-cons (λ r. stored_size d r) row (first_after d (before ++ row.values ∷ []) rows))
+    choose false dropped added = omega (arith, sum_by-cons (λ r. stored_size d r) row rows, sum_by-cons (λ r. stored_size d r) row (first_after repeats (before ++ row ∷ []) rows))
 
 pub shorter : (d : Defs) (extend : Bool) (x : List ℕ) → AreDefs d → AreBytes x → length (new_data d extend x) ≤ length x
 unfolding new_data kept first_rows
@@ -201,7 +202,7 @@ shorter d extend x are bytes =
     let rows : List Row = readable d extend x in
     let fine : AllByRecursion (IsFine d.format d (length x)) rows = readable_fine d extend x bytes in
     let few = few_in (length x) (ranges_of rows) (rows_apart d extend x (sound d are)) (rows_inside d.format d (length x) rows fine) in
-    omega (arith, few, rows_room d (length x) rows are fine, length-laid d (kept d extend x) (sound d are) (kept_each d extend x are bytes), first_after_less d [] (map (sized_row d) rows))
+    omega (arith, few, rows_room d (length x) rows are fine, length-laid d (kept d extend x) (sound d are) (kept_each d extend x are bytes), first_after_less d (repeats_row d) [] (map (sized_row d) rows))
 
 -- a file that is no longer is within reach too
 

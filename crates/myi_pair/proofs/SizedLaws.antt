@@ -29,7 +29,7 @@ use Rattle.myi_data.proofs.CallerLemmas.{can_weigh, key_is, key_is_at, segments_
 use Rattle.myi_keylist.specs.declared.pair.Pair.{Pair}
 use Rattle.myi_btree.specs.Nodes.{entry_of}
 use Rattle.myi_btree.specs.Sizes.{IsPlaced, IsSized, AreSized}
-use Rattle.myi_keylist.specs.PairOrder.{sorted}
+use Rattle.myi_keylist.specs.PairOrder.{pair_with, sorted}
 use Rattle.myi_pair.specs.KeyList.{PlacedRow, pointer_by, pointer, pair_of, pairs_of, key_list}
 use Rattle.myi_pair.specs.Trees.{block_of_key, place_of}
 use Rattle.myi_keylist.proofs.CallerLemmas.{sorted_permutes}
@@ -86,6 +86,13 @@ module _ (d : Defs) (s : IsSound d) (k : ℕ) (inside : IsKeyNumber d k) where
   code_short row fit =
       let short = segs_short d.format d.fields row the_key.segments (values_fit d row fit) (recursion_from_All (IsSoundSegment d.fields) the_key.segments sound_key.segments) in
       omega (arith, short, ap (λ (key : List KeySeg). length (key_code key)) (key_is_of row))
+
+  -- with any pointer of the table
+  pub laid_short : (pointed : ℕ) (row : Values) → fits d row ≡ true → pointed < 256 ^ d.rec_ref → IsSized (place_of d k) (entry_of (pair_with (key_of d k row) pointed))
+  laid_short pointed row fit near = record {
+    short = omega (arith, code_short row fit, block_is, sound_key.room);
+    row = near;
+  }
 
   pub sized : (at : ℕ) (row : Values) → fits d row ≡ true → pointer d at < 256 ^ d.rec_ref → IsSized (place_of d k) (entry_of (pair_of d k (at, row)))
   sized at row fit near = record {

@@ -1,7 +1,7 @@
 //! Laws over pairs of files. Each is the contract of a function that does nothing, so that it is proved
 //! with the crate and stands for the crates above.
 ghost use Rattle.std.specs.Prelude.{◌≡◌, ◌+◌, ◌^◌, ◌<◌, ◌≤◌, ℕ, suc, Bool, true, false, List, [], ◌∷◌, ◌++◌, length, map, Some, Ok, All};
-ghost use Rattle.std.specs.List.{list_any, AllByRecursion};
+ghost use Rattle.std.specs.List.{AllByRecursion};
 ghost use Rattle.myi_base.specs.Numbers.{AreBytes};
 ghost use Rattle.myi_base.specs.Ranges.{Range};
 ghost use Rattle.myi_defs.specs.declared.types.Defs.{Defs};
@@ -14,7 +14,8 @@ ghost use Rattle.myi_header.specs.StateOf.{rest_length, state_of};
 ghost use Rattle.myi_pack.specs.Packed.{Values};
 ghost use Rattle.myi_pack.specs.Spelling.{fits};
 ghost use Rattle.myi_keys.specs.Limits.{IsKey};
-ghost use Rattle.myi_keylist.specs.Classes.{Columns, AreClasses, class_flags, picked};
+ghost use Rattle.myi_keylist.specs.PairOrder.{pair_with};
+ghost use Rattle.myi_keylist.specs.FirstBy.{first_by, repeats_in};
 ghost use Rattle.myi_data.specs.Readable.{readable};
 ghost use Rattle.myi_data.specs.Keys.{IsKeyNumber, key_of};
 ghost use Rattle.myi_data.specs.Stored.{SizedRow, values_in, IsStorable, stored_size, stored_rows};
@@ -22,7 +23,8 @@ ghost use Rattle.myi_btree.specs.declared.place.Place.{Place};
 ghost use Rattle.myi_btree.specs.Walk.{Walked, walk_of, AreNodes};
 ghost use Rattle.myi_btree.specs.Nodes.{entry_of};
 ghost use Rattle.myi_btree.specs.Sizes.{IsPlaced, IsSized, AreSized};
-ghost use Rattle.myi_pair.specs.FirstRows.{key_numbers, repeats, repeats_row, repeats_code, first_rows, AreDistinct};
+ghost use Rattle.myi_rowkeys.specs.TableKeys.{unique_keys};
+ghost use Rattle.myi_pair.specs.FirstRows.{key_numbers, first_rows, AreDistinct};
 ghost use Rattle.myi_pair.specs.KeyList.{PlacedRow, pointer, pair_of, pairs_of, key_list};
 ghost use Rattle.myi_pair.specs.Trees.{place_of, node_at, HaveTrees, total};
 ghost use Rattle.myi_pair.specs.TreePages.{tree_pages, tree_end, with_tree, CanBeLaid, HasBehind};
@@ -33,23 +35,14 @@ ghost use Rattle.myi_pair.specs.Recovered.{IsRepairable, Recovered};
 use myi_keylist::Pair;
 
 /// Of the first rows of unique keys none repeats one before it, and where no row of a list repeats one
-/// before it, all of them are kept. A row repeats one of a list exactly where, in a unique key, its key is
-/// complete and has the code of a complete key of theirs.
+/// before it, all of them are kept. They are the first rows by the unique keys of the table.
 pub fn first_rows_are_distinct()
     ensures distinct { (d : Defs) (rows : List SizedRow)
         → AreDistinct d [] (values_in (first_rows d rows)) }
     ensures all { (d : Defs) (rows : List SizedRow) → AreDistinct d [] (values_in rows)
         → first_rows d rows ≡ rows }
-    ensures noted { (d : Defs) (rows : List Values) (row : Values)
-        → list_any (repeats d row) rows ≡ list_any (repeats_code d rows row) (key_numbers d) }
-{}
-
-/// Rows that are kept by class numbers are the first rows, where two rows share a number exactly where one
-/// repeats the other in a unique key.
-pub fn class_numbers_keep_first_rows()
-    ensures { (d : Defs) (rows : List SizedRow) (columns : Columns)
-        → AreClasses (repeats_row d) rows columns
-        → picked (class_flags columns (length rows)) rows ≡ first_rows d rows }
+    ensures keys { (d : Defs) (rows : List SizedRow)
+        → first_rows d rows ≡ first_by (repeats_in (unique_keys d)) rows }
 {}
 
 /// Each readable row of a file of bytes can be stored anew, and so can each that a repair keeps. The new
@@ -85,6 +78,9 @@ pub fn pairs_are_sized()
     ensures keys { (d : Defs) → IsSound d → (k : ℕ) → IsKeyNumber d k → (row : Values)
         → fits d row ≡ true
         → IsKey (key_of d k row) }
+    ensures pointed { (d : Defs) → IsSound d → (k : ℕ) → IsKeyNumber d k → (row : Values)
+        → fits d row ≡ true → (pointer : ℕ) → pointer < 256 ^ d.rec_ref
+        → IsSized (place_of d k) (entry_of (pair_with (key_of d k row) pointer)) }
     ensures pair { (d : Defs) (k at len : ℕ) (row : Values) → IsSound d → IsKeyNumber d k
         → fits d row ≡ true → is_addressable d len ≡ true → at ≤ len
         → IsSized (place_of d k) (entry_of (pair_of d k (at, row))) }

@@ -1,9 +1,10 @@
 pub mod OpenLaws
 pub mod FilesLaws
 pub mod StateLaws
-pub mod UniqueLaws
-pub mod PairLaws
+pub mod StoredLaws
+pub mod PointerLaws
 pub mod KeepLaws
+pub mod SizedLaws
 pub mod TreeLaws
 pub mod GatherLaws
 pub mod RepairLaws

@@ -14,10 +14,9 @@ use Rattle.myi_btree.specs.LaidPages.{laid}
 use Rattle.myi_btree.specs.Sizes.{fits_in}
 use Rattle.myi_pair.specs.FirstRows.{key_numbers}
 use Rattle.myi_keylist.specs.PairOrder.{sorted}
-use Rattle.myi_pair.specs.KeyList.{PlacedRow, pairs_of, key_list}
 use Rattle.myi_pair.specs.Trees.{place_of, block_of_key}
 use Rattle.myi_pair.specs.TreePages.{HasBehind}
-use Rattle.myi_pair.specs.RecoveredBytes.{laid_trees, kept, new_data, placed_from, row_pairs, new_trees, new_state, recovered_state, new_index}
+use Rattle.myi_pair.specs.RecoveredBytes.{laid_trees, kept, new_data, placed_from, key_lists, new_trees, new_state, recovered_state, new_index}
 use Rattle.myi_pair.specs.Recovered.{IsRepairable}
 use Rattle.myi_header.proofs.CallerLemmas.{header-long}
 use Rattle.myi_pair.proofs.CallerLemmas.{new_rest}
@@ -33,17 +32,13 @@ use Rattle.myi_repair.specs.Repaired.{LeavesRepaired, Completes}
 use Rattle.myi_repair.specs.Building.{trees_of, Builds}
 use Rattle.myi_repair.specs.Finishing.{state_set, finished_index, IsWhole, Finishes, FinishesPart}
 use Rattle.myi_repair.proofs.FilesLaws.{resized_none, whole_before}
-use Rattle.myi_repair.proofs.PairLaws.{length-numbers}
+use Rattle.myi_rowkeys.proofs.CallerLemmas.{length-numbers}
 
 -- ---- the trees
 
-pub trees_same : (d : Defs) (rows : List SizedRow) → trees_of d (row_pairs d (placed_from d 0 rows)) ≡ new_trees d rows
-unfolding new_trees key_list
-trees_same d rows = ap (laid_trees d (first_page_of d) (key_numbers d)) (each (placed_from d 0 rows) (key_numbers d))
-  where
-    each : (placed : List PlacedRow) (ks : List ℕ) → map sorted (map (λ k. pairs_of d k placed) ks) ≡ map (λ k. key_list d k placed) ks
-    each placed [] = refl
-    each placed (k ∷ ks) = ap (λ ls. sorted (pairs_of d k placed) ∷ ls) (each placed ks)
+pub trees_same : (d : Defs) (lists : List (List Pair)) (rows : List SizedRow) → map sorted lists ≡ key_lists d (placed_from d 0 rows) → trees_of d lists ≡ new_trees d rows
+unfolding new_trees
+trees_same d lists rows is = ap (laid_trees d (first_page_of d) (key_numbers d)) is
 
 roots_count : (d : Defs) (first : ℕ) (ks : List ℕ) (lists : List (List Pair)) → length lists ≡ length ks → length (laid_trees d first ks lists).roots ≡ length ks
 roots_count d first [] lists same = refl
@@ -77,7 +72,7 @@ pub finished_is : (t : FourNames) (extend : Bool) (d : List ℕ) (g h : Gathered
 unfolding new_index
 finished_is t extend d g h now end roots m n s left counted is rooted ended built =
     let defs = g.defs in
-    let trees : trees_of defs g.pairs ≡ new_trees defs (kept defs extend d) = ap (trees_of defs) is.pairs ∙ trees_same defs (kept defs extend d) in
+    let trees : trees_of defs g.pairs ≡ new_trees defs (kept defs extend d) = trees_same defs g.pairs (kept defs extend d) is.pairs in
     let many : length roots ≡ length defs.keys = ap (λ (rs : List (Option ℕ)). length rs) rooted ∙ count_roots defs g.pairs counted in
     let set : state_set g roots end now ≡ recovered_state defs extend d now =
     ap (λ (r : Report). new_state defs (state_of defs defs.raw) r.kept g.split r.new_length roots end now) is.report

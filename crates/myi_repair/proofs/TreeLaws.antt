@@ -31,7 +31,7 @@ use Rattle.myi_pair.specs.TreePages.{tree_nodes, tree_pages, tree_end, with_tree
 use Rattle.myi_pair.proofs.CallerLemmas.{tree_behind}
 use Rattle.myi_keylist.proofs.CallerLemmas.{sorted_permutes}
 use Rattle.myi_repair.specs.Building.{trees_of, LaysTrees}
-use Rattle.myi_repair.proofs.PairLaws.{length-numbers}
+use Rattle.myi_rowkeys.proofs.CallerLemmas.{length-numbers}
 use Rattle.myi_repair.proofs.FilesLaws.{resized_none}
 
 -- ---- what sorting keeps

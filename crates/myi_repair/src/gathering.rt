@@ -1,22 +1,29 @@
 //! Gathering: the rows that are kept, in the working data file, and the pairs of their keys.
-ghost use Rattle.std.specs.Prelude.{◌≡◌, ◌≢◌, ◌⊎◌, ◌≤◌, ◌<◌, ◌+◌, ◌-◌, ◌^◌, ℕ, List, [], true, Some, Err, length, IfOk, IfErr, OnOk, IsTrue};
+ghost use Rattle.std.specs.Prelude.{◌≡◌, ◌≢◌, ◌⊎◌, ◌≤◌, ◌-◌, ℕ, Bool, List, true, length, map};
+ghost use Rattle.std.specs.Prelude.{IfOk, IfErr, OnOk, IsTrue};
 ghost use Rattle.myi_base.specs.Holding.{IfTold, Told, OthersStay};
 ghost use Rattle.myi_base.specs.Causes.{HasCause};
 ghost use Rattle.myi_base.specs.Numbers.{AreBytes};
+ghost use Rattle.myi_defs.specs.Addressable.{is_addressable};
 ghost use Rattle.myi_defs.specs.ReadDefs.{AreDefs};
 ghost use Rattle.myi_defs.specs.Sound.{IsSound};
-ghost use Rattle.myi_chain.specs.ScanModel.{fresh_scan, IsSameScan};
+ghost use Rattle.myi_chain.specs.ScanModel.{fresh_scan};
 ghost use Rattle.myi_data.specs.Scanning.{IsAsKnown};
+ghost use Rattle.myi_data.specs.Stored.{SizedRow};
+ghost use Rattle.myi_keylist.specs.Columns.{pointed};
+ghost use Rattle.myi_rowkeys.specs.TableKeys.{row_keys};
+ghost use Rattle.myi_rowkeys.specs.RowLists.{with_pairs};
 ghost use Rattle.myi_repair.specs.Faults.{faults_told, RoseAtMost};
 ghost use Rattle.myi_repair.specs.Names.{names_of, names_for, AreApart, KeepsBut, KeepsBoth, Clears};
 ghost use Rattle.myi_repair.specs.Opening.{HasTable, Refuses, CutsOff};
 ghost use Rattle.myi_repair.specs.Sized.{AreSizedPairs};
-ghost use Rattle.myi_repair.specs.Keeping.{lists_in, AreCounted};
-ghost use Rattle.myi_repair.specs.Gathering.{Gathers, GathersRows, RisesTo, TakesIf};
+ghost use Rattle.myi_repair.specs.Keeping.{is_chosen, IsPrepared, HasWritten, Adds, WritesIf};
+ghost use Rattle.myi_repair.specs.Gathering.{Gathers, TakesChosen, TakesAll};
 
 use crate::fault::RepairFault;
-use crate::kept::KeptRows;
 use crate::names::TableFiles;
+use crate::new_rows::NewRows;
+use crate::next_row::NextRow;
 use crate::opening::{OpenedTable, open_table};
 use crate::report::Report;
 use myi_base::Sequence;
@@ -24,8 +31,9 @@ use myi_data::{DataFile, DataScan};
 use myi_defs::Defs;
 use myi_header::{State, stored_state};
 use myi_io::Files;
-use myi_keylist::Pair;
+use myi_keylist::PairList;
 use myi_pack::view_packed;
+use myi_rowkeys::RowKeys;
 use std::alloc::{AllocError, Global};
 
 /// What gathering found in a table.
@@ -34,8 +42,8 @@ pub struct Gathered {
     pub report: Report,
     /// The number of blocks of the new data file.
     pub split: u64,
-    /// For each key the pairs of the kept rows, in the order of the rows, with their new pointers.
-    pub pairs: Sequence<Sequence<Pair>>,
+    /// For each key the pairs of the kept rows with their new pointers, in any order.
+    pub pairs: Sequence<PairList>,
 }
 
 impl Drop for Gathered {
@@ -120,7 +128,8 @@ pub(crate) fn gather_table<F: Files>(
     }
 }
 
-// Gathers the rows of a table that can be repaired.
+// Gathers the rows of a table that can be repaired. All are written, as if none repeated another; where some
+// do, the kept ones are written again.
 fn gather_opened<F: Files>(
     alloc: Global,
     files: &mut F,
@@ -132,6 +141,7 @@ fn gather_opened<F: Files>(
     requires apart { AreApart (names_of table.now) }
     requires defs { AreDefs opened.defs }
     requires header { AreBytes opened.defs.raw }
+    requires reached { is_addressable opened.defs opened.length ≡ true }
     requires table { IfTold (F.holds files.old)
         (HasTable (names_of table.now) opened.defs opened.length) }
     ensures gathered { IfOk result (λ g. Told (F.holds files.old) (F.holds files.new)
@@ -145,96 +155,136 @@ fn gather_opened<F: Files>(
     ensures cause { HasCause RepairFault.File (F.faults files.old) (F.faults files.new) result }
 {
     let OpenedTable { defs, length } = opened;
+    let file = table.new_rows.as_str();
     let mut scan = scan_of(alloc, table, &defs, length, extend)?;
-    let rows = take_rows(alloc, files, &mut scan, table.new_rows.as_str(), &defs)?;
-    Ok(into_gathered(alloc, defs, length, rows)?)
+    let (rows, mut keys) = take_rows(alloc, files, &mut scan, file, &defs)?;
+    keys.sort_unique(&defs);
+    if !keys.has_repeat(&defs) {
+        return Ok(into_gathered(defs, length, rows, keys));
+    }
+    let flags = keys.keep_first(alloc, &defs, rows.pointers.len())?;
+    let mut again = scan_of(alloc, table, &defs, length, extend)?;
+    let kept = keep_rows(alloc, files, &mut again, file, &defs, &flags)?;
+    keys.retain(&flags);
+    Ok(into_gathered(defs, length, kept, keys))
 }
 
-fn into_gathered(
-    alloc: Global,
-    defs: Defs,
-    old_length: u64,
-    rows: KeptRows,
-) -> Result<Gathered, AllocError>
-    ensures { IfOk result (λ g. g ≡ record {
+// What was gathered, of lists that have rows by their numbers.
+fn into_gathered(defs: Defs, old_length: u64, rows: NewRows, mut keys: RowKeys) -> Gathered
+    requires { rows.kept ≤ length rows.pointers.items }
+    ensures { result ≡ record {
       defs = defs;
       report = record {
         kept = rows.kept;
-        repeats = rows.repeats;
+        repeats = length rows.pointers.items - rows.kept;
         old_length = old_length;
         new_length = rows.end;
       };
       split = rows.split;
-      pairs = lists_in rows;
-    }) }
+      pairs = map (map (pointed rows.pointers.items)) keys;
+    } }
 {
-    Ok(Gathered {
+    keys.point(&rows.pointers);
+    Gathered {
         defs,
-        report: rows.report(old_length),
-        split: rows.split(),
-        pairs: rows.into_pairs(alloc)?,
-    })
+        report: Report {
+            kept: rows.kept,
+            repeats: rows.pointers.len() as u64 - rows.kept,
+            old_length,
+            new_length: rows.end,
+        },
+        split: rows.split,
+        pairs: keys.into_lists(),
+    }
 }
 
-// Writes the rows that a scan has left, as far as they are kept, into a file, which is made anew.
+// Writes the rows that a scan has left into a file, which is made anew, and notes the pairs of their keys.
 fn take_rows<F: Files>(
     alloc: Global,
     files: &mut F,
     scan: &mut DataScan,
     file: &str,
     defs: &Defs,
-) -> Result<KeptRows, RepairFault>
+) -> Result<(NewRows, RowKeys), RepairFault>
     requires writable { IsTrue F.writable }
     requires apart { scan.old.name ≢ file.now }
     requires current { IfTold (F.holds files.old) (IsAsKnown scan.old) }
-    requires end { scan.old.end < 2 ^ 64 }
     requires test { scan.old.test ≡ defs.now }
     requires defs { AreDefs defs.now }
-    ensures gathered { IfOk result (λ k. Told (F.holds files.old) (F.holds files.new)
-        (GathersRows scan.old file.now k)) }
-    ensures counted { IfOk result (λ k. AreCounted defs.now k) }
+    ensures took { IfOk result (λ r. TakesAll defs.now scan.old file.now r.0 r.1
+        (F.holds files.old) (F.holds files.new)) }
     ensures cut { IfErr result CutsOff }
     ensures others { Told (F.holds files.old) (F.holds files.new) (OthersStay file.now) }
     ensures cause { HasCause RepairFault.File (F.faults files.old) (F.faults files.new) result }
 {
     files.cut(file, 0)?;
-    let mut rows = KeptRows::new(alloc, defs.keys.as_slice().len())?;
-    while take_next(files, scan, file, defs, &mut rows)? {}
-    Ok(rows)
+    let mut next = NextRow::new(alloc);
+    let mut rows = NewRows::new(alloc);
+    let mut keys = RowKeys::new(alloc, defs.keys.as_slice().len())?;
+    while next.read(files, scan, defs)? {
+        take_row(files, file, defs, &next, &mut rows, &mut keys)?;
+    }
+    Ok((rows, keys))
 }
 
-// Takes the next row of a scan, and says whether there was one.
-fn take_next<F: Files>(
+// Writes a row at the end of the file, and notes the pairs of its keys with its number.
+fn take_row<F: Files>(
     files: &mut F,
-    scan: &mut DataScan,
     file: &str,
     defs: &Defs,
-    rows: &mut KeptRows,
-) -> Result<bool, RepairFault>
+    next: &NextRow,
+    rows: &mut NewRows,
+    keys: &mut RowKeys,
+) -> Result<(), RepairFault>
     requires writable { IsTrue F.writable }
-    requires apart { scan.old.name ≢ file.now }
-    requires current { IfTold (F.holds files.old) (IsAsKnown scan.old) }
-    requires end { scan.old.end < 2 ^ 64 }
-    requires test { scan.old.test ≡ defs.now }
     requires defs { AreDefs defs.now }
-    requires counted { AreCounted defs.now rows.old }
-    requires few { rows.old.kept + rows.old.repeats ≤ scan.old.place }
-    ensures same { OnOk result (IsSameScan scan.old scan.new) }
-    ensures rises { IfOk result (λ more. more ≡ true → RisesTo scan.old scan.new rows.new) }
-    ensures counted { OnOk result (AreCounted defs.now rows.new) }
-    ensures took { IfOk result (λ more. Told (F.holds files.old) (F.holds files.new)
-        (TakesIf more defs.now file.now scan.old scan.new rows.old rows.new)) }
-    ensures current { OnOk result (IfTold (F.holds files.new) (IsAsKnown scan.new)) }
+    requires row { (row : SizedRow) × IsPrepared defs.now row next.now }
+    requires written { (choose : ℕ → Bool) × (came : List SizedRow)
+        × HasWritten defs.now choose came rows.old }
+    requires all { length keys.old ≡ length defs.now.keys }
+    ensures keys { OnOk result ((row : SizedRow) → IsPrepared defs.now row next.now → keys.new
+        ≡ with_pairs (length rows.old.pointers.items) (row_keys defs.now row.values) keys.old) }
+    ensures added { OnOk result ((row : SizedRow) → IsPrepared defs.now row next.now
+        → Adds defs.now true row rows.old rows.new) }
+    ensures written { OnOk result (Told (F.holds files.old) (F.holds files.new)
+        (λ m n. (row : SizedRow) → IsPrepared defs.now row next.now
+        → WritesIf defs.now file.now true row rows.old m n)) }
     ensures cut { IfErr result CutsOff }
     ensures others { Told (F.holds files.old) (F.holds files.new) (OthersStay file.now) }
     ensures cause { HasCause RepairFault.File (F.faults files.old) (F.faults files.new) result }
 {
-    let Some((_, piece)) = scan.next_row(files)? else {
-        return Ok(false);
-    };
-    let row = view_packed(defs, piece.bytes());
-    rows.take(files, file, defs, &row)?;
-    Ok(true)
+    let row = view_packed(defs, &next.bytes);
+    keys.push(defs, &row, rows.pointers.len() as u64)?;
+    rows.put(files, file, defs, next)
+}
+
+// Writes of the rows that a scan has left those whose flag is set into a file, which is made anew.
+fn keep_rows<F: Files>(
+    alloc: Global,
+    files: &mut F,
+    scan: &mut DataScan,
+    file: &str,
+    defs: &Defs,
+    flags: &[bool],
+) -> Result<NewRows, RepairFault>
+    requires writable { IsTrue F.writable }
+    requires apart { scan.old.name ≢ file.now }
+    requires current { IfTold (F.holds files.old) (IsAsKnown scan.old) }
+    requires test { scan.old.test ≡ defs.now }
+    requires defs { AreDefs defs.now }
+    ensures took { IfOk result (λ w. TakesChosen defs.now scan.old file.now (is_chosen flags.now) w
+        (F.holds files.old) (F.holds files.new)) }
+    ensures cut { IfErr result CutsOff }
+    ensures others { Told (F.holds files.old) (F.holds files.new) (OthersStay file.now) }
+    ensures cause { HasCause RepairFault.File (F.faults files.old) (F.faults files.new) result }
+{
+    files.cut(file, 0)?;
+    let mut next = NextRow::new(alloc);
+    let mut rows = NewRows::new(alloc);
+    while next.read(files, scan, defs)? {
+        rows.put_chosen(files, file, defs, &next, flags)?;
+    }
+    Ok(rows)
 }
 
 fn scan_of(

@@ -4,10 +4,10 @@
 //! What a repair leaves is defined over the bytes of the two files before it (`Rattle.myi_pair.specs`,
 //! `RecoveredBytes` and `Recovered`); what the calls here do to the files of a table is in `specs/`.
 //!
-//! `recover` is made of three parts: `gather` reads the rows and writes those that are kept, each by
-//! `put_row`, into the working data file, and answers the pairs of their keys; the trees are built in
-//! the working index file; `finish` writes the header and gives both working files the names of the old
-//! ones.
+//! `recover` is made of three parts: `gather` reads the rows and writes them into the working data file,
+//! as if none repeated another, and where some do, it writes those that are kept again; it answers the
+//! pairs of their keys. The trees are built in the working index file; `finish` writes the header and
+//! gives both working files the names of the old ones.
 //!
 //! ```
 //! match recover(alloc, files, name, extend, now) {
@@ -24,13 +24,13 @@ mod fault;
 mod finishing;
 mod gathering;
 mod giant;
-mod kept;
 mod names;
+mod new_rows;
+mod next_row;
 mod opening;
 mod repair;
 mod report;
 mod trees;
-mod unique;
 mod writing;
 
 pub use fault::{RepairFault, TableFile};

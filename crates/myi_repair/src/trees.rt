@@ -23,7 +23,7 @@ use myi_defs::Defs;
 use myi_header::first_page;
 use myi_io::Files;
 use myi_keycache::{CacheFault, CacheSetup, KeyCache};
-use myi_keylist::Pair;
+use myi_keylist::PairList;
 use std::alloc::{AllocError, Global};
 
 /// How a repair keeps index pages.
@@ -67,7 +67,7 @@ pub(crate) fn build_trees<F: Files>(
     files: &mut F,
     file: &str,
     defs: &Defs,
-    pairs: Vec<Sequence<Pair>>,
+    pairs: Vec<PairList>,
 ) -> Result<Trees, RepairFault>
     requires writable { IsTrue F.writable }
     requires defs { AreDefs defs.now }
@@ -95,7 +95,7 @@ fn lay_trees<F: Files>(
     files: &mut F,
     cache: &mut KeyCache,
     defs: &Defs,
-    pairs: Vec<Sequence<Pair>>,
+    pairs: Vec<PairList>,
 ) -> Result<Trees, RepairFault>
     requires writable { IsTrue F.writable }
     requires sound { IsSound defs.now }
@@ -145,7 +145,7 @@ fn build_tree<F: Files>(
     cache: &mut KeyCache,
     place: Place,
     room: &mut Room,
-    pairs: Sequence<Pair>,
+    mut pairs: PairList,
 ) -> Result<Option<u64>, RepairFault>
     requires writable { IsTrue F.writable }
     requires placed { IsPlaced place }
@@ -166,8 +166,7 @@ fn build_tree<F: Files>(
         (λ m n. CanLay cache.old m room.old.end → OthersStay cache.old.name m n) }
     ensures cause { HasCause RepairFault.File (F.faults files.old) (F.faults files.new) result }
 {
-    let mut pairs = pairs.into_vec();
-    pairs.sort_unstable();
+    pairs.sort();
     match Tree::build(alloc, files, cache, place, room, &pairs) {
         Ok(tree) => Ok(tree.root()),
         Err(fault) => Err(of_build(fault)),

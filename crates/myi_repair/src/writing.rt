@@ -9,7 +9,7 @@ use crate::giant::put_giant;
 use myi_defs::{Defs, RowFormat};
 use myi_frames::{FrameKind, FrameSpec, GIANT, least_size, write_frame};
 use myi_io::{FileErr, Files};
-use std::alloc::{AllocError, Global};
+use std::alloc::AllocError;
 
 /// Writes a row at a place of the file of that name, in its slot or its blocks, and answers the place behind
 /// them and their number. `packed` is the row's spelling. `sizes`, the sizes of the blocks that held it, are
@@ -36,14 +36,52 @@ pub fn put_row<F: Files>(
         r.1 ≡ length (group_by defs.now.format sizes.now (length packed.now))) }
     ensures cause { HasCause Failed (F.faults files.old) (F.faults files.new) result }
 {
+    let mut block = Vec::new(defs.raw.allocator());
+    let row = PackedRow {
+        bytes: packed,
+        sizes,
+    };
+    put_packed(files, file, defs, at, row, &mut block)
+}
+
+/// The spelling of a row, and the sizes of the blocks that held it.
+#[derive(Clone, Copy)]
+pub(crate) struct PackedRow<'a> {
+    pub(crate) bytes: &'a [u8],
+    pub(crate) sizes: &'a [u32],
+}
+
+/// The same with a buffer for the row's block, which may serve for many rows.
+pub(crate) fn put_packed<F: Files>(
+    files: &mut F,
+    file: &str,
+    defs: &Defs,
+    at: u64,
+    row: PackedRow<'_>,
+    block: &mut Vec<u8>,
+) -> Result<(u64, u64), FileErr>
+    requires writable { IsTrue F.writable }
+    requires few { length row.bytes.now < 2 ^ 32 }
+    requires place { at ≤ 2 ^ 40 }
+    ensures ok { OnOk result (Told (F.holds files.old) (F.holds files.new)
+        (Writes file.now at (stored_by defs.now.format at row.entry.sizes.now row.entry.bytes.now))) }
+    ensures err { OnErr result (Told (F.holds files.old) (F.holds files.new)
+        (WritesPart file.now at (stored_by defs.now.format at row.entry.sizes.now row.entry.bytes.now))) }
+    ensures end { IfOk result (λ r.
+        r.0 ≡ at + length (stored_by defs.now.format at row.entry.sizes.now row.entry.bytes.now)) }
+    ensures count { IfOk result (λ r.
+        r.1 ≡ length (group_by defs.now.format row.entry.sizes.now (length row.entry.bytes.now))) }
+    ensures cause { HasCause Failed (F.faults files.old) (F.faults files.new) result }
+{
     match defs.format {
-        RowFormat::Static => write_row(files, file, at, packed),
+        RowFormat::Static => write_row(files, file, at, row.bytes),
         RowFormat::Dynamic => {
-            if packed.len() >= GIANT as usize {
-                return put_giant(defs.raw.allocator(), files, file, at, packed, sizes);
+            if row.bytes.len() >= GIANT as usize {
+                let alloc = defs.raw.allocator();
+                return put_giant(alloc, files, file, at, row.bytes, row.sizes);
             }
-            let block = block_of(defs.raw.allocator(), packed)?;
-            write_row(files, file, at, &block)
+            fill_block(block, row.bytes)?;
+            write_row(files, file, at, block)
         }
     }
 }
@@ -69,10 +107,10 @@ fn write_row<F: Files>(
     Ok((at + bytes.len() as u64, 1))
 }
 
-// The one block of a row.
-fn block_of(alloc: Global, packed: &[u8]) -> Result<Vec<u8>, AllocError>
+// Makes the one block of a row, in place of what the buffer held.
+fn fill_block(block: &mut Vec<u8>, packed: &[u8]) -> Result<(), AllocError>
     requires { length packed.now < 2 ^ 24 }
-    ensures { IfOk result (λ block. block.items ≡ own_block packed.now) }
+    ensures { OnOk result (block.new.items ≡ own_block packed.now) }
 {
     let rec_len = packed.len() as u32;
     let spec = FrameSpec {
@@ -81,7 +119,8 @@ fn block_of(alloc: Global, packed: &[u8]) -> Result<Vec<u8>, AllocError>
         next: None,
         prev: None,
     };
-    let mut block = vec![in alloc; 0u8; least_size(rec_len) as usize]?;
-    write_frame(&mut block, &spec, packed);
-    Ok(block)
+    block.clear();
+    block.resize(least_size(rec_len) as usize, 0)?;
+    write_frame(block, &spec, packed);
+    Ok(())
 }

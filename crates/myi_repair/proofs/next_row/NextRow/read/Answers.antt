@@ -1,0 +1,29 @@
+use Rattle.std.proofs.Common.{◌∙◌, List, map, ap}
+use Rattle.std.specs.Prelude.{IfSome, ℕ}
+use Rattle.myi_defs.proofs.CallerLemmas.{sound}
+use Rattle.myi_pack.specs.Spelling.{spelling}
+use Rattle.myi_pack.proofs.CallerLemmas.{row-fits}
+use Rattle.myi_data.specs.Readable.{packs}
+use Rattle.myi_data.specs.Scanning.{PacksRow}
+use Rattle.myi_chain.specs.declared.piece.Piece.{Piece}
+use Rattle.myi_repair.proofs.GatherLaws.{answered_of, ended_of, reads, ended}
+use Rattle.myi_repair.proofs.next_row.NextRow.read.Goals as goal
+
+pub view_packed-row-requires-clause-sound : goal.view_packed-row-requires-clause-sound
+view_packed-row-requires-clause-sound g c = sound c.args.defs.now c.requires.defs
+
+pub spell_into-requires-clause-sound : goal.spell_into-requires-clause-sound
+spell_into-requires-clause-sound g c = sound c.args.defs.now c.requires.defs
+
+pub spell_into-requires-clause-fits : goal.spell_into-requires-clause-fits
+spell_into-requires-clause-fits g c = row-fits c.args.defs.now c.view_packed-row.result c.bytes.result.now (sound c.args.defs.now c.requires.defs) c.view_packed-row.ensures.packs
+
+pub returns-clause-read : goal.returns-clause-read
+returns-clause-read g c =
+    let found : ℕ × Piece = (c.in-Some.field-0-0, c.in-Some.piece) in
+    let d = c.args.defs.now in
+    let s = sound d c.requires.defs in
+    let new = c.next_row.follows.lender-at-none in
+    let answer = answered_of (g.F.Files.holds c.args.files.now) c.args.scan.now new _ _ found c.in_ok-piece.was c.in-Some.is c.next_row.follows.holds-at-none in
+    reads d (g.F.Files.holds c.args.files.now) c.args.scan.now new found c.view_packed-row.result c.bytes.result.now _ s c.requires.test answer c.bytes.ensures c.view_packed-row.ensures.found
+    (row-fits d c.view_packed-row.result c.bytes.result.now s c.view_packed-row.ensures.packs) c.in_ok-spell_into.ensures (c.in_ok-note_sizes.ensures ∙ ap (λ (bs : List (ℕ × ℕ)). map (λ b. b.1) bs) c.blocks-2.ensures)

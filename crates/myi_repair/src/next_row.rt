@@ -1,0 +1,87 @@
+//! `NextRow`: the row that a scan answered last, spelled anew.
+//!
+//! Its bytes are lent from the scan only until the scan is asked again, and its values stand in them; so
+//! the row is spelled first, and what is done with it reads the spelling. The buffers serve for all rows.
+ghost use Rattle.std.specs.Prelude.{◌≡◌, map, OnOk};
+
+use crate::fault::RepairFault;
+use myi_data::DataScan;
+use myi_defs::Defs;
+use myi_io::Files;
+use myi_pack::{spell_into, view_packed};
+use std::alloc::{AllocError, Global};
+
+/// The spelling of a row, and the sizes of the blocks that held it.
+pub(crate) struct NextRow {
+    pub(crate) bytes: Vec<u8>,
+    pub(crate) sizes: Vec<u32>,
+    scratch: Vec<u8>,
+}
+
+impl Drop for NextRow {
+    fn drop(self) {
+        let NextRow {
+            bytes: _,
+            sizes: _,
+            scratch: _,
+        } = self;
+    }
+}
+
+impl NextRow {
+    ghost use Rattle.std.specs.Prelude.{◌≡◌, IfOk, IfErr, OnOk};
+    ghost use Rattle.myi_base.specs.Holding.{IfTold};
+    ghost use Rattle.myi_base.specs.Causes.{HasCause};
+    ghost use Rattle.myi_defs.specs.ReadDefs.{AreDefs};
+    ghost use Rattle.myi_chain.specs.ScanModel.{IsSameScan};
+    ghost use Rattle.myi_data.specs.Scanning.{IsAsKnown};
+    ghost use Rattle.myi_repair.specs.Opening.{CutsOff};
+    ghost use Rattle.myi_repair.specs.Gathering.{ReadsIf};
+
+    /// No row yet.
+    pub(crate) fn new(alloc: Global) -> NextRow {
+        NextRow {
+            bytes: Vec::new(alloc),
+            sizes: Vec::new(alloc),
+            scratch: Vec::new(alloc),
+        }
+    }
+
+    /// Reads and spells the next row of a scan, and says whether there was one.
+    pub(crate) fn read<F: Files>(
+        &mut self,
+        files: &mut F,
+        scan: &mut DataScan,
+        defs: &Defs,
+    ) -> Result<bool, RepairFault>
+        requires current { IfTold (F.holds files.old) (IsAsKnown scan.old) }
+        requires test { scan.old.test ≡ defs.now }
+        requires defs { AreDefs defs.now }
+        ensures read { IfOk result (λ more.
+            ReadsIf more defs.now (F.holds files.old) scan.old scan.new self.new) }
+        ensures same { OnOk result (IsSameScan scan.old scan.new) }
+        ensures current { OnOk result (IfTold (F.holds files.old) (IsAsKnown scan.new)) }
+        ensures holds { F.holds files.new ≡ F.holds files.old }
+        ensures cut { IfErr result CutsOff }
+        ensures cause { HasCause RepairFault.File (F.faults files.old) (F.faults files.new) result }
+    {
+        let Some((_, piece)) = scan.next_row(files)? else {
+            return Ok(false);
+        };
+        let row = view_packed(defs, piece.bytes());
+        spell_into(&mut self.bytes, &mut self.scratch, defs, &row)?;
+        note_sizes(&mut self.sizes, scan.blocks())?;
+        Ok(true)
+    }
+}
+
+// Notes the sizes of blocks, in place of those that were noted.
+fn note_sizes(sizes: &mut Vec<u32>, blocks: &[(u64, u32)]) -> Result<(), AllocError>
+    ensures { OnOk result (sizes.new.items ≡ map (λ b. b.1) blocks.now) }
+{
+    sizes.clear();
+    for (_, size) in blocks {
+        sizes.push(*size)?;
+    }
+    Ok(())
+}

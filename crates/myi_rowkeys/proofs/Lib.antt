@@ -1,0 +1,5 @@
+pub mod CallerLemmas
+pub mod NumberLemmas
+pub mod ListLemmas
+pub mod PointerLemmas
+pub mod ColumnLemmas
