@@ -1,5 +1,5 @@
 -- What was written once one more row has come.
-use Rattle.std.proofs.Common.{◌≡◌, ℕ, ◌+◌, ◌^◌, ◌<◌, ◌≤◌, Bool, true, false, cond, List, [], ◌∷◌, ◌++◌, length, Some, unwrap_or, refl, sym, ap, subst, ◌∙◌, arith, length-append}
+use Rattle.std.proofs.Common.{◌≡◌, ℕ, ◌+◌, ◌^◌, ◌<◌, ◌≤◌, Bool, true, false, List, [], ◌∷◌, ◌++◌, length, Some, unwrap_or, refl, sym, ap, subst, ◌∙◌, arith, length-append}
 use Rattle.std.specs.List.{AllByRecursion}
 use Rattle.std.proofs.lemmas.Bool.{leb-true, and_parts}
 use Rattle.std.proofs.Math.Nat.{one-le-pow}
@@ -16,13 +16,13 @@ use Rattle.myi_pack.specs.Unpacking.{row_of}
 use Rattle.myi_pack.specs.Spelling.{fits, spelling}
 use Rattle.myi_pack.proofs.CallerLemmas.{row-short, row-reads}
 use Rattle.myi_keylist.specs.Classes.{picked}
-use Rattle.myi_data.specs.Stored.{SizedRow, Share, group_by, stored_by, group, stored_size, stored, stored_file, block_count, IsStorable}
+use Rattle.myi_data.specs.Stored.{SizedRow, Share, group_by, stored_by, stored_size, stored, stored_file, block_count, IsStorable}
 use Rattle.myi_data.proofs.CallerLemmas.{size_alone, group_alone, group_one, size_one, stored_sized}
 use Rattle.myi_pair.specs.KeyList.{pointer}
 use Rattle.myi_pair.proofs.CallerLemmas.{length-slot, pointer_near}
 use Rattle.myi_repair.specs.declared.next_row.NextRow.{NextRow}
 use Rattle.myi_repair.specs.declared.new_rows.NewRows.{NewRows}
-use Rattle.myi_repair.specs.Keeping.{IsPrepared, flags_by, chosen, pointers_at, HasWritten, Adds, WritesIf}
+use Rattle.myi_repair.specs.Keeping.{IsPrepared, flags_by, chosen, HasWritten, Adds, WritesIf}
 use Rattle.myi_repair.proofs.FilesLaws.{appended}
 use Rattle.myi_repair.proofs.StoredLaws.{laid_more, blocks_more, stored_more}
 use Rattle.myi_repair.proofs.PointerLaws.{chosen_more, pointers_more}

@@ -1,7 +1,7 @@
 -- The pointers of rows that are written one after the other, and the rows that are chosen.
-use Rattle.std.proofs.Common.{◌≡◌, ◌⊎◌, inl, inr, ℕ, zero, suc, ◌+◌, ◌*◌, ◌/◌, ◌^◌, ◌<◌, ◌≤◌, Bool, true, false, cond, List, [], ◌∷◌, ◌++◌, length, get_or, map, refl, sym, ap, subst, ◌∙◌, arith, length-append}
+use Rattle.std.proofs.Common.{◌≡◌, ℕ, zero, suc, ◌+◌, ◌/◌, ◌<◌, ◌≤◌, Bool, true, false, cond, List, [], ◌∷◌, ◌++◌, length, get_or, map, refl, sym, ap, subst, ◌∙◌, arith, length-append}
 use Rattle.std.specs.List.{AllByRecursion, filter, range_with_len}
-use Rattle.std.proofs.lemmas.List.{length-map, length_push}
+use Rattle.std.proofs.lemmas.List.{length_push}
 use Rattle.std.proofs.lemmas.List.FromFn.{map-range_with_len_more, length-map-range_with_len, get_or-map-range_with_len}
 use Rattle.myi_defs.specs.declared.types.RowFormat.{RowFormat}
 use Rattle.myi_defs.specs.declared.types.RowFormat.TheVariants.{Static, Dynamic}
@@ -13,7 +13,7 @@ use Rattle.myi_pack.specs.Spelling.{spelling}
 use Rattle.myi_keylist.specs.declared.pair.Pair.{Pair}
 use Rattle.myi_keylist.specs.PairOrder.{sorted}
 use Rattle.myi_keylist.specs.Classes.{picked}
-use Rattle.myi_keylist.specs.Columns.{AreRising, AreRisingAt, has_flag, pairs_with, pointed}
+use Rattle.myi_keylist.specs.Columns.{AreRisingAt, has_flag, pairs_with, pointed}
 use Rattle.myi_data.specs.Stored.{SizedRow, stored_size, stored, stored_from, stored_file, IsStorable}
 use Rattle.myi_data.proofs.CallerLemmas.{size_alone, size_one, stored_sized, spelling_some}
 use Rattle.myi_rowkeys.specs.TableKeys.{key_in}

@@ -1,6 +1,4 @@
-use Rattle.std.proofs.Common.{◌≡◌, ◌∙◌, ◌++◌, ◌∷◌, List, length, [], refl, sym, ap, subst, arith}
-use Rattle.std.specs.Prelude.{OnOk}
-use Rattle.myi_base.specs.Holding.{Told, OthersStay}
+use Rattle.std.proofs.Common.{◌∙◌, ◌++◌, ◌∷◌, length, [], refl, sym, ap, subst, arith}
 use Rattle.myi_base.proofs.CallerLemmas.{told_more, told_then}
 use Rattle.myi_repair.specs.Keeping.{is_chosen}
 use Rattle.myi_repair.specs.Gathering.{ReadsIf, TakesChosen}

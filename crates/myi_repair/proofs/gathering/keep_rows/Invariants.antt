@@ -1,4 +1,4 @@
-use Rattle.std.proofs.Common.{◌≡◌, ◌≤◌, ◌-◌, List}
+use Rattle.std.proofs.Common.{◌≤◌, ◌-◌, List}
 use Rattle.myi_base.specs.Holding.{IfTold, Told, OthersStay}
 use Rattle.myi_chain.specs.ScanModel.{IsSameScan}
 use Rattle.myi_data.specs.Scanning.{IsAsKnown}

@@ -1,10 +1,9 @@
-use Rattle.std.proofs.Common.{◌≡◌, ◌∙◌, true, Some, Result, Ok, Err, length, arith, ap}
+use Rattle.std.proofs.Common.{◌∙◌, Result, Ok, Err, length, arith, ap}
 use Rattle.std.specs.Prelude.{is_some, OnOk}
 use Rattle.myi_defs.proofs.CallerLemmas.{sound}
 use Rattle.myi_pack.specs.Unpacking.{row_of}
 use Rattle.myi_pack.specs.Spelling.{fits}
 use Rattle.myi_pack.proofs.CallerLemmas.{row-reads}
-use Rattle.myi_data.specs.Stored.{SizedRow}
 use Rattle.myi_rowkeys.specs.TableKeys.{row_keys}
 use Rattle.myi_rowkeys.specs.RowLists.{with_pairs}
 use Rattle.myi_repair.proofs.KeepLaws.{read_back}

@@ -1,10 +1,8 @@
-use Rattle.std.proofs.Common.{◌≡◌, ◌∙◌, ◌++◌, ◌∷◌, ℕ, length, List, [], true, refl, sym, ap, subst, arith}
+use Rattle.std.proofs.Common.{◌≡◌, ◌∙◌, ◌++◌, ◌∷◌, length, List, [], true, refl, sym, ap, subst, arith}
 use Rattle.std.specs.Prelude.{replicate}
-use Rattle.myi_base.specs.Holding.{Told, OthersStay}
 use Rattle.myi_base.proofs.CallerLemmas.{told_more, told_then}
 use Rattle.myi_defs.specs.declared.types.Key.{Key}
 use Rattle.myi_keylist.specs.declared.pair.Pair.{Pair}
-use Rattle.myi_rowkeys.specs.RowLists.{number_pairs}
 use Rattle.myi_rowkeys.proofs.CallerLemmas.{no_numbers, length-number_pairs}
 use Rattle.myi_repair.specs.Gathering.{ReadsIf, TakesAll, all_chosen}
 use Rattle.myi_repair.proofs.GatherLaws.{taking_none, taking_more, taken_all, keys_more, written_long, same_then, stays_known}

@@ -1,8 +1,7 @@
 use Rattle.std.proofs.Common.{◌≡◌, ◌+◌, ◌++◌, ◌∷◌, [], ◌∙◌, ℕ, List, length, length-append, arith, refl, ap, sym, subst}
-use Rattle.myi_base.specs.Holding.{Holding, Told, Writes}
+use Rattle.myi_base.specs.Holding.{Writes}
 use Rattle.myi_base.proofs.CallerLemmas.{told_more}
 use Rattle.myi_defs.proofs.CallerLemmas.{sound}
-use Rattle.myi_pack.specs.Spelling.{spelling}
 use Rattle.myi_repair.proofs.KeepLaws.{row_short, put_bytes, put_size, put_count, added, written_one}
 use Rattle.myi_repair.proofs.new_rows.NewRows.put.Goals as goal
 

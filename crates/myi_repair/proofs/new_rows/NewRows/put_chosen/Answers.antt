@@ -1,7 +1,7 @@
-use Rattle.std.proofs.Common.{◌≡◌, ◌∙◌, Bool, true, false, length, arith, refl, sym, ap, subst}
+use Rattle.std.proofs.Common.{◌≡◌, ◌∙◌, true, false, length, arith, refl, sym, ap, subst}
 use Rattle.std.specs.Prelude.{OnOk}
 use Rattle.myi_base.specs.Holding.{Told}
-use Rattle.myi_base.proofs.CallerLemmas.{told_more, told_same}
+use Rattle.myi_base.proofs.CallerLemmas.{told_same}
 use Rattle.myi_defs.proofs.CallerLemmas.{sound}
 use Rattle.myi_data.specs.Stored.{SizedRow}
 use Rattle.myi_repair.specs.Keeping.{IsPrepared, Adds, WritesIf, is_chosen}

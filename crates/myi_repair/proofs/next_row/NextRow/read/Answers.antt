@@ -1,16 +1,22 @@
-use Rattle.std.proofs.Common.{◌∙◌, List, map, ap}
-use Rattle.std.specs.Prelude.{IfSome, ℕ}
+use Rattle.std.proofs.Common.{◌≡◌, ◌∙◌, List, map, Ok, true, ap, subst}
+use Rattle.std.specs.Prelude.{ℕ}
 use Rattle.myi_defs.proofs.CallerLemmas.{sound}
-use Rattle.myi_pack.specs.Spelling.{spelling}
 use Rattle.myi_pack.proofs.CallerLemmas.{row-fits}
 use Rattle.myi_data.specs.Readable.{packs}
-use Rattle.myi_data.specs.Scanning.{PacksRow}
+use Rattle.myi_data.specs.Scanning.{FindsInTable}
+use Rattle.myi_chain.specs.declared.piece.Wanted.TheVariants.{Rows}
 use Rattle.myi_chain.specs.declared.piece.Piece.{Piece}
-use Rattle.myi_repair.proofs.GatherLaws.{answered_of, ended_of, reads, ended}
+use Rattle.myi_chain.specs.ScanModel.{as_items}
+use Rattle.myi_repair.proofs.GatherLaws.{answered_of, reads}
 use Rattle.myi_repair.proofs.next_row.NextRow.read.Goals as goal
 
 pub view_packed-row-requires-clause-sound : goal.view_packed-row-requires-clause-sound
 view_packed-row-requires-clause-sound g c = sound c.args.defs.now c.requires.defs
+
+pub view_packed-row-requires-clause-packed : goal.view_packed-row-requires-clause-packed
+view_packed-row-requires-clause-packed g c =
+    let says = subst (λ o. FindsInTable Rows (g.F.Files.holds c.args.files.now) c.args.scan.now (as_items (Ok o))) c.in-Some.is c.in_ok-piece.ensures.says in
+    subst (λ d. packs d c.bytes.result.now ≡ true) c.requires.test (ap (packs c.args.scan.now.test) c.bytes.ensures ∙ says.packs.0)
 
 pub spell_into-requires-clause-sound : goal.spell_into-requires-clause-sound
 spell_into-requires-clause-sound g c = sound c.args.defs.now c.requires.defs
