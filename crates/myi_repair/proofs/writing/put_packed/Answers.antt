@@ -24,20 +24,20 @@ written block packed at sizes is short = is ∙ sym (stored_alone Dynamic at siz
 
 pub returns-in_ok-fill_block-in-Dynamic-clause-ok : goal.returns-in_ok-fill_block-in-Dynamic-clause-ok
 returns-in_ok-fill_block-in-Dynamic-clause-ok g c =
-    let block = written c.deref.result.now c.args.row.bytes.now c.args.at c.args.row.sizes.now (c.deref.ensures.value ∙ c.in_ok-fill_block-in-Dynamic.ensures) (omega (arith, c.if-row-bytes.false)) in
+    let block = written c.deref.result.now c.args.row.bytes.now c.args.at c.args.row.sizes.now (c.deref.ensures.value ∙ c.in_ok-fill_block-in-Dynamic.ensures) (omega (arith, c.if-row.false)) in
     rw c.in-Dynamic.is (subst (λ b. OnOk c.write_row-in-Dynamic.result (Told (g.F.Files.holds c.args.files.now) (g.F.Files.holds c.write_row-in-Dynamic.new.files) (Writes c.args.file.now c.args.at b))) block c.write_row-in-Dynamic.ensures.ok)
 
 pub returns-in_ok-fill_block-in-Dynamic-clause-err : goal.returns-in_ok-fill_block-in-Dynamic-clause-err
 returns-in_ok-fill_block-in-Dynamic-clause-err g c =
-    let block = written c.deref.result.now c.args.row.bytes.now c.args.at c.args.row.sizes.now (c.deref.ensures.value ∙ c.in_ok-fill_block-in-Dynamic.ensures) (omega (arith, c.if-row-bytes.false)) in
+    let block = written c.deref.result.now c.args.row.bytes.now c.args.at c.args.row.sizes.now (c.deref.ensures.value ∙ c.in_ok-fill_block-in-Dynamic.ensures) (omega (arith, c.if-row.false)) in
     rw c.in-Dynamic.is (subst (λ b. OnErr c.write_row-in-Dynamic.result (Told (g.F.Files.holds c.args.files.now) (g.F.Files.holds c.write_row-in-Dynamic.new.files) (WritesPart c.args.file.now c.args.at b))) block c.write_row-in-Dynamic.ensures.err)
 
 pub returns-in_ok-fill_block-in-Dynamic-clause-end : goal.returns-in_ok-fill_block-in-Dynamic-clause-end
 returns-in_ok-fill_block-in-Dynamic-clause-end g c =
-    let block = written c.deref.result.now c.args.row.bytes.now c.args.at c.args.row.sizes.now (c.deref.ensures.value ∙ c.in_ok-fill_block-in-Dynamic.ensures) (omega (arith, c.if-row-bytes.false)) in
+    let block = written c.deref.result.now c.args.row.bytes.now c.args.at c.args.row.sizes.now (c.deref.ensures.value ∙ c.in_ok-fill_block-in-Dynamic.ensures) (omega (arith, c.if-row.false)) in
     rw c.in-Dynamic.is (subst (λ b. IfOk c.write_row-in-Dynamic.result (λ r. r.0 ≡ c.args.at + length b)) block c.write_row-in-Dynamic.ensures.end)
 
 pub returns-in_ok-fill_block-in-Dynamic-clause-count : goal.returns-in_ok-fill_block-in-Dynamic-clause-count
 returns-in_ok-fill_block-in-Dynamic-clause-count g c =
-    let one = ap (λ (s : List Share). length s) (group_alone Dynamic c.args.row.sizes.now (length c.args.row.bytes.now) (λ _. omega (arith, c.if-row-bytes.false))) in
+    let one = ap (λ (s : List Share). length s) (group_alone Dynamic c.args.row.sizes.now (length c.args.row.bytes.now) (λ _. omega (arith, c.if-row.false))) in
     rw c.in-Dynamic.is (subst (λ n. IfOk c.write_row-in-Dynamic.result (λ r. r.1 ≡ n)) (sym one) c.write_row-in-Dynamic.ensures.count)

@@ -5,8 +5,8 @@ use Rattle.myi_defs.proofs.CallerLemmas.{sound}
 use Rattle.myi_repair.proofs.KeepLaws.{row_short, put_bytes, put_size, put_count, added, written_one}
 use Rattle.myi_repair.proofs.new_rows.NewRows.put.Goals as goal
 
-pub put_packed-requires-clause-short : goal.put_packed-requires-clause-short
-put_packed-requires-clause-short g c κs lives =
+pub put_packed-requires-clause-few : goal.put_packed-requires-clause-few
+put_packed-requires-clause-few g c κs lives =
     let given = c.requires.row in
     let short = row_short c.args.defs.now given.0 c.requires.defs given.1.stored in
     omega (arith, short, ap (λ (b : List ℕ). length b) (c.deref.ensures.value ∙ given.1.bytes))
