@@ -22,3 +22,5 @@ pub use Rattle.myi_btree.proofs.BodyLaws.{all_drop}
 pub use Rattle.myi_btree.proofs.Frames.{bind_some}
 pub use Rattle.myi_btree.proofs.LaidWalks.{cons_each}
 pub use Rattle.myi_btree.proofs.LevelsLaws.{level_all}
+-- laid_pages_are_movable
+pub use Rattle.myi_btree.proofs.MoveLaws.{laid_movable, same_pages}

@@ -28,6 +28,7 @@ pub mod LaidRanges
 pub mod BuildClear
 pub mod LaidRoot
 pub mod LaidMoves
+pub mod MoveLaws
 pub mod FewMet
 pub mod StartLaws
 pub mod CanLaws

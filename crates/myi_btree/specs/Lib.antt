@@ -24,6 +24,8 @@ pub mod CachedTrees
 pub mod CachePuts
 -- what a level is laid of, and what it leaves
 pub mod Levels
+-- pages that are moved
+pub mod Moving
 -- a tree that is laid page by page
 pub mod Laying
 -- pages that a walk went into

@@ -14,6 +14,7 @@ ghost use Rattle.myi_btree.specs.CachedTrees.{node_lent, HasPages, IsClear, Adds
 ghost use Rattle.myi_btree.specs.Nodes.{node_in};
 ghost use Rattle.myi_btree.specs.Sizes.{IsPlaced, AreSized, IsCount, fits_in};
 ghost use Rattle.myi_btree.specs.Building.{laid_at, built_at, AddsLaid, AreKeys, EndBefore, CanLay, IsWritten, Lays, LaysOnly, Spares, page_for};
+ghost use Rattle.myi_btree.specs.Moving.{AreMovable};
 ghost use Rattle.myi_keycache.specs.Kept.{Page};
 
 /// A walk depends on its own pages alone: where two readings give the same at each of them, the walk is
@@ -118,6 +119,14 @@ pub fn levels_are_laid()
 pub fn laid_pages_move()
     ensures { (fits : Fits) (block at by : ℕ) (pairs : List Pair)
         → laid fits block (at + by) pairs ≡ map (moved by) (laid fits block at pairs) }
+{}
+
+/// The pages of a tree that are laid from place 0 may be moved to each place from which they could be laid.
+pub fn laid_pages_are_movable()
+    ensures { (place : Place) (first : ℕ) (pairs : List Pair) → IsPlaced place
+        → first % 1024 ≡ 0 → AreSized place pairs → AreKeys pairs
+        → first + place.block_length * length (laid_at place first pairs) < 2 ^ 64
+        → AreMovable place first (laid_at place 0 pairs) }
 {}
 
 /// The pages that are laid can be written, and the bytes of a page that can be written are read as it.

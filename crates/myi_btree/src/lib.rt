@@ -6,7 +6,8 @@
 //! that does to a key cache and the files.
 //!
 //! - `Place` says how the pages of a tree are made and where its root stands, `Room` where new pages go.
-//! - `Tree::build` lays a tree from pairs, and `lay` one in memory, from place 0; `Tree::new` takes one that
+//! - `Tree::build` lays a tree from pairs, and `lay` one in memory, from place 0, which
+//!   `Laid::shift` moves; `Tree::new` takes one that
 //!   stands; `Tree::root` is its root, and `Tree::walk` answers its pairs. `specs/Visit` says which place is
 //!   the first bad one of a damaged tree.
 //! - The laws over walks and laid pages are the contracts of the functions in `laws`.
@@ -38,10 +39,10 @@ mod walk;
 pub use fault::TreeFault;
 pub use laid::{Laid, lay};
 pub use laws::{
-    builds_leave_trees_clear, built_trees_walk, laid_pages_are_met_once, laid_pages_are_written,
-    laid_pages_move, laid_pages_walk, levels_are_laid, pages_are_nodes, trees_are_shallow,
-    visits_find_walks, walks_add_their_own, walks_depend_on_their_pages, walks_exist_once,
-    walks_leave_trees_clear,
+    builds_leave_trees_clear, built_trees_walk, laid_pages_are_met_once, laid_pages_are_movable,
+    laid_pages_are_written, laid_pages_move, laid_pages_walk, levels_are_laid, pages_are_nodes,
+    trees_are_shallow, visits_find_walks, walks_add_their_own, walks_depend_on_their_pages,
+    walks_exist_once, walks_leave_trees_clear,
 };
 pub use myi_keylist::Pair;
 pub use place::{Place, Room};

@@ -8,3 +8,4 @@ pub mod PageIs
 pub mod ShownIn
 pub mod WriteLaws
 pub mod FitLaws
+pub mod ShiftLaws

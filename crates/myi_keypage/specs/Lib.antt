@@ -3,5 +3,6 @@ pub mod Page
 pub mod Fitting
 pub mod Views
 pub mod Writing
+pub mod Shifting
 -- What serves private contracts: reading from left to right.
 pub mod PageItems

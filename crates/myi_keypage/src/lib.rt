@@ -31,6 +31,7 @@ mod item;
 mod laws;
 mod list;
 mod prefix;
+mod shift;
 mod view;
 mod write;
 
@@ -39,5 +40,6 @@ pub use fit::{fits, fitting, fitting_of};
 pub use item::PageItem;
 pub use laws::{entries_fit, pages_read_back, views_show_pages};
 pub use list::{EntryList, Part};
+pub use shift::shift_page;
 pub use view::{PageView, PageWalk, read_page};
 pub use write::{write_page, write_page_of};
