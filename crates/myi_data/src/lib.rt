@@ -34,7 +34,7 @@ mod slots;
 pub use data_file::DataFile;
 pub use keys::{key_code_into, key_of};
 pub use laws::{
-    null_bits_tell, plain_tables_are_read, rows_are_readable, rows_have_keys, scans_begin_with_all,
-    slots_are_read, stored_files_are_read,
+    giant_rows_stand, null_bits_tell, plain_tables_are_read, rows_are_readable, rows_have_keys,
+    scans_begin_with_all, slots_are_read, stored_files_are_read,
 };
 pub use scan::DataScan;
