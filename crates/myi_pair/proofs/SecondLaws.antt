@@ -33,7 +33,7 @@ use Rattle.myi_pair.specs.Trees.{block_of_key, place_of}
 use Rattle.myi_pair.specs.Clean.{sized_row}
 use Rattle.myi_pair.specs.RecoveredBytes.{kept, new_data, placed_from, LaidTrees, pages_then, laid_trees, key_lists, new_trees, without_free_pages, new_state, recovered_state, new_index}
 use Rattle.myi_pair.specs.Recovered.{IsRepairable}
-use Rattle.myi_pair.proofs.KeptLaws.{AreAlike, settled_alike}
+use Rattle.myi_pair.proofs.KeptLaws.{AreAlike, settled_alike, settled_data}
 use Rattle.myi_pair.proofs.ShorterLaws.{new_near}
 use Rattle.myi_pair.proofs.HeaderLaws.{IsNewIndex}
 use Rattle.myi_pair.proofs.NewIndexLaws.{index_shows}
@@ -260,3 +260,22 @@ module _ (d : Defs) (extend : Bool) (x : List ℕ) (now : ℕ) (can : IsRepairab
 
   pub second_index : (d2 : Defs) → read_defs (new_index d extend x now) ≡ Ok d2 → (any : Bool) (later : ℕ) → new_index d2 any (new_data d extend x) later ≡ new_index d extend x later
   second_index d2 read any later = subst (λ (e : Defs). new_index e any (new_data d extend x) later ≡ new_index d extend x later) (read_defs_again d2 read) (index_again any later)
+
+  -- ---- a run that was cut off between the renames: the new data file beside the old index file
+
+  state_of_cut : (any : Bool) (later : ℕ) → recovered_state d any (new_data d extend x) later ≡ recovered_state d extend x later
+  state_of_cut any later =
+      let again : List SizedRow = kept d any (new_data d extend x) in
+      let rows : List SizedRow = kept d extend x in
+      let s : State = state_of d d.raw in
+      let trees : new_trees d again ≡ new_trees d rows = trees_alike again rows (alike any).placed in
+      ap (λ m. new_state d s m (block_count d again) (length (new_data d any (new_data d extend x))) (new_trees d again).roots (new_trees d again).end later) (alike any).count
+      ∙ ap (λ m. new_state d s (length rows) m (length (new_data d any (new_data d extend x))) (new_trees d again).roots (new_trees d again).end later) (alike any).blocks
+      ∙ ap (λ (b : List ℕ). new_state d s (length rows) (block_count d rows) (length b) (new_trees d again).roots (new_trees d again).end later) (settled_data d any extend x can.defined can.bytes (new_near d extend x can.defined can.bytes can.reached))
+      ∙ ap (λ (u : LaidTrees). new_state d s (length rows) (block_count d rows) (length (new_data d extend x)) u.roots u.end later) trees
+
+  pub cut_index : (any : Bool) (later : ℕ) → new_index d any (new_data d extend x) later ≡ new_index d extend x later
+  unfolding new_index
+  cut_index any later =
+      ap (λ (s : State). header_of d s ++ (new_trees d (kept d any (new_data d extend x))).bytes) (state_of_cut any later)
+      ∙ ap (λ (u : LaidTrees). header_of d (recovered_state d extend x later) ++ u.bytes) (trees_alike (kept d any (new_data d extend x)) (kept d extend x) (alike any).placed)

@@ -71,6 +71,17 @@ pub fn repairs_settle()
         → new_data d any (new_data d extend x) ≡ new_data d extend x }
 {}
 
+/// A run that was cut off between its renames leaves the new data file beside the old index file. A repair
+/// of these, whether every position is tried or not, writes the files that the first one would have
+/// written at the time of the second.
+pub fn cut_off_repairs_are_completed()
+    ensures data_file { (d : Defs) (extend : Bool) (x : List ℕ) (now : ℕ) → IsRepairable d x now
+        → (any : Bool) → new_data d any (new_data d extend x) ≡ new_data d extend x }
+    ensures index_file { (d : Defs) (extend : Bool) (x : List ℕ) (now : ℕ) → IsRepairable d x now
+        → (any : Bool) (later : ℕ)
+        → new_index d any (new_data d extend x) later ≡ new_index d extend x later }
+{}
+
 /// The pairs of rows that fit, at places of a data file within reach, can be laid on the pages of their
 /// key: the key is one, two entries fit into each page, and a row pointer has its bytes.
 pub fn pairs_are_sized()

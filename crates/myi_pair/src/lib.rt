@@ -23,8 +23,8 @@
 mod laws;
 
 pub use laws::{
-    clean_tables_keep_all, first_rows_are_distinct, index_pages_are_nodes, kept_rows_are_stored,
-    laid_pages_stand_behind, new_trees_stand, pairs_are_sized, recovered_bytes_recover,
-    repaired_files_are_shorter, repairs_settle, second_repairs_change_nothing,
-    written_parts_are_measured,
+    clean_tables_keep_all, cut_off_repairs_are_completed, first_rows_are_distinct,
+    index_pages_are_nodes, kept_rows_are_stored, laid_pages_stand_behind, new_trees_stand,
+    pairs_are_sized, recovered_bytes_recover, repaired_files_are_shorter, repairs_settle,
+    second_repairs_change_nothing, written_parts_are_measured,
 };
