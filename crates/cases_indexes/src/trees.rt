@@ -1,11 +1,12 @@
 //! Trees of an index file, whose first page stands at 1024.
-ghost use Rattle.std.specs.Prelude.{◌≡◌, ◌≤◌, ◌^◌, ◌<◌, true, IfOk};
+ghost use Rattle.std.specs.Prelude.{◌≡◌, ◌+◌, ◌%◌, ◌≤◌, ◌^◌, ◌<◌, true, IfOk};
 ghost use Rattle.myi_keypage.specs.Page.{entry_with};
 ghost use Rattle.myi_btree.specs.Sizes.{IsPlaced, IsSized, AreSized};
+ghost use Rattle.myi_btree.specs.Building.{AreKeys};
 
 use crate::pairs::push_pair;
 use case_lines::{
-    Fault, PlaceText, Words, four_bytes, one_byte, place, push_word, size, two_bytes,
+    Fault, PlaceText, Words, four_bytes, number, one_byte, place, push_word, size, two_bytes,
 };
 use myi_base::Sequence;
 use myi_btree::{Pair, Place, Room, Tree, TreeFault};
@@ -240,6 +241,7 @@ fn numbered(alloc: Global, width: usize, number: u32) -> Result<KeyVal, AllocErr
 
 fn numbered_pairs(alloc: Global, width: usize, count: u32) -> Result<PairList, AllocError>
     requires { width ≤ 1000 }
+    ensures { IfOk result AreKeys }
 {
     let mut pairs = PairList::new(alloc);
     for number in 0..count {
@@ -310,11 +312,47 @@ fn lay(words: &Words, args: &[&str]) -> Result<String, Fault> {
     Ok(out)
 }
 
+// Whether pages of so many bytes may be moved there.
+fn has_room(first: u64, bytes: usize) -> bool
+    ensures { result ≡ true → (first % 1024 ≡ 0) × (first + bytes < 2 ^ 64) }
+{
+    first % 1024 == 0 && first.checked_add(bytes as u64).is_some()
+}
+
+/// `shift LENGTH POINTER WIDTH COUNT PLACE`: the same tree laid from place 0 and moved to a place: its root
+/// and its pages.
+fn shift(words: &Words, args: &[&str]) -> Result<String, Fault> {
+    let [block_length, rec_ref, width, count, first] = args else {
+        return Err(Fault::Unread);
+    };
+    let alloc = words.alloc();
+    let place = unrooted(*block_length, *rec_ref)?;
+    let (width, count, first) = (size(*width)?, four_bytes(*count)?, number(*first)?);
+    if width > MOST_WEIGHTS {
+        return Err(Fault::Unread);
+    }
+    let pairs = numbered_pairs(alloc, width, count)?;
+    if !are_sized(place, &pairs) {
+        return Err(Fault::Unread);
+    }
+    let mut laid = myi_btree::lay(alloc, &place, &pairs)?;
+    if !has_room(first, laid.pages.len()) {
+        return Err(Fault::Unread);
+    }
+    laid.shift(first);
+    let mut out = String::new(alloc);
+    let root = PlaceText(laid.place.root);
+    write!(out, "root {root} ")?;
+    push_word(&mut out, &laid.pages)?;
+    Ok(out)
+}
+
 /// The answer to a call of this module, and None where the name is no such call.
 pub fn answer(words: &Words, name: &str, args: &[&str]) -> Option<Result<String, Fault>> {
     match name {
         "laid" => Some(laid(words, args)),
         "lay" => Some(lay(words, args)),
+        "shift" => Some(shift(words, args)),
         "build" => Some(build(words, args)),
         "walk" => Some(walk(words, args)),
         _ => None,
