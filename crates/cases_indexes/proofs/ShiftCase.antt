@@ -10,8 +10,7 @@ use Rattle.myi_btree.specs.Sizes.{IsPlaced, AreSized, fits_in}
 use Rattle.myi_btree.specs.LaidPages.{moved, root_of}
 use Rattle.myi_btree.specs.Building.{page_for, pages_bytes, AreKeys, laid_at, built_at}
 use Rattle.myi_btree.specs.Moving.{AreMovable, CanMoveRoot}
-use Rattle.myi_btree.proofs.LaidMoves.{laid_moves}
-use Rattle.myi_btree.proofs.CallerLemmas.{laid_movable, same_pages}
+use Rattle.myi_btree.proofs.CallerLemmas.{laid_moves, laid_movable, same_pages}
 
 page_least : (place : Place) (node : Node) → place.block_length ≤ length (page_for place node)
 unfolding page_for

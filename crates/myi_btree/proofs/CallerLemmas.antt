@@ -15,6 +15,9 @@ pub use Rattle.myi_btree.proofs.LaidRead.{good_count}
 pub use Rattle.myi_btree.proofs.LaidWalks.{count_pos, level_lt, length-places_from}
 pub use Rattle.myi_btree.proofs.LevelsLaws.{level_count, multiple}
 pub use Rattle.myi_btree.proofs.PutLaws.{ends}
+-- laid_pages_move, laid_pages_are_movable
+pub use Rattle.myi_btree.proofs.LaidMoves.{laid_moves}
+pub use Rattle.myi_btree.proofs.MoveLaws.{laid_movable, same_pages}
 -- laid_pages_are_written
 pub use Rattle.myi_btree.proofs.LaidRead.{laid_written, written_read}
 -- These hold of any fact or any function, which no clause can say.
@@ -22,5 +25,3 @@ pub use Rattle.myi_btree.proofs.BodyLaws.{all_drop}
 pub use Rattle.myi_btree.proofs.Frames.{bind_some}
 pub use Rattle.myi_btree.proofs.LaidWalks.{cons_each}
 pub use Rattle.myi_btree.proofs.LevelsLaws.{level_all}
--- laid_pages_are_movable
-pub use Rattle.myi_btree.proofs.MoveLaws.{laid_movable, same_pages}
