@@ -115,10 +115,11 @@ module _ {A : Type 0} (h : Option Holding) (old : Scanning A) (s : SourceModel) 
         → Answers (items_left gives) IsCurrent wanted h old (item.Free at size) (scan_of mid test extend q blocks)
     free_answered wanted at size lies rises told = answered wanted (found.Free at size) (item.Free at size) blocks rises refl (refl, refl) (sym old_blocks, lies) told
 
-    pub ended : (wanted : Wanted) → q.place ≡ mid.end → IfTold h (λ m. ArePassed wanted (met_at extend (gives test) s p m) × (met_at extend (gives test) s q m ≡ [])) → HasEnded (items_left gives) IsCurrent wanted h old (scan_of mid test extend q blocks)
+    pub ended : (wanted : Wanted) → (p.place ≤ q.place) × (q.place ≡ mid.end) → IfTold h (λ m. ArePassed wanted (met_at extend (gives test) s p m) × (met_at extend (gives test) s q m ≡ [])) → HasEnded (items_left gives) IsCurrent wanted h old (scan_of mid test extend q blocks)
     ended wanted last told = record {
       same = same_scan blocks;
-      ended = last;
+      later = omega (arith, old_place, last.0);
+      ended = last.1;
       falls = falls_scan blocks;
       whole = whole_scan;
       blocks = sym old_blocks;

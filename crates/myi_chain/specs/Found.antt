@@ -180,5 +180,5 @@ IsBetween from to f = (from ≤ place_of f) × (place_of f < to)
 
 -- where a call ends that goes from a place up to an end: behind what was found, and else at the end
 abbrev pub Rises : ℕ → ℕ → ℕ → Option Found → Type 0
-Rises from to end None = to ≡ end
+Rises from to end None = (from ≤ to) × (to ≡ end)
 Rises from to end (Some f) = IsBetween from to f × (to ≤ end)

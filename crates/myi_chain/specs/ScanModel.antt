@@ -169,6 +169,7 @@ module _ {A : Type 0} (left : Scanning A → Holding → List readable.Item) (Cu
   -- none was left: the scan stands at its end
   pub record HasEnded (new : Scanning A) : Type 0 where
     pub same : IsSameScan old new
+    pub later : old.place ≤ new.place
     pub ended : new.place ≡ new.end
     pub falls : FallsToKept old new
     pub whole : IfTold holds (λ m. new.end ≡ old.end)

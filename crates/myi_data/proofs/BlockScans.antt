@@ -46,6 +46,7 @@ module _ (h : Option Holding) (old : TableScan) (dynamic : old.test.format ≡ D
   after_of wanted (Ok None) new (k, goes) = (
     record {
       same = k.same;
+      later = k.later;
       ended = k.ended;
       falls = k.falls;
       whole = k.whole;

@@ -166,10 +166,11 @@ module _ (holds : Option Holding) (old : TableScan) (name : List ℕ) (test : De
     λ e. not_dynamic old.test.format old_static e,
   )
 
-  pub ended : (wanted : Wanted) → to ≡ end → ((m : Holding) → holds ≡ Some m → StandsIn w (bytes_of name m) → ArePassed wanted (left m from)) → AfterTable wanted holds old (Ok None) (slot_scan name test extend end to blocks v)
-  ended wanted last told = (
+  pub ended : (wanted : Wanted) → from ≤ end → to ≡ end → ((m : Holding) → holds ≡ Some m → StandsIn w (bytes_of name m) → ArePassed wanted (left m from)) → AfterTable wanted holds old (Ok None) (slot_scan name test extend end to blocks v)
+  ended wanted order last told = (
     record {
       same = same_scan to blocks v;
+      later = omega (arith, old_place, order, last);
       ended = last;
       falls = inl (sym old_end);
       whole = whole_scan;

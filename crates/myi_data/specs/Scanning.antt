@@ -40,16 +40,16 @@ pub record IsAsKnown (s : TableScan) (m : Holding) : Type 0 where
   pub kept : KeptStands s m
   pub long : s.test.format ≡ Dynamic → s.end ≤ length (bytes_of s.name m)
 
--- so many bytes at a place are a slot of the file, if the table is static
+-- so many bytes at a place are as many as a slot has and lie in the file, if the table is static
 abbrev pub IsSlotAt : TableScan → ℕ → ℕ → Type 0
 IsSlotAt s at size = s.test.format ≡ Static → (size ≡ s.test.slot_length) × (at + s.test.slot_length ≤ s.end)
 
--- what is answered of a static table is a slot of the file
+-- what is answered of a static table has the length of a slot and lies in the file; where the files tell, it is one (`Answers`)
 abbrev pub IsSlotItem : TableScan → Item → Type 0
 IsSlotItem s (item.Row at p) = IsSlotAt s at (length (piece_bytes p))
 IsSlotItem s (item.Free at size) = IsSlotAt s at size
 
--- an answered row packs a row of the table, and what is answered of a static table is a slot
+-- an answered row packs a row of the table, and what is answered of a static table is as long as a slot
 abbrev pub IsOfTable : TableScan → Item → Type 0
 IsOfTable s found = Passes (packs s.test) found × IsSlotItem s found
 

@@ -6,8 +6,8 @@
 //!
 //! A `DataFile` stands for the data file of one table. Its `scan` makes a `DataScan`: `next_item`
 //! answers rows and deleted blocks in order of their places, `next_row` the rows alone, and `blocks`
-//! the blocks of the row answered last. The file is read through a window, once from front to back; a
-//! row is lent from there where it can be. `key_of` gives the key of a row that is viewed in its bytes, and
+//! the blocks of the row answered last. The file is read through a window that slides forward; a row is
+//! lent from there where it can be. `key_of` gives the key of a row that is viewed in its bytes, and
 //! `key_code_into` the code of that key, into a buffer.
 //! The laws over the definitions are in `laws`.
 //!

@@ -1,6 +1,6 @@
 -- Writing a giant row: writes that go on where the last one ended, and what is left of the row's blocks.
 use Rattle.std.proofs.Common.{◌≡◌, ◌⊎◌, inl, inr, ℕ, suc, ◌+◌, ◌-◌, ◌%◌, ◌^◌, ◌<◌, ◌≤◌, Bool, true, false, cond, List, [], ◌∷◌, ◌++◌, length, take, drop, replicate, unwrap_or, Option, Some, refl, sym, ap, subst, ◌∙◌, arith, append_assoc, length-append, length-drop}
-use Rattle.std.specs.Prelude.{nat_le, if◌then◌else◌, Result, Ok, Err, OnErr}
+use Rattle.std.specs.Prelude.{nat_le, if◌then◌else◌, Result, Ok, Err, OnOk, OnErr}
 use Rattle.std.proofs.Math.Seq.{drop-append-add, take-append_seam}
 use Rattle.std.proofs.lemmas.List.{drop-drop, append-nil, length-take, length-take-le, length-replicate, take-append-le}
 use Rattle.myi_base.specs.Holding.{Holding, bytes_of, resized, overwritten, Told, Writes, WritesPart, Keeps}
@@ -8,7 +8,7 @@ use Rattle.myi_base.proofs.CallerLemmas.{told_same, told_more, told_then}
 use Rattle.myi_frames.specs.Sizes.{start_room, middle_room}
 use Rattle.myi_frames.specs.Writing.{IsWritable, block_bytes, start_spec, middle_spec, end_spec}
 use Rattle.myi_frames.proofs.CallerLemmas.{length-block, middle-writable, start-writable}
-use Rattle.myi_repair.specs.Giant.{start_block}
+use Rattle.myi_repair.specs.Giant.{start_block, bytes_taken}
 use Rattle.myi_data.specs.Stored.{Share, is_end, end_size, shares_behind, shares, bytes_behind, shared_bytes}
 
 -- ---- two writes, the second of which goes on where the first ends, are one
@@ -150,6 +150,15 @@ pub middle_count : (size : ℕ) (sizes : List ℕ) (rest : ℕ) → is_end rest 
 middle_count size sizes rest e =
     ap (λ t. length (cond t (record { size = end_size rest size; taken = rest } ∷ []) (record { size = size; taken = middle_room size } ∷ shares_behind sizes (rest - middle_room size)))) e
 
+end_taken : (size : ℕ) (sizes : List ℕ) (rest : ℕ) → is_end rest size ≡ true → bytes_taken (shares_behind (size ∷ sizes) rest) ≡ rest
+end_taken size sizes rest e =
+    let is : bytes_taken (shares_behind (size ∷ sizes) rest) ≡ rest + 0 = ap (λ t. bytes_taken (cond t (record { size = end_size rest size; taken = rest } ∷ []) (record { size = size; taken = middle_room size } ∷ shares_behind sizes (rest - middle_room size)))) e in
+    omega (arith, is)
+
+middle_taken : (size : ℕ) (sizes : List ℕ) (rest : ℕ) → is_end rest size ≡ false → bytes_taken (shares_behind (size ∷ sizes) rest) ≡ middle_room size + bytes_taken (shares_behind sizes (rest - middle_room size))
+middle_taken size sizes rest e =
+    ap (λ t. bytes_taken (cond t (record { size = end_size rest size; taken = rest } ∷ []) (record { size = size; taken = middle_room size } ∷ shares_behind sizes (rest - middle_room size)))) e
+
 -- ---- sizes in the buffer
 
 pub room_bounds : (size : ℕ) → 20 ≤ size → (size ≤ middle_room size + 12) × (8 ≤ middle_room size)
@@ -186,6 +195,10 @@ start_writes at n size piece multiple least giant short is few place =
 pub on_err : {T E : Type 0} (r : Result T E) (P : Type 0) → P → OnErr r P
 on_err (Ok x) P p = tt
 on_err (Err e) P p = p
+
+pub on_ok : {A E : Type 0} (r : Result A E) (P : Type 0) → P → OnOk r P
+on_ok (Ok x) P p = p
+on_ok (Err e) P p = tt
 
 pub goes_end : (old now : Option Holding) (name : List ℕ) (at : ℕ) (whole : List ℕ) (place size : ℕ) (ss sizes b : List ℕ) → ss ≡ size ∷ sizes → is_end (length b) size ≡ true → Goes old now name at whole place (bytes_behind place (shares_behind ss (length b)) b) → Goes old now name at whole place (block_bytes end_spec b (end_size (length b) size))
 goes_end old now name at whole place size ss sizes b is e g =
@@ -251,6 +264,15 @@ middle_counts place size room ss sizes b piece left m =
     let long : length b - middle_room size ≡ length left = sym (length-drop (middle_room size) b) ∙ ap (λ n. length (drop n b)) (sym m.filled) ∙ ap (λ (x : List ℕ). length x) (sym m.rest) in
     ap (λ (t : List ℕ). length (shares_behind t (length b))) m.parted ∙ middle_count size sizes (length b) m.no_end ∙ ap (λ n. suc (length (shares_behind sizes n))) long
 
+pub middle_takes : (place size room : ℕ) (ss sizes b piece left : List ℕ) → IsMiddle place size room ss sizes b piece left → bytes_taken (shares_behind ss (length b)) ≡ room + bytes_taken (shares_behind sizes (length left))
+middle_takes place size room ss sizes b piece left m =
+    let long : length b - middle_room size ≡ length left = sym (length-drop (middle_room size) b) ∙ ap (λ n. length (drop n b)) (sym m.filled) ∙ ap (λ (x : List ℕ). length x) (sym m.rest) in
+    ap (λ (t : List ℕ). bytes_taken (shares_behind t (length b))) m.parted ∙ middle_taken size sizes (length b) m.no_end ∙ ap (λ n. middle_room size + bytes_taken (shares_behind sizes n)) long
+    ∙ ap (λ n. n + bytes_taken (shares_behind sizes (length left))) (sym m.filled)
+
+pub end_takes : (size : ℕ) (ss sizes b : List ℕ) → ss ≡ size ∷ sizes → is_end (length b) size ≡ true → bytes_taken (shares_behind ss (length b)) ≡ length b
+end_takes size ss sizes b is e = ap (λ (t : List ℕ). bytes_taken (shares_behind t (length b))) is ∙ end_taken size sizes (length b) e
+
 -- a start: its size, and the bytes that are left
 pub record IsStart (at size room to : ℕ) (ss sizes b left : List ℕ) : Type 0 where
   pub parted : ss ≡ size ∷ sizes
@@ -286,3 +308,13 @@ start_goes old mid name at size room to ss sizes b left m told =
     let far : at + length (start_block at size b) ≡ to = omega (arith, long, m.behind) in
     subst (λ p. Goes old mid name at (shared_bytes at (shares ss (length b)) b) p (bytes_behind to (shares_behind sizes (length left)) left)) far
     (goes_on old old mid name at (shared_bytes at (shares ss (length b)) b) at (start_block at size b) (bytes_behind to (shares_behind sizes (length left)) left) (start_first old name at size room to ss sizes b left m) told)
+
+-- a start and what is behind it take the whole row
+pub start_takes : (at size room to : ℕ) (ss sizes b left : List ℕ) → IsStart at size room to ss sizes b left → bytes_taken (shares_behind sizes (length left)) ≡ length left → bytes_taken (shares ss (length b)) ≡ length b
+start_takes at size room to ss sizes b left m behind =
+    let r : ℕ = start_room (length b) size in
+    let rest : drop r b ≡ left = ap (λ n. drop n b) (sym m.filled) ∙ sym m.rest in
+    let long : length b - r ≡ length left = sym (length-drop r b) ∙ ap (λ (x : List ℕ). length x) rest in
+    let all : bytes_taken (shares ss (length b)) ≡ r + bytes_taken (shares_behind sizes (length left)) =
+    ap (λ (t : List ℕ). bytes_taken (shares t (length b))) m.parted ∙ ap (λ n. r + bytes_taken (shares_behind sizes n)) long in
+    omega (arith, all, behind, long, m.few, m.giant)

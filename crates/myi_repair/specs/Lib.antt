@@ -8,17 +8,17 @@ pub mod Names
 pub mod Opening
 -- what was gathered
 pub mod Gathering
+-- what building the trees leaves
+pub mod Building
 -- what the end of a repair does
 pub mod Finishing
 -- what a repair does to the files
 pub mod Repaired
+-- how much of a row blocks take; the start of a row of 2^24 bytes and more
+pub mod Giant
 -- what serves private contracts
 
 -- pairs that can be laid
 pub mod Sized
 -- the rows that are kept so far
 pub mod Keeping
--- the trees that are built so far
-pub mod Building
--- the start of a row of 2^24 bytes and more
-pub mod Giant

@@ -8,7 +8,7 @@ ghost use Rattle.myi_base.specs.Holding.{Told, Writes, WritesPart};
 ghost use Rattle.myi_base.specs.Causes.{HasCause};
 ghost use Rattle.myi_io.specs.declared.files.FileErr.TheVariants.{Failed};
 ghost use Rattle.myi_frames.specs.Sizes.{start_room, middle_room};
-ghost use Rattle.myi_repair.specs.Giant.{start_block};
+ghost use Rattle.myi_repair.specs.Giant.{start_block, bytes_taken};
 ghost use Rattle.myi_frames.specs.Writing.{IsWritable, block_bytes, middle_spec, end_spec};
 ghost use Rattle.myi_data.specs.Stored.{is_end, end_size, shares_behind, shares, bytes_behind, shared_bytes};
 
@@ -43,6 +43,8 @@ pub(crate) fn put_giant<F: Files>(
     ensures end { IfOk result (λ r. r.0
         ≡ at + length (shared_bytes at (shares sizes.now (length packed.now)) packed.now)) }
     ensures count { IfOk result (λ r. r.1 ≡ length (shares sizes.now (length packed.now))) }
+    ensures whole { OnOk result
+        (bytes_taken (shares sizes.now (length packed.now)) ≡ length packed.now) }
     ensures cause { HasCause Failed (F.faults files.old) (F.faults files.new) result }
 {
     let Some((&size, behind)) = sizes.split_first() else {
@@ -92,6 +94,8 @@ fn put_behind<F: Files>(
     ensures end { IfOk result (λ r. r.0
         ≡ at + length (bytes_behind at (shares_behind sizes.now (length rest.now)) rest.now)) }
     ensures count { IfOk result (λ r. r.1 ≡ length (shares_behind sizes.now (length rest.now))) }
+    ensures whole { OnOk result
+        (bytes_taken (shares_behind sizes.now (length rest.now)) ≡ length rest.now) }
     ensures few { IfOk result (λ r. r.1 ≤ length rest.now) }
     ensures cause { HasCause Failed (F.faults files.old) (F.faults files.new) result }
 {

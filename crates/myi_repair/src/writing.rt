@@ -4,6 +4,7 @@ ghost use Rattle.myi_base.specs.Holding.{Told, Writes, WritesPart};
 ghost use Rattle.myi_base.specs.Causes.{HasCause};
 ghost use Rattle.myi_io.specs.declared.files.FileErr.TheVariants.{Failed};
 ghost use Rattle.myi_data.specs.Stored.{group_by, stored_by, own_block};
+ghost use Rattle.myi_repair.specs.Giant.{bytes_taken};
 
 use crate::giant::put_giant;
 use myi_defs::{Defs, RowFormat};
@@ -13,7 +14,7 @@ use std::alloc::AllocError;
 
 /// Writes a row at a place of the file of that name, in its slot or its blocks, and answers the place behind
 /// them and their number. `packed` is the row's spelling. `sizes`, the sizes of the blocks that held it, are
-/// read only for a row of 2^24 bytes and more; where they do not hold it, the answer is that there is no
+/// read only for a row of 2^24 bytes and more; where they do not hold it, it is refused, as if for want of
 /// memory.
 pub fn put_row<F: Files>(
     files: &mut F,
@@ -34,6 +35,8 @@ pub fn put_row<F: Files>(
         r.0 ≡ at + length (stored_by defs.now.format at sizes.now packed.now)) }
     ensures count { IfOk result (λ r.
         r.1 ≡ length (group_by defs.now.format sizes.now (length packed.now))) }
+    ensures whole { OnOk result (bytes_taken
+        (group_by defs.now.format sizes.now (length packed.now)) ≡ length packed.now) }
     ensures cause { HasCause Failed (F.faults files.old) (F.faults files.new) result }
 {
     let mut block = Vec::new(defs.raw.allocator());
@@ -71,6 +74,9 @@ pub(crate) fn put_packed<F: Files>(
         r.0 ≡ at + length (stored_by defs.now.format at row.entry.sizes.now row.entry.bytes.now)) }
     ensures count { IfOk result (λ r.
         r.1 ≡ length (group_by defs.now.format row.entry.sizes.now (length row.entry.bytes.now))) }
+    ensures whole { OnOk result (bytes_taken
+        (group_by defs.now.format row.entry.sizes.now (length row.entry.bytes.now))
+        ≡ length row.entry.bytes.now) }
     ensures cause { HasCause Failed (F.faults files.old) (F.faults files.new) result }
 {
     match defs.format {

@@ -4,7 +4,7 @@ use Rattle.myi_frames.specs.Writing.{end_spec}
 use Rattle.myi_frames.proofs.CallerLemmas.{length-block}
 use Rattle.myi_data.specs.Stored.{is_end, end_size}
 use Rattle.myi_data.proofs.CallerLemmas.{end_writable, room_short}
-use Rattle.myi_repair.proofs.GiantLaws.{goes_whole, goes_no_further, on_err, goes_end, goes_end_part, goes_length, room_bounds, IsMiddle, goes_next, goes_middle_part, middle_counts}
+use Rattle.myi_repair.proofs.GiantLaws.{goes_whole, goes_no_further, on_err, goes_end, goes_end_part, goes_length, room_bounds, IsMiddle, goes_next, goes_middle_part, middle_counts, middle_takes, end_takes}
 use Rattle.myi_repair.proofs.giant.put_behind.Goals as goal
 
 pub returns-then-not-may_be_size-clause-err : goal.returns-then-not-may_be_size-clause-err
@@ -38,6 +38,11 @@ returns-then-is_end-clause-end g c =
     let sized = c.may_be_size.ensures.sized c.if-not-may_be_size.false in
     let long = length-block end_spec c.loop-size.left.now (end_size n c.in-Some.field-0-0.now) (end_writable n c.in-Some.field-0-0.now sized.0 sized.1 end) in
     c.in_ok-end.ensures.behind ∙ goes_length _ _ _ _ _ _ (end_size n c.in-Some.field-0-0.now) _ (goes_end _ _ _ _ _ _ _ _ _ c.loop-size.left.now sizes end c.loop-size.invariant.so_far) long
+
+pub returns-then-is_end-clause-whole : goal.returns-then-is_end-clause-whole
+returns-then-is_end-clause-whole g c =
+    let end : is_end (length c.loop-size.left.now) c.in-Some.field-0-0.now ≡ true = sym c.is_end.ensures ∙ c.if-is_end.true in
+    omega (arith, c.loop-size.invariant.taken, end_takes _ _ _ c.loop-size.left.now c.in-Some.ensures.cases.0 end)
 
 -- a middle
 
@@ -108,6 +113,7 @@ loop-size-preserved g c =
       few = omega (arith, less, short, c.middle_room-in-Some.ensures, was.few, bounds.1);
       buffer = c.in_ok-place.ensures.buffer ∙ was.buffer;
       counted = omega (arith, was.counted, middle_counts _ _ _ _ _ _ _ _ m);
+      taken = omega (arith, was.taken, less, short, c.middle_room-in-Some.ensures, middle_takes _ _ _ _ _ _ _ _ m);
       faults = omega (arith, was.faults, c.in_ok-place.ensures.cause.later);
       so_far = goes_next _ _ _ _ _ _ _ _ _ _ _ _ _ _ _ m c.in_ok-place.ensures.behind was.so_far c.in_ok-place.ensures.ok;
     }

@@ -4,6 +4,8 @@ use Rattle.myi_base.specs.Holding.{Told, Writes, WritesPart}
 use Rattle.myi_defs.specs.declared.types.RowFormat.TheVariants.{Dynamic}
 use Rattle.myi_data.specs.Stored.{Share, own_block, stored_by}
 use Rattle.myi_data.proofs.CallerLemmas.{group_alone, stored_alone}
+use Rattle.myi_repair.specs.Giant.{bytes_taken}
+use Rattle.myi_repair.proofs.GiantLaws.{on_ok}
 use Rattle.myi_repair.proofs.writing.put_packed.Goals as goal
 
 pub returns-in-Static-clause-ok : goal.returns-in-Static-clause-ok
@@ -41,3 +43,15 @@ pub returns-in_ok-fill_block-in-Dynamic-clause-count : goal.returns-in_ok-fill_b
 returns-in_ok-fill_block-in-Dynamic-clause-count g c =
     let one = ap (λ (s : List Share). length s) (group_alone Dynamic c.args.row.sizes.now (length c.args.row.bytes.now) (λ _. omega (arith, c.if-row.false))) in
     rw c.in-Dynamic.is (subst (λ n. IfOk c.write_row-in-Dynamic.result (λ r. r.1 ≡ n)) (sym one) c.write_row-in-Dynamic.ensures.count)
+
+-- one block or slot takes the whole row
+alone : (n : ℕ) → n + 0 ≡ n
+alone n = omega arith
+
+pub returns-in-Static-clause-whole : goal.returns-in-Static-clause-whole
+returns-in-Static-clause-whole g c = rw c.in-Static.is (on_ok _ _ (alone (length c.args.row.bytes.now)))
+
+pub returns-in_ok-fill_block-in-Dynamic-clause-whole : goal.returns-in_ok-fill_block-in-Dynamic-clause-whole
+returns-in_ok-fill_block-in-Dynamic-clause-whole g c =
+    let one = ap (λ (s : List Share). bytes_taken s) (group_alone Dynamic c.args.row.sizes.now (length c.args.row.bytes.now) (λ _. omega (arith, c.if-row.false))) in
+    rw c.in-Dynamic.is (on_ok _ _ (one ∙ alone (length c.args.row.bytes.now)))

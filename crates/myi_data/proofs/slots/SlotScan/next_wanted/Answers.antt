@@ -24,7 +24,7 @@ returns-in_default g c =
     let found = c.in_ok-slot.ensures in
     let k = went h c.args.self.now name _ i.test i.extend i.end i.place to (option_to_list i.last) i.bytes.held v size c.as_str.ensures.value c.self.view_is c.self.invariant.0 c.self.invariant.1 c.slot_length-size.ensures found.within c.self.invariant.5 found.inside c.requires found.stands in
     let last = subst (IsPlaced c.args.wanted size i.place to i.end) c.in_default.is found.placed in (
-      (refl, λ _. tt, subst (λ n. AfterTable c.args.wanted h c.args.self.now (Ok None) (slot_scan n i.test i.extend i.end to (option_to_list i.last) v)) c.as_str.ensures.value (ended h c.args.self.now name i.test i.extend i.end i.place to (option_to_list i.last) i.bytes.held v size k c.args.wanted last (λ m held stood. subst (IsNext c.args.wanted (packs i.test) size (take i.end (bytes_of name m)) i.place to) c.in_default.is (found.found m held stood)))),
+      (refl, λ _. tt, subst (λ n. AfterTable c.args.wanted h c.args.self.now (Ok None) (slot_scan n i.test i.extend i.end to (option_to_list i.last) v)) c.as_str.ensures.value (ended h c.args.self.now name i.test i.extend i.end i.place to (option_to_list i.last) i.bytes.held v size k c.args.wanted c.self.invariant.3 last (λ m held stood. subst (IsNext c.args.wanted (packs i.test) size (take i.end (bytes_of name m)) i.place to) c.in_default.is (found.found m held stood)))),
       record {
         says = record { packs = tt; meant = tt; never = tt; failing = tt };
         holds = found.holds;
