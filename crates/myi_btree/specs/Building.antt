@@ -3,8 +3,7 @@ use Rattle.std.specs.Prelude.{◌≡◌, ◌⊎◌, ℕ, ◌+◌, ◌≤◌, tru
 use Rattle.myi_base.specs.Holding.{Holding, Told, overwritten, OthersStay}
 use Rattle.std.specs.List.{AllByRecursion, flat_map}
 use Rattle.myi_keys.specs.Limits.{IsKey}
-use Rattle.myi_keypage.specs.declared.entry.Entry.{Entry}
-use Rattle.myi_keypage.specs.Page.{Page as IndexPage, page_with, page_bytes, is_node, IsBranching, IsWritable}
+use Rattle.myi_keypage.specs.Page.{Page as IndexPage, page_bytes, is_node, IsBranching, IsWritable}
 use Rattle.myi_keypage.specs.Fitting.{used_length}
 use Rattle.myi_keypage.specs.Writing.{filled_up}
 use Rattle.myi_keycache.specs.Kept.{Page, is_kept}
@@ -28,10 +27,6 @@ built_at place first pairs = record place { root = root_of place.block_length fi
 -- a page with zeros behind its used bytes
 abbrev pub whole_page : Place → IndexPage → List ℕ
 whole_page place page = filled_up (page_bytes place.rec_ref page) place.block_length
-
--- a page with these entries and children
-abbrev pub page_made : Place → List Entry → List ℕ → List ℕ
-page_made place entries children = whole_page place (page_with entries children)
 
 -- the page of a node
 unfoldable pub page_for : Place → Node → List ℕ

@@ -16,7 +16,7 @@ use Rattle.myi_btree.specs.Sizes.{fits_in}
 use Rattle.myi_btree.specs.LaidPages.{laid, root_of}
 use Rattle.myi_btree.specs.Building.{page_for}
 use Rattle.myi_pair.specs.FirstRows.{key_numbers, first_rows}
-use Rattle.myi_pair.specs.KeyList.{PlacedRow, pairs_of, key_list}
+use Rattle.myi_pair.specs.KeyList.{PlacedRow, key_list}
 use Rattle.myi_pair.specs.Trees.{place_of, block_of_key}
 use Rattle.myi_pair.specs.Clean.{sized_row}
 
@@ -60,10 +60,6 @@ laid_trees d first (k ∷ ks) [] = no_trees first
 laid_trees d first (k ∷ ks) (pairs ∷ lists) =
     let nodes = laid (fits_in (place_of d k)) (block_of_key d k) first pairs in
     pages_then d k first nodes (laid_trees d (first + block_of_key d k * length nodes) ks lists)
-
--- for each key the pairs of these rows, in the order of the rows
-abbrev pub row_pairs : Defs → List PlacedRow → List (List Pair)
-row_pairs d rows = map (λ k. pairs_of d k rows) (key_numbers d)
 
 -- for each key its key list
 abbrev pub key_lists : Defs → List PlacedRow → List (List Pair)
