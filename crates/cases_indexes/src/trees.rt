@@ -9,7 +9,7 @@ use case_lines::{
     Fault, PlaceText, Words, four_bytes, number, one_byte, place, push_word, size, two_bytes,
 };
 use myi_base::Sequence;
-use myi_btree::{Pair, Place, Room, Tree, TreeFault};
+use myi_btree::{Event, Events, Pair, Place, Room, Tree, TreeFault};
 use myi_io::MemFiles;
 use myi_keycache::{CacheFault, CacheSetup, KeyCache};
 use myi_keylist::PairList;
@@ -229,6 +229,50 @@ fn walk(words: &Words, args: &[&str]) -> Result<String, Fault> {
     Ok(out)
 }
 
+// What a walk meets next, as a word: None where it met all.
+fn push_event(out: &mut String, event: Event) -> Result<(), AllocError> {
+    let alloc = *out.allocator();
+    match event {
+        Event::Page { at } => write!(out, " page:{at}"),
+        Event::Pair { pair, at } => {
+            out.push(' ')?;
+            push_word(out, &encode(alloc, &pair.key)?)?;
+            write!(out, ":{}:{at}", pair.row)
+        }
+        Event::Bad { at } => write!(out, " bad:{at}"),
+    }
+}
+
+fn push_events(out: &mut String, index: &mut Index, place: Place) -> Result<(), Fault>
+    requires { IsPlaced place }
+{
+    let Index { files, cache, .. } = index;
+    let mut events = Events::new(*out.allocator(), place);
+    for _ in 0..u64::MAX {
+        let Some(event) = events.next(files, cache).map_err(of_tree)? else {
+            return Ok(());
+        };
+        push_event(out, event)?;
+    }
+    Err(Fault::Memory)
+}
+
+/// `events LENGTH POINTER ROOT BYTES`: what a walk of the tree with that root meets, one after the other.
+fn events(words: &Words, args: &[&str]) -> Result<String, Fault> {
+    let [block_length, rec_ref, root, bytes] = args else {
+        return Err(Fault::Unread);
+    };
+    let alloc = words.alloc();
+    let place = Place {
+        root: place(*root)?,
+        ..unrooted(*block_length, *rec_ref)?
+    };
+    let mut index = index_of(alloc, words.bytes(*bytes)?, Vec::new(alloc))?;
+    let mut out = String::from_str(alloc, "events")?;
+    push_events(&mut out, &mut index, place)?;
+    Ok(out)
+}
+
 // A key of one segment of so many weights: the number, high byte first, and zeros.
 fn numbered(alloc: Global, width: usize, number: u32) -> Result<KeyVal, AllocError>
     requires { width ≤ 1000 }
@@ -355,6 +399,7 @@ pub fn answer(words: &Words, name: &str, args: &[&str]) -> Option<Result<String,
         "shift" => Some(shift(words, args)),
         "build" => Some(build(words, args)),
         "walk" => Some(walk(words, args)),
+        "events" => Some(events(words, args)),
         _ => None,
     }
 }

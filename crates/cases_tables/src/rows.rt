@@ -1,4 +1,5 @@
 //! Rows, their bytes and their keys.
+ghost use Rattle.std.specs.Prelude.{◌<◌, ◌^◌, length};
 ghost use Rattle.myi_defs.specs.Sound.{IsSound};
 ghost use Rattle.myi_data.specs.Keys.{IsKeyNumber};
 
@@ -61,6 +62,7 @@ fn pack_row(words: &Words, args: &[&str]) -> Result<String, Fault> {
 fn code(alloc: Global, defs: &Defs, key: usize, bytes: &[u8]) -> Result<Option<Vec<u8>>, AllocError>
     requires sound { IsSound defs.now }
     requires key { IsKeyNumber defs.now key }
+    requires few { length bytes.now < 2 ^ 32 }
 {
     spellings_are_shortest();
     let Some(row) = view(defs, bytes) else {
@@ -78,7 +80,7 @@ fn key(words: &Words, args: &[&str]) -> Result<String, Fault> {
     let defs = words.definitions(*defs)?;
     let key = size(*key)?;
     let bytes = words.bytes(*bytes)?;
-    if key == 0 || key > defs.keys.as_slice().len() {
+    if key == 0 || key > defs.keys.as_slice().len() || bytes.len() >= 1 << 32 {
         return Err(Fault::Unread);
     }
     let alloc = words.alloc();

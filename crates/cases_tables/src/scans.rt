@@ -1,4 +1,8 @@
 //! Scans of a data file, over files that tell nothing.
+//!
+//! A scan is called until it is at its end. Each answer brings its place nearer to that, and a call that fails
+//! meets one of the faults that the line lists.
+ghost use Rattle.std.specs.Prelude.{◌≡◌, ◌<◌, ◌+◌, ◌-◌, true, IfOk};
 
 use crate::untold::Untold;
 use case_lines::{Fault, Words, number, push_word, yes_or_no};
@@ -15,11 +19,17 @@ const NAME: &str = "t.MYD";
 struct Scanned {
     files: Untold,
     scan: DataScan,
+    /// How many faults were listed and not met.
+    faults: usize,
 }
 
 impl Drop for Scanned {
     fn drop(self) {
-        let Scanned { files: _, scan: _ } = self;
+        let Scanned {
+            files: _,
+            scan: _,
+            faults: _,
+        } = self;
     }
 }
 
@@ -33,12 +43,15 @@ fn opened(words: &Words, args: &[&str]) -> Result<Scanned, Fault> {
     let mut state = stored_state(alloc, &defs)?;
     state.data_file_length = number(*end)?;
     let given = vec![in alloc; (String::from_str(alloc, NAME)?, words.bytes(*bytes)?)]?;
-    let files = MemFiles::new(alloc, given, words.numbers(*faults)?)?;
+    let faults = words.numbers(*faults)?;
+    let count = faults.len();
+    let files = MemFiles::new(alloc, given, faults)?;
     let file = DataFile::new(alloc, NAME, &defs, &state)?;
     let scan = file.scan(yes_or_no(*extend)?)?;
     Ok(Scanned {
         files: Untold { files },
         scan,
+        faults: count,
     })
 }
 
@@ -50,16 +63,36 @@ fn push_row(out: &mut String, at: u64, piece: Piece) -> Result<(), AllocError> {
     push_word(out, piece.bytes())
 }
 
-// Writes what a call answered, and answers whether it was the end.
-fn push_item(out: &mut String, item: Result<Option<Item>, ScanFault>) -> Result<bool, Fault> {
-    match item {
-        Ok(None) => out.push_str("end")?,
+// One fault less, after a call that failed.
+fn met(faults: usize) -> Result<usize, Fault>
+    ensures { IfOk result (λ left. left < faults) }
+{
+    if faults == 0 {
+        return Err(Fault::Unread);
+    }
+    Ok(faults - 1)
+}
+
+// Writes what the next call answers, and says whether it was not the end.
+fn push_next(scanned: &mut Scanned, out: &mut String) -> Result<bool, Fault>
+    ensures { IfOk result (λ more. more ≡ true
+        → scanned.new.scan.end - scanned.new.scan.place + scanned.new.faults
+        < scanned.old.scan.end - scanned.old.scan.place + scanned.old.faults) }
+{
+    match scanned.scan.next_item(&mut scanned.files) {
+        Ok(None) => {
+            out.push_str("end")?;
+            return Ok(false);
+        }
         Ok(Some(Item::Row(at, piece))) => push_row(out, at, piece)?,
         Ok(Some(Item::Free { at, size })) => write!(out, "free {at} {size}")?,
-        Err(ScanFault::File) => out.push_str("failed")?,
+        Err(ScanFault::File) => {
+            out.push_str("failed")?;
+            scanned.faults = met(scanned.faults)?;
+        }
         Err(ScanFault::Memory) => return Err(Fault::Memory),
     }
-    Ok(matches!(item, Ok(None)))
+    Ok(true)
 }
 
 /// `scan DEFINITIONS FAULTS END EXTEND BYTES`: the rows and the deleted blocks of a data file up to its end, and
@@ -67,15 +100,11 @@ fn push_item(out: &mut String, item: Result<Option<Item>, ScanFault>) -> Result<
 fn scan(words: &Words, args: &[&str]) -> Result<String, Fault> {
     let mut scanned = opened(words, args)?;
     let mut out = String::new(words.alloc());
-    for _ in 0..u64::MAX {
-        let item = scanned.scan.next_item(&mut scanned.files);
-        if push_item(&mut out, item)? {
-            break;
-        }
+    while push_next(&mut scanned, &mut out)? {
         out.push_str("; ")?;
     }
     out.push_str("; ")?;
-    push_item(&mut out, scanned.scan.next_item(&mut scanned.files))?;
+    push_next(&mut scanned, &mut out)?;
     Ok(out)
 }
 
@@ -87,24 +116,37 @@ fn push_blocks(out: &mut String, blocks: &[(u64, u32)]) -> Result<(), AllocError
     Ok(())
 }
 
+// The same for a call for rows, each with its blocks.
+fn push_next_row(scanned: &mut Scanned, out: &mut String) -> Result<bool, Fault>
+    ensures { IfOk result (λ more. more ≡ true
+        → scanned.new.scan.end - scanned.new.scan.place + scanned.new.faults
+        < scanned.old.scan.end - scanned.old.scan.place + scanned.old.faults) }
+{
+    match scanned.scan.next_row(&mut scanned.files) {
+        Ok(None) => {
+            out.push_str("end")?;
+            return Ok(false);
+        }
+        Ok(Some((at, piece))) => {
+            push_row(out, at, piece)?;
+            push_blocks(out, scanned.scan.blocks())?;
+        }
+        Err(ScanFault::File) => {
+            out.push_str("failed")?;
+            scanned.faults = met(scanned.faults)?;
+        }
+        Err(ScanFault::Memory) => return Err(Fault::Memory),
+    }
+    Ok(true)
+}
+
 /// The same for the rows alone, each with its blocks.
 fn scan_rows(words: &Words, args: &[&str]) -> Result<String, Fault> {
     let mut scanned = opened(words, args)?;
     let mut out = String::new(words.alloc());
-    for _ in 0..u64::MAX {
-        match scanned.scan.next_row(&mut scanned.files) {
-            Ok(None) => break,
-            Ok(Some((at, piece))) => push_row(&mut out, at, piece)?,
-            Err(ScanFault::File) => {
-                out.push_str("failed; ")?;
-                continue;
-            }
-            Err(ScanFault::Memory) => return Err(Fault::Memory),
-        }
-        push_blocks(&mut out, scanned.scan.blocks())?;
+    while push_next_row(&mut scanned, &mut out)? {
         out.push_str("; ")?;
     }
-    out.push_str("end")?;
     Ok(out)
 }
 

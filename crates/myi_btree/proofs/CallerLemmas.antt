@@ -20,8 +20,9 @@ pub use Rattle.myi_btree.proofs.LaidMoves.{laid_moves}
 pub use Rattle.myi_btree.proofs.MoveLaws.{laid_movable, same_pages}
 -- laid_pages_are_written
 pub use Rattle.myi_btree.proofs.LaidRead.{laid_written, written_read}
+-- laid_pages_stand_behind
+pub use Rattle.myi_btree.proofs.FilePages.{page_long, pages_long, tree_behind}
+-- trees_have_few_pages
+pub use Rattle.myi_btree.proofs.FewPages.{laid_few}
 -- These hold of any fact or any function, which no clause can say.
-pub use Rattle.myi_btree.proofs.BodyLaws.{all_drop}
 pub use Rattle.myi_btree.proofs.Frames.{bind_some}
-pub use Rattle.myi_btree.proofs.LaidWalks.{cons_each}
-pub use Rattle.myi_btree.proofs.LevelsLaws.{level_all}

@@ -12,7 +12,7 @@ use Rattle.myi_btree.specs.Visit.{page_range, HasWalk}
 use Rattle.myi_btree.specs.CachedTrees.{node_lent, HasPages, IsClear, AddsAmong, IsClosed, IsRootNamed, AddsNamed, is_among, AddsItsOwn, ReadsOnce, AreApart}
 use Rattle.myi_btree.proofs.Frames.{same_walk}
 use Rattle.myi_btree.proofs.Once.{one_walk}
-use Rattle.myi_btree.proofs.VisitWalks.{apart_both}
+use Rattle.myi_btree.proofs.EventWalks.{apart_both}
 use Rattle.myi_btree.proofs.ServeLaws.{lent_bytes, same_bytes}
 use Rattle.myi_btree.proofs.Among.{in_all, or_true, all_in}
 use Rattle.myi_btree.proofs.Named.{walk_first}

@@ -1,5 +1,5 @@
 -- Pages that a walk met are different, so that they are no more than the places that they are among.
-use Rattle.std.proofs.Common.{◌≡◌, ℕ, suc, ◌+◌, ◌<◌, ◌≤◌, nat_cmp, eqb, cond, ◌||◌, Bool, true, false, Option, Some, Ok, List, [], ◌∷◌, length, refl, ap, subst, ◌∙◌, arith, inl, inr}
+use Rattle.std.proofs.Common.{◌≡◌, ℕ, suc, ◌+◌, ◌<◌, ◌≤◌, nat_cmp, eqb, cond, ◌||◌, Bool, true, false, Option, Some, List, [], ◌∷◌, length, refl, ap, subst, arith, inl, inr}
 use Rattle.std.specs.List.{list_all, AllByRecursion}
 use Rattle.std.specs.List.Sorted.{IsStrictlySortedBy}
 use Rattle.std.specs.declared.cmp.Ordering.TheVariants.{Less}
@@ -8,14 +8,12 @@ use Rattle.myi_base.specs.Holding.{Holding, IfTold}
 use Rattle.myi_keycache.specs.Caching.{Caching, IsCurrent}
 use Rattle.myi_btree.specs.declared.place.Place.{Place}
 use Rattle.myi_btree.specs.declared.visited.Visited.{Visited}
-use Rattle.myi_btree.specs.Walk.{Places, Walked}
-use Rattle.myi_btree.specs.Visit.{visit, HasWalk}
-use Rattle.myi_btree.specs.Visited.{CountsMet, IsBelow}
+use Rattle.myi_btree.specs.Walk.{Walked}
+use Rattle.myi_btree.specs.Visit.{HasWalk}
+use Rattle.myi_btree.specs.Visited.{CountsMet}
 use Rattle.myi_btree.specs.CachedTrees.{node_lent, IsRootNamed, HasPages, CanWalk, is_among, ReadsOnce, RoseBy, CountsPages}
 use Rattle.myi_btree.specs.Serving.{view, GoesOn}
 use Rattle.myi_btree.proofs.Among.{all_weaker}
-use Rattle.myi_btree.proofs.Once.{one_walk}
-use Rattle.myi_btree.proofs.VisitLaws.{visited}
 use Rattle.myi_btree.proofs.WalkLaws.{less_is}
 use Rattle.myi_btree.proofs.StartLaws.{Begins, begins_in}
 
@@ -67,13 +65,6 @@ reads_told writable place told next old new met root before after may is long go
     let b = begins_in writable place told old m root (is_among places) may held current is (subst (λ (r : Option ℕ). IsRootNamed r (is_among places)) is at) closed in
     let g = goes m b.begins in
     omega (arith, long, few met.places.keys places g.ascends (all_weaker b.begins.asked (is_among places) b.within met.places.keys g.named))
-
--- the pages that were met are those of the walk
-pub below_count : (block root : ℕ) (read : Places) (level : ℕ) (met : Visited) → IsBelow block read level root [] met → (w : Walked) → HasWalk block read root w → length met.places.keys ≡ length w.pages
-below_count block root read level met b w walk =
-    let is : visit block read level root [] ≡ Ok b.walked = ap (λ (p : ℕ). visit block read level p []) b.above ∙ b.visited in
-    let same : b.walked ≡ w = one_walk read level walk.height root b.walked w (visited block read level root [] b.walked is).walk walk.walk in
-    b.met_all.1 ∙ ap (λ (w : Walked). length w.pages) same
 
 pub counts_told : (place : Place) (old new : Caching) (m : Holding) (root : ℕ) (none keys : List ℕ) → none ≡ [] → CountsMet old new none keys → place.root ≡ Some root → ((w : Walked) → HasWalk place.block_length (node_lent place old m) root w → length keys ≡ length w.pages)
     → CountsPages place old m new

@@ -12,12 +12,8 @@ pub mod LevelLaws
 pub mod BodyLaws
 pub mod LayingLaws
 pub mod LevelsLaws
-pub mod VisitLaws
-pub mod VisitWalks
 pub mod LaidRead
 pub mod WalkLaws
-pub mod VisitSteps
-pub mod WalkFinds
 pub mod ServeLaws
 pub mod Named
 pub mod Among
@@ -31,5 +27,13 @@ pub mod LaidMoves
 pub mod MoveLaws
 pub mod FewMet
 pub mod StartLaws
+pub mod EventLaws
+pub mod EventWalks
+pub mod GoingLaws
+pub mod UsedLaws
+pub mod CursorLaws
+pub mod TreeWalks
 pub mod CanLaws
 pub mod ClearLaws
+pub mod FilePages
+pub mod FewPages

@@ -1,19 +1,14 @@
 -- Places that are named from the root on.
-use Rattle.std.proofs.Common.{◌≡◌, ℕ, zero, suc, Bool, true, Ok, cond, ltb, Some, None, List, [], ◌∷◌, ◌++◌, length, refl, sym, ap, subst, ◌∙◌}
+use Rattle.std.proofs.Common.{◌≡◌, ℕ, zero, suc, Bool, true, cond, ltb, Some, None, List, [], ◌∷◌, ◌++◌, length, refl, sym, ap, subst, ◌∙◌}
 use Rattle.std.specs.List.{list_all, flat_map, AllByRecursion}
-use Rattle.std.specs.Vec.Iter.{into_iter_items}
 use Rattle.std.proofs.lemmas.Bool.{and_parts, and_from}
 use Rattle.std.proofs.lemmas.List.Folds.{list_all-append}
 use Rattle.std.proofs.lemmas.Option.{same_Some, cond_some}
-use Rattle.myi_btree.specs.declared.visited.Visited.{Visited}
-use Rattle.myi_btree.specs.declared.visited.OpenPage.{OpenPage}
 use Rattle.myi_btree.specs.Walk.{◌>>=◌, Node, Places, Walked, each, at_node, as_leaf, walk_of}
 use Rattle.myi_btree.specs.Visit.{entered}
-use Rattle.myi_btree.specs.Visited.{places_of, with_first, IsPath, IsBelow}
 use Rattle.myi_btree.specs.CachedTrees.{IsClosed}
 use Rattle.myi_btree.proofs.Frames.{bind_some}
-use Rattle.myi_btree.proofs.VisitLaws.{entered_is, leaf_pages, leaf_none}
-use Rattle.myi_btree.proofs.WalkFinds.{path_less}
+use Rattle.myi_btree.proofs.EventLaws.{entered_is, leaf_pages, leaf_none}
 
 all_parts : (asked : ℕ → Bool) (xs ys : List ℕ) → list_all asked (xs ++ ys) ≡ true → (list_all asked xs ≡ true) × (list_all asked ys ≡ true)
 all_parts asked xs ys e = and_parts (list_all asked xs) (list_all asked ys) (sym (list_all-append asked xs ys) ∙ e)
@@ -23,27 +18,8 @@ all_join asked xs ys a b = list_all-append asked xs ys ∙ and_from (list_all as
 
 -- ---- the pages that code goes into
 
-pub children_asked : (block : ℕ) (read : Places) (at : ℕ) (met : List ℕ) (node : Node) (asked : ℕ → Bool) → IsClosed read asked → entered block read at met ≡ Ok node → asked at ≡ true → list_all asked node.children ≡ true
+pub children_asked : (block : ℕ) (read : Places) (at : ℕ) (met : List ℕ) (node : Node) (asked : ℕ → Bool) → IsClosed read asked → entered block read at met ≡ Some node → asked at ≡ true → list_all asked node.children ≡ true
 children_asked block read at met node asked closed e a = closed at node a (entered_is block read at met node e).1
-
-pub asked_on_path : (block : ℕ) (read : Places) (place : ℕ) (met : List ℕ) (path : List OpenPage) (at : ℕ) (asked : ℕ → Bool) → IsClosed read asked → IsPath block read place met path at → asked place ≡ true → asked at ≡ true
-asked_on_path block read place met [] at asked closed p a = ap asked (sym p) ∙ a
-asked_on_path block read place met (q ∷ path) at asked closed p a =
-    let all = children_asked block read place met (with_first p.1.0 q) asked closed p.1.1 a in
-    asked_on_path block read p.1.0 (met ++ place ∷ []) path at asked closed p.1.2 (and_parts (asked p.1.0) (list_all asked (into_iter_items q.children)) all).0
-
--- the children that the page at the end of a path has left
-pub rest_asked : (block : ℕ) (read : Places) (level root : ℕ) (path : List OpenPage) (page : OpenPage) (met : Visited) (asked : ℕ → Bool) → IsClosed read asked → IsBelow block read level root (path ++ page ∷ []) met → asked root ≡ true
-    → list_all asked (into_iter_items page.children) ≡ true
-rest_asked block read level root path page met asked closed b a =
-    let k = path_less block read root [] path b.place page b.above in
-    let here = asked_on_path block read root [] path page.at asked closed k.0 a in
-    (and_parts (asked b.place) (list_all asked (into_iter_items page.children)) (children_asked block read page.at (places_of path) (with_first b.place page) asked closed k.1 here)).1
-
-pub child_asked : (asked : ℕ → Bool) (all done : List ℕ) (c : ℕ) (left : List ℕ) → all ≡ done ++ c ∷ left → list_all asked all ≡ true → asked c ≡ true
-child_asked asked all done c left e a =
-    let k = all_parts asked done (c ∷ left) (ap (list_all asked) (sym e) ∙ a) in
-    (and_parts (asked c) (list_all asked left) k.1).0
 
 -- ---- the pages of a walk
 

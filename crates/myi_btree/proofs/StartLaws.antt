@@ -2,7 +2,6 @@
 use Rattle.std.proofs.Common.{◌≡◌, ℕ, zero, suc, nat_cmp, Bool, true, cond, ltb, Option, Some, None, List, [], ◌∷◌, ◌++◌, length, refl, sym, ap, subst, ◌∙◌, inl, inr}
 use Rattle.std.specs.List.{list_all, flat_map, AllByRecursion}
 use Rattle.std.specs.List.Sorted.{IsStrictlySortedBy}
-use Rattle.std.specs.Vec.Iter.{into_iter_items}
 use Rattle.std.proofs.lemmas.Option.{same_Some, cond_some}
 use Rattle.myi_base.specs.Holding.{Holding, IfTold, Told}
 use Rattle.myi_keycache.specs.Kept.{is_kept, NoOtherMeets, AllWritten}
@@ -12,16 +11,12 @@ use Rattle.myi_keycache.proofs.CallerLemmas.{unwritten_kept}
 use Rattle.myi_btree.specs.declared.place.Place.{Place}
 use Rattle.myi_btree.specs.Walk.{◌>>=◌, Node, Places, Walked, each, at_node, as_leaf, walk_of}
 use Rattle.myi_btree.specs.CachedTrees.{node_lent, IsClosed, IsRootNamed, IsClear, MayGet, CanWalk, is_among, AddsNamed, ReadsOnly}
-use Rattle.myi_btree.specs.Serving.{View, view, nodes_at, Serves, GoesOn, CanClimb}
-use Rattle.myi_btree.specs.Visited.{each_at, HasPlaces, Descends, places_of}
+use Rattle.myi_btree.specs.Serving.{View, view, Serves, GoesOn}
 use Rattle.myi_btree.specs.declared.visited.Visited.{Visited}
-use Rattle.myi_btree.specs.declared.visited.OpenPage.{OpenPage}
 use Rattle.myi_btree.proofs.Among.{in_all, all_in, all_true, all_is}
 use Rattle.myi_btree.proofs.Frames.{bind_some}
-use Rattle.myi_btree.proofs.VisitLaws.{leaf_pages}
-use Rattle.myi_btree.proofs.ServeLaws.{goes_same}
+use Rattle.myi_btree.proofs.EventLaws.{leaf_pages}
 use Rattle.myi_btree.proofs.Named.{walk_named, walk_first, HasChildren, walk_children}
-use Rattle.myi_btree.proofs.WalkFinds.{below_leaf}
 
 -- ---- the pages of a walk
 
@@ -154,14 +149,4 @@ first_goes place v told cache visited serves none = record {
   serves = serves;
   named = ap (list_all v.asked) none;
   ascends = subst (IsStrictlySortedBy nat_cmp) (sym none) tt;
-}
-
--- a walk that went down to the first leaf may go up again
-pub climbs : (place : Place) (v : View) (told : Option Holding) (cache : Caching) (root : ℕ) (path : List OpenPage) (leaf : OpenPage) (old new : Visited) → GoesOn place v told cache old → v.asked root ≡ true
-    → Descends place.block_length (nodes_at place v) root path leaf → HasPlaces old.places.keys (places_of path ++ leaf.at ∷ []) → old.pairs.items ≡ []
-    → new.pairs.items ≡ old.pairs.items ++ each_at leaf.at (into_iter_items leaf.pairs) → new.places ≡ old.places → CanClimb place v told cache root path new
-climbs place v told cache root path leaf old new goes asked down has none more places = record {
-  goes = goes_same place v told cache old new (ap (λ t. t.keys) places) goes;
-  asked = asked;
-  below = below_leaf place.block_length (nodes_at place v) root path leaf old new down has none more places;
 }

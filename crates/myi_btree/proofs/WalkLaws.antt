@@ -1,5 +1,5 @@
 -- Loading a page, and whether it has a byte of one that was met.
-use Rattle.std.proofs.Common.{◌≡◌, ℕ, suc, ◌+◌, ◌-◌, ◌%◌, ◌<◌, ◌≤◌, ◌||◌, ◌&&◌, Bool, true, false, leb, cond, nat_cmp, Option, Some, None, Result, Ok, Err, List, [], ◌∷◌, ◌++◌, length, map, refl, sym, ap, subst, ◌∙◌, arith, inl, inr}
+use Rattle.std.proofs.Common.{◌≡◌, ℕ, suc, ◌+◌, ◌-◌, ◌%◌, ◌<◌, ◌≤◌, ◌||◌, ◌&&◌, Bool, true, false, leb, cond, nat_cmp, Option, Some, None, Result, Err, List, [], ◌∷◌, ◌++◌, length, map, refl, sym, ap, subst, ◌∙◌, arith, inl, inr}
 use Rattle.std.specs.Prelude.{IfErr}
 use Rattle.std.specs.List.{list_all, filter, AllByRecursion}
 use Rattle.std.specs.List.Sorted.{IsStrictlySortedBy}
@@ -154,16 +154,16 @@ all-map test f (x ∷ xs) = ap (λ (b : Bool). test (f x) && b) (all-map test f 
 new_is : (block at : ℕ) (keys met : List ℕ) (b : Bool) → HasPlaces keys met → b ≡ list_all (λ p. are_apart (page_range block at) (page_range block p)) keys → is_new block at met ≡ b
 new_is block at keys met b has e = all-map (λ s. are_apart (page_range block at) s) (page_range block) met ∙ sym (has.0 (λ p. are_apart (page_range block at) (page_range block p))) ∙ sym e
 
-pub entered_ok : (block : ℕ) (read : Places) (at : ℕ) (keys met : List ℕ) (node : Node) (b : Bool) → HasPlaces keys met → b ≡ list_all (λ p. are_apart (page_range block at) (page_range block p)) keys → b ≡ true → read at ≡ Some node → entered block read at met ≡ Ok node
+pub entered_ok : (block : ℕ) (read : Places) (at : ℕ) (keys met : List ℕ) (node : Node) (b : Bool) → HasPlaces keys met → b ≡ list_all (λ p. are_apart (page_range block at) (page_range block p)) keys → b ≡ true → read at ≡ Some node → entered block read at met ≡ Some node
 entered_ok block read at keys met node b has e yes_it r = rw (new_is block at keys met b has e ∙ yes_it, r) refl
 
-pub entered_not : (block : ℕ) (read : Places) (at : ℕ) (keys met : List ℕ) (b : Bool) → HasPlaces keys met → b ≡ list_all (λ p. are_apart (page_range block at) (page_range block p)) keys → b ≡ false → entered block read at met ≡ Err at
+pub entered_not : (block : ℕ) (read : Places) (at : ℕ) (keys met : List ℕ) (b : Bool) → HasPlaces keys met → b ≡ list_all (λ p. are_apart (page_range block at) (page_range block p)) keys → b ≡ false → entered block read at met ≡ None
 entered_not block read at keys met b has e no_it = rw (new_is block at keys met b has e ∙ no_it) refl
 
-pub entered_none : (block : ℕ) (read : Places) (at : ℕ) (met : List ℕ) → read at ≡ None → entered block read at met ≡ Err at
+pub entered_none : (block : ℕ) (read : Places) (at : ℕ) (met : List ℕ) → read at ≡ None → entered block read at met ≡ None
 entered_none block read at met r = rw r (by (is_new block at met))
   where
-    by : (b : Bool) → ◌≡◌ {A = Result Node ℕ} (cond b (Err at) (Err at)) (Err at)
+    by : (b : Bool) → ◌≡◌ {A = Option Node} (cond b None None) None
     by true = refl
     by false = refl
 

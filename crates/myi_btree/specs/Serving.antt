@@ -8,9 +8,8 @@ use Rattle.myi_keycache.specs.Kept.{is_unwritten, NoOtherMeets, ChangesNone, All
 use Rattle.myi_keycache.specs.Caching.{pages_of, Caching, IsCurrent, Stays}
 use Rattle.myi_btree.specs.declared.place.Place.{Place}
 use Rattle.myi_btree.specs.declared.visited.Visited.{Visited}
-use Rattle.myi_btree.specs.declared.visited.OpenPage.{OpenPage}
 use Rattle.myi_btree.specs.Walk.{Node, Places}
-use Rattle.myi_btree.specs.Visited.{HasPlaces, IsBelow}
+use Rattle.myi_btree.specs.Visited.{HasPlaces}
 use Rattle.myi_btree.specs.CachedTrees.{node_lent, AddsAmong, IsClosed}
 
 -- the cache and the files as they were when a walk began, and the places that it may go into
@@ -48,25 +47,16 @@ pub record CanAsk (place : Place) (v : View) (told : Option Holding) (cache : Ca
   pub asked : v.asked at ≡ true
 
 -- a walk that met these pages goes on: each of them may be asked for, and they stand in order
-pub record GoesOn (place : Place) (v : View) (told : Option Holding) (cache : Caching) (visited : Visited) : Type 0 where
+pub record IsServed (place : Place) (v : View) (told : Option Holding) (cache : Caching) (met : List ℕ) : Type 0 where
   pub serves : Serves place v told cache
-  pub named : list_all v.asked visited.places.keys ≡ true
-  pub ascends : IsStrictlySortedBy nat_cmp visited.places.keys
+  pub named : list_all v.asked met ≡ true
+  pub ascends : IsStrictlySortedBy nat_cmp met
+
+abbrev pub GoesOn : Place → View → Option Holding → Caching → Visited → Type 0
+GoesOn place v told cache visited = IsServed place v told cache visited.places.keys
 
 -- a walk that went into these pages may go into the page at a place
 pub record CanEnter (place : Place) (v : View) (told : Option Holding) (cache : Caching) (at : ℕ) (seen : List ℕ) (visited : Visited) : Type 0 where
   pub goes : GoesOn place v told cache visited
   pub asked : v.asked at ≡ true
   pub has : HasPlaces visited.places.keys seen
-
--- the same of children, one after the other
-pub record CanEnterEach (place : Place) (v : View) (told : Option Holding) (cache : Caching) (children seen : List ℕ) (visited : Visited) : Type 0 where
-  pub goes : GoesOn place v told cache visited
-  pub asked : list_all v.asked children ≡ true
-  pub has : HasPlaces visited.places.keys seen
-
--- a walk that went down a path to the first leaf may go up again
-pub record CanClimb (place : Place) (v : View) (told : Option Holding) (cache : Caching) (root : ℕ) (path : List OpenPage) (visited : Visited) : Type 0 where
-  pub goes : GoesOn place v told cache visited
-  pub asked : v.asked root ≡ true
-  pub below : IsBelow place.block_length (nodes_at place v) 0 root path visited

@@ -1,19 +1,25 @@
 //! Laws over walks and laid pages. Each is the contract of a function that does nothing, so that it is
 //! proved with the crate and stands for the crates above.
-ghost use Rattle.std.specs.Prelude.{◌≡◌, ℕ, Bool, suc, ◌+◌, ◌*◌, ◌%◌, ◌^◌, ◌<◌, ◌≤◌, List, ◌∷◌, length, map, Option, Some, Result, Ok};
+ghost use Rattle.std.specs.Prelude.{◌≡◌, ℕ, Bool, [], suc, ◌+◌, ◌*◌, ◌%◌, ◌^◌, ◌<◌, ◌≤◌, List, ◌∷◌, ◌++◌, length, map, Option, Some, None};
 ghost use Rattle.myi_keylist.specs.declared.pair.Pair.{Pair};
 ghost use Rattle.myi_btree.specs.Walk.{Node, Places, Walked, walk_of, Agree, IsNode, AreNodes};
 ghost use Rattle.myi_btree.specs.LaidPages.{Fits, count_of, level_of, places_from, laid, moved, Stands, IsRooted, root_of};
 ghost use Rattle.myi_btree.specs.LaidOnce.{WalksOnce};
-ghost use Rattle.myi_btree.specs.Visit.{Finds, HasWalk};
-ghost use Rattle.std.specs.List.{AllByRecursion};
+ghost use Rattle.myi_btree.specs.Visit.{HasWalk};
+ghost use Rattle.myi_btree.specs.Events.{Event, Meets, MeetsTree, first_bad, walked_in};
+ghost use Rattle.myi_base.specs.Ranges.{Range};
+ghost use Rattle.myi_btree.specs.Used.{up_to_used, apart_from};
+ghost use Rattle.myi_btree.specs.Serving.{View};
+ghost use Rattle.myi_btree.specs.Walking.{Walking, walk_at, IsOver, IsStillMet, MayGo};
+ghost use Rattle.std.specs.List.{flat_map, AllByRecursion};
 ghost use Rattle.myi_base.specs.Holding.{Holding};
-ghost use Rattle.myi_keycache.specs.Caching.{Caching, Stays};
+ghost use Rattle.myi_keycache.specs.Caching.{Caching, IsCurrent, Stays};
 ghost use Rattle.myi_btree.specs.declared.place.Place.{Place};
-ghost use Rattle.myi_btree.specs.CachedTrees.{node_lent, HasPages, IsClear, AddsNamed, AddsItsOwn, ReadsOnce, AreApart};
+ghost use Rattle.myi_btree.specs.CachedTrees.{node_lent, CanWalk, HasPages, IsClear, AddsNamed, AddsItsOwn, ReadsOnce, AreApart};
 ghost use Rattle.myi_btree.specs.Nodes.{node_in};
 ghost use Rattle.myi_btree.specs.Sizes.{IsPlaced, AreSized, IsCount, fits_in};
 ghost use Rattle.myi_btree.specs.Building.{laid_at, built_at, AddsLaid, AreKeys, EndBefore, CanLay, IsWritten, Lays, LaysOnly, Spares, page_for};
+ghost use Rattle.myi_btree.specs.TreePages.{tree_pages, tree_end, with_tree, CanBeLaid, HasBehind};
 ghost use Rattle.myi_btree.specs.Moving.{AreMovable};
 ghost use Rattle.myi_keycache.specs.Kept.{Page};
 
@@ -58,15 +64,47 @@ pub fn laid_pages_walk()
         → IsRooted read block first (length (laid fits block first (pair ∷ pairs))) (pair ∷ pairs) }
 {}
 
-/// A visit from a place finds one thing at most, the walk or the first bad place. It finds a walk exactly
-/// where that is the walk of the place and no two of its pages have a byte in common.
-pub fn visits_find_walks()
-    ensures once { (block : ℕ) (read : Places) (place : ℕ) (one other : Result Walked ℕ)
-        → Finds block read place one → Finds block read place other → one ≡ other }
-    ensures walk { (block : ℕ) (read : Places) (place : ℕ) (w : Walked)
-        → Finds block read place (Ok w) → HasWalk block read place w }
-    ensures found { (block : ℕ) (read : Places) (place : ℕ) (w : Walked)
-        → HasWalk block read place w → Finds block read place (Ok w) }
+/// A walk meets one list of events at most. It meets no bad place exactly where the place has a walk of which
+/// no two pages have a byte in common, and then the events have its pairs and pages.
+pub fn events_are_walks()
+    ensures once { (block : ℕ) (read : Places) (place : ℕ) (es others : List Event)
+        → Meets block read place es → Meets block read place others → es ≡ others }
+    ensures walk { (block : ℕ) (read : Places) (place : ℕ) (es : List Event) → AreNodes read
+        → Meets block read place es → first_bad es ≡ None
+        → HasWalk block read place (walked_in es) }
+    ensures met { (block : ℕ) (read : Places) (place : ℕ) (w : Walked) → AreNodes read
+        → HasWalk block read place w
+        → (es : List Event) × Meets block read place es × (first_bad es ≡ None)
+        × (walked_in es ≡ w) }
+    ensures lent { (place : Place) (cache : Caching) (m : Holding) (at : ℕ) (es : List Event)
+        → Meets place.block_length (node_lent place cache m) at es → first_bad es ≡ None
+        → HasWalk place.block_length (node_lent place cache m) at (walked_in es) }
+    ensures lent_met { (place : Place) (cache : Caching) (m : Holding) (at : ℕ) (w : Walked)
+        → HasWalk place.block_length (node_lent place cache m) at w
+        → (es : List Event) × Meets place.block_length (node_lent place cache m) at es
+        × (first_bad es ≡ None) × (walked_in es ≡ w) }
+{}
+
+/// Where trees before have pages, a walk ends at the first page that has a byte of one: its events up to there
+/// are those of the same tree where no such page stands.
+pub fn used_pages_end_walks()
+    ensures { (block : ℕ) (used : List Range) (read : Places) (place : ℕ) (es : List Event)
+        → Meets block read place es
+        → Meets block (apart_from block used read) place (up_to_used block used es) }
+{}
+
+/// A walk may begin where a tree may be gone through, and then what stands there is what the cache lends. What
+/// is met from there on is the events of the tree, and where a walk is over nothing is left.
+pub fn walks_begin()
+    ensures begins { (writable : Bool) (place : Place) (told : Option Holding) (cache : Caching)
+        (m : Holding) (root : ℕ) → CanWalk writable told place cache → told ≡ Some m
+        → IsCurrent cache m → place.root ≡ Some root
+        → (v : View) × (v.first ≡ cache) × (v.start ≡ m)
+        × MayGo place v told cache [] (walk_at place) }
+    ensures meets { (place : Place) (block : ℕ) (read : Places) (es : List Event)
+        → IsStillMet block read [] (walk_at place) es → MeetsTree block read place.root es }
+    ensures over { (block : ℕ) (read : Places) (seen : List ℕ) (w : Walking) → IsOver w
+        → IsStillMet block read seen w [] }
 {}
 
 /// The walk of laid pages goes over each of them once: no byte belongs to two of its pages, which are as
@@ -186,4 +224,25 @@ pub fn builds_leave_trees_clear()
         → IsClear other old m other.root → Spares first old new m n
         → LaysOnly before after place.block_length first old new
         → IsClear other new n other.root }
+{}
+
+/// The bytes of a page are as many as a page has. The pages of a tree that are written from the end of a
+/// file on stand behind what the file has from a place on, which may lie past its end.
+pub fn laid_pages_stand_behind()
+    ensures page { (place : Place) (node : Node) → IsWritten place node
+        → length (page_for place node) ≡ place.block_length }
+    ensures pages { (place : Place) (nodes : List Node) → AllByRecursion (IsWritten place) nodes
+        → length (flat_map (page_for place) nodes) ≡ place.block_length * length nodes }
+    ensures long { (place : Place) (first : ℕ) (pairs : List Pair) → CanBeLaid place first pairs
+        → first + length (tree_pages place first pairs) ≡ tree_end place first pairs }
+    ensures behind { (place : Place) (first : ℕ) (pairs : List Pair) → CanBeLaid place first pairs
+        → (base : ℕ) (bytes file : List ℕ) → HasBehind base first bytes file
+        → HasBehind base (tree_end place first pairs) (bytes
+        ++ tree_pages place first pairs) (with_tree place first pairs file) }
+{}
+
+/// A tree has no more pages than pairs.
+pub fn trees_have_few_pages()
+    ensures { (place : Place) (first : ℕ) (pairs : List Pair) → AreSized place pairs
+        → length (laid (fits_in place) place.block_length first pairs) ≤ length pairs }
 {}

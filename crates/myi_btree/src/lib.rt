@@ -8,8 +8,9 @@
 //! - `Place` says how the pages of a tree are made and where its root stands, `Room` where new pages go.
 //! - `Tree::build` lays a tree from pairs, and `lay` one in memory, from place 0, which
 //!   `Laid::shift` moves; `Tree::new` takes one that
-//!   stands; `Tree::root` is its root, and `Tree::walk` answers its pairs. `specs/Visit` says which place is
-//!   the first bad one of a damaged tree.
+//!   stands; `Tree::root` is its root, and `Tree::walk` answers its pairs.
+//! - `Events` gives what a walk meets, one after the other, also of a damaged tree: pages, pairs, and the first
+//!   bad place (`specs/Events`).
 //! - The laws over walks and laid pages are the contracts of the functions in `laws`.
 //!
 //! ```
@@ -25,6 +26,9 @@
 #![tactic(auto)]
 
 mod build;
+mod cursor;
+mod event;
+mod events;
 mod fault;
 mod laid;
 mod laws;
@@ -36,13 +40,16 @@ mod tree;
 mod visited;
 mod walk;
 
+pub use event::Event;
+pub use events::Events;
 pub use fault::TreeFault;
 pub use laid::{Laid, lay};
 pub use laws::{
-    builds_leave_trees_clear, built_trees_walk, laid_pages_are_met_once, laid_pages_are_movable,
-    laid_pages_are_written, laid_pages_move, laid_pages_walk, levels_are_laid, pages_are_nodes,
-    trees_are_shallow, visits_find_walks, walks_add_their_own, walks_depend_on_their_pages,
-    walks_exist_once, walks_leave_trees_clear,
+    builds_leave_trees_clear, built_trees_walk, events_are_walks, laid_pages_are_met_once,
+    laid_pages_are_movable, laid_pages_are_written, laid_pages_move, laid_pages_stand_behind,
+    laid_pages_walk, levels_are_laid, pages_are_nodes, trees_are_shallow, trees_have_few_pages,
+    used_pages_end_walks, walks_add_their_own, walks_depend_on_their_pages, walks_exist_once,
+    walks_leave_trees_clear,
 };
 pub use myi_keylist::Pair;
 pub use place::{Place, Room};

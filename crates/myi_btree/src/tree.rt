@@ -9,13 +9,12 @@ ghost use Rattle.myi_btree.specs.Building.{LaysOnly};
 ghost use Rattle.myi_keycache.specs.Caching.{IsCurrent, Stays};
 ghost use Rattle.myi_btree.specs.CachedTrees.{node_lent, CanWalk, ReadsOnly, AddsNamed, ReadsOnce, CountsPages};
 ghost use Rattle.myi_btree.specs.Faults.{DamagedAt, IsFileOrMemory};
-ghost use Rattle.myi_btree.specs.Visit.{FindsPairs, FindsBad};
+ghost use Rattle.myi_btree.specs.Events.{FindsPairs, FindsBad};
 
 use crate::build::lay_cached;
+use crate::cursor::Cursor;
 use crate::fault::TreeFault;
 use crate::place::{Place, Room, TreeSetup};
-use crate::visited::Visited;
-use crate::walk::{climb, descend};
 use myi_io::Files;
 use myi_keycache::KeyCache;
 use myi_keylist::{Pair, PairList};
@@ -51,15 +50,14 @@ impl Tree {
         self.place.root
     }
 
-    /// The pairs of the tree in the order of its walk, each with the place of its page. `Damaged` comes at
-    /// the first place on the walk's path where what stands is no page of the tree: no page, or its page has
-    /// a byte of one that was met before, or it is a leaf above the depth of the first leaf, or a node at that
-    /// depth. What is said of pairs and places, and of what is read and kept, holds where the file is as the
-    /// last call of the cache left it. No more is read than places are named from the root on, and no other
-    /// page comes to be kept. Pages are held open in a list, so a deep tree takes no deep stack.
-    /// The cache keeps no unwritten page, or the tree is whole and no other page that is kept meets one of it;
-    /// then that holds afterwards too, of this tree and of others that share no byte with it
-    /// (`walks_leave_trees_clear`).
+    /// The pairs of the tree in the order of its walk, each with the place of its page. `Damaged` comes at the
+    /// first bad place that the walk meets: no page stands there, or its page has a byte of one that was met
+    /// before, or it is a leaf above the depth of the first leaf, or a node at that depth. What is said of
+    /// pairs and places, and of what is read and kept, holds where the file is as the last call of the cache
+    /// left it. No more is read than places are named from the root on, and no other page comes to be kept.
+    /// Pages are held open in a list, so a deep tree takes no deep stack. The cache keeps no unwritten page, or
+    /// the tree is whole and no other page that is kept meets one of it; then that holds afterwards too, of
+    /// this tree and of others that share no byte with it (`walks_leave_trees_clear`).
     pub fn walk<F: Files>(
         &self,
         alloc: Global,
@@ -99,11 +97,7 @@ impl Tree {
             alloc,
             place: self.place,
         };
-        let mut visited = Visited::new(alloc);
-        let (path, leaf) = descend(setup, files, cache, root, &mut visited)?;
-        visited.push_leaf(leaf)?;
-        climb(setup, files, cache, path, &mut visited)?;
-        Ok(visited.into_pairs())
+        Cursor::new(setup, Some(root)).run(files, cache)
     }
 
     /// Puts the laid pages of sorted pairs into the room from its end on, and moves the end past them. The

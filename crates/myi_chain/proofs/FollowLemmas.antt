@@ -91,18 +91,11 @@ unfolding chain_of
 chain_more read p used b e k = rw (e, k) refl
 
 module _ (x : List ℕ) (read : Reading) (used : List Range) (h : Header) (here : HeadsBlock x (Some h) (read h.head.at)) where
-  pub first_broken : Broken ≡ first_by h used → option_map placed (chain_of read h.head.at used) ≡ None
-  first_broken link = ap (option_map placed) (chain_broken read h.head.at used here.0 here.1 (sym (first_is x h here.0 used here.2) ∙ sym link))
-
   pub first_place : ◌≡◌ {A = ℕ × ℕ} (here.0.at, here.0.size) (h.head.at, h.head.size)
   first_place =
       let at : here.0.at ≡ h.head.at = ap (λ k. k.at) here.2.head in
       let size : here.0.size ≡ h.head.size = ap (λ k. k.size) here.2.head in
       rw (at, size) refl
-
-  pub first_last : (taken : List (ℕ × ℕ)) → Last ≡ first_by h used → taken ≡ (h.head.at, h.head.size) ∷ [] → option_map placed (chain_of read h.head.at used) ≡ Some taken
-  first_last taken link is =
-      ap (option_map placed) (chain_last read h.head.at used here.0 here.1 (sym (first_is x h here.0 used here.2) ∙ sym link)) ∙ ap (λ (q : ℕ × ℕ). Some (q ∷ [])) first_place ∙ ap Some (sym is)
 
   pub first_more : More ≡ first_by h used → option_map placed (chain_of read h.head.at used) ≡ with_rest ((h.head.at, h.head.size) ∷ []) (tail read h.head.next (used ++ ranges_at ((h.head.at, h.head.size) ∷ [])) (h.head.rec_len - h.data_len))
   first_more link =

@@ -4,7 +4,7 @@ use Rattle.std.specs.Prelude.{replicate}
 use Rattle.std.proofs.lemmas.Bool.{eq-eqb, le-leb}
 use Rattle.std.proofs.lemmas.List.{append-nil, length-append, length-take, length-take-le, length-drop, drop-drop, length-replicate, take_all, take_at, take-take, drop_all}
 use Rattle.myi_base.specs.Holding.{Holding, bytes_of, IfTold}
-use Rattle.myi_window.specs.Excerpt.{Excerpt, bytes_from, AreFront, StandsIn, EndsBy, IsFull}
+use Rattle.myi_window.specs.Excerpt.{Excerpt, bytes_from, AreFront, StandsIn, EndsBy, IsFull, IsOver}
 use Rattle.myi_window.specs.declared.window.TheConstants.{WINDOW}
 use Rattle.myi_window.proofs.CallerLemmas.{take_add, cut_at_end, front_drop, excerpt_front, excerpt_here}
 use Rattle.myi_frames.specs.Block.{Block, block_of}
@@ -93,6 +93,17 @@ reads_cut holds s name file end now at w v view same order ready stands from ful
       end = all;
       ready = λ m held. record { kept = (on.ready m held).kept; long = subst (λ e. e ≤ length (bytes_of name m)) (sym (all m held ∙ ends)) (on.ready m held).long };
     }
+
+-- a window that was stretched over a block holds it, where the file tells what it holds
+pub over_held : (s : SourceModel) (name file : List ℕ) (end at size : ℕ) (w v : Excerpt) (m : Holding) → record { name = name; end = end; kept = w } ≡ s → file ≡ name → IsReady s m → at + size ≤ s.end → v.from ≡ at → IsOver file at size w v m → length (bytes_from at v) < size → ⊥
+over_held s name file end at size w v m view same ready inside from over few =
+    let called : s.name ≡ file = ap (λ (t : SourceModel). t.name) (sym view) ∙ sym same in
+    let d = bytes_of file m in
+    let stood : StandsIn w d = subst (λ (t : SourceModel). StandsIn t.kept d) (sym view) (subst (λ n. StandsIn s.kept (bytes_of n m)) called ready.kept) in
+    let long : s.end ≤ length d = subst (λ n. s.end ≤ length (bytes_of n m)) called ready.long in
+    let count : length (take size v.bytes) ≡ length (take size (drop at d)) = ap (λ (xs : List ℕ). length xs) (over stood) in
+    let here : length (bytes_from at v) ≡ length v.bytes = ap (λ (xs : List ℕ). length xs) (held_here at v from) in
+    absurd (omega (arith, few, here, count, length-take size v.bytes, length-take size (drop at d), length-drop at d, long, inside))
 
 none_by : (d : List ℕ) (p : ℕ) (o : Option Block) → block_of d p ≡ o → length d < p + 20 → o ≡ None
 none_by d p None e h = refl

@@ -1,8 +1,8 @@
 -- What is found at a place, and what is left behind it.
 use Rattle.std.proofs.Common.{◌≡◌, ◌∙◌, ℕ, zero, suc, ◌+◌, ◌-◌, ◌<◌, ◌≤◌, min, max, Bool, true, false, List, [], ◌∷◌, ◌++◌, append_assoc, length, Option, Some, None, Result, Ok, Err, refl, sym, ap, subst, arith, inl, inr}
-use Rattle.std.specs.Prelude.{nat_lt, ◌==◌, option_to_list, IfErr, IfSome}
+use Rattle.std.specs.Prelude.{nat_lt, ◌==◌, if◌then◌else◌, option_to_list, IfErr, IfSome}
 use Rattle.std.specs.Option.{option_map}
-use Rattle.std.proofs.lemmas.Bool.{leb-true, lt-ltb, le-ltb, le-leb, eq-eqb, cases_lt}
+use Rattle.std.proofs.lemmas.Bool.{lt-ltb, le-ltb, le-leb, eq-eqb, cases_lt}
 use Rattle.std.proofs.lemmas.List.{append-nil}
 use Rattle.myi_base.specs.Holding.{Holding, IfTold}
 use Rattle.myi_base.specs.Ranges.{Range, is_apart}
@@ -11,64 +11,80 @@ use Rattle.myi_frames.specs.Block.{Block, block_of}
 use Rattle.myi_frames.specs.Seeing.{Heads, HeadsBlock}
 use Rattle.myi_window.specs.Excerpt.{Excerpt}
 use Rattle.myi_window.specs.declared.window.TheConstants.{WINDOW}
-use Rattle.myi_chain.specs.declared.chain.Link.{Link}
 use Rattle.myi_chain.specs.declared.chain.Link.TheVariants.{Broken, Last, More}
 use Rattle.myi_chain.specs.declared.step.FoundRow.{FoundRow}
 use Rattle.myi_chain.specs.declared.step.Found.{Found}
 use Rattle.myi_chain.specs.declared.step.Found.TheVariants as found
 use Rattle.myi_chain.specs.declared.step.Position.{Position}
 use Rattle.myi_chain.specs.declared.step.RowBuffer.{RowBuffer}
-use Rattle.myi_chain.specs.Chain.{range_of, ranges, row_bytes, first_link, chain_of}
+use Rattle.myi_frames.specs.declared.form.FrameKind.{FrameKind}
+use Rattle.myi_frames.specs.declared.form.FrameKind.TheVariants.{Deleted, Whole, Start, Middle, End}
+use Rattle.myi_chain.specs.Chain.{range_of, ranges, row_bytes, by_kind, first_link, chain_of}
 use Rattle.myi_chain.specs.Readable.{Row, Item, row, free, Step, end_of, skip_by, free_by, past, row_at, row_step, step_of, rows_of}
 use Rattle.myi_chain.specs.Used.{joined, SameFrom, AddsBlocks, NeedsMemory}
 use Rattle.myi_chain.specs.Chain.{placed, ranges_at}
 use Rattle.myi_chain.specs.declared.piece.Wanted.{Wanted}
 use Rattle.myi_chain.specs.declared.piece.Wanted.TheVariants.{Items, Rows}
 use Rattle.myi_chain.specs.ScanModel.{MeetsShort, IsBehind, ArePassed, PassesTo}
-use Rattle.myi_chain.specs.Source.{SourceModel, IsHeader, IsReady, ReadsOn, read_bytes, read_blocks, AreRead, first_by}
-use Rattle.myi_chain.specs.Found.{is_short, found_at, found_bytes, found_blocks, found_row, found_items, met_from, NoRowAt, FindsRow, IsPassed, IsBlockOf, IsFree, LiesItem, HoldsItem, met_at, items_at, MeetsShortAt, FindsShort, FindsShortAt, KeepsUsed, IsBetween, picked, IsMeant}
+use Rattle.myi_chain.specs.Source.{SourceModel, IsHeader, IsReady, ReadsOn, read_bytes, read_blocks, AreRead, may_take_by, first_by}
+use Rattle.myi_chain.specs.Found.{found_at, found_bytes, found_blocks, found_row, found_items, met_from, NoRowAt, FindsRow, IsPassed, IsBlockOf, IsFree, LiesItem, HoldsItem, met_at, items_at, MeetsShortAt, FindsShort, FindsShortAt, KeepsUsed, IsBetween, picked, IsMeant}
 use Rattle.myi_chain.proofs.BlockLemmas.{blocks_read}
 use Rattle.myi_chain.proofs.CodeLemmas.{placed_ranges}
 use Rattle.myi_chain.proofs.ChainLemmas.{chain_sound}
 use Rattle.myi_chain.proofs.ReadableLemmas.{first_block, rest_step, rest_end}
 use Rattle.myi_chain.proofs.JoinedLemmas.{front_apart, front_end, rest_from}
-use Rattle.myi_chain.proofs.FollowLemmas.{first_is, chain_last, first_place}
+use Rattle.myi_chain.proofs.FollowLemmas.{first_is, chain_broken, chain_last, first_place}
 use Rattle.myi_chain.proofs.JoinLemmas.{chain_read}
 use Rattle.myi_chain.proofs.SourceLemmas.{same_bytes, long_bytes, lies_block}
 
 -- ---- the row that starts with a block
 
-last_by : (l : Link) (h : Header) → is_short l h ≡ true → l ≡ Last
-last_by Broken h e = absurd cc
-last_by Last h e = refl
-last_by More h e = absurd cc
+last_kind : (may whole more : Bool) (k : FrameKind) → (if may then by_kind k Broken (if whole then Last else Broken) (if more then More else Broken) Broken Broken else Broken) ≡ Last → k ≡ Whole
+last_kind false whole more k is = absurd cc
+last_kind true whole more Deleted is = absurd cc
+last_kind true whole more Whole is = refl
+last_kind true whole true Start is = absurd cc
+last_kind true whole false Start is = absurd cc
+last_kind true whole more Middle is = absurd cc
+last_kind true whole more End is = absurd cc
 
-pub short_size : (l : Link) (h : Header) → is_short l h ≡ true → h.head.size ≤ WINDOW
-short_size Broken h e = absurd cc
-short_size Last h e = leb-true _ _ e
-short_size More h e = absurd cc
+-- a first block that is the last is a whole one
+pub whole_last : (h : Header) (used : List Range) → first_by h used ≡ Last → h.head.kind ≡ Whole
+whole_last h used is = last_kind (may_take_by h used) (h.data_len == h.head.rec_len) (nat_lt h.data_len h.head.rec_len) h.head.kind is
 
 module _ (x : List ℕ) (used : List Range) (h : Header) (here : HeadsBlock x (Some h) (block_of x h.head.at)) where
-  pub short_row : (l : Link) (bytes : List ℕ) → l ≡ first_by h used → is_short l h ≡ true → here.0.bytes ≡ bytes
+  pub whole_row : (bytes : List ℕ) → first_by h used ≡ Last → here.0.bytes ≡ bytes
       → (bs : List Block) × (chain_of (block_of x) h.head.at used ≡ Some bs) × (placed bs ≡ (h.head.at, h.head.size) ∷ []) × (row_bytes bs ≡ bytes)
-  short_row l bytes is short same =
+  whole_row bytes last same =
       let b = here.0 in (
         b ∷ [],
-        chain_last (block_of x) h.head.at used b here.1 (sym (first_is x h b used here.2) ∙ sym is ∙ last_by l h short),
+        chain_last (block_of x) h.head.at used b here.1 (sym (first_is x h b used here.2) ∙ last),
         ap (λ (q : ℕ × ℕ). q ∷ []) (first_place x (block_of x) used h here),
         append-nil b.bytes ∙ same,
       )
+
+  pub no_broken : (accepts : List ℕ → Bool) → first_by h used ≡ Broken → NoRowAt accepts (chain_of (block_of x) h.head.at used)
+  no_broken accepts broken = subst (NoRowAt accepts) (sym (chain_broken (block_of x) h.head.at used here.0 here.1 (sym (first_is x h here.0 used here.2) ∙ broken))) tt
 
 chain_there : (taken : List (ℕ × ℕ)) (o : Option (List Block)) → option_map placed o ≡ Some taken → (bs : List Block) × (o ≡ Some bs) × (taken ≡ placed bs)
 chain_there taken None e = absurd cc
 chain_there taken (Some bs) e = let same : placed bs ≡ taken = cc in (bs, refl, sym same)
 
-pub long_row : (x : List ℕ) (p : ℕ) (used : List Range) (accepts : List ℕ → Bool) (taken : List (ℕ × ℕ)) (bytes : List ℕ) (is : Bool) → option_map placed (chain_of (block_of x) p used) ≡ Some taken
-    → ((bs : List Block) → taken ≡ placed bs → AreRead (block_of x) bs → (is ≡ accepts (row_bytes bs)) × (bytes ≡ row_bytes bs))
-    → (bs : List Block) × (chain_of (block_of x) p used ≡ Some bs) × (placed bs ≡ taken) × (row_bytes bs ≡ bytes) × (is ≡ accepts (row_bytes bs))
-long_row x p used accepts taken bytes is followed told =
-    let t = chain_there taken (chain_of (block_of x) p used) followed in
-    let j = told t.0 t.2 (chain_read x p used t.0 t.1) in
+-- the bytes of a chain are as many as the header of its first block says
+chain_long : (x : List ℕ) (h : Header) (used : List Range) → HeadsBlock x (Some h) (block_of x h.head.at) → (bs : List Block) → chain_of (block_of x) h.head.at used ≡ Some bs → length (row_bytes bs) ≡ h.head.rec_len
+chain_long x h used here [] is = absurd (chain_sound (block_of x) h.head.at used [] is).linked
+chain_long x h used here (b ∷ bs) is =
+    let sound = chain_sound (block_of x) h.head.at used (b ∷ bs) is in
+    let read : block_of x h.head.at ≡ Some b = first_block (block_of x) h.head.at used b bs sound in
+    let one : here.0 ≡ b = let s : Some here.0 ≡ Some b = sym here.1 ∙ read in cc in
+    sound.whole ∙ subst (λ (c : Block). c.rec_len ≡ h.head.rec_len) one (ap (λ k. k.rec_len) here.2.head)
+
+pub long_row : (x : List ℕ) (h : Header) (used : List Range) → HeadsBlock x (Some h) (block_of x h.head.at) → (accepts : List ℕ → Bool) (taken : List (ℕ × ℕ)) (bytes : List ℕ) (is : Bool) → option_map placed (chain_of (block_of x) h.head.at used) ≡ Some taken
+    → ((bs : List Block) → taken ≡ placed bs → AreRead (block_of x) bs → length (row_bytes bs) ≡ h.head.rec_len → (is ≡ accepts (row_bytes bs)) × (bytes ≡ row_bytes bs))
+    → (bs : List Block) × (chain_of (block_of x) h.head.at used ≡ Some bs) × (placed bs ≡ taken) × (row_bytes bs ≡ bytes) × (is ≡ accepts (row_bytes bs))
+long_row x h used here accepts taken bytes is followed told =
+    let t = chain_there taken (chain_of (block_of x) h.head.at used) followed in
+    let j = told t.0 t.2 (chain_read x h.head.at used t.0 t.1) (chain_long x h used here t.0 t.1) in
     (t.0, t.1, sym t.2, sym j.1, j.0)
 
 pub no_row : (accepts : List ℕ → Bool) (o : Option (List Block)) (bs : List Block) → o ≡ Some bs → accepts (row_bytes bs) ≡ false → NoRowAt accepts o
@@ -190,13 +206,17 @@ module _ (x : List ℕ) (accepts : List ℕ → Bool) (p : ℕ) (used : List Ran
       let both : true ≡ false = sym short_packs ∙ refused in
       cc
 
-  pub short_is : (h : Header) → HeadsBlock x (Some h) (block_of x p) → is_short (first_by h used) h ≡ true
+  pub short_is : (h : Header) → HeadsBlock x (Some h) (block_of x p) → first_by h used ≡ Last
   short_is h here =
       let one : here.0 ≡ meets.block = let s : Some here.0 ≡ Some meets.block = sym here.1 ∙ meets.whole.here in cc in
       let heads : Heads x h meets.block = subst (λ b. Heads x h b) one here.2 in
-      let link : first_by h used ≡ Last = first_is x h meets.block used heads ∙ short_first in
-      let size : meets.block.size ≡ h.head.size = ap (λ k. k.size) heads.head in
-      ap (λ l. is_short l h) link ∙ le-leb _ _ (omega (arith, size, meets.short))
+      first_is x h meets.block used heads ∙ short_first
+
+  -- no block that is longer than a window stands there
+  pub short_long : IfSome (block_of x p) (λ (b : Block). WINDOW < b.size) → ⊥
+  short_long long =
+      let there : WINDOW < meets.block.size = subst (λ (o : Option Block). IfSome o (λ (b : Block). WINDOW < b.size)) meets.whole.here long in
+      absurd (omega (arith, there, meets.short))
 
   short_blocks : (bs : List Block) → chain_of (block_of x) p used ≡ Some bs → bs ≡ meets.block ∷ []
   short_blocks bs is = let s : Some bs ≡ Some (meets.block ∷ []) = sym is ∙ short_chain in cc

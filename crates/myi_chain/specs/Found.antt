@@ -1,13 +1,10 @@
 -- What a scan finds at a place: a row, whose bytes are kept in the window or were joined, or a deleted block.
-use Rattle.std.specs.Prelude.{◌≡◌, ◌+◌, ◌<◌, ◌≤◌, ℕ, Bool, true, false, nat_le, List, [], ◌∷◌, length, Option, Some, None, option_to_list}
+use Rattle.std.specs.Prelude.{◌≡◌, ◌+◌, ◌<◌, ◌≤◌, ◌^◌, ℕ, Bool, true, false, List, [], ◌∷◌, length, Option, Some, None, option_to_list}
 use Rattle.myi_base.specs.Holding.{Holding}
 use Rattle.myi_base.specs.Ranges.{Range}
 use Rattle.myi_frames.specs.declared.head.Header.{Header}
 use Rattle.myi_frames.specs.Block.{Block, head_of, block_of}
 use Rattle.myi_window.specs.Excerpt.{Excerpt}
-use Rattle.myi_window.specs.declared.window.TheConstants.{WINDOW}
-use Rattle.myi_chain.specs.declared.chain.Link.{Link}
-use Rattle.myi_chain.specs.declared.chain.Link.TheVariants.{Broken, Last, More}
 use Rattle.myi_chain.specs.declared.piece.Wanted.{Wanted}
 use Rattle.myi_chain.specs.declared.piece.Wanted.TheVariants.{Items, Rows}
 use Rattle.myi_chain.specs.declared.step.FoundRow.{FoundRow}
@@ -28,12 +25,6 @@ use Rattle.myi_chain.specs.Source.{SourceModel, read_bytes, read_blocks, IsKept,
 abbrev pub met_from : Bool → (List ℕ → Bool) → List ℕ → ℕ → List Range → List Item
 met_from extend accepts x p used = rest extend (block_of x) (length x) accepts p used
 
--- the first block of a chain is a row in one block that a window can hold
-abbrev pub is_short : Link → Header → Bool
-is_short Broken h = false
-is_short Last h = nat_le h.head.size WINDOW
-is_short More h = false
-
 -- the place of a row that was found
 abbrev pub found_at : FoundRow → ℕ
 found_at (Kept h) = h.head.at
@@ -44,7 +35,7 @@ abbrev pub place_of : Found → ℕ
 place_of (found.Row r) = found_at r
 place_of (found.Free at size) = at
 
--- its bytes: kept in a window, or those that were joined
+-- its bytes: kept in the window, or those that were joined
 abbrev pub found_bytes : Excerpt → List ℕ → FoundRow → List ℕ
 found_bytes e bytes (Kept h) = kept_bytes h e
 found_bytes e bytes (Joined p) = bytes
@@ -65,18 +56,20 @@ abbrev pub found_items : Excerpt → List (ℕ × ℕ) → List ℕ → Option F
 found_items e taken bytes None = []
 found_items e taken bytes (Some f) = found_item e taken bytes f ∷ []
 
-abbrev pub is_kept : FoundRow → Bool
-is_kept (Kept h) = true
-is_kept (Joined p) = false
+-- a row whose bytes were joined does not stand in one block that a window can hold
+abbrev pub IsJoined : List (ℕ × ℕ) → FoundRow → Type 0
+IsJoined taken (Kept h) = Unit {0}
+IsJoined taken (Joined p) = is_lent (ranges_at taken) ≡ false
 
 abbrev pub IsKeptRow : FoundRow → Excerpt → Type 0
 IsKeptRow (Kept h) e = IsKept h e
 IsKeptRow (Joined p) e = Unit {0}
 
--- A row that was found passes the test. It is kept in the window exactly where it is one block that a window can hold.
+-- A row that was found passes the test, and four bytes can count its bytes. One in one block is kept in the window.
 pub record IsHeld (accepts : List ℕ → Bool) (e : Excerpt) (taken : List (ℕ × ℕ)) (bytes : List ℕ) (r : FoundRow) : Type 0 where
   pub packs : accepts (found_bytes e bytes r) ≡ true
-  pub lent : is_lent (ranges_at (found_blocks taken r)) ≡ is_kept r
+  pub counted : length (found_bytes e bytes r) < 2 ^ 32
+  pub joined : IsJoined taken r
   pub kept : IsKeptRow r e
 
 abbrev pub IsHeldItem : (List ℕ → Bool) → Excerpt → List (ℕ × ℕ) → List ℕ → Found → Type 0

@@ -78,6 +78,11 @@ abbrev pub Passes : (List ℕ → Bool) → Item → Type 0
 Passes accepts (item.Row at p) = accepts (piece_bytes p) ≡ true
 Passes accepts (item.Free at size) = Unit {0}
 
+-- the bytes of an answered row are as many as four bytes can count
+abbrev pub IsCounted : Item → Type 0
+IsCounted (item.Row at p) = length (piece_bytes p) < 2 ^ 32
+IsCounted (item.Free at size) = Unit {0}
+
 -- deleted blocks are answered where items are wanted
 abbrev pub IsWanted : Wanted → Item → Type 0
 IsWanted wanted (item.Row at p) = Unit {0}
@@ -143,11 +148,13 @@ pub record ComesFirst (wanted : Wanted) (before after : List readable.Item) (fou
 
 -- ---- what a call answers, and what it leaves
 
--- What a call answers, whatever the files tell. An answer is of the kind that is given, and it is one that is wanted; a
--- refusal is Memory only where memory may be lacking; and a call is refused only before the scan's end.
+-- What a call answers, whatever the files tell. An answer is of the kind that is given, and it is one that is wanted; a row
+-- has fewer than 2^32 bytes; a refusal is Memory only where memory may be lacking; and a call is refused only before the
+-- scan's end.
 pub record Says {A : Type 0} (IsOfKind : Item → Type 0) (MayLackMemory : Type 0) (wanted : Wanted) (old : Scanning A) (result : Result (Option Item) ScanFault) : Type 0 where
   pub packs : IfOk result (λ found. IfSome found IsOfKind)
   pub meant : IfOk result (λ found. IfSome found (IsWanted wanted))
+  pub counted : IfOk result (λ found. IfSome found IsCounted)
   pub never : IfErr result (λ e. e ≡ Memory → MayLackMemory)
   pub failing : OnErr result (old.place < old.end)
 

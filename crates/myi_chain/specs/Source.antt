@@ -5,6 +5,7 @@ use Rattle.std.specs.List.{AllByRecursion}
 use Rattle.myi_base.specs.Holding.{Holding, bytes_of, IfTold}
 use Rattle.myi_base.specs.Ranges.{Range, is_apart}
 use Rattle.myi_frames.specs.declared.head.Header.{Header}
+use Rattle.myi_frames.specs.declared.form.FrameKind.TheVariants.{Whole}
 use Rattle.myi_frames.specs.Block.{Block, IsPlace, block_of}
 use Rattle.myi_frames.specs.Seeing.{HeadsBlock}
 use Rattle.myi_window.specs.Excerpt.{Excerpt, bytes_from, StandsIn}
@@ -82,9 +83,9 @@ kept_bytes h e = take h.data_len (drop h.start (bytes_from h.head.at e))
 abbrev pub IsKept : Header → Excerpt → Type 0
 IsKept h e = (h.start + h.data_len ≤ h.head.size) × (h.head.size ≤ length (bytes_from h.head.at e))
 
--- if a window can hold the block with a header, it is kept whole
-abbrev pub HoldsShort : Header → Excerpt → Type 0
-HoldsShort h e = h.head.size ≤ WINDOW → h.head.size ≤ length (bytes_from h.head.at e)
+-- if the block with a header is a whole one, it is kept whole
+abbrev pub HoldsWhole : Header → Excerpt → Type 0
+HoldsWhole h e = h.head.kind ≡ Whole → h.head.size ≤ length (bytes_from h.head.at e)
 
 -- ---- a row whose blocks are followed
 

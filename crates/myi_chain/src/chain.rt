@@ -3,7 +3,7 @@
 //! A `Link` says what a block is in a chain, by its header. `begin` takes the first block, `follow` those
 //! behind it, each at the place that the one before it names, and `join` appends the row bytes of the
 //! blocks that were taken to a buffer, once the chain has ended.
-ghost use Rattle.std.specs.Prelude.{◌≡◌, ◌<◌, ◌≤◌, ◌++◌, true, List, length, IfOk};
+ghost use Rattle.std.specs.Prelude.{◌≡◌, ◌<◌, ◌≤◌, ◌^◌, ◌++◌, true, List, length, IfOk};
 ghost use Rattle.myi_base.specs.Holding.{IfTold};
 ghost use Rattle.myi_base.specs.Causes.{HasCause};
 ghost use Rattle.myi_base.specs.Ranges.{is_apart};
@@ -40,6 +40,7 @@ pub(crate) fn first_link(block: &Header, used: &Used) -> Link
     requires { IsRange (range_by block.now) }
     ensures link { result ≡ first_by block.now used.now }
     ensures below { result ≡ Link.More → block.now.data_len < block.now.head.rec_len }
+    ensures counted { result ≡ Link.Last → block.now.data_len < 2 ^ 32 }
 {
     let at = block.head.at;
     if block.data_len == 0 || !used.is_apart(at, at + block.head.size as u64) {
@@ -141,14 +142,14 @@ impl Chain {
     {
         mem::swap(blocks, &mut self.taken);
         self.taken.clear();
-        self.own = Ranges::new(*self.taken.allocator());
+        self.own.clear();
     }
 
     fn clear(&mut self)
         ensures { self.new ≡ record { taken = []; next = self.old.next; left = self.old.left } }
     {
         self.taken.clear();
-        self.own = Ranges::new(*self.taken.allocator());
+        self.own.clear();
     }
 
     // Puts a block behind the others, or leaves all as it was.

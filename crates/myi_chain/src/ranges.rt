@@ -175,6 +175,14 @@ impl Ranges {
         }
     }
 
+    /// Takes all out. The memory of most of them is kept for others.
+    pub(crate) fn clear(&mut self)
+        ensures { self.new ≡ [] }
+    {
+        self.near.clear();
+        self.far.clear();
+    }
+
     /// Whether a range is apart from all.
     pub(crate) fn is_apart(&self, at: u64, end: u64) -> bool
         ensures { result ≡ is_apart (at, end) self.now }

@@ -1,7 +1,8 @@
 //! `Scan`: what stands in a data file of dynamic rows, one after the other.
 //!
-//! The file is read through a window that slides forward. A row in one block that a window can hold is
-//! lent as a slice of it; the bytes of any other row are joined in a buffer of the scan. The model of a
+//! The file is read through a window that slides forward, and is stretched over a longer row in one block.
+//! The bytes of a row in one block are a slice of it, `Lent` where the block is no longer than a window; those
+//! of any other row are joined in a buffer of the scan. The model of a
 //! `Scan` is where it stands, from which the definition of readable rows says what is left of the file.
 ghost use Rattle.std.specs.Prelude.{◌≡◌, ◌≤◌, ◌∷◌, [], IfOk};
 ghost use Rattle.std.specs.Borrow.{sem};
@@ -10,13 +11,18 @@ ghost use Rattle.myi_base.specs.Holding.{IfTold};
 ghost use Rattle.myi_base.specs.Causes.{HasCause};
 ghost use Rattle.myi_chain.specs.declared.piece.ScanFault.TheVariants.{File};
 ghost use Rattle.myi_chain.specs.declared.piece.Wanted.TheVariants.{Items, Rows};
+ghost use Rattle.myi_chain.specs.Pieces.{piece_bytes};
+ghost use Rattle.myi_chain.specs.ScanModel.{LendsBlock};
+ghost use Rattle.myi_chain.specs.Source.{IsKept, kept_bytes};
 
 use crate::chain::Chain;
 use crate::piece::{Accepts, Item, Piece, ScanFault, ScanSetup, Wanted};
 use crate::source::Source;
 use crate::step::{Found, FoundRow, Position, RowBuffer, Rules, advance};
 use crate::used::Used;
+use myi_frames::Header;
 use myi_io::Files;
+use myi_window::WINDOW;
 use std::alloc::{AllocError, Global};
 use std::marker::Model;
 
@@ -72,6 +78,19 @@ impl Blocks {
         }
         &self.several
     }
+}
+
+/// The bytes of a row in one block, which the window holds: lent where a window that is not stretched can.
+fn piece_of<'w>(source: &'w Source, block: &Header) -> Piece<'w>
+    requires { IsKept block.now source.now.kept }
+    ensures bytes { piece_bytes result ≡ kept_bytes block.now source.now.kept }
+    ensures form { LendsBlock result ((block.now.head.at, block.now.head.size) ∷ []) }
+{
+    let bytes = source.row_bytes(block);
+    if block.head.size as usize <= WINDOW {
+        return Piece::Lent(bytes);
+    }
+    Piece::Joined(bytes)
 }
 
 /// A scan of the rows and the deleted blocks of a data file.
@@ -191,7 +210,7 @@ impl<A: Accepts> Scan<A> {
                 FoundRow::Kept(block) => {
                     let at = block.head.at;
                     self.blocks.set_one(at, block.head.size);
-                    Ok(Some(Item::Row(at, Piece::Lent(self.source.row_bytes(&block)))))
+                    Ok(Some(Item::Row(at, piece_of(&self.source, &block))))
                 }
                 FoundRow::Joined(at) => {
                     self.blocks.take(&mut self.row.chain);

@@ -1,10 +1,11 @@
 //! `Source`: a data file whose blocks are read through a window.
 //!
 //! `slide_to` goes to a place with the window, and answers what the header of the block there says; a block
-//! that the window can hold is then in it whole, and `row_bytes` lends its row bytes. `header` answers it for
-//! any other place, and leaves the window where it is. The row bytes of other blocks are appended to a
-//! buffer by `append`. Where the file gives the window fewer bytes than its end says, it ends behind them from
-//! then on; what a window cannot hold, and the further blocks of a chain, count as that end allows.
+//! that the window can hold, and a whole one of any size, is then in it whole, and `row_bytes` lends its row
+//! bytes. `header` answers it for any other place, and leaves the window where it is. The row bytes of other
+//! blocks are appended to a buffer by `append`. Where the file gives a window that slides fewer bytes than
+//! its end says, it ends behind them from then on; what a window cannot hold, and the further blocks of a
+//! chain, count as that end allows.
 ghost use Rattle.std.specs.Prelude.{◌≡◌, ◌≤◌, ◌+◌, ◌++◌, ℕ, true, length, take, drop, IfOk, IfErr, IfSome};
 ghost use Rattle.myi_base.specs.Holding.{IfTold, bytes_of};
 ghost use Rattle.myi_base.specs.Causes.{HasCause};
@@ -15,7 +16,7 @@ ghost use Rattle.myi_chain.specs.declared.piece.ScanFault.TheVariants.{File};
 ghost use Rattle.myi_chain.specs.Source.{IsHeader};
 
 use crate::piece::ScanFault;
-use myi_frames::{Header, LEAST_SIZE, header_at};
+use myi_frames::{FrameKind, Header, LEAST_SIZE, header_at};
 use myi_io::{FileErr, Files};
 use myi_window::{WINDOW, Window};
 use std::alloc::{AllocError, Global};
@@ -121,13 +122,13 @@ impl Source {
     ghost use Rattle.std.specs.Prelude.{◌≡◌, ◌≤◌, ◌<◌, ◌+◌, ◌++◌, ℕ, true, false, Some, length, take, drop, IfOk, IfErr, IfSome, OnOk};
     ghost use Rattle.myi_base.specs.Holding.{IfTold, bytes_of};
     ghost use Rattle.myi_base.specs.Causes.{HasCause};
-    ghost use Rattle.myi_io.specs.declared.files.FileErr.TheVariants.{Failed};
+    ghost use Rattle.myi_io.specs.declared.files.FileErr.TheVariants.{Failed, Memory};
     ghost use Rattle.myi_frames.specs.Block.{Block};
     ghost use Rattle.myi_frames.specs.Seeing.{Heads, HeadsBlock};
     ghost use Rattle.myi_window.specs.declared.window.TheConstants.{WINDOW};
     ghost use Rattle.myi_window.specs.Excerpt.{nothing, bytes_from};
     ghost use Rattle.myi_chain.specs.declared.piece.ScanFault.TheVariants.{File};
-    ghost use Rattle.myi_chain.specs.Source.{read_bytes, read_blocks, IsReady, ReadsOn, MayFall, StaysAt, IsFilledAt, IsHeader, HoldsShort, kept_bytes, IsKept};
+    ghost use Rattle.myi_chain.specs.Source.{read_bytes, read_blocks, IsReady, ReadsOn, MayFall, StaysAt, IsFilledAt, IsHeader, HoldsWhole, kept_bytes, IsKept};
 
     /// The file of a name up to an end, of which nothing is read yet. Its window takes its memory here.
     pub(crate) fn new(alloc: Global, name: &str, end: u64) -> Result<Source, AllocError>
@@ -194,34 +195,64 @@ impl Source {
         Ok(size <= self.window.bytes_from(at).len())
     }
 
-    // Whether a block that a window can hold is in it, once it is there. If not, the file ends before the
-    // block does.
+    // Whether the window holds a block that is longer than a window, once it is stretched over it. If not,
+    // the file does not tell what it holds.
+    fn reach<F: Files>(&mut self, files: &mut F, block: &Header) -> Result<bool, FileErr>
+        requires block { IsHeader block.now.head.at self.old.end block.now }
+        requires long { WINDOW < block.now.head.size }
+        requires ready { IfTold (F.holds files.old) (IsReady self.old) }
+        ensures held { IfOk result (λ is. is ≡ true → block.now.head.size
+            ≤ length (bytes_from block.now.head.at self.new.kept)) }
+        ensures short { IfOk result (λ is. is ≡ false → IfTold (F.holds files.old) (λ m. ⊥)) }
+        ensures end { self.new.end ≡ self.old.end }
+        ensures stays { StaysAt block.now.head.at self.old self.new }
+        ensures reads { ReadsOn (F.holds files.old) self.old self.new }
+        ensures holds { F.holds files.new ≡ F.holds files.old }
+        ensures cause { HasCause Failed (F.faults files.old) (F.faults files.new) result }
+    {
+        let at = block.head.at;
+        let size = block.head.size;
+        if size as usize <= self.window.bytes_from(at).len() {
+            return Ok(true);
+        }
+        self.window
+            .stretch(files, self.name.as_str(), at, size, self.end)?;
+        Ok(size as usize <= self.window.bytes_from(at).len())
+    }
+
+    // Whether a block that a window can hold, or a whole one, is in the window, once it is there. If not,
+    // the file ends before the block does.
     fn hold<F: Files>(&mut self, files: &mut F, block: &Header) -> Result<bool, FileErr>
         requires block { IsHeader block.now.head.at self.old.end block.now }
         requires ready { IfTold (F.holds files.old) (IsReady self.old) }
-        ensures held { IfOk result (λ is. is ≡ true → HoldsShort block.now self.new.kept) }
+        ensures held { IfOk result (λ is. is ≡ true → HoldsWhole block.now self.new.kept) }
         ensures inside { IfOk result (λ is. is ≡ true
             → IsHeader block.now.head.at self.new.end block.now) }
-        ensures short { IfOk result (λ is. is ≡ false
-            → self.new.end < block.now.head.at + block.now.head.size) }
+        ensures short { IfOk result (λ is. is ≡ false → IfTold (F.holds files.old) (λ m. ⊥)) }
         ensures falls { MayFall block.now.head.at self.old self.new }
         ensures stays { StaysAt block.now.head.at self.old self.new }
         ensures behind { block.now.head.at ≤ self.new.end }
         ensures reads { ReadsOn (F.holds files.old) self.old self.new }
-        ensures failed { IfErr result (λ e. e ≡ Failed) }
+        ensures never { IfErr result (λ e. e ≡ Memory → WINDOW < block.now.head.size) }
         ensures holds { F.holds files.new ≡ F.holds files.old }
         ensures cause { HasCause Failed (F.faults files.old) (F.faults files.new) result }
     {
         let size = block.head.size as usize;
-        if WINDOW < size {
-            return Ok(true);
+        if size <= WINDOW {
+            let there = self.ready(files, block.head.at, size)?;
+            return Ok(there);
         }
-        let there = self.ready(files, block.head.at, size)?;
-        Ok(there)
+        match block.head.kind {
+            FrameKind::Whole => {
+                let there = self.reach(files, block)?;
+                Ok(there)
+            }
+            FrameKind::Deleted | FrameKind::Start | FrameKind::Middle | FrameKind::End => Ok(true),
+        }
     }
 
     /// The header of the block at a place, to which the window goes, and None where no block is. If the
-    /// window can hold the block, it does.
+    /// window can hold the block, or if it is a whole one, the window does.
     pub(crate) fn slide_to<F: Files>(
         &mut self,
         files: &mut F,
@@ -232,12 +263,13 @@ impl Source {
         ensures told { IfOk result (λ found. IfTold (F.holds files.old) (λ m.
             HeadsBlock (read_bytes self.old m) found (read_blocks self.old m at))) }
         ensures place { IfOk result (λ found. IfSome found (IsHeader at self.new.end)) }
-        ensures held { IfOk result (λ found. IfSome found (λ h. HoldsShort h self.new.kept)) }
+        ensures held { IfOk result (λ found. IfSome found (λ h. HoldsWhole h self.new.kept)) }
         ensures falls { MayFall at self.old self.new }
         ensures stays { StaysAt at self.old self.new }
         ensures behind { at ≤ self.new.end }
         ensures reads { ReadsOn (F.holds files.old) self.old self.new }
-        ensures failed { IfErr result (λ e. e ≡ Failed) }
+        ensures never { IfErr result (λ e. e ≡ Memory → IfTold (F.holds files.old) (λ m.
+            IfSome (read_blocks self.old m at) (λ b. WINDOW < b.size))) }
         ensures holds { F.holds files.new ≡ F.holds files.old }
         ensures cause { HasCause Failed (F.faults files.old) (F.faults files.new) result }
     {

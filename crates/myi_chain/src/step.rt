@@ -5,14 +5,13 @@
 //! a `Found`: the next row, or the next row or deleted block. `Rules` says what packs
 //! a row and how the file is scanned, `Position` where the scan stands, and a `RowBuffer` holds a row
 //! of several blocks while it is looked for.
-ghost use Rattle.std.specs.Prelude.{◌≡◌, ℕ, ◌+◌, ◌-◌, ◌<◌, ◌≤◌, ◌++◌, true, false, List, OnOk, OnErr, IfOk, IfErr, IfSome, Some};
+ghost use Rattle.std.specs.Prelude.{◌≡◌, ℕ, ◌+◌, ◌-◌, ◌<◌, ◌≤◌, ◌++◌, true, false, List, length, OnOk, OnErr, IfOk, IfErr, IfSome, Some};
 ghost use Rattle.std.specs.Option.{option_map};
 ghost use Rattle.myi_base.specs.Holding.{IfTold};
 ghost use Rattle.myi_base.specs.Causes.{HasCause};
 ghost use Rattle.myi_io.specs.declared.files.FileErr.TheVariants.{Failed};
 ghost use Rattle.myi_frames.specs.Block.{Block};
 ghost use Rattle.myi_frames.specs.Seeing.{Heads, HeadsBlock};
-ghost use Rattle.myi_window.specs.declared.window.TheConstants.{WINDOW};
 ghost use Rattle.myi_chain.specs.declared.piece.ScanFault.TheVariants.{File, Memory};
 ghost use Rattle.myi_chain.specs.Chain.{row_bytes, chain_of};
 ghost use Rattle.myi_chain.specs.Readable.{skip_by, free_by, rows_of};
@@ -20,8 +19,8 @@ ghost use Rattle.myi_chain.specs.Pieces.{is_lent};
 ghost use Rattle.myi_chain.specs.ScanModel.{AreBlocksAt};
 ghost use Rattle.myi_chain.specs.Used.{AddsBlocks, NeedsMemory};
 ghost use Rattle.myi_chain.specs.Chain.{placed, ranges_at};
-ghost use Rattle.myi_chain.specs.Source.{read_bytes, read_blocks, IsReady, ReadsOn, MayFall, StaysAt, EndStaysOr, IsHeader, HoldsShort, IsKept, kept_bytes, first_by, HasFollowed, CanAdd, AreRead, StandsThere};
-ghost use Rattle.myi_chain.specs.Found.{is_short, found_at, found_blocks, LiesRow, LiesItem, FindsRow, IsPassed, IsBlockOf, IsFree, met_at, items_at, HoldsItem, HoldsRow, MeetsShortAt, FindsShortAt, FindsItem, KeepsUsed, IsBetween, Rises, picked, IsMeant};
+ghost use Rattle.myi_chain.specs.Source.{read_bytes, read_blocks, IsReady, ReadsOn, MayFall, StaysAt, EndStaysOr, IsHeader, HoldsWhole, IsKept, kept_bytes, first_by, HasFollowed, CanAdd, AreRead, StandsThere};
+ghost use Rattle.myi_chain.specs.Found.{found_at, found_blocks, LiesRow, LiesItem, FindsRow, IsPassed, IsBlockOf, IsFree, met_at, items_at, HoldsItem, HoldsRow, MeetsShortAt, FindsShortAt, FindsItem, KeepsUsed, IsBetween, Rises, picked, IsMeant};
 
 use crate::chain::{Chain, Link, first_link, follow, join};
 use crate::piece::{Accepts, ScanFault, Wanted};
@@ -29,15 +28,14 @@ use crate::source::Source;
 use crate::used::Used;
 use myi_frames::{FrameKind, Header};
 use myi_io::{FileErr, Files};
-use myi_window::WINDOW;
 use std::alloc::AllocError;
 
 /// A row that was found.
 #[derive(Clone, Copy)]
 pub(crate) enum FoundRow {
-    /// One block that the window holds whole, by its header.
+    /// One block, which the window holds whole, by its header.
     Kept(Header),
-    /// Any other, by its place. Its blocks and its bytes are in the row buffer.
+    /// Several blocks, by the place of the first. They and their bytes are in the row buffer.
     Joined(u64),
 }
 
@@ -67,7 +65,7 @@ pub(crate) struct Position {
     pub(crate) used: Used,
 }
 
-/// A row of several blocks, or of one that no window can hold, while it is looked for.
+/// A row of several blocks, while it is looked for.
 pub(crate) struct RowBuffer {
     pub(crate) chain: Chain,
     /// The bytes of its blocks.
@@ -105,15 +103,6 @@ fn past(block: &Header, extend: bool) -> (u64, Option<Found>)
     }
 }
 
-fn is_short(link: Link, block: &Header) -> bool
-    ensures { result ≡ is_short link block.now }
-{
-    match link {
-        Link::Last => block.head.size as usize <= WINDOW,
-        Link::Broken | Link::More => false,
-    }
-}
-
 /// Whether the row bytes of a block that the window holds whole pack a row.
 fn keeps_row<A: Accepts>(test: &A, source: &Source, block: &Header) -> bool
     requires { IsKept block.now source.now.kept }
@@ -122,18 +111,17 @@ fn keeps_row<A: Accepts>(test: &A, source: &Source, block: &Header) -> bool
     test.accepts(source.row_bytes(block))
 }
 
-/// Follows the chain that starts with a block, which is this in it, and says whether there is one.
+/// Follows the chain that starts with a block behind which more are to come, and says whether there is one.
 fn chain_from<F: Files>(
     files: &mut F,
     source: &Source,
     used: &Used,
     block: &Header,
-    link: Link,
     chain: &mut Chain,
 ) -> Result<bool, ScanFault>
     requires block { IsHeader block.now.head.at source.now.end block.now }
-    requires link { link ≡ first_by block.now used.now }
-    requires below { link ≡ Link.More → block.now.data_len < block.now.head.rec_len }
+    requires more { first_by block.now used.now ≡ Link.More }
+    requires below { block.now.data_len < block.now.head.rec_len }
     requires ready { IfTold (F.holds files.old) (IsReady source.now) }
     ensures told { IfOk result (λ found. IfTold (F.holds files.old) (λ m.
         StandsThere source.now block.now m → HasFollowed found chain.new.taken
@@ -141,36 +129,30 @@ fn chain_from<F: Files>(
     ensures can { IfOk result (λ found. found ≡ true → CanAdd used.now chain.new.taken) }
     ensures lies { IfOk result (λ found. found ≡ true
         → AreBlocksAt block.now.head.at source.now.end chain.new.taken) }
-    ensures long { IfOk result (λ found. found ≡ true → is_short link block.now ≡ false
+    ensures long { IfOk result (λ found. found ≡ true
         → is_lent (ranges_at chain.new.taken) ≡ false) }
     ensures holds { F.holds files.new ≡ F.holds files.old }
     ensures cause { HasCause File (F.faults files.old) (F.faults files.new) result }
 {
-    match link {
-        Link::Broken => Ok(false),
-        Link::Last => {
-            chain.begin(block)?;
-            Ok(true)
-        }
-        Link::More => {
-            chain.begin(block)?;
-            let found = follow(files, source, used, chain)?;
-            Ok(found)
-        }
-    }
+    chain.begin(block)?;
+    let found = follow(files, source, used, chain)?;
+    Ok(found)
 }
 
-/// Joins the row bytes of the blocks that were taken, and says whether they pack a row.
+/// Joins the row bytes of the blocks that were taken, and says whether they are so many and pack a row.
 fn joins_row<A: Accepts, F: Files>(
     files: &mut F,
     test: &A,
     source: &Source,
+    len: u32,
     row: &mut RowBuffer,
 ) -> Result<bool, ScanFault>
     requires ready { IfTold (F.holds files.old) (IsReady source.now) }
     ensures told { IfOk result (λ is. IfTold (F.holds files.old) (λ m.
         (bs : List Block) → row.old.chain.taken ≡ placed bs → AreRead (read_blocks source.now m) bs
+        → length (row_bytes bs) ≡ len
         → (is ≡ A.accepts_gives test.now (row_bytes bs)) × (row.new.joined.items ≡ row_bytes bs))) }
+    ensures long { IfOk result (λ is. is ≡ true → length row.new.joined.items ≡ len) }
     ensures packs { IfOk result (λ is. is ≡ true
         → A.accepts_gives test.now row.new.joined.items ≡ true) }
     ensures chain { row.new.chain ≡ row.old.chain }
@@ -179,6 +161,10 @@ fn joins_row<A: Accepts, F: Files>(
 {
     row.joined.clear();
     if !join(files, source, row.chain.taken(), &mut row.joined)? {
+        return Ok(false);
+    }
+    // A file that tells nothing may have changed since the chain was followed.
+    if row.joined.len() != len as usize {
         return Ok(false);
     }
     Ok(test.accepts(&row.joined))
@@ -194,7 +180,7 @@ fn row_at<A: Accepts, F: Files>(
     row: &mut RowBuffer,
 ) -> Result<Option<FoundRow>, ScanFault>
     requires block { IsHeader block.now.head.at source.now.end block.now }
-    requires whole { HoldsShort block.now source.now.kept }
+    requires whole { HoldsWhole block.now source.now.kept }
     requires ready { IfTold (F.holds files.old) (IsReady source.now) }
     requires here { IfTold (F.holds files.old) (StandsThere source.now block.now) }
     ensures told { IfOk result (λ found. IfTold (F.holds files.old) (λ m.
@@ -205,25 +191,28 @@ fn row_at<A: Accepts, F: Files>(
     ensures can { IfOk result (λ found. IfSome found (λ r. (found_at r ≡ block.now.head.at)
         × CanAdd used.now (found_blocks row.new.chain.taken r))) }
     ensures lies { IfOk result (λ found. IfSome found (LiesRow source.now row.new)) }
-    ensures never { IfErr result (λ e. e ≡ Memory
-        → is_short (first_by block.now used.now) block.now ≡ false) }
+    ensures never { IfErr result (λ e. e ≡ Memory → first_by block.now used.now ≡ Link.More) }
     ensures holds { F.holds files.new ≡ F.holds files.old }
     ensures cause { HasCause File (F.faults files.old) (F.faults files.new) result }
 {
-    let link = first_link(block, used);
-    if is_short(link, block) {
-        if keeps_row(test, source, block) {
-            return Ok(Some(FoundRow::Kept(*block)));
+    match first_link(block, used) {
+        Link::Broken => Ok(None),
+        Link::Last => {
+            if !keeps_row(test, source, block) {
+                return Ok(None);
+            }
+            Ok(Some(FoundRow::Kept(*block)))
         }
-        return Ok(None);
+        Link::More => {
+            if !chain_from(files, source, used, block, &mut row.chain)? {
+                return Ok(None);
+            }
+            if !joins_row(files, test, source, block.head.rec_len, row)? {
+                return Ok(None);
+            }
+            Ok(Some(FoundRow::Joined(block.head.at)))
+        }
     }
-    if !chain_from(files, source, used, block, link, &mut row.chain)? {
-        return Ok(None);
-    }
-    if !joins_row(files, test, source, row)? {
-        return Ok(None);
-    }
-    Ok(Some(FoundRow::Joined(block.head.at)))
 }
 
 /// Adds the blocks of a row that was found to the used ranges.

@@ -90,6 +90,6 @@ module _ (h : Option Holding) (old : TableScan) (dynamic : old.test.format ≡ D
 
   -- what a call answers of blocks it answers of the table
   pub says_of : (wanted : Wanted) (r : Result (Option Answer) ScanFault) → blocks.Finds packs wanted h old r → FindsInTable wanted h old r
-  says_of wanted (Err e) is = record { packs = tt; meant = tt; never = λ memory. (dynamic, is.never memory); failing = is.failing }
-  says_of wanted (Ok None) is = record { packs = tt; meant = tt; never = tt; failing = tt }
-  says_of wanted (Ok (Some found)) is = record { packs = of_table found is.packs; meant = is.meant; never = tt; failing = tt }
+  says_of wanted (Err e) is = record { packs = tt; meant = tt; counted = tt; never = λ memory. (dynamic, is.never memory); failing = is.failing }
+  says_of wanted (Ok None) is = record { packs = tt; meant = tt; counted = tt; never = tt; failing = tt }
+  says_of wanted (Ok (Some found)) is = record { packs = of_table found is.packs; meant = is.meant; counted = is.counted; never = tt; failing = tt }

@@ -8,7 +8,7 @@ pub use Rattle.myi_data.proofs.StoredLemmas.{stored_read}
 pub use Rattle.myi_data.proofs.ShareLemmas.{group_again, stored_again, shares_less, end_writable, end_short, room_short}
 pub use Rattle.myi_data.proofs.StandLemmas.{stored_long, stored_some}
 -- rows_stand_alone
-pub use Rattle.myi_data.proofs.AloneLemmas.{size_alone, bytes_alone, group_alone, stored_alone, length_alone, group_one, size_one, stored_one, stored_sized}
+pub use Rattle.myi_data.proofs.AloneLemmas.{size_alone, bytes_alone, group_alone, stored_alone}
 -- rows_have_keys
 pub use Rattle.myi_data.proofs.KeyLemmas.{can_weigh, key_is, key_is_at, segments_at, values_fit}
 pub use Rattle.myi_data.proofs.SpellingLemmas.{spelling_some}

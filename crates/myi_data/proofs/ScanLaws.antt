@@ -207,10 +207,12 @@ module _ (holds : Option Holding) (old : TableScan) (name : List ℕ) (test : De
   old_size : old.test.slot_length ≡ size
   old_size = sym (ap (λ (s : TableScan). s.test.slot_length) k.view) ∙ sym k.sized
 
+  pub row_long : (at : ℕ) (p : Piece) → size ≤ length (bytes_from at v) → piece_bytes p ≡ take size (bytes_from at v) → length (piece_bytes p) ≡ size
+  row_long at p few is = ap (λ (xs : List ℕ). length xs) is ∙ length-take-le size (bytes_from at v) few
+
   pub row_slot : (at : ℕ) (p : Piece) → IsSlotBetween size from to end at → size ≤ length (bytes_from at v) → piece_bytes p ≡ take size (bytes_from at v) → IsSlotAt old at (length (piece_bytes p))
   row_slot at p placed few is static =
-      let long : length (piece_bytes p) ≡ size = ap (λ (xs : List ℕ). length xs) is ∙ length-take-le size (bytes_from at v) few in
-      (long ∙ sym old_size, omega (arith, old_size, old_end, placed.1, placed.2))
+      (row_long at p few is ∙ sym old_size, omega (arith, old_size, old_end, placed.1, placed.2))
 
   pub free_slot : (at : ℕ) → IsSlotBetween size from to end at → IsSlotAt old at size
   free_slot at placed static = (sym old_size, omega (arith, old_size, old_end, placed.1, placed.2))

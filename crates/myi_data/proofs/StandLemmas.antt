@@ -103,25 +103,25 @@ pub group_dynamic : (d : Defs) (r : SizedRow) → d.format ≡ Dynamic → group
 unfolding group
 group_dynamic d r dynamic = ap (λ f. group_by f r.sizes (length (spelling d r.values))) dynamic
 
-stored_static : (d : Defs) (r : SizedRow) (at : ℕ) → d.format ≡ Static → stored d at r ≡ spelling d r.values
+pub stored_static : (d : Defs) (r : SizedRow) (at : ℕ) → d.format ≡ Static → stored d at r ≡ spelling d r.values
 unfolding stored
 stored_static d r at static = ap (λ f. stored_by f at r.sizes (spelling d r.values)) static
 
-group_static : (d : Defs) (r : SizedRow) → d.format ≡ Static → group d r ≡ record { size = length (spelling d r.values); taken = length (spelling d r.values) } ∷ []
+pub group_static : (d : Defs) (r : SizedRow) → d.format ≡ Static → group d r ≡ record { size = length (spelling d r.values); taken = length (spelling d r.values) } ∷ []
 unfolding group
 group_static d r static = ap (λ f. group_by f r.sizes (length (spelling d r.values))) static
+
+pub size_static : (d : Defs) (r : SizedRow) → d.format ≡ Static → stored_size d r ≡ length (spelling d r.values)
+size_static d r static =
+    let n : ℕ = length (spelling d r.values) in
+    ap (λ (g : List Share). total_shares g) (group_static d r static) ∙ total_more (record { size = n; taken = n }) [] ∙ (let sum : n + 0 ≡ n = omega arith in sum)
 
 -- a row takes the bytes that its slot or its blocks have
 pub stored_long : (d : Defs) (r : SizedRow) → IsSound d → IsStorable d r → (at : ℕ) → length (stored d at r) ≡ stored_size d r
 stored_long d r s can at = of_format d.format refl
   where
     of_format : (f : RowFormat) → d.format ≡ f → length (stored d at r) ≡ stored_size d r
-    of_format Static e =
-        let n : ℕ = length (spelling d r.values) in
-        ap (λ (b : List ℕ). length b) (stored_static d r at e)
-        ∙ (let sum : n ≡ n + 0 = omega arith in sum)
-        ∙ sym (total_more (record { size = n; taken = n }) [])
-        ∙ ap (λ (g : List Share). total_shares g) (sym (group_static d r e))
+    of_format Static e = ap (λ (b : List ℕ). length b) (stored_static d r at e) ∙ sym (size_static d r e)
     of_format Dynamic e =
         ap (λ (b : List ℕ). length b) (stored_dynamic d r at e)
         ∙ (row_shaped at r.sizes (spelling d r.values) (can_stand d r s e can)).long
@@ -137,7 +137,7 @@ stored_some d r s can = of_format d.format refl
     of_format : (f : RowFormat) → d.format ≡ f → (0 < stored_size d r) × (length (group d r) ≤ stored_size d r)
     of_format Static e =
         let some : 0 < n = spelling_some d r.values s can.fits in
-        let size : stored_size d r ≡ n + 0 = ap (λ (g : List Share). total_shares g) (group_static d r e) ∙ total_more (record { size = n; taken = n }) [] in
+        let size : stored_size d r ≡ n = size_static d r e in
         (omega (arith, some, size), omega (arith, some, size, ap (λ (g : List Share). length g) (group_static d r e)))
     of_format Dynamic e =
         let shape = row_shaped 0 r.sizes (spelling d r.values) (can_stand d r s e can) in

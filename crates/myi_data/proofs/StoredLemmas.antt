@@ -23,9 +23,8 @@ use Rattle.myi_chain.proofs.CallerLemmas.{groups_read}
 use Rattle.myi_data.specs.Slots.{Slot, slots_in}
 use Rattle.myi_data.specs.Readable.{packs, slot_row, slot_items, items_at, items_by, items_in, readable}
 use Rattle.myi_data.specs.Stored.{SizedRow, Share, group_by, stored_by, group, stored_size, stored, stored_from, stored_file, ranges_from, stored_rows, IsStorable}
-use Rattle.myi_data.proofs.AloneLemmas.{bytes_alone, size_alone, group_one, size_one, stored_one}
 use Rattle.myi_data.proofs.ShareLemmas.{total_shares}
-use Rattle.myi_data.proofs.StandLemmas.{row_blocks, IsShaped, row_shaped, can_stand, stored_dynamic, group_dynamic}
+use Rattle.myi_data.proofs.StandLemmas.{row_blocks, IsShaped, row_shaped, can_stand, stored_dynamic, group_dynamic, stored_static, group_static, size_static}
 use Rattle.myi_data.proofs.SlotLaws.{slots_none, slots_more}
 
 packs_spelling : (d : Defs) (v : Values) → IsSound d → fits d v ≡ true → packs d (spelling d v) ≡ true
@@ -98,9 +97,6 @@ module _ (d : Defs) (s : IsSound d) (static : d.format ≡ Static) where
   size_some : 0 < d.slot_length
   size_some = omega (arith, s.slot_pointer static)
 
-  stored_slot : (at : ℕ) (r : SizedRow) → fits d r.values ≡ true → stored d at r ≡ spelling d r.values
-  stored_slot at r fit = stored_one d r s fit at ∙ ap (λ f. bytes_alone f (spelling d r.values)) static
-
   first_at : (a b : List ℕ) → 0 < length a → slice_index (a ++ b) 0 ≡ slice_index a 0
   first_at [] b some = absurd (omega arith)
   first_at (x ∷ a) b some = refl
@@ -115,7 +111,7 @@ module _ (d : Defs) (s : IsSound d) (static : d.format ≡ Static) where
       let size = d.slot_length in
       let is : IsStaticRow d.fields size r.values text = static_row r.values all.0.fits in
       let long : length text ≡ size = is.slot in
-      let taken : stored_size d r ≡ size = size_one d r s all.0.fits ∙ ap (λ f. size_alone f (length text)) static ∙ long in
+      let taken : stored_size d r ≡ size = size_static d r static ∙ long in
       let behind : List ℕ = stored_from d (at + stored_size d r) rs in
       let inside : size ≤ length (text ++ behind) = omega (arith, long, length-append text behind) in
       let more = slots_more at size (text ++ behind) size_some inside in
@@ -130,8 +126,8 @@ module _ (d : Defs) (s : IsSound d) (static : d.format ≡ Static) where
       ap (λ (ss : List Slot). rows_of (flat_map (slot_items (packs d)) ss)) split ∙ ap (λ (is : List Item). rows_of (is ++ flat_map (slot_items (packs d)) (slots_in (at + size) size behind))) one in
       let there : rows_of (flat_map (slot_items (packs d)) (slots_in (at + size) size behind)) ≡ stored_rows d (at + stored_size d r) rs =
       ap (λ k. rows_of (flat_map (slot_items (packs d)) (slots_in (at + k) size behind))) (sym taken) ∙ rows_back (at + stored_size d r) rs all.1 in
-      let single : group d r ≡ record { size = length text; taken = length text } ∷ [] = group_one d r s all.0.fits ∙ ap (λ f. record { size = size_alone f (length text); taken = length text } ∷ []) static in
-      ap (λ (b : List ℕ). rows_of (flat_map (slot_items (packs d)) (slots_in at size (b ++ behind)))) (stored_slot at r all.0.fits) ∙ here
+      let single : group d r ≡ record { size = length text; taken = length text } ∷ [] = group_static d r static in
+      ap (λ (b : List ℕ). rows_of (flat_map (slot_items (packs d)) (slots_in at size (b ++ behind)))) (stored_static d r at static) ∙ here
       ∙ ap (λ (rows : List Row). slot_row slot ∷ rows) there
       ∙ ap (λ (g : List Share). record { at = at; bytes = text; blocks = ranges_from at g } ∷ stored_rows d (at + stored_size d r) rs) (sym single)
 

@@ -18,7 +18,7 @@ ghost use Rattle.myi_data.specs.Keys.{start_of, content, seg_of, IsKeyNumber, ke
 
 use myi_defs::{Defs, Field, SegType, Segment};
 use myi_keys::{KeyVal, append_absent, append_weighed};
-use myi_pack::{FieldView, NumberedFields, RowView, value_into};
+use myi_pack::{FieldPlaces, FieldView, NumberedFields, RowView, value_into};
 use std::alloc::{AllocError, Global};
 
 /// The key of the row for the key of that number, from 1. The view was made with these definitions.
@@ -35,7 +35,7 @@ pub fn key_of(
 {
     let mut code = Vec::new(alloc);
     let mut scratch = Vec::new(alloc);
-    let mut row = view.numbered(alloc);
+    let mut row = view.numbered(FieldPlaces::new(alloc));
     key_code_into(&mut code, &mut scratch, defs, key, &mut row)?;
     Ok(KeyVal::of_code(code))
 }

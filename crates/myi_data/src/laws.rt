@@ -62,8 +62,9 @@ pub fn stored_files_are_read()
         → readable d extend (stored_file d rows) ≡ stored_rows d 0 rows }
 {}
 
-/// A row takes the bytes that its slot or its blocks have, and has no more blocks than bytes. A row of fewer than 2^24 bytes stands alone, in
-/// one slot or one block of the least size, whatever held it and wherever it stands.
+/// A row takes the bytes that its slot or its blocks have, and has no more blocks than bytes. A row of
+/// fewer than 2^24 bytes stands alone, in one slot or one block of the least size, whatever held it and
+/// wherever it stands.
 pub fn rows_stand_alone()
     ensures sized { (d : Defs) (at : ℕ) (row : SizedRow) → IsSound d → IsStorable d row
         → length (stored d at row) ≡ stored_size d row }

@@ -4,7 +4,6 @@ pub mod OutlineLemmas
 pub mod PlaceLemmas
 pub mod ReadLemmas
 pub mod SoundLaws
-pub mod SoundRows
 pub mod SoundSegments
 pub mod PrintLemmas
 pub mod SameLemmas

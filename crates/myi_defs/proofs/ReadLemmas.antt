@@ -10,7 +10,7 @@ use Rattle.myi_defs.specs.declared.types.DefFault.TheVariants.{Lengths}
 use Rattle.myi_defs.specs.declared.header.Front.{Front}
 use Rattle.myi_defs.specs.declared.header.Outline.{Outline}
 use Rattle.myi_defs.specs.Header.{front, header, outline}
-use Rattle.myi_defs.specs.Conditions.{has_wrong_front, is_packed, has_checksum, has_fulltext, has_spatial, has_uniques, has_wrong_types, has_wrong_segment, has_wrong_place, has_wrong_collation, has_wrong_blocks, has_wrong_pointers, has_wide_rows, has_long_keys}
+use Rattle.myi_defs.specs.Conditions.{has_wrong_front, is_packed, has_checksum, has_fulltext, has_spatial, has_uniques, has_wrong_types, has_wrong_segment, has_wrong_place, has_wrong_collation, has_wrong_blocks, has_wrong_pointers, has_long_keys}
 use Rattle.myi_defs.specs.ReadDefs.{is_short, has_other_magic, has_wrong_lengths, refusal, unless, judged, definitions, read_defs, AreDefs}
 use Rattle.myi_defs.proofs.PlaceLemmas.{or_parts}
 
@@ -28,7 +28,6 @@ pub record Passes (o : Outline) : Type 0 where
   pub collations : has_wrong_collation o ≡ false
   pub blocks : has_wrong_blocks o ≡ false
   pub pointers : has_wrong_pointers o ≡ false
-  pub rows : has_wide_rows o ≡ false
   pub keys : has_long_keys o ≡ false
 
 pub refusal-passes : (o : Outline) → refusal o ≡ None → Passes o
@@ -46,8 +45,7 @@ refusal-passes o same =
     let c12 = passed (has_wrong_collation o) _ _ c11.1 in
     let c13 = passed (has_wrong_blocks o) _ _ c12.1 in
     let c14 = passed (has_wrong_pointers o) _ _ c13.1 in
-    let c15 = passed (has_wide_rows o) _ _ c14.1 in
-    let c16 = passed (has_long_keys o) _ _ c15.1 in
+    let c16 = passed (has_long_keys o) _ _ c14.1 in
     record {
       lengths = c3.0;
       types = c9.0;
@@ -56,7 +54,6 @@ refusal-passes o same =
       collations = c12.0;
       blocks = c13.0;
       pointers = c14.0;
-      rows = c15.0;
       keys = c16.0;
     }
 

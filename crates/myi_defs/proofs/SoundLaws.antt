@@ -29,7 +29,6 @@ use Rattle.myi_defs.specs.Sound.{IsLengthOf, StartFrom, fields_length, IsSoundSe
 use Rattle.myi_defs.proofs.HeaderLemmas.{length-key_items, length-field_items, field_items-start}
 use Rattle.myi_defs.proofs.PlaceLemmas.{or_parts, none_passes}
 use Rattle.myi_defs.proofs.ReadLemmas.{Passes, refusal-passes, accepted, raw-is, is_short-false}
-use Rattle.myi_defs.proofs.SoundRows.{packed_short}
 use Rattle.myi_defs.proofs.SoundSegments.{HaveKinds, sound_segment}
 
 -- the fields
@@ -232,10 +231,6 @@ static_bit : (b : Bool) → (if b then Dynamic else Static) ≡ Static → b ≡
 static_bit false same = refl
 static_bit true same = absurd (cc)
 
-dynamic_bit : (b : Bool) → (if b then Dynamic else Static) ≡ Dynamic → b ≡ true
-dynamic_bit true same = refl
-dynamic_bit false same = absurd (cc)
-
 -- what the first 24 bytes say of the whole header
 record FrontFacts (h : List ℕ) (keys_count parts_count : ℕ) : Type 0 where
   pub header : length h ≡ num_at 6 2 h
@@ -299,7 +294,6 @@ sound_definitions o h good starts count keys first =
       long_slot = λ static. row.2 (static_bit _ static);
       short_slot = λ static. row.3 (static_bit _ static);
       slot_pointer = λ static. pointers.4 (static_bit _ static);
-      short_packed = λ dynamic. packed_short o good.types good.rows (dynamic_bit _ dynamic);
       rec_ref_least = pointers.0;
       rec_ref_most = pointers.1;
       key_ref_least = pointers.2;

@@ -1,6 +1,6 @@
 -- The conditions on which a table is refused, from the third on. The first two are asked of the bytes
 -- themselves and stand with read definitions. Which tables are refused is this project's own choice.
-use Rattle.std.specs.Prelude.{◌≡◌, ℕ, ◌+◌, ◌*◌, ◌/◌, ◌%◌, ◌^◌, Bool, true, false, not, ◌&&◌, ◌||◌, ◌==◌, nat_lt, nat_le, bit_and, if◌then◌else◌, List, [], ◌∷◌, length, sum_by, count_by, Option, Some, None, is_none}
+use Rattle.std.specs.Prelude.{◌≡◌, ℕ, ◌+◌, ◌*◌, ◌/◌, ◌%◌, Bool, true, false, not, ◌&&◌, ◌||◌, ◌==◌, nat_lt, bit_and, if◌then◌else◌, List, [], ◌∷◌, length, sum_by, count_by, Option, Some, None, is_none}
 use Rattle.std.specs.List.{list_any}
 use Rattle.myi_defs.specs.declared.types.RowFormat.{RowFormat}
 use Rattle.myi_defs.specs.declared.types.RowFormat.TheVariants.{Static, Dynamic}
@@ -14,7 +14,7 @@ use Rattle.myi_defs.specs.declared.header.KeyItem.{KeyItem}
 use Rattle.myi_defs.specs.declared.header.FieldItem.{FieldItem}
 use Rattle.myi_defs.specs.declared.header.Outline.{Outline}
 use Rattle.myi_defs.specs.Header.{keys_place, fields_place}
-use Rattle.myi_defs.specs.Kinds.{has_flag, most_bytes, is_text, is_collation, int_size, seg_cost, lies_in, is_plain_at}
+use Rattle.myi_defs.specs.Kinds.{has_flag, is_text, is_collation, int_size, seg_cost, lies_in, is_plain_at}
 use Rattle.myi_defs.specs.Layout.{most_fields, most_keys, most_segments, base_place}
 
 -- a bit of a number is set
@@ -187,21 +187,6 @@ has_wrong_pointers o =
     || nat_lt 8 o.base.key_ref
     || not (is_dynamic o) && nat_lt o.base.slot_length (o.base.rec_ref + 1)
 
--- 15 WideBlob: a BLOB has three or four length bytes, or a packed row may have 2^24 bytes or more
-abbrev pub is_wide : Option FieldKind → ℕ → Bool
-is_wide (Some Blob) length = nat_lt 10 length
-is_wide kind length = false
-
--- how many bytes a field takes at most in a packed row
-abbrev pub most_packed : Option FieldKind → ℕ → ℕ
-most_packed (Some kind) length = most_bytes kind length
-most_packed None length = 0
-
-unfoldable pub has_wide_rows : Outline → Bool
-has_wide_rows o =
-    list_any (λ f. is_wide f.kind f.length) o.fields
-    || nat_le (2 ^ 24) (o.base.pack_bits + sum_by (λ f. most_packed f.kind f.length) o.fields)
-
--- 16 KeyTooLong: the segments of a key have more than 1000 bytes
+-- 16 KeyTooLong (there is no condition 15): the segments of a key have more than 1000 bytes
 unfoldable pub has_long_keys : Outline → Bool
 has_long_keys o = list_any (λ k. nat_lt 1000 (sum_by (λ s. s.length) k.segments)) o.keys

@@ -1,6 +1,6 @@
 -- Words on the kinds of fields and the types of key segments (MySQL Internals Manual, "The .MYI file", on the
 -- sections of keys and fields).
-use Rattle.std.specs.Prelude.{ℕ, ◌+◌, ◌-◌, ◌^◌, Bool, true, false, not, ◌&&◌, ◌||◌, ◌==◌, nat_lt, nat_le, if◌then◌else◌, Option, Some, None}
+use Rattle.std.specs.Prelude.{ℕ, ◌+◌, Bool, true, false, not, ◌&&◌, ◌||◌, ◌==◌, nat_lt, nat_le, if◌then◌else◌, Option, Some, None}
 use Rattle.myi_defs.specs.declared.types.FieldKind.{FieldKind}
 use Rattle.myi_defs.specs.declared.types.FieldKind.TheVariants.{Normal, SkipEndspace, SkipPrespace, SkipZero, Blob, Varchar}
 use Rattle.myi_defs.specs.declared.types.SegType.{SegType}
@@ -23,15 +23,6 @@ has_flag SkipPrespace = true
 has_flag SkipZero = true
 has_flag Blob = true
 has_flag Varchar = false
-
--- how many bytes a field of so many takes at most in a packed row
-abbrev pub most_bytes : FieldKind → ℕ → ℕ
-most_bytes Normal length = length
-most_bytes SkipZero length = length
-most_bytes SkipEndspace length = length + 2
-most_bytes SkipPrespace length = length + 2
-most_bytes Varchar length = length + 1
-most_bytes Blob length = length - 8 + (256 ^ (length - 8) - 1)
 
 -- a segment of a field whose content has a length of its own
 abbrev pub is_variable : SegType → Bool

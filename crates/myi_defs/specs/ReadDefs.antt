@@ -1,6 +1,6 @@
 -- Read definitions: what the bytes of an index file say of its table, or why the table is refused: the first
--- of sixteen conditions that holds decides (MySQL Internals Manual, "The .MYI file", for what is read; the
--- conditions are this project's own).
+-- of fifteen conditions that holds decides, which have the numbers 1 to 14 and 16 (MySQL Internals Manual, "The
+-- .MYI file", for what is read; the conditions are this project's own).
 use Rattle.std.specs.Prelude.{◌≡◌, ℕ, Bool, not, ◌||◌, ◌==◌, nat_lt, if◌then◌else◌, List, length, map, unwrap_or, Option, Some, None, Result, Ok, Err}
 use Rattle.std.specs.List.{position_or_len}
 use Rattle.myi_defs.specs.declared.types.FieldKind.TheVariants.{Normal}
@@ -17,7 +17,7 @@ use Rattle.myi_defs.specs.declared.header.KeyItem.{KeyItem}
 use Rattle.myi_defs.specs.declared.header.FieldItem.{FieldItem}
 use Rattle.myi_defs.specs.declared.header.Outline.{Outline}
 use Rattle.myi_defs.specs.Header.{front, header, fields_place, outline}
-use Rattle.myi_defs.specs.Conditions.{has_bit, row_format, has_wrong_front, has_wrong_keys, has_wrong_fields, has_wrong_row, is_packed, has_checksum, has_fulltext, has_spatial, has_uniques, has_wrong_types, has_wrong_segment, is_held, has_wrong_place, has_wrong_collation, has_wrong_blocks, has_wrong_pointers, has_wide_rows, has_long_keys}
+use Rattle.myi_defs.specs.Conditions.{has_bit, row_format, has_wrong_front, has_wrong_keys, has_wrong_fields, has_wrong_row, is_packed, has_checksum, has_fulltext, has_spatial, has_uniques, has_wrong_types, has_wrong_segment, is_held, has_wrong_place, has_wrong_collation, has_wrong_blocks, has_wrong_pointers, has_long_keys}
 
 -- the file is cut short: it has no 24 bytes, or not the whole header
 unfoldable pub is_short : List ℕ → Bool
@@ -87,7 +87,6 @@ refusal o =
     else if has_wrong_collation o then Some fault.Collation  -- 12: a text's collation is not taken
     else if has_wrong_blocks o then Some fault.BlockLength  -- 13: a key's pages have a wrong length
     else if has_wrong_pointers o then Some fault.PointerSize  -- 14: a pointer has a wrong length
-    else if has_wide_rows o then Some fault.WideBlob  -- 15: a packed row may be too long
     else if has_long_keys o then Some fault.KeyTooLong  -- 16: a key may be too long
     else None
 

@@ -1,6 +1,6 @@
 -- What the definitions of every table that is not refused keep. The crates above rest on these facts
 -- alone; the law that joins them to the header stands with `read_defs`.
-use Rattle.std.specs.Prelude.{◌≡◌, ◌≢◌, ◌≤◌, ◌<◌, ◌+◌, ◌*◌, ◌/◌, ◌%◌, ◌^◌, ℕ, true, false, List, [], ◌∷◌, length, All, HoldsAt, sum_by, count_by, Some}
+use Rattle.std.specs.Prelude.{◌≡◌, ◌≢◌, ◌≤◌, ◌<◌, ◌+◌, ◌*◌, ◌%◌, ℕ, true, false, List, [], ◌∷◌, length, All, HoldsAt, sum_by, Some}
 use Rattle.myi_base.specs.Numbers.{num_at}
 use Rattle.myi_defs.specs.declared.types.RowFormat.{RowFormat}
 use Rattle.myi_defs.specs.declared.types.RowFormat.TheVariants.{Static, Dynamic}
@@ -10,7 +10,7 @@ use Rattle.myi_defs.specs.declared.types.Field.{Field}
 use Rattle.myi_defs.specs.declared.types.Segment.{Segment}
 use Rattle.myi_defs.specs.declared.types.Key.{Key}
 use Rattle.myi_defs.specs.declared.types.Defs.{Defs}
-use Rattle.myi_defs.specs.Kinds.{has_flag, most_bytes, int_size, is_text, is_collation, seg_cost, lies_in, is_plain_at}
+use Rattle.myi_defs.specs.Kinds.{int_size, is_text, is_collation, seg_cost, lies_in, is_plain_at}
 use Rattle.myi_defs.specs.Layout.{most_fields, most_keys, most_segments, base_place}
 
 -- the lengths that a field of a kind may have
@@ -30,11 +30,6 @@ StartFrom at (f ∷ fs) = (f.start ≡ at) × StartFrom (at + f.length) fs
 -- the sum of the lengths of the fields
 abbrev pub fields_length : List Field → ℕ
 fields_length fs = sum_by (λ f. f.length) fs
-
--- how many bytes a packed row of these fields takes at most: a flag's bit for each field that has one, in whole
--- bytes, and then the fields
-abbrev pub most_of_row : List Field → ℕ
-most_of_row fs = (count_by (λ f. has_flag f.kind) fs + 7) / 8 + sum_by (λ f. most_bytes f.kind f.length) fs
 
 -- a segment has the size and the collation of its type, and lies in the field that its number names, the first
 -- that can hold it
@@ -72,7 +67,6 @@ pub record IsSound (d : Defs) : Type 0 where
   pub long_slot : d.format ≡ Static → d.row_length ≤ d.slot_length
   pub short_slot : d.format ≡ Static → d.slot_length ≤ 1048576
   pub slot_pointer : d.format ≡ Static → d.rec_ref + 1 ≤ d.slot_length
-  pub short_packed : d.format ≡ Dynamic → most_of_row d.fields < 2 ^ 24
   pub rec_ref_least : 2 ≤ d.rec_ref
   pub rec_ref_most : d.rec_ref ≤ 8
   pub key_ref_least : 1 ≤ d.key_ref

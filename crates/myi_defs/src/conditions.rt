@@ -2,8 +2,8 @@
 //!
 //! Each condition is a function here and a definition of the same name in `Conditions`; `refusal` answers
 //! the first that holds.
-ghost use Rattle.std.specs.Prelude.{◌≡◌, ◌≤◌, ◌+◌, ◌-◌, ◌*◌, ◌/◌, ◌^◌, ◌&&◌, ◌||◌};
-ghost use Rattle.std.specs.Prelude.{not, false, nat_lt, nat_le, length, sum_by, count_by, is_none};
+ghost use Rattle.std.specs.Prelude.{◌≡◌, ◌≤◌, ◌+◌, ◌*◌, ◌/◌, ◌&&◌, ◌||◌};
+ghost use Rattle.std.specs.Prelude.{not, false, nat_lt, length, sum_by, count_by, is_none};
 ghost use Rattle.std.specs.List.{list_any};
 ghost use Rattle.myi_defs.specs.Conditions as spec;
 ghost use Rattle.myi_defs.specs.Kinds as kinds;
@@ -72,9 +72,6 @@ pub(crate) fn refusal(outline: &Outline) -> Option<DefFault>
     }
     if has_wrong_pointers(outline) {
         return Some(DefFault::PointerSize);
-    }
-    if has_wide_rows(outline) {
-        return Some(DefFault::WideBlob);
     }
     if has_long_keys(outline) {
         return Some(DefFault::KeyTooLong);
@@ -338,68 +335,6 @@ fn has_wrong_pointers(outline: &Outline) -> bool
         || base.key_ref < 1
         || base.key_ref > 8
         || !is_dynamic(outline) && base.slot_length < base.rec_ref as u32 + 1
-}
-
-#[tactic(auto, unfolding(crate::specs::Conditions::has_wide_rows))]
-fn has_wide_rows(outline: &Outline) -> bool
-    requires { length outline.now.fields ≤ 4096 }
-    ensures { result ≡ spec.has_wide_rows outline.now }
-{
-    are_wide(outline.base.pack_bits, outline.fields.as_slice())
-}
-
-fn are_wide(pack_bits: u16, fields: &[FieldItem]) -> bool
-    requires { length fields.now ≤ 4096 }
-    ensures { result ≡ (list_any (λ f. spec.is_wide f.kind f.length) fields.now
-        || nat_le (2 ^ 24)
-        (pack_bits + sum_by (λ f. spec.most_packed f.kind f.length) fields.now)) }
-{
-    let mut most = pack_bits as u32;
-    for field in fields {
-        if is_wide(field.kind, field.length) {
-            return true;
-        }
-        most += most_packed(field.kind, field.length);
-    }
-    most >= 1 << 24
-}
-
-fn is_wide(kind: Option<FieldKind>, length: u16) -> bool
-    ensures { result ≡ spec.is_wide kind length }
-{
-    match kind {
-        Some(FieldKind::Blob) => length > 10,
-        _ => false,
-    }
-}
-
-fn most_packed(kind: Option<FieldKind>, length: u16) -> u32
-    requires { spec.is_wide kind length ≡ false }
-    ensures value { result ≡ spec.most_packed kind length }
-    ensures few { result ≤ 65537 }
-{
-    match kind {
-        Some(FieldKind::Normal) => length as u32,
-        Some(FieldKind::SkipZero) => length as u32,
-        Some(FieldKind::SkipEndspace) => length as u32 + 2,
-        Some(FieldKind::SkipPrespace) => length as u32 + 2,
-        Some(FieldKind::Varchar) => length as u32 + 1,
-        Some(FieldKind::Blob) => most_blob(length),
-        None => 0,
-    }
-}
-
-// The length bytes and the most bytes behind them.
-fn most_blob(length: u16) -> u32
-    requires { length ≤ 10 }
-    ensures value { result ≡ length - 8 + (256 ^ (length - 8) - 1) }
-    ensures few { result ≤ 65537 }
-{
-    match length {
-        10 => 2 + 0xFFFF,
-        9 => 1 + 0xFF,
-        _ => 0,
-    }
 }
 
 #[tactic(auto, unfolding(crate::specs::Conditions::has_long_keys))]

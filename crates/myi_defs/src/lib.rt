@@ -5,7 +5,7 @@
 //! looked at. The layout of the header is that of the MySQL Internals Manual, "The .MYI file".
 //!
 //! The model is the definition "read definitions" (`specs/ReadDefs`) over the bytes of an index file: the
-//! first of sixteen numbered conditions that holds, or the definitions. `read_defs` answers it. `print_defs`
+//! first of fifteen numbered conditions that holds, or the definitions. `read_defs` answers it. `print_defs`
 //! gives the header of an empty table with given definitions, and `parse_text` the definitions that a
 //! creating text stands for. `Defs::addressable` says which data files row pointers reach, and
 //! `definitions_are_sound` is the law on which the crates above rest.

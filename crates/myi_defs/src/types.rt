@@ -175,8 +175,6 @@ pub enum DefFault {
     BlockLength,
     #[error("a pointer has a wrong length")]
     PointerSize,
-    #[error("a row may have 2^24 bytes or more")]
-    WideBlob,
     #[error("a key may have more than 1000 bytes")]
     KeyTooLong,
     #[error("out of memory")]

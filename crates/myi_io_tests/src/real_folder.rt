@@ -4,13 +4,13 @@ ghost use Rattle.std.specs.Prelude.{IsTrue};
 use crate::expect::expect;
 use myi_io::{FileErr, FileReader, Files, Gathering, RealFiles};
 use std::alloc::Global;
-use std::os::unix::fs::{PermissionsExt, symlink};
+use std::os::unix::fs::{MetadataExt, PermissionsExt, symlink};
 use std::process::Abort;
 use std::rt::{Clock, Env};
 use std::test::Fail;
 use std::{env, fs, io, rt};
 
-/// A name in the folder for files of a short life, which no other test has.
+/// A name in the temporary folder, which no other test has.
 fn name_in<R: Env + Clock + rt::Files + AllocGlobal>(rt: &R, end: &str) -> Result<String, Fail> {
     let alloc: Global = rt.alloc();
     let folder = env::temp_dir(rt)?;
@@ -151,5 +151,88 @@ fn a_reader_of_a_real_file_sees_what_was_gathered(rt: HostRuntime) -> Result<(),
     expect(&rt, none.read_at(0, &mut into), Ok(0));
     expect(&rt, reader.fault_count(), 0);
     expect(&rt, none.fault_count(), 0);
+    Ok(())
+}
+
+// The first five bytes of a file.
+fn first_bytes<F: Files>(rt: &impl Abort, files: &mut F, name: &str) -> [u8; 5] {
+    let mut into = [b'-'; 5];
+    expect(rt, files.read_at(name, 0, &mut into), Ok(5));
+    into
+}
+
+/// A file on another file system than the temporary folder: a new one in memory, and where
+/// none can be made there, or that is the folder's own, one of the system's.
+fn name_elsewhere<R: Env + Clock + rt::Files<File = fs::File> + AllocGlobal>(
+    rt: &R,
+) -> Result<String, Fail> {
+    let alloc: Global = rt.alloc();
+    let moment = rt.since_1970()?.as_nanos();
+    let name = format!(in alloc; "/dev/shm/rithkoal-{moment}")?;
+    let mut files = RealFiles::new(rt);
+    if files.write_at(name.as_str(), 0, b"other").is_ok() {
+        let folder = fs::metadata(rt, env::temp_dir(rt)?)?;
+        if fs::metadata(rt, name.as_str())?.dev() != folder.dev() {
+            return Ok(name);
+        }
+        rt.remove_file(name.as_str())?;
+    }
+    Ok(String::from_str(alloc, "/proc/version")?)
+}
+
+#[test]
+fn no_file_takes_the_place_of_one_on_another_file_system(rt: HostRuntime) -> Result<(), Fail> {
+    let alloc = rt.alloc();
+    let (new, link) = (name_in(&rt, "near")?, name_in(&rt, "far")?);
+    let (new, link) = (new.as_str(), link.as_str());
+    let elsewhere = name_elsewhere(&rt)?;
+    symlink(&rt, elsewhere.as_str(), link)?;
+    let mut files = Gathering::new(alloc, RealFiles::new(&rt));
+    let was = first_bytes(&rt, &mut files, link);
+    expect(&rt, files.write_at(new, 0, b"newer"), Ok(()));
+    expect(&rt, files.rename(new, link), Err(FileErr::Failed));
+    expect(&rt, files.fault_count(), 1);
+    expect(&rt, first_bytes(&rt, &mut files, new), *b"newer");
+    expect(&rt, first_bytes(&rt, &mut files, link), was);
+    assert!(rt; fs::symlink_metadata(&rt, link)?.is_symlink());
+    expect(&rt, files.remove(new), Ok(()));
+    expect(&rt, files.remove(link), Ok(()));
+    if was == *b"other" {
+        expect(&rt, files.remove(elsewhere.as_str()), Ok(()));
+    }
+    Ok(())
+}
+
+#[test]
+fn a_rename_that_fails_leaves_both(rt: HostRuntime) -> Result<(), Fail> {
+    let alloc = rt.alloc();
+    let (table, folder) = (name_in(&rt, "kept")?, name_in(&rt, "folder")?);
+    let (link, absent) = (name_in(&rt, "same")?, name_in(&rt, "none")?);
+    let (table, folder, link) = (table.as_str(), folder.as_str(), link.as_str());
+    fs::create_dir(&rt, folder)?;
+    symlink(&rt, table, link)?;
+    let mut files = Gathering::new(alloc, RealFiles::new(&rt));
+    expect(&rt, files.write_at(table, 0, b"table"), Ok(()));
+    // No file has the name: nothing is done, and that is no fault.
+    expect(&rt, files.rename(absent.as_str(), table), Ok(()));
+    expect(&rt, files.fault_count(), 0);
+    // The other name is that of a folder, then of the same file, and then this name is a link.
+    expect(&rt, files.rename(table, folder), Err(FileErr::Failed));
+    expect(&rt, files.fault_count(), 1);
+    expect(&rt, files.rename(table, link), Err(FileErr::Failed));
+    expect(&rt, files.fault_count(), 2);
+    expect(
+        &rt,
+        files.rename(link, absent.as_str()),
+        Err(FileErr::Failed),
+    );
+    expect(&rt, files.fault_count(), 3);
+    expect(&rt, first_bytes(&rt, &mut files, table), *b"table");
+    expect(&rt, files.length(absent.as_str()), Ok(None));
+    assert!(rt; fs::symlink_metadata(&rt, link)?.is_symlink());
+    assert!(rt; fs::metadata(&rt, folder)?.is_dir());
+    expect(&rt, files.remove(link), Ok(()));
+    expect(&rt, files.remove(table), Ok(()));
+    fs::remove_dir(&rt, folder)?;
     Ok(())
 }

@@ -1,6 +1,7 @@
 pub mod CallerLemmas
 pub mod ViewLemmas
 pub mod NumberedLemmas
+pub mod PlaceLemmas
 pub mod SpellingLemmas
 pub mod FlagLemmas
 pub mod FieldLaws

@@ -10,11 +10,10 @@ use Rattle.myi_defs.specs.declared.types.FieldKind.{FieldKind}
 use Rattle.myi_defs.specs.declared.types.FieldKind.TheVariants.{Normal, SkipEndspace, SkipPrespace, SkipZero, Blob, Varchar}
 use Rattle.myi_defs.specs.declared.types.Field.{Field}
 use Rattle.myi_defs.specs.Sound.{IsLengthOf, StartFrom}
-use Rattle.myi_pack.specs.declared.fields.FieldView.{FieldView}
 use Rattle.myi_pack.specs.Packed.{Values}
 use Rattle.myi_pack.specs.Flags.{next_flag}
 use Rattle.myi_pack.specs.Unpacking.{Cut, cut, as_value, put_front, then_fields, value_before, filled_varchar, filled_field, field_of, fields_of}
-use Rattle.myi_pack.specs.Left.{values_of, values_left, numbered_values, IsPlaced}
+use Rattle.myi_pack.specs.Left.{values_of, values_left, IsPlaced}
 use Rattle.myi_pack.proofs.ViewLemmas.{length-values}
 
 -- so many bytes were taken off the front
@@ -62,7 +61,7 @@ front_some : (v : List ℕ) (o : Option (Values × List ℕ)) → IsSome (put_fr
 front_some v None some = absurd cc
 front_some v (Some r) some = (refl, refl)
 
-then_some : (more : List ℕ → Option (Values × List ℕ)) (c : Cut) → IsSome (then_fields more c) → (r : List ℕ × List ℕ) × (c ≡ Some r) × IsSome (more r.1) × (values_of (then_fields more c) ≡ r.0 ∷ values_of (more r.1))
+pub then_some : (more : List ℕ → Option (Values × List ℕ)) (c : Cut) → IsSome (then_fields more c) → (r : List ℕ × List ℕ) × (c ≡ Some r) × IsSome (more r.1) × (values_of (then_fields more c) ≡ r.0 ∷ values_of (more r.1))
 then_some more None some = absurd cc
 then_some more (Some r) some = let s = front_some r.0 (more r.1) some in (r, refl, s.0, s.1)
 
@@ -116,10 +115,11 @@ static_there fs flags b i d placed has =
       value = ap (λ n. as_value (filled_field (get_or fs i d).kind (get_or fs i d).length (drop n b))) (sym start) ∙ at.value;
     }
 
-pub field_there : (format : RowFormat) (fs : List Field) (flags b : List ℕ) (met : List (ℕ × FieldView)) (left row : Values) (i : ℕ) (d : Field) → format ≡ Static → (format ≡ Static → IsPlaced Static fs flags b) → numbered_values format fs flags b met left ≡ row → i < length row → IsThere fs b row i d
-field_there format fs flags b met left row i d static placed is has =
-    let e : values_left Static fs 0 flags b ≡ row = sym (ap (λ (f : RowFormat). numbered_values f fs flags b met left) static) ∙ is in
-    subst (λ (r : Values). IsThere fs b r i d) e (static_there fs flags b i d (placed static) (omega (arith, has, ap (λ (r : Values). length r) e)))
+pub field_there : (format : RowFormat) (fs : List Field) (flags b : List ℕ) (row : Values) (i : ℕ) (d : Field) → format ≡ Static → IsPlaced format fs flags b → values_left format fs 0 flags b ≡ row → i < length row → IsThere fs b row i d
+field_there format fs flags b row i d static placed is has =
+    let e : values_left Static fs 0 flags b ≡ row = sym (ap (λ (f : RowFormat). values_left f fs 0 flags b) static) ∙ is in
+    let P : RowFormat → Type 0 = λ f. IsPlaced f fs flags b in
+    subst (λ (r : Values). IsThere fs b r i d) e (static_there fs flags b i d (subst P static placed) (omega (arith, has, ap (λ (r : Values). length r) e)))
 
 same_value : (c : Cut) (v w : List ℕ) → as_value c ≡ Some v → as_value c ≡ Some w → v ≡ w
 same_value c v w e h = ap (λ (o : Option (List ℕ)). of o) (sym e ∙ h)

@@ -1,7 +1,7 @@
 -- The spelling of a whole row packs it, no packing is shorter, and what is packed fits.
 use Rattle.std.proofs.Common.{◌≡◌, ◌≢◌, ℕ, zero, suc, ◌+◌, ◌-◌, ◌<◌, ◌≤◌, Bool, true, false, not, cond, List, [], ◌∷◌, ◌++◌, length, get_or, replicate, Some, refl, sym, ap, subst, ◌∙◌, arith, length-append, append_assoc}
 use Rattle.std.specs.Prelude.{◌&&◌, ◌==◌, ◌^◌, nat_le, nat_lt, slice_index, All, option_and_then}
-use Rattle.std.proofs.lemmas.Bool.{ne_eqb}
+use Rattle.std.proofs.lemmas.Bool.{ne_eqb, lt-ltb}
 use Rattle.std.proofs.lemmas.List.{length-replicate}
 use Rattle.std.proofs.lemmas.List.Elements.{All-head}
 use Rattle.myi_base.specs.Numbers.{low_num_bytes}
@@ -22,7 +22,6 @@ use Rattle.myi_pack.proofs.FlagLemmas.{few-flags, flag-packed, length-packed, by
 use Rattle.myi_pack.proofs.SpellingLemmas.{both, length-slot_bytes, length-slots, first-low, first-varchar, first-append, first-slots}
 use Rattle.myi_pack.proofs.SpellingLaws.{field-spelled, field-least, field-fits, slot-spelled, slot-fits, and}
 use Rattle.myi_pack.proofs.RowLaws.{dynamic-again, static-again}
-use Rattle.myi_pack.proofs.WidthLaws.{row-counted}
 
 -- ---- the fields
 
@@ -202,9 +201,10 @@ row-least d row b sound h = by d.format refl h
         omega (arith, t.slot, sound.total, length-filled d.slot_length (spelled_fields Static d.fields row) (omega (arith, sound.total)))
     by Dynamic e t = dynamic-least d.fields row b t
 
-pub row-fits : (d : Defs) (row : Values) (b : List ℕ) → IsSound d → Packs d row b → fits d row ≡ true
+-- no packing is shorter than the spelling
+pub row-fits : (d : Defs) (row : Values) (b : List ℕ) → IsSound d → Packs d row b → (d.format ≡ Dynamic → length b < 2 ^ 32) → fits d row ≡ true
 unfolding fits spelling
-row-fits d row b sound h = by d.format refl h
+row-fits d row b sound h short = by d.format refl h
   where
     by : (format : RowFormat) → d.format ≡ format → IsRow format d row b → (fits_fields format d.fields row && can_stand format d row) ≡ true
     by Static e t =
@@ -218,4 +218,6 @@ row-fits d row b sound h = by d.format refl h
         let told : slice_index (spelled_row Static d row) 0 ≢ 0 = λ z. t.read (sym spelled ∙ z) in
         let P : RowFormat → Type 0 = λ format. slice_index (spelled_row format d row) 0 ≢ 0 in
         and _ _ fit (told-zero _ (subst P (sym e) told))
-    by Dynamic e t = let fit = fields-fit Dynamic d.fields 0 t.flags row t.content t.fields in and _ _ fit (row-counted d row sound e fit)
+    by Dynamic e t =
+        let fit = fields-fit Dynamic d.fields 0 t.flags row t.content t.fields in
+        and _ _ fit (lt-ltb _ _ (omega (arith, short e, dynamic-least d.fields row b t, ap (λ (f : RowFormat). length (spelled_row f d row)) e)))

@@ -1,14 +1,10 @@
--- The values of the fields that a walk over a row has still before it, and of those that it has met (this
--- project's own).
-use Rattle.std.specs.Prelude.{◌≤◌, ◌+◌, ℕ, List, [], ◌++◌, length, map, All, Option, Some, None, IsSome}
+-- The values of the fields that a walk over a row has still before it (this project's own).
+use Rattle.std.specs.Prelude.{◌≤◌, ◌+◌, ℕ, List, [], length, All, Option, Some, None, IsSome}
 use Rattle.myi_defs.specs.declared.types.RowFormat.{RowFormat}
-use Rattle.myi_defs.specs.declared.types.RowFormat.TheVariants.{Static, Dynamic}
 use Rattle.myi_defs.specs.declared.types.Field.{Field}
 use Rattle.myi_defs.specs.Sound.{IsLengthOf, StartFrom}
-use Rattle.myi_pack.specs.declared.fields.FieldView.{FieldView}
 use Rattle.myi_pack.specs.Packed.{Values}
 use Rattle.myi_pack.specs.Unpacking.{fields_of}
-use Rattle.myi_pack.specs.Views.{shown_value}
 
 abbrev pub values_of : Option (Values × List ℕ) → Values
 values_of None = []
@@ -28,8 +24,3 @@ pub record IsLeft (format : RowFormat) (fs : List Field) (k : ℕ) (flags b : Li
 pub record IsPlaced (format : RowFormat) (fs : List Field) (flags b : List ℕ) : Type 0 where
   pub left : IsLeft format fs 0 flags b
   pub starts : StartFrom 0 fs
-
--- the values of all fields, of which those of a dynamic row were met or are left
-abbrev pub numbered_values : RowFormat → List Field → List ℕ → List ℕ → List (ℕ × FieldView) → Values → Values
-numbered_values Static fs flags b met left = values_left Static fs 0 flags b
-numbered_values Dynamic fs flags b met left = map shown_value met ++ left

@@ -6,6 +6,8 @@ pub mod Packed
 pub mod Spelling
 pub mod Winning
 pub mod Views
--- What serves private contracts: rows read from left to right, and the values that are left.
+-- What serves private contracts: rows read from left to right, the values that are left, and where fields
+-- begin.
 pub mod Unpacking
 pub mod Left
+pub mod Places

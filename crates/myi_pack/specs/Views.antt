@@ -11,10 +11,6 @@ field_value n (views.Padded b) = b.now ++ spaces (n - length b.now)
 field_value n (views.Led b) = spaces (n - length b.now) ++ b.now
 field_value n views.Zeros = replicate n 0
 
--- the value that a view shows of a field whose length is told
-abbrev pub shown_value : ℕ × FieldView → List ℕ
-shown_value r = field_value r.0 r.1
-
 -- the view shows the value
 abbrev pub Shows : FieldView → List ℕ → Type 0
 Shows view v = v ≡ field_value (length v) view

@@ -25,12 +25,12 @@ pub fn packings_are_read()
         → r ≡ s }
 {}
 
-/// What a row is packed as. The rows that some bytes pack are those that fit; the spelling of such a
-/// row packs it and is read as it, and no packing of it is shorter. In a dynamic table four bytes count
-/// it; as long as wide rows are refused, three do.
+/// What a row is packed as. The rows that some bytes pack, in a dynamic table fewer than 2^32, are those
+/// that fit; the spelling of such a row packs it and is read as it, and no packing of it is shorter. In a
+/// dynamic table four bytes count it.
 pub fn spellings_are_shortest()
     ensures fits { (d : Defs) (row : Values) (b : List ℕ) → IsSound d → Packs d row b
-        → fits d row ≡ true }
+        → (d.format ≡ Dynamic → length b < 2 ^ 32) → fits d row ≡ true }
     ensures packs { (d : Defs) (row : Values) → IsSound d → fits d row ≡ true
         → Packs d row (spelling d row) }
     ensures read { (d : Defs) (row : Values) → IsSound d → fits d row ≡ true
@@ -39,8 +39,6 @@ pub fn spellings_are_shortest()
         → length (spelling d row) ≤ length b }
     ensures counted { (d : Defs) (row : Values) → d.format ≡ Dynamic → fits d row ≡ true
         → length (spelling d row) < 2 ^ 32 }
-    ensures short { (d : Defs) (row : Values) → IsSound d → d.format ≡ Dynamic → fits d row ≡ true
-        → length (spelling d row) < 2 ^ 24 }
 {}
 
 /// How ties are settled. In the spelling of a row the flag of a field is set exactly where a form with the

@@ -5,8 +5,8 @@
 //! may have several packings; the one that is written is its `spelling`, and none is shorter.
 //!
 //! `view` finds the row in its bytes and takes no memory (`view_packed` where they are known to pack one):
-//! a `RowView` lends each field as a slice of the bytes, one by one (`fields`) or by its number
-//! (`field`). `unpack` copies the row that is viewed, and `value_of` one field of it, or `value_into`
+//! a `RowView` lends each field as a slice of the bytes, one by one (`fields`) or by its number (`field`,
+//! and for several `numbered`, with a buffer that may serve for many rows). `unpack` copies the row that is viewed, and `value_of` one field of it, or `value_into`
 //! into a buffer. `fits` decides whether a row has the form that the definitions of the table ask for,
 //! and `pack` writes the spelling of such a row, or `spell_into` that of a row that is viewed, into a
 //! buffer. The laws over the definitions are in `laws`.
@@ -28,6 +28,7 @@
 mod fields;
 mod laws;
 mod packing;
+mod places;
 mod row;
 mod spell;
 mod values;
@@ -35,6 +36,7 @@ mod values;
 pub use fields::FieldView;
 pub use laws::{packings_are_read, shorter_forms_win, spellings_are_shortest, views_go_on};
 pub use packing::{fits, pack};
+pub use places::FieldPlaces;
 pub use row::{NumberedFields, RowFields, RowView, view, view_packed};
 pub use spell::spell_into;
 pub use values::{Row, Value, unpack, value_into, value_of};

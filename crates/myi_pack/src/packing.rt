@@ -4,7 +4,8 @@
 //! spelling of such a row. A field is written by `push_field`, which tells whether the field's flag is
 //! to be set; the flags stand in front and are set as the fields come.
 ghost use Rattle.std.specs.Prelude.{◌≡◌, ◌≤◌, ◌<◌, ◌+◌, ◌*◌, ◌/◌, ◌^◌, ◌++◌, ◌==◌};
-ghost use Rattle.std.specs.Prelude.{true, not, length, slice_index, All, IsTrue, IfOk, OnOk};
+ghost use Rattle.std.specs.Prelude.{true, not, if◌then◌else◌, length, slice_index, All};
+ghost use Rattle.std.specs.Prelude.{IsTrue, IfOk, OnOk};
 ghost use Rattle.myi_base.specs.Numbers.{low_num_bytes};
 ghost use Rattle.myi_defs.specs.Sound.{IsSound, IsLengthOf};
 ghost use Rattle.myi_pack.specs.Lengths.{length_bytes};
@@ -21,9 +22,12 @@ use myi_base::append_number;
 use myi_defs::{Defs, Field, FieldKind, RowFormat};
 use std::alloc::{AllocError, Global};
 
+/// The first length of a packed row that four bytes do not hold.
+const PACKED_END: usize = 1 << 32;
+
 /// Whether the row has one value for each field, of the field's length or, for a VARCHAR or BLOB, not
-/// longer than the field can hold; and, in a static table, begins with a byte that is not 0. In a dynamic
-/// one its spelling has less than 2^32 bytes: sound definitions bound it lower still. It takes no memory.
+/// longer than the field can hold; and, in a static table, begins with a byte that is not 0, in a dynamic
+/// one has a spelling of less than 2^32 bytes. It takes no memory.
 #[tactic(auto, unfolding(crate::specs::Spelling::fits))]
 pub fn fits(defs: &Defs, row: &Row) -> bool
     requires { IsSound defs.now }
@@ -36,7 +40,7 @@ pub fn fits(defs: &Defs, row: &Row) -> bool
     }
     match defs.format {
         RowFormat::Static => is_live(fields, values),
-        RowFormat::Dynamic => true,
+        RowFormat::Dynamic => packed_len(fields, values) < PACKED_END,
     }
 }
 
@@ -76,6 +80,44 @@ fn blob_end(width: usize) -> usize
     ensures { result ≡ 256 ^ width }
 {
     256usize.pow(width as u32)
+}
+
+// How many bytes the spelling of a dynamic row has.
+fn packed_len(fields: &[Field], values: &[Value]) -> usize
+    requires few { length fields.now ≤ 4096 }
+    requires lengths { All (λ f. IsLengthOf RowFormat.Dynamic f.kind f.length) fields.now }
+    requires fits { fits_fields RowFormat.Dynamic fields.now values.now ≡ true }
+    ensures { result ≡ flag_bytes (flag_count fields.now)
+        + length (spelled_fields RowFormat.Dynamic fields.now values.now) }
+{
+    let mut len = flag_count(fields).div_ceil(8);
+    let mut rest = values;
+    for field in fields {
+        let [value, after @ ..] = rest else {
+            return len;
+        };
+        len += field_len(field, value.as_slice());
+        rest = after;
+    }
+    len
+}
+
+// How many bytes a field of a dynamic row takes.
+fn field_len(field: &Field, value: &[u8]) -> usize
+    requires length { IsLengthOf RowFormat.Dynamic field.now.kind field.now.length }
+    requires fits { fits_field RowFormat.Dynamic field.now.kind field.now.length value.now ≡ true }
+    ensures value { result ≡ length (field_bytes field.now.kind field.now.length value.now) }
+    ensures few { result < 2 ^ 32 + 4 }
+{
+    let length = field.length as usize;
+    match field.kind {
+        FieldKind::Normal => value.len(),
+        FieldKind::SkipEndspace => skipped_len(length, value, trimmed_end(value)),
+        FieldKind::SkipPrespace => skipped_len(length, value, trimmed_start(value)),
+        FieldKind::SkipZero => { if is_zero(value) { 0 } else { value.len() } }
+        FieldKind::Blob => blob_len(length - 8, value.len()),
+        FieldKind::Varchar => varchar_width(length, value.len()) + value.len(),
+    }
 }
 
 // Whether the slot of a static row begins with a byte that is not 0, as that of a deleted one does.
@@ -282,6 +324,19 @@ fn push_skipped(
     Ok(true)
 }
 
+// How many bytes `push_skipped` writes of such a value.
+fn skipped_len(field: usize, value: &[u8], content: &[u8]) -> usize
+    requires { length value.now ≤ field }
+    ensures value { result ≡ length (skipped_bytes field content.now value.now) }
+    ensures few { result ≤ field }
+{
+    if is_shorter(field, content.len()) {
+        skip_width(field, content.len()) + content.len()
+    } else {
+        value.len()
+    }
+}
+
 // Whether so many bytes of content and their length are shorter than the field.
 fn is_shorter(field: usize, len: usize) -> bool
     requires { len < 2 ^ 63 }
@@ -335,6 +390,24 @@ fn push_varchar_length(out: &mut Vec<u8>, field: usize, len: usize) -> Result<()
     }
     out.push(255)?;
     append_number(out, 2, len as u64)
+}
+
+// How many bytes the length of a VARCHAR field of `field` bytes takes in a dynamic row.
+fn varchar_width(field: usize, len: usize) -> usize
+    ensures value { result ≡ length (varchar_length field len) }
+    ensures few { result ≤ 3 }
+{
+    if field <= 256 || len < 255 { 1 } else { 3 }
+}
+
+// How many bytes a BLOB of so many takes, whose length has `width` bytes.
+fn blob_len(width: usize, len: usize) -> usize
+    requires narrow { width ≤ 4 }
+    requires short { len < 2 ^ 32 }
+    ensures value { result ≡ (if len == 0 then 0 else width + len) }
+    ensures few { result ≤ width + len }
+{
+    if len == 0 { 0 } else { width + len }
 }
 
 fn is_zero(value: &[u8]) -> bool

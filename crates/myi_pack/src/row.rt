@@ -1,23 +1,24 @@
 //! A row behind its bytes.
 //!
 //! `view` looks whether bytes pack a row, and a `RowView` is such a row, still in its bytes; `view_packed`
-//! makes one of bytes that were looked at before. `RowFields`
-//! goes over its fields from the first on; a contract sees a `RowView` as the row, and a `RowFields` as
-//! the values that are left.
+//! makes one of bytes that were looked at before. `RowFields` goes over its fields from the first on, and
+//! `NumberedFields` finds them by their numbers. A contract sees a `RowView` and a `NumberedFields` as the
+//! row, and a `RowFields` as the values that are left.
 ghost use Rattle.std.specs.Prelude.{◌≡◌, true, ℕ, List, ◌+◌, ◌<◌, ◌≤◌, ◌^◌, [], length, All, Option};
 ghost use Rattle.std.specs.Prelude.{Some, None, IsSome, MatchOption, is_some, slice_index_or};
-ghost use Rattle.std.specs.Prelude.{◌++◌, drop, map, IfOk, OnOk};
+ghost use Rattle.std.specs.Prelude.{drop, IfOk, OnOk};
 ghost use Rattle.std.specs.Option.{option_map};
 ghost use Rattle.myi_defs.specs.Sound.{IsSound, IsLengthOf};
 ghost use Rattle.myi_pack.specs.Flags.{flag_at, flag_count, flag_bytes};
 ghost use Rattle.myi_pack.specs.Packed.{Values, Packs};
 ghost use Rattle.myi_pack.specs.Unpacking.{as_cut, parts_of, is_spare_clear};
 ghost use Rattle.myi_pack.specs.Unpacking.{fields_of, field_of, ended, row_of, as_value, filled_field};
-ghost use Rattle.myi_pack.specs.Views.{Shows, IsNext, IsNextShown, field_value, shown_value};
+ghost use Rattle.myi_pack.specs.Views.{Shows, IsNext, IsNextShown, field_value};
 
 use crate::fields::{FieldView, cut, cut_field, filled_field, flag_at, flag_count, next_flag};
+use crate::places::{FieldPlaces, cut_at, place_of, reach};
 use myi_defs::{Defs, Field, RowFormat};
-use std::alloc::{AllocError, Global};
+use std::alloc::AllocError;
 use std::marker::Model;
 
 /// A row, lent from its bytes.
@@ -62,32 +63,28 @@ impl<'a> Model for RowFields<'a> {
     ghost invariant = { λ s. IsLeft s.format s.fields.now s.flag s.flags.now s.bytes.now };
 }
 
-/// The fields of a row by their numbers. Those of a static row stand at their places; those of a dynamic row
-/// are met in one pass, as far as they are asked for.
+/// The fields of a row by their numbers. Those of a static row stand at their starts; those of a dynamic row
+/// are met one after the other, as far as they are asked for, and their places are kept.
 #[derive(Drop)]
 pub struct NumberedFields<'a> {
     format: RowFormat,
     fields: &'a [Field],
     flags: &'a [u8],
     bytes: &'a [u8],
-    /// What the fields of a dynamic row that were met show, each with its length.
-    met: Vec<(u16, FieldView<'a>)>,
-    left: RowFields<'a>,
+    places: FieldPlaces,
 }
 
 impl<'a> Model for NumberedFields<'a> {
-    ghost use Rattle.std.specs.Prelude.{◌≡◌};
-    ghost use Rattle.myi_defs.specs.declared.types.RowFormat.TheVariants.{Static};
     ghost use Rattle.myi_pack.specs.Packed.{Values};
-    ghost use Rattle.myi_pack.specs.Left.{numbered_values, IsPlaced};
+    ghost use Rattle.myi_pack.specs.Left.{values_left};
+    ghost use Rattle.myi_pack.specs.Places.{IsNumbered};
 
     ghost Value = { Values };
 
-    ghost view = { λ s.
-        numbered_values s.format s.fields.now s.flags.now s.bytes.now s.met.items s.left };
+    ghost view = { λ s. values_left s.format s.fields.now 0 s.flags.now s.bytes.now };
 
-    ghost invariant = { λ s. s.format ≡ Static
-        → IsPlaced Static s.fields.now s.flags.now s.bytes.now };
+    ghost invariant = { λ s.
+        IsNumbered s.format s.fields.now s.flags.now s.bytes.now s.places.behind.items };
 }
 
 /// The row that the bytes pack, or None where they pack none. It takes no memory. In a dynamic table the
@@ -212,17 +209,18 @@ impl<'a> RowView<'a> {
         self.fields.len()
     }
 
-    /// The fields by their numbers. It takes no memory itself.
-    pub fn numbered(&self, alloc: Global) -> NumberedFields<'a>
+    /// The fields by their numbers, with a buffer for their places. It takes no memory itself.
+    pub fn numbered(&self, places: FieldPlaces) -> NumberedFields<'a>
         ensures { result ≡ self.now }
     {
+        let mut places = places;
+        places.behind.clear();
         NumberedFields {
             format: self.format,
             fields: self.fields,
             flags: self.flags,
             bytes: self.bytes,
-            met: Vec::new(alloc),
-            left: self.fields(),
+            places,
         }
     }
 
@@ -277,10 +275,26 @@ impl<'a> NumberedFields<'a> {
         match self.format {
             RowFormat::Static => Ok(slot_field(&self.fields[i], self.bytes)),
             RowFormat::Dynamic => {
-                meet(&mut self.met, &mut self.left, i)?;
-                Ok(self.met[i])
+                let behind = &mut self.places.behind;
+                reach(behind, self.fields, self.flags, self.bytes, i)?;
+                let place = place_of(&self.places.behind, i);
+                let field = &self.fields[i];
+                let (shown, _) = cut_at(field, self.flags, self.bytes, place);
+                Ok((field.length, shown))
             }
         }
+    }
+
+    /// The buffer, for another row.
+    pub fn into_places(self) -> FieldPlaces {
+        let NumberedFields {
+            format: _,
+            fields: _,
+            flags: _,
+            bytes: _,
+            places,
+        } = self;
+        places
     }
 }
 
@@ -296,21 +310,4 @@ fn slot_field<'a>(field: &Field, slot: &'a [u8]) -> (u16, FieldView<'a>)
 {
     let (value, _) = filled_field(field, &slot[field.start as usize..]).unwrap();
     (field.length, FieldView::Plain(value))
-}
-
-// Goes over the fields that are left until field `i` is met.
-fn meet<'a>(
-    met: &mut Vec<(u16, FieldView<'a>)>,
-    left: &mut RowFields<'a>,
-    i: usize,
-) -> Result<(), AllocError>
-    requires { i < length met.old.items + length left.old }
-    ensures same { OnOk result
-        (map shown_value met.new.items ++ left.new ≡ map shown_value met.old.items ++ left.old) }
-    ensures met { OnOk result (i < length met.new.items) }
-{
-    while met.len() <= i {
-        met.push(left.next_with_length().unwrap())?;
-    }
-    Ok(())
 }

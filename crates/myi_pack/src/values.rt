@@ -29,7 +29,8 @@ pub fn unpack(alloc: Global, view: &RowView<'_>) -> Result<Row, AllocError>
     Ok(Sequence::new(values))
 }
 
-/// The value that a view shows of a field of so many bytes.
+/// The value that a view shows of a field to which the definitions give so many bytes. What a BLOB holds
+/// may be longer.
 pub fn value_of(alloc: Global, field: usize, view: FieldView<'_>) -> Result<Value, AllocError>
     requires { field < 65536 }
     ensures { IfOk result (λ value. value ≡ field_value field view.entry) }
@@ -39,7 +40,8 @@ pub fn value_of(alloc: Global, field: usize, view: FieldView<'_>) -> Result<Valu
     Ok(Sequence::new(bytes))
 }
 
-/// Writes the value that a view shows of a field of so many bytes, in place of what the buffer held.
+/// Writes the value that a view shows of a field to which the definitions give so many bytes, in place of
+/// what the buffer held. What a BLOB holds may be longer.
 pub fn value_into(bytes: &mut Vec<u8>, field: usize, view: FieldView<'_>) -> Result<(), AllocError>
     requires { field < 65536 }
     ensures { OnOk result (bytes.new.items ≡ field_value field view.entry) }

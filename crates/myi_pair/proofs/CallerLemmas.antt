@@ -2,10 +2,10 @@
 
 -- first_rows_are_distinct
 pub use Rattle.myi_pair.proofs.FirstRowsLaws.{first_by_keys}
+-- kept_rows_make_a_table
+pub use Rattle.myi_pair.proofs.KeptLaws.{readable_storable}
 -- pairs_are_sized
 pub use Rattle.myi_pair.proofs.SizedLaws.{placed, is_key, laid_short}
--- laid_pages_stand_behind
-pub use Rattle.myi_pair.proofs.FileLaws.{tree_behind}
 -- recovered_bytes_recover
 pub use Rattle.myi_pair.proofs.RecoveredLaws.{recovered}
 -- written_parts_are_measured

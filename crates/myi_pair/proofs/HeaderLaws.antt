@@ -14,7 +14,7 @@ use Rattle.myi_header.specs.Layout.{page_sizes}
 use Rattle.myi_header.specs.StateOf.{IsPlace, rest_length, state_of, has_mark}
 use Rattle.myi_header.specs.HeaderOf.{FitsWidths, IsStored, header_of}
 use Rattle.myi_header.proofs.CallerLemmas.{header-state, header-marked, header-elsewhere, state-rest}
-use Rattle.myi_pair.specs.RecoveredBytes.{without_free_pages, new_state}
+use Rattle.myi_pair.specs.RebuiltBytes.{without_free_pages, new_state}
 
 -- the bytes of a state that are kept
 

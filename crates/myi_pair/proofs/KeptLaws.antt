@@ -1,5 +1,5 @@
 -- The rows that a repair keeps can be stored, and what it stores is read as these rows.
-use Rattle.std.proofs.Common.{◌≡◌, ℕ, suc, ◌+◌, ◌-◌, ◌^◌, ◌<◌, ◌≤◌, sum_by, arith, subst, Bool, true, false, cond, List, [], ◌∷◌, ◌++◌, length, map, Option, Some, None, is_some, unwrap_or, All, refl, sym, ap, ◌∙◌}
+use Rattle.std.proofs.Common.{◌≡◌, ℕ, suc, ◌+◌, ◌-◌, ◌^◌, ◌<◌, ◌≤◌, sum_by, arith, subst, Bool, true, false, cond, List, [], ◌∷◌, ◌++◌, length, map, Option, Some, None, is_some, unwrap_or, refl, sym, ap, ◌∙◌}
 use Rattle.std.specs.List.{list_any, AllByRecursion}
 use Rattle.std.proofs.lemmas.List.Elements.{All-from_recursion}
 use Rattle.std.proofs.lemmas.List.Sums.{sum_by-cons}
@@ -23,7 +23,8 @@ use Rattle.myi_pair.specs.FirstRows.{repeats, repeats_row, first_rows, AreDistin
 use Rattle.myi_keylist.specs.FirstBy.{first_after}
 use Rattle.myi_pair.specs.KeyList.{PlacedRow}
 use Rattle.myi_pair.specs.Clean.{values_of, sized_row}
-use Rattle.myi_pair.specs.RecoveredBytes.{kept, new_data, placed_from}
+use Rattle.myi_pair.specs.RebuiltBytes.{placed_from}
+use Rattle.myi_pair.specs.RecoveredBytes.{kept, new_data}
 use Rattle.myi_pair.proofs.FirstRowsLaws.{distinct, all_kept}
 use Rattle.myi_pair.proofs.ReadLaws.{HasHeld, IsFine, readable_fine}
 
@@ -39,7 +40,7 @@ packs_values d len r s fine = row-takes d (values_of d r) r.bytes s.lengths fine
 pub row_storable : (d : Defs) (len : ℕ) (r : Row) → AreDefs d → IsFine d.format d len r → IsStorable d (sized_row d r)
 row_storable d len r are fine =
     let s : IsSound d = sound d are in
-    let fit : fits d (values_of d r) ≡ true = row-fits d (values_of d r) r.bytes s (packs_values d len r s fine) in
+    let fit : fits d (values_of d r) ≡ true = row-fits d (values_of d r) r.bytes s (packs_values d len r s fine) fine.counted in
     let few : length (spelling d (values_of d r)) ≤ length r.bytes = row-least d (values_of d r) r.bytes s (packs_values d len r s fine) in
     record { fits = fit; held = λ dynamic long. held_as d.format (length (spelling d (values_of d r))) dynamic fine.held few }
   where
@@ -56,7 +57,7 @@ readable_storable d extend x are bytes = rows_storable d (length x) (readable d 
 
 -- and so can those that are kept
 
-all-mapped : {X Y : Type 0} (P : Y → Type 0) (f : X → Y) (xs : List X) → AllByRecursion (λ x. P (f x)) xs → AllByRecursion P (map f xs)
+pub all-mapped : {X Y : Type 0} (P : Y → Type 0) (f : X → Y) (xs : List X) → AllByRecursion (λ x. P (f x)) xs → AllByRecursion P (map f xs)
 all-mapped P f [] all = tt
 all-mapped P f (x ∷ xs) all = (all.0, all-mapped P f xs all.1)
 
@@ -73,9 +74,6 @@ unfolding kept first_rows
 kept_each d extend x are bytes =
     first_after_all (IsStorable d) (repeats_row d) [] (map (sized_row d) (readable d extend x)) (all-mapped (IsStorable d) (sized_row d) (readable d extend x) (readable_storable d extend x are bytes))
 
-pub kept_storable : (d : Defs) (extend : Bool) (x : List ℕ) → AreDefs d → AreBytes x → All (IsStorable d) (kept d extend x)
-kept_storable d extend x are bytes = All-from_recursion (IsStorable d) (kept d extend x) (kept_each d extend x are bytes)
-
 -- what is stored is read
 
 pub laid_values : (d : Defs) (at : ℕ) (rs : List SizedRow) → IsSound d → AllByRecursion (IsStorable d) rs → map (values_of d) (stored_rows d at rs) ≡ values_in rs
@@ -85,17 +83,15 @@ laid_values d at (r ∷ rs) s all =
     let first : unwrap_or (row_of d (spelling d r.values)) [] ≡ r.values = ap (λ (o : Option Values). unwrap_or o []) (row-reads d r.values s all.0.fits) in
     ap (λ w. w ∷ map (values_of d) (stored_rows d (at + stored_size d r) rs)) first ∙ ap (λ ws. r.values ∷ ws) (laid_values d (at + stored_size d r) rs s all.1)
 
-pub new_rows : (d : Defs) (any extend : Bool) (x : List ℕ) → AreDefs d → AreBytes x → length (new_data d extend x) < 2 ^ 64 - 1 → readable d any (new_data d extend x) ≡ stored_rows d 0 (kept d extend x)
-unfolding new_data
-new_rows d any extend x are bytes near = stored_read d any (kept d extend x) (sound d are) (kept_storable d extend x are bytes) (λ _. near)
+pub rows_read : (d : Defs) (any : Bool) (rows : List SizedRow) → IsSound d → AllByRecursion (IsStorable d) rows → length (stored_file d rows) < 2 ^ 64 - 1 → readable d any (stored_file d rows) ≡ stored_rows d 0 rows
+rows_read d any rows s all near = stored_read d any rows s (All-from_recursion (IsStorable d) rows all) (λ _. near)
 
-pub new_values : (d : Defs) (any extend : Bool) (x : List ℕ) → AreDefs d → AreBytes x → length (new_data d extend x) < 2 ^ 64 - 1 → map (values_of d) (readable d any (new_data d extend x)) ≡ values_in (kept d extend x)
-new_values d any extend x are bytes near =
-    ap (map (values_of d)) (new_rows d any extend x are bytes near) ∙ laid_values d 0 (kept d extend x) (sound d are) (kept_each d extend x are bytes)
+pub values_read : (d : Defs) (any : Bool) (rows : List SizedRow) → IsSound d → AllByRecursion (IsStorable d) rows → length (stored_file d rows) < 2 ^ 64 - 1 → map (values_of d) (readable d any (stored_file d rows)) ≡ values_in rows
+values_read d any rows s all near = ap (map (values_of d)) (rows_read d any rows s all near) ∙ laid_values d 0 rows s all
 
 -- and a repair of it keeps them all, with the sizes of their new blocks
 
-kept_distinct : (d : Defs) (extend : Bool) (x : List ℕ) → AreDistinct d [] (values_in (kept d extend x))
+pub kept_distinct : (d : Defs) (extend : Bool) (x : List ℕ) → AreDistinct d [] (values_in (kept d extend x))
 unfolding kept
 kept_distinct d extend x = distinct d (map (sized_row d) (readable d extend x))
 
@@ -132,17 +128,16 @@ laid_sized d at (r ∷ rs) s all =
     ∙ ap (λ (ns : List ℕ). record { values = r.values; sizes = ns } ∷ map (sized_row d) (stored_rows d next rs)) (ranges_sizes at (group d r))
     ∙ ap (λ (rows : List SizedRow). resized d r ∷ rows) (laid_sized d next rs s all.1)
 
-pub kept_again : (d : Defs) (any extend : Bool) (x : List ℕ) → AreDefs d → AreBytes x → length (new_data d extend x) < 2 ^ 64 - 1 → kept d any (new_data d extend x) ≡ map (resized d) (kept d extend x)
-kept_again d any extend x are bytes near =
-    let rows : List SizedRow = kept d extend x in
-    let apart : AreDistinct d [] (values_in (map (resized d) rows)) = subst (AreDistinct d []) (sym (values_resized d rows)) (kept_distinct d extend x) in
-    kept_of d any (new_data d extend x)
-    ∙ ap (λ (read : List Row). first_rows d (map (sized_row d) read)) (new_rows d any extend x are bytes near)
-    ∙ ap (first_rows d) (laid_sized d 0 rows (sound d are) (kept_each d extend x are bytes))
+pub kept_again : (d : Defs) (any : Bool) (rows : List SizedRow) → IsSound d → AllByRecursion (IsStorable d) rows → AreDistinct d [] (values_in rows) → length (stored_file d rows) < 2 ^ 64 - 1 → kept d any (stored_file d rows) ≡ map (resized d) rows
+kept_again d any rows s all distinct near =
+    let apart : AreDistinct d [] (values_in (map (resized d) rows)) = subst (AreDistinct d []) (sym (values_resized d rows)) distinct in
+    kept_of d any (stored_file d rows)
+    ∙ ap (λ (read : List Row). first_rows d (map (sized_row d) read)) (rows_read d any rows s all near)
+    ∙ ap (first_rows d) (laid_sized d 0 rows s all)
     ∙ all_kept d (map (resized d) rows) apart
 
-pub settled : (d : Defs) (any extend : Bool) (x : List ℕ) → AreDefs d → AreBytes x → length (new_data d extend x) < 2 ^ 64 - 1 → values_in (kept d any (new_data d extend x)) ≡ values_in (kept d extend x)
-settled d any extend x are bytes near = ap values_in (kept_again d any extend x are bytes near) ∙ values_resized d (kept d extend x)
+pub settled : (d : Defs) (any : Bool) (rows : List SizedRow) → IsSound d → AllByRecursion (IsStorable d) rows → AreDistinct d [] (values_in rows) → length (stored_file d rows) < 2 ^ 64 - 1 → values_in (kept d any (stored_file d rows)) ≡ values_in rows
+settled d any rows s all distinct near = ap values_in (kept_again d any rows s all distinct near) ∙ values_resized d rows
 
 -- ---- in these sizes they are stored as they were
 
@@ -192,13 +187,10 @@ module _ (d : Defs) where
   unfolding stored_file
   alike_resized rs = record { file = from_same 0 rs; blocks = blocks_same rs; placed = placed_same 0 rs; count = count_same rs }
 
-data_of : (d : Defs) (extend : Bool) (x : List ℕ) → new_data d extend x ≡ stored_file d (kept d extend x)
+pub data_of : (d : Defs) (extend : Bool) (x : List ℕ) → new_data d extend x ≡ stored_file d (kept d extend x)
 unfolding new_data
 data_of d extend x = refl
 
--- what a repair keeps of its own data file is stored as it was
-pub settled_alike : (d : Defs) (any extend : Bool) (x : List ℕ) → AreDefs d → AreBytes x → length (new_data d extend x) < 2 ^ 64 - 1 → AreAlike d (kept d any (new_data d extend x)) (kept d extend x)
-settled_alike d any extend x are bytes near = subst (λ (rs : List SizedRow). AreAlike d rs (kept d extend x)) (sym (kept_again d any extend x are bytes near)) (alike_resized d (kept d extend x))
-
-pub settled_data : (d : Defs) (any extend : Bool) (x : List ℕ) → AreDefs d → AreBytes x → length (new_data d extend x) < 2 ^ 64 - 1 → new_data d any (new_data d extend x) ≡ new_data d extend x
-settled_data d any extend x are bytes near = data_of d any (new_data d extend x) ∙ (settled_alike d any extend x are bytes near).file ∙ sym (data_of d extend x)
+-- what a repair keeps of a file of such rows is stored as it was
+pub settled_alike : (d : Defs) (any : Bool) (rows : List SizedRow) → IsSound d → AllByRecursion (IsStorable d) rows → AreDistinct d [] (values_in rows) → length (stored_file d rows) < 2 ^ 64 - 1 → AreAlike d (kept d any (stored_file d rows)) rows
+settled_alike d any rows s all distinct near = subst (λ (rs : List SizedRow). AreAlike d rs rows) (sym (kept_again d any rows s all distinct near)) (alike_resized d rows)

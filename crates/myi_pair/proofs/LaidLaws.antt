@@ -19,7 +19,7 @@ use Rattle.std.proofs.lemmas.List.Folds.{list_any-append}
 use Rattle.std.proofs.lemmas.List.Sums.{sum_by-cons}
 use Rattle.myi_pair.specs.KeyList.{PlacedRow}
 use Rattle.myi_pair.specs.Clean.{placed_row, covers}
-use Rattle.myi_pair.specs.RecoveredBytes.{placed_from}
+use Rattle.myi_pair.specs.RebuiltBytes.{placed_from}
 use Rattle.myi_pair.proofs.ReadLaws.{IsInFile, frees_fine}
 use Rattle.myi_pair.proofs.SizedLaws.{IsNear}
 use Rattle.myi_pair.proofs.ShorterLaws.{stored_length}

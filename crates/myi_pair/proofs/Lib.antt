@@ -8,11 +8,11 @@ pub mod PageRanges
 pub mod NodesAt
 pub mod TreesLaws
 pub mod HeaderLaws
-pub mod FewPages
+pub mod ShortTrees
 pub mod SameDefs
 pub mod LaidLaws
-pub mod FileLaws
 pub mod NewIndexLaws
+pub mod RebuiltLaws
 pub mod RecoveredLaws
 mod Worked
 pub mod SecondLaws

@@ -1,5 +1,5 @@
--- The new index file: its trees, its header and its length.
-use Rattle.std.proofs.Common.{◌≡◌, ℕ, zero, suc, ◌+◌, ◌-◌, ◌*◌, ◌%◌, ◌^◌, ◌<◌, ◌≤◌, Bool, true, List, [], ◌∷◌, ◌++◌, length, map, drop, nat_le, refl, sym, ap, subst, ◌∙◌, arith, length-append}
+-- The index file of a table of given rows: its trees, its header and its length.
+use Rattle.std.proofs.Common.{◌≡◌, ℕ, zero, suc, ◌+◌, ◌-◌, ◌*◌, ◌%◌, ◌^◌, ◌<◌, ◌≤◌, true, List, [], ◌∷◌, ◌++◌, length, map, drop, nat_le, refl, sym, ap, subst, ◌∙◌, arith, length-append}
 use Rattle.std.specs.List.{AllByRecursion}
 use Rattle.std.proofs.lemmas.Bool.{and_parts, leb-true}
 use Rattle.std.proofs.lemmas.List.{drop_at, append-nil, length-map}
@@ -20,14 +20,13 @@ use Rattle.myi_data.specs.Keys.{IsKeyNumber}
 use Rattle.myi_pair.specs.FirstRows.{numbers_from, key_numbers}
 use Rattle.myi_pair.specs.KeyList.{PlacedRow, key_list}
 use Rattle.myi_pair.specs.Trees.{block_of_key, place_of}
-use Rattle.myi_pair.specs.RecoveredBytes.{kept, new_data, placed_from, LaidTrees, laid_trees, new_trees, recovered_state, new_index}
-use Rattle.myi_pair.specs.Recovered.{IsRepairable}
+use Rattle.myi_pair.specs.RebuiltBytes.{placed_from, LaidTrees, laid_trees, new_trees, rebuilt_state, rebuilt_index}
+use Rattle.myi_pair.specs.Rebuilt.{CanBeRebuilt}
 use Rattle.myi_pair.proofs.SizedLaws.{placed}
-use Rattle.myi_pair.proofs.KeptLaws.{kept_each}
-use Rattle.myi_pair.proofs.ShorterLaws.{stored_length, length-laid, new_reached, shorter}
+use Rattle.myi_pair.proofs.ShorterLaws.{stored_length, length-laid}
 use Rattle.myi_pair.proofs.LaidLaws.{near_from, few_rows, few_blocks}
 use Rattle.myi_pair.proofs.TreesLaws.{trees_of, first_le_end, AreThere, trees_there}
-use Rattle.myi_pair.proofs.FewPages.{trees_short, first_short}
+use Rattle.myi_pair.proofs.ShortTrees.{trees_short, first_short}
 use Rattle.myi_header.proofs.CallerLemmas.{header-long}
 use Rattle.myi_pair.proofs.HeaderLaws.{RootFits, AreFew, repaired, new_rest, IsNewIndex, new_header}
 
@@ -115,74 +114,58 @@ short_file : (d : Defs) (n : ℕ) → is_addressable d n ≡ true → n ≤ 2 ^ 
 unfolding is_addressable
 short_file d n reached = leb-true n (2 ^ 40) (and_parts (nat_le n (2 ^ 40)) _ reached).0
 
-module _ (d : Defs) (extend : Bool) (x : List ℕ) (now : ℕ) (can : IsRepairable d x now) where
-  the_rows : List SizedRow
-  the_rows = kept d extend x
-
+module _ (d : Defs) (rows : List SizedRow) (now : ℕ) (can : CanBeRebuilt d rows now) where
   is_sound : IsSound d
   is_sound = sound d can.defined
 
-  pub all_stored : AllByRecursion (IsStorable d) (kept d extend x)
-  all_stored = kept_each d extend x can.defined can.bytes
+  pub data_long : length (stored_file d rows) ≡ stored_length d rows
+  data_long = length-laid d rows is_sound can.storable
 
-  data_is : new_data d extend x ≡ stored_file d (kept d extend x)
-  unfolding new_data
-  data_is = refl
-
-  pub data_long : length (new_data d extend x) ≡ stored_length d (kept d extend x)
-  data_long = ap (λ (b : List ℕ). length b) data_is ∙ length-laid d (kept d extend x) is_sound all_stored
-
-  new_near : is_addressable d (length (stored_file d (kept d extend x))) ≡ true
-  new_near = ap (λ (b : List ℕ). is_addressable d (length b)) (sym data_is) ∙ new_reached d extend x can.defined can.bytes can.reached
-
-  pub room : (new_trees d (kept d extend x)).end < 2 ^ 64
+  pub room : (new_trees d rows).end < 2 ^ 64
   room =
-      let rows : List SizedRow = kept d extend x in
-      let less = shorter d extend x can.defined can.bytes in
-      let most = short_file d (length x) can.reached in
       let len : ℕ = length (stored_file d rows) in
-      let few : length (rows_placed d rows) ≤ 2 ^ 40 = omega (arith, placed_count d 0 rows, less, most, data_long, few_rows d rows is_sound all_stored) in
-      let short = trees_short d len (first_page_of d) (key_numbers d) (rows_placed d rows) is_sound new_near (near_from d 0 len rows all_stored (omega (arith, length-laid d rows is_sound all_stored)))
+      let most = short_file d len can.reached in
+      let few : length (rows_placed d rows) ≤ 2 ^ 40 = omega (arith, placed_count d 0 rows, most, data_long, few_rows d rows is_sound can.storable) in
+      let short = trees_short d len (first_page_of d) (key_numbers d) (rows_placed d rows) is_sound can.reached (near_from d 0 len rows can.storable (omega (arith, data_long)))
       (numbers_of_keys d) (omega (arith, numbers_count 1 (length d.keys), is_sound.few_keys)) few (first_short d is_sound can.header) in
       subst (λ (t : LaidTrees). t.end < 2 ^ 64) (sym (trees_are d rows)) short
 
-  pub are_few : AreFew d (length (kept d extend x)) (block_count d (kept d extend x)) (length (new_data d extend x)) (new_trees d (kept d extend x)).end now (new_trees d (kept d extend x)).roots
+  pub are_few : AreFew d (length rows) (block_count d rows) (length (stored_file d rows)) (new_trees d rows).end now (new_trees d rows).roots
   are_few =
-      let less = shorter d extend x can.defined can.bytes in
-      let most = short_file d (length x) can.reached in
+      let most = short_file d (length (stored_file d rows)) can.reached in
       record {
         raw = can.header;
-        few_rows = omega (arith, less, most, data_long, few_rows d (kept d extend x) is_sound all_stored);
-        few_blocks = omega (arith, less, most, data_long, few_rows d (kept d extend x) is_sound all_stored, few_blocks d (kept d extend x) is_sound all_stored);
-        short_data = omega (arith, less, most);
+        few_rows = omega (arith, most, data_long, few_rows d rows is_sound can.storable);
+        few_blocks = omega (arith, most, data_long, few_blocks d rows is_sound can.storable);
+        short_data = omega (arith, most);
         short_index = room;
         early = can.time;
-        count = new_roots_count d (kept d extend x);
-        fit = new_roots_fit d (kept d extend x) is_sound room;
+        count = new_roots_count d rows;
+        fit = new_roots_fit d rows is_sound room;
       }
 
   abbrev the_state : State
-  the_state = repaired d (length (kept d extend x)) (block_count d (kept d extend x)) (length (new_data d extend x)) (new_trees d (kept d extend x)).end now (new_trees d (kept d extend x)).roots
+  the_state = repaired d (length rows) (block_count d rows) (length (stored_file d rows)) (new_trees d rows).end now (new_trees d rows).roots
 
-  pub index_is : new_index d extend x now ≡ header_of d the_state ++ (new_trees d (kept d extend x)).bytes
-  unfolding new_index
+  pub index_is : rebuilt_index d rows now ≡ header_of d the_state ++ (new_trees d rows).bytes
+  unfolding rebuilt_index
   index_is = refl
 
   front_long : length (header_of d the_state) ≡ first_page_of d
-  front_long = header-long d the_state is_sound (new_roots_count d (kept d extend x)) (new_rest d is_sound)
+  front_long = header-long d the_state is_sound (new_roots_count d rows) (new_rest d is_sound)
 
-  pub there : AreThere d (new_index d extend x now) (placed_from d 0 (kept d extend x)) ((0, first_page_of d) ∷ []) (first_page_of d) (key_numbers d)
+  pub there : AreThere d (rebuilt_index d rows now) (placed_from d 0 rows) ((0, first_page_of d) ∷ []) (first_page_of d) (key_numbers d)
   there =
-      let behind : drop (first_page_of d) (new_index d extend x now) ≡ (new_trees d (kept d extend x)).bytes = ap (drop (first_page_of d)) index_is ∙ drop_at (header_of d the_state) (new_trees d (kept d extend x)).bytes (first_page_of d) front_long in
-      new_there d (new_index d extend x now) (kept d extend x) is_sound all_stored new_near room behind
+      let behind : drop (first_page_of d) (rebuilt_index d rows now) ≡ (new_trees d rows).bytes = ap (drop (first_page_of d)) index_is ∙ drop_at (header_of d the_state) (new_trees d rows).bytes (first_page_of d) front_long in
+      new_there d (rebuilt_index d rows now) rows is_sound can.storable can.reached room behind
 
-  pub index_long : length (new_index d extend x now) ≡ (new_trees d (kept d extend x)).end
+  pub index_long : length (rebuilt_index d rows now) ≡ (new_trees d rows).end
   index_long =
-      let t : LaidTrees = new_trees d (kept d extend x) in
-      let same = trees_are d (kept d extend x) in
+      let t : LaidTrees = new_trees d rows in
+      let same = trees_are d rows in
       ap (λ (b : List ℕ). length b) index_is ∙ length-append (header_of d the_state) t.bytes
       ∙ omega (arith, front_long, there.long, ap (λ (u : LaidTrees). length u.bytes) same, ap (λ (u : LaidTrees). u.end) same)
 
-  pub index_shows : IsNewIndex d (recovered_state d extend x now) (new_index d extend x now)
+  pub index_shows : IsNewIndex d (rebuilt_state d rows now) (rebuilt_index d rows now)
   index_shows =
-      subst (IsNewIndex d the_state) (sym index_is) (new_header d (length (kept d extend x)) (block_count d (kept d extend x)) (length (new_data d extend x)) (new_trees d (kept d extend x)).end now (new_trees d (kept d extend x)).roots (new_trees d (kept d extend x)).bytes is_sound are_few)
+      subst (IsNewIndex d the_state) (sym index_is) (new_header d (length rows) (block_count d rows) (length (stored_file d rows)) (new_trees d rows).end now (new_trees d rows).roots (new_trees d rows).bytes is_sound are_few)

@@ -1,6 +1,6 @@
--- What holds of each readable row: its bytes are bytes and pack a row, and its blocks lie in the file, have room for
--- each row that is no longer, and held as many bytes.
-use Rattle.std.proofs.Common.{◌≡◌, ℕ, zero, suc, ◌+◌, ◌-◌, ◌*◌, ◌/◌, ◌<◌, ◌≤◌, Bool, true, List, [], ◌∷◌, ◌++◌, length, map, take, drop, Option, Some, None, refl, sym, ap, subst, ◌∙◌, arith, length-append, length-drop, div-mul-le_self, suc-mul}
+-- What holds of each readable row: its bytes are bytes and pack a row, in a dynamic table four bytes count them, and its
+-- blocks lie in the file, have room for each row that is no longer, and held as many bytes.
+use Rattle.std.proofs.Common.{◌≡◌, ℕ, zero, suc, ◌+◌, ◌-◌, ◌*◌, ◌/◌, ◌^◌, ◌<◌, ◌≤◌, Bool, true, List, [], ◌∷◌, ◌++◌, length, map, take, drop, Option, Some, None, refl, sym, ap, subst, ◌∙◌, arith, length-append, length-drop, div-mul-le_self, suc-mul}
 use Rattle.std.specs.List.{flat_map, AllByRecursion}
 use Rattle.std.proofs.lemmas.List.{length-take-le}
 use Rattle.std.proofs.lemmas.List.Sums.{sum_by-cons}
@@ -13,8 +13,8 @@ use Rattle.myi_defs.specs.declared.types.Defs.{Defs}
 use Rattle.myi_defs.specs.Sound.{IsSound}
 use Rattle.myi_frames.specs.Block.{Block, block_of}
 use Rattle.myi_frames.specs.Sizes.{least_size, IsSized, held_bytes, total_size}
-use Rattle.myi_frames.proofs.CallerLemmas.{block-bytes, block-sized, least-together}
-use Rattle.myi_chain.specs.Chain.{Reading, range_of, ranges, row_bytes, IsTail, AreLinked}
+use Rattle.myi_frames.proofs.CallerLemmas.{block-bytes, block-bounded, block-sized, least-together}
+use Rattle.myi_chain.specs.Chain.{Reading, range_of, ranges, row_bytes, promised, IsTail, AreLinked}
 use Rattle.myi_chain.specs.Readable.{Row, Item, row, free, rows_of, frees_of, rest}
 use Rattle.myi_chain.specs.Readable as chains
 use Rattle.myi_chain.specs.Meeting.{IsRowOf, IsItemOf}
@@ -36,6 +36,7 @@ HasHeld Dynamic r = (n : ℕ) → n ≤ length r.bytes → HaveHeld (map (λ (a 
 
 pub record IsFine (format : RowFormat) (d : Defs) (len : ℕ) (r : Row) : Type 0 where
   pub bytes : AreBytes r.bytes
+  pub counted : format ≡ Dynamic → length r.bytes < 2 ^ 32
   pub packed : packs d r.bytes ≡ true
   pub inside : AllByRecursion (λ (a : Range). a.1 ≤ len) r.blocks
   pub room : HasRoom format d r
@@ -58,6 +59,7 @@ slots_fine d (suc n) at len xs are whole inside =
     let behind : AllByRecursion (IsFine Static d len) (rows_of more) = slots_fine d n (at + size) len (drop size xs) (bytes-drop size xs are) (omega (arith, step)) (omega (arith, step)) in
     let fine : packs d (take size xs) ≡ true → IsFine Static d len (slot_row slot) = λ is. record {
       bytes = bytes-take size xs are;
+      counted = λ dynamic. absurd cc;
       packed = is;
       inside = (omega (arith, step), tt);
       room = omega (arith, one_range at size (length (take size xs)) long);
@@ -117,6 +119,12 @@ sizes_are (b ∷ bs) =
     let size : b.size ≡ b.at + b.size - b.at = omega arith in
     ap (λ n. n ∷ map (λ (b : Block). b.size) bs) size ∙ ap (λ (ns : List ℕ). (b.at + b.size - b.at) ∷ ns) (sizes_are bs)
 
+-- a row has as many bytes as its first block says
+promised_few : (x : List ℕ) (p : ℕ) (bs : List Block) → AreBytes x → AreLinked (block_of x) p bs → promised bs < 2 ^ 32
+promised_few x p [] are linked = absurd linked
+promised_few x p (b ∷ []) are linked = (block-bounded x p b are linked.0).rec_len
+promised_few x p (b ∷ c ∷ bs) are linked = (block-bounded x p b are linked.0).rec_len
+
 row_fine : (d : Defs) (x : List ℕ) (r : Row) → AreBytes x → IsRowOf (block_of x) (packs d) r → IsFine Dynamic d (length x) r
 row_fine d x r are is =
     let bs : List Block = is.chain in
@@ -125,6 +133,7 @@ row_fine d x r are is =
     let all : total r.blocks ≡ total (ranges bs) = ap total is.blocks in
     record {
       bytes = subst AreBytes (sym is.bytes) fine.bytes;
+      counted = λ _. omega (arith, same, is.is.whole, promised_few x r.at bs are is.is.linked);
       packed = is.packs;
       inside = subst (λ (rs : List Range). AllByRecursion (λ (a : Range). a.1 ≤ length x) rs) (sym is.blocks) fine.inside;
       room = λ n some few.

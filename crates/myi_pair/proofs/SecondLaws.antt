@@ -1,4 +1,4 @@
--- A second repair leaves the files that the first would have left at its time.
+-- A repair of a file of given rows keeps it, and leaves the index file that is made at its time.
 use Rattle.std.proofs.Common.{◌||◌, ◌≡◌, ℕ, ◌+◌, ◌-◌, ◌*◌, ◌≤◌, Bool, cond, Option, List, [], ◌∷◌, ◌++◌, length, map, take, drop, replicate, sum_by, Ok, refl, sym, ap, subst, ◌∙◌, arith, append_assoc, length-append}
 use Rattle.std.specs.List.{list_any}
 use Rattle.std.proofs.lemmas.List.Sums.{sum_by-cons}
@@ -31,13 +31,14 @@ use Rattle.myi_keylist.specs.FirstBy.{first_after}
 use Rattle.myi_pair.specs.KeyList.{PlacedRow, key_list}
 use Rattle.myi_pair.specs.Trees.{block_of_key, place_of}
 use Rattle.myi_pair.specs.Clean.{sized_row}
-use Rattle.myi_pair.specs.RecoveredBytes.{kept, new_data, placed_from, LaidTrees, pages_then, laid_trees, key_lists, new_trees, without_free_pages, new_state, recovered_state, new_index}
-use Rattle.myi_pair.specs.Recovered.{IsRepairable}
-use Rattle.myi_pair.proofs.KeptLaws.{AreAlike, settled_alike, settled_data}
-use Rattle.myi_pair.proofs.ShorterLaws.{new_near}
+use Rattle.myi_pair.specs.RebuiltBytes.{placed_from, LaidTrees, pages_then, laid_trees, key_lists, new_trees, without_free_pages, new_state, rebuilt_state, rebuilt_index}
+use Rattle.myi_pair.specs.RecoveredBytes.{kept, new_data, new_index}
+use Rattle.myi_pair.specs.Rebuilt.{CanBeRebuilt}
+use Rattle.myi_pair.proofs.KeptLaws.{AreAlike, settled_alike}
+use Rattle.myi_pair.proofs.ShorterLaws.{near_reached}
 use Rattle.myi_pair.proofs.HeaderLaws.{IsNewIndex}
 use Rattle.myi_pair.proofs.NewIndexLaws.{index_shows}
-use Rattle.myi_pair.proofs.RecoveredLaws.{IsLike, front_number, layout_same, first_same, state_same, header_like, same_defs, recovered}
+use Rattle.myi_pair.proofs.RebuiltLaws.{IsLike, front_number, layout_same, first_same, state_same, header_like, same_defs, is_rebuilt}
 use Rattle.myi_pair.proofs.SameDefs.{with_raw, readable_same, sized_same, repeats_same, list_same}
 
 -- what definitions with another header say of kept rows, stored rows and trees
@@ -186,96 +187,108 @@ state_settles : (d : Defs) (r : List ℕ) (n blocks long now later end : ℕ) (r
 state_settles d r n blocks long now later end roots s like =
     ap (λ rest. record (new_state d (state_of d d.raw) n blocks long roots end later) { rest = rest }) (rest_settles d r s like)
 
--- the second repair
+-- the repair of a file of given rows
 
-module _ (d : Defs) (extend : Bool) (x : List ℕ) (now : ℕ) (can : IsRepairable d x now) where
+module _ (d : Defs) (rows : List SizedRow) (now : ℕ) (can : CanBeRebuilt d rows now) where
   is_sound : IsSound d
   is_sound = sound d can.defined
 
-  -- the header of the new index file
+  abbrev file : List ℕ
+  file = stored_file d rows
+
+  -- the header of the index file
   abbrev header_read : List ℕ
-  header_read = take (num_at 6 2 d.raw) (new_index d extend x now)
+  header_read = take (num_at 6 2 d.raw) (rebuilt_index d rows now)
 
   is_like : IsLike d header_read
-  is_like = header_like d (new_index d extend x now) is_sound (recovered d extend x now can).elsewhere
+  is_like = header_like d (rebuilt_index d rows now) is_sound (is_rebuilt d rows now can).elsewhere
 
-  parts : Parts d (recovered_state d extend x now) header_read
-  parts = parts_again d (recovered_state d extend x now) (new_index d extend x now) is_sound (index_shows d extend x now can)
+  parts : Parts d (rebuilt_state d rows now) header_read
+  parts = parts_again d (rebuilt_state d rows now) (rebuilt_index d rows now) is_sound (index_shows d rows now can)
 
-  kept_again : (any : Bool) → kept (with_raw d header_read) any (new_data d extend x) ≡ kept d any (new_data d extend x)
-  kept_again any = kept_same d header_read any (new_data d extend x)
+  abbrev again : Bool → List SizedRow
+  again any = kept d any file
 
-  alike : (any : Bool) → AreAlike d (kept d any (new_data d extend x)) (kept d extend x)
-  alike any = settled_alike d any extend x can.defined can.bytes (new_near d extend x can.defined can.bytes can.reached)
+  alike : (any : Bool) → AreAlike d (again any) rows
+  alike any = settled_alike d any rows is_sound can.storable can.distinct (near_reached d (length file) can.reached)
 
-  data_again : (any : Bool) → new_data (with_raw d header_read) any (new_data d extend x) ≡ new_data d extend x
-  unfolding new_data
-  data_again any = ap (stored_file (with_raw d header_read)) (kept_again any) ∙ laid_same d header_read (kept d any (new_data d extend x)) ∙ (alike any).file
-
-  trees_alike : (one other : List SizedRow) → placed_from d 0 one ≡ placed_from d 0 other → new_trees d one ≡ new_trees d other
+  trees_alike : (any : Bool) → new_trees d (again any) ≡ new_trees d rows
   unfolding new_trees
-  trees_alike one other same = ap (λ (rs : List PlacedRow). laid_trees d (first_page_of d) (key_numbers d) (key_lists d rs)) same
+  trees_alike any = ap (λ (rs : List PlacedRow). laid_trees d (first_page_of d) (key_numbers d) (key_lists d rs)) (alike any).placed
 
-  trees_again : (any : Bool) → new_trees (with_raw d header_read) (kept (with_raw d header_read) any (new_data d extend x)) ≡ new_trees d (kept d extend x)
-  trees_again any = ap (new_trees (with_raw d header_read)) (kept_again any) ∙ trees_with d header_read (kept d any (new_data d extend x)) (first_same d header_read is_like) ∙ trees_alike (kept d any (new_data d extend x)) (kept d extend x) (alike any).placed
+  -- ---- under the definitions that were given
 
-  count_again : (any : Bool) → length (kept (with_raw d header_read) any (new_data d extend x)) ≡ length (kept d extend x)
+  pub data_settles : (any : Bool) → new_data d any file ≡ file
+  unfolding new_data
+  data_settles any = (alike any).file
+
+  state_settled : (any : Bool) (later : ℕ) → rebuilt_state d (again any) later ≡ rebuilt_state d rows later
+  state_settled any later =
+      let s : State = state_of d d.raw in
+      let kept_rows : List SizedRow = again any in
+      ap (λ m. new_state d s m (block_count d kept_rows) (length (stored_file d kept_rows)) (new_trees d kept_rows).roots (new_trees d kept_rows).end later) (alike any).count
+      ∙ ap (λ m. new_state d s (length rows) m (length (stored_file d kept_rows)) (new_trees d kept_rows).roots (new_trees d kept_rows).end later) (alike any).blocks
+      ∙ ap (λ (b : List ℕ). new_state d s (length rows) (block_count d rows) (length b) (new_trees d kept_rows).roots (new_trees d kept_rows).end later) (alike any).file
+      ∙ ap (λ (u : LaidTrees). new_state d s (length rows) (block_count d rows) (length file) u.roots u.end later) (trees_alike any)
+
+  pub index_settles : (any : Bool) (later : ℕ) → new_index d any file later ≡ rebuilt_index d rows later
+  unfolding new_index rebuilt_index
+  index_settles any later =
+      ap (λ (s : State). header_of d s ++ (new_trees d (again any)).bytes) (state_settled any later)
+      ∙ ap (λ (u : LaidTrees). header_of d (rebuilt_state d rows later) ++ u.bytes) (trees_alike any)
+
+  -- ---- under those that the index file has
+
+  abbrev d2 : Defs
+  d2 = with_raw d header_read
+
+  kept_again : (any : Bool) → kept d2 any file ≡ again any
+  kept_again any = kept_same d header_read any file
+
+  data_again : (any : Bool) → new_data d2 any file ≡ file
+  unfolding new_data
+  data_again any = ap (stored_file d2) (kept_again any) ∙ laid_same d header_read (again any) ∙ (alike any).file
+
+  trees_again : (any : Bool) → new_trees d2 (kept d2 any file) ≡ new_trees d rows
+  trees_again any = ap (new_trees d2) (kept_again any) ∙ trees_with d header_read (again any) (first_same d header_read is_like) ∙ trees_alike any
+
+  count_again : (any : Bool) → length (kept d2 any file) ≡ length rows
   count_again any = ap (λ (rs : List SizedRow). length rs) (kept_again any) ∙ (alike any).count
 
-  blocks_again : (any : Bool) → block_count (with_raw d header_read) (kept (with_raw d header_read) any (new_data d extend x)) ≡ block_count d (kept d extend x)
-  blocks_again any = ap (block_count (with_raw d header_read)) (kept_again any) ∙ count_same d header_read (kept d any (new_data d extend x)) ∙ (alike any).blocks
+  blocks_again : (any : Bool) → block_count d2 (kept d2 any file) ≡ block_count d rows
+  blocks_again any = ap (block_count d2) (kept_again any) ∙ count_same d header_read (again any) ∙ (alike any).blocks
 
-  read_state_again : state_of (with_raw d header_read) header_read ≡ recovered_state d extend x now
+  long_again : (any : Bool) → stored_file d2 (kept d2 any file) ≡ file
+  long_again any = ap (stored_file d2) (kept_again any) ∙ laid_same d header_read (again any) ∙ (alike any).file
+
+  read_state_again : state_of d2 header_read ≡ rebuilt_state d rows now
   read_state_again = state_same d header_read header_read is_like ∙ parts.state
 
-  state_again_of : (any : Bool) (later : ℕ) → recovered_state (with_raw d header_read) any (new_data d extend x) later ≡ recovered_state d extend x later
+  state_again_of : (any : Bool) (later : ℕ) → rebuilt_state d2 (kept d2 any file) later ≡ rebuilt_state d rows later
   state_again_of any later =
-      let d2 : Defs = with_raw d header_read in
-      let again : List SizedRow = kept d2 any (new_data d extend x) in
-      let rows : List SizedRow = kept d extend x in
+      let kept_rows : List SizedRow = kept d2 any file in
       let n : ℕ = length rows in
       let blocks : ℕ = block_count d rows in
       let t : LaidTrees = new_trees d rows in
-      let one : State = recovered_state d extend x now in
-      ap (λ m. new_state d2 (state_of d2 header_read) m (block_count d2 again) (length (new_data d2 any (new_data d extend x))) (new_trees d2 again).roots (new_trees d2 again).end later) (count_again any)
-      ∙ ap (λ m. new_state d2 (state_of d2 header_read) n m (length (new_data d2 any (new_data d extend x))) (new_trees d2 again).roots (new_trees d2 again).end later) (blocks_again any)
-      ∙ ap (λ (b : List ℕ). new_state d2 (state_of d2 header_read) n blocks (length b) (new_trees d2 again).roots (new_trees d2 again).end later) (data_again any)
-      ∙ ap (λ (u : LaidTrees). new_state d2 (state_of d2 header_read) n blocks (length (new_data d extend x)) u.roots u.end later) (trees_again any)
-      ∙ ap (λ (s : State). new_state d2 s n blocks (length (new_data d extend x)) t.roots t.end later) read_state_again
-      ∙ state_settles d header_read n blocks (length (new_data d extend x)) now later t.end t.roots is_sound is_like
+      ap (λ m. new_state d2 (state_of d2 header_read) m (block_count d2 kept_rows) (length (stored_file d2 kept_rows)) (new_trees d2 kept_rows).roots (new_trees d2 kept_rows).end later) (count_again any)
+      ∙ ap (λ m. new_state d2 (state_of d2 header_read) n m (length (stored_file d2 kept_rows)) (new_trees d2 kept_rows).roots (new_trees d2 kept_rows).end later) (blocks_again any)
+      ∙ ap (λ (b : List ℕ). new_state d2 (state_of d2 header_read) n blocks (length b) (new_trees d2 kept_rows).roots (new_trees d2 kept_rows).end later) (long_again any)
+      ∙ ap (λ (u : LaidTrees). new_state d2 (state_of d2 header_read) n blocks (length file) u.roots u.end later) (trees_again any)
+      ∙ ap (λ (s : State). new_state d2 s n blocks (length file) t.roots t.end later) read_state_again
+      ∙ state_settles d header_read n blocks (length file) now later t.end t.roots is_sound is_like
 
-  index_again : (any : Bool) (later : ℕ) → new_index (with_raw d header_read) any (new_data d extend x) later ≡ new_index d extend x later
-  unfolding new_index
+  index_again : (any : Bool) (later : ℕ) → new_index d2 any file later ≡ rebuilt_index d rows later
+  unfolding new_index rebuilt_index
   index_again any later =
-      let d2 : Defs = with_raw d header_read in
-      ap (λ (s : State). header_of d2 s ++ (new_trees d2 (kept d2 any (new_data d extend x))).bytes) (state_again_of any later)
-      ∙ ap (λ (h : List ℕ). h ++ (new_trees d2 (kept d2 any (new_data d extend x))).bytes) (header_same d header_read (recovered_state d extend x now) (recovered_state d extend x later) is_like parts)
-      ∙ ap (λ (u : LaidTrees). header_of d (recovered_state d extend x later) ++ u.bytes) (trees_again any)
+      ap (λ (s : State). header_of d2 s ++ (new_trees d2 (kept d2 any file)).bytes) (state_again_of any later)
+      ∙ ap (λ (h : List ℕ). h ++ (new_trees d2 (kept d2 any file)).bytes) (header_same d header_read (rebuilt_state d rows now) (rebuilt_state d rows later) is_like parts)
+      ∙ ap (λ (u : LaidTrees). header_of d (rebuilt_state d rows later) ++ u.bytes) (trees_again any)
 
-  read_defs_again : (d2 : Defs) → read_defs (new_index d extend x now) ≡ Ok d2 → with_raw d header_read ≡ d2
-  read_defs_again d2 read = same_defs d2 (with_raw d header_read) (new_index d extend x now) read (recovered d extend x now can).definitions
+  read_defs_again : (e : Defs) → read_defs (rebuilt_index d rows now) ≡ Ok e → d2 ≡ e
+  read_defs_again e read = same_defs e d2 (rebuilt_index d rows now) read (is_rebuilt d rows now can).definitions
 
-  pub second_data : (d2 : Defs) → read_defs (new_index d extend x now) ≡ Ok d2 → (any : Bool) → new_data d2 any (new_data d extend x) ≡ new_data d extend x
-  second_data d2 read any = subst (λ (e : Defs). new_data e any (new_data d extend x) ≡ new_data d extend x) (read_defs_again d2 read) (data_again any)
+  pub second_data : (e : Defs) → read_defs (rebuilt_index d rows now) ≡ Ok e → (any : Bool) → new_data e any file ≡ file
+  second_data e read any = subst (λ (c : Defs). new_data c any file ≡ file) (read_defs_again e read) (data_again any)
 
-  pub second_index : (d2 : Defs) → read_defs (new_index d extend x now) ≡ Ok d2 → (any : Bool) (later : ℕ) → new_index d2 any (new_data d extend x) later ≡ new_index d extend x later
-  second_index d2 read any later = subst (λ (e : Defs). new_index e any (new_data d extend x) later ≡ new_index d extend x later) (read_defs_again d2 read) (index_again any later)
-
-  -- ---- a run that was cut off between the renames: the new data file beside the old index file
-
-  state_of_cut : (any : Bool) (later : ℕ) → recovered_state d any (new_data d extend x) later ≡ recovered_state d extend x later
-  state_of_cut any later =
-      let again : List SizedRow = kept d any (new_data d extend x) in
-      let rows : List SizedRow = kept d extend x in
-      let s : State = state_of d d.raw in
-      let trees : new_trees d again ≡ new_trees d rows = trees_alike again rows (alike any).placed in
-      ap (λ m. new_state d s m (block_count d again) (length (new_data d any (new_data d extend x))) (new_trees d again).roots (new_trees d again).end later) (alike any).count
-      ∙ ap (λ m. new_state d s (length rows) m (length (new_data d any (new_data d extend x))) (new_trees d again).roots (new_trees d again).end later) (alike any).blocks
-      ∙ ap (λ (b : List ℕ). new_state d s (length rows) (block_count d rows) (length b) (new_trees d again).roots (new_trees d again).end later) (settled_data d any extend x can.defined can.bytes (new_near d extend x can.defined can.bytes can.reached))
-      ∙ ap (λ (u : LaidTrees). new_state d s (length rows) (block_count d rows) (length (new_data d extend x)) u.roots u.end later) trees
-
-  pub cut_index : (any : Bool) (later : ℕ) → new_index d any (new_data d extend x) later ≡ new_index d extend x later
-  unfolding new_index
-  cut_index any later =
-      ap (λ (s : State). header_of d s ++ (new_trees d (kept d any (new_data d extend x))).bytes) (state_of_cut any later)
-      ∙ ap (λ (u : LaidTrees). header_of d (recovered_state d extend x later) ++ u.bytes) (trees_alike (kept d any (new_data d extend x)) (kept d extend x) (alike any).placed)
+  pub second_index : (e : Defs) → read_defs (rebuilt_index d rows now) ≡ Ok e → (any : Bool) (later : ℕ) → new_index e any file later ≡ rebuilt_index d rows later
+  second_index e read any later = subst (λ (c : Defs). new_index c any file later ≡ rebuilt_index d rows later) (read_defs_again e read) (index_again any later)

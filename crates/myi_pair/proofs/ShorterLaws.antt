@@ -1,8 +1,11 @@
 -- A repaired data file is no longer than the one before.
-use Rattle.std.proofs.Common.{◌≡◌, ℕ, zero, suc, ◌+◌, ◌-◌, ◌*◌, ◌/◌, ◌^◌, ◌<◌, ◌≤◌, min, Bool, true, false, cond, ◌⊎◌, inl, inr, List, [], ◌∷◌, ◌++◌, length, map, nat_le, nat_lt, sum, sum_by, refl, sym, ap, subst, ◌∙◌, arith, length-append, div-mul-le_self, le-div_iff_mul-le}
+use Rattle.std.proofs.Common.{◌≡◌, ℕ, zero, suc, ◌+◌, ◌-◌, ◌*◌, ◌/◌, ◌^◌, ◌<◌, ◌≤◌, min, Bool, true, false, cond, ◌⊎◌, inl, inr, List, [], ◌∷◌, ◌++◌, length, map, nat_le, nat_lt, sum, sum_by, All, refl, sym, ap, subst, ◌∙◌, arith, length-append, div-mul-le_self, le-div_iff_mul-le}
 use Rattle.std.specs.List.{list_any, AllByRecursion}
 use Rattle.std.proofs.lemmas.Bool.{and_parts, and_from, or_cases, or_left, or_right, leb-true, leb-false, le-leb, ltb-true, lt-ltb}
+use Rattle.std.proofs.lemmas.List.Elements.{All-from_recursion, recursion_from_All}
 use Rattle.std.proofs.lemmas.List.Folds.{list_all-append}
+use Rattle.std.proofs.lemmas.List.Sorted.{All-permutation, sum_by-IsPermutation}
+use Rattle.std.specs.Prelude.{IsPermutation}
 use Rattle.std.proofs.lemmas.List.Sums.{sum_by-cons, sum_by-append, sum-map}
 use Rattle.myi_base.specs.Numbers.{AreBytes}
 use Rattle.myi_base.specs.Ranges.{Range, are_apart, is_apart, AreDisjoint}
@@ -30,7 +33,7 @@ use Rattle.myi_pair.specs.Trees.{total}
 use Rattle.myi_pair.specs.Clean.{sized_row}
 use Rattle.myi_pair.specs.RecoveredBytes.{kept, new_data}
 use Rattle.myi_pair.proofs.ReadLaws.{HasRoom, IsFine, readable_fine}
-use Rattle.myi_pair.proofs.KeptLaws.{packs_values, row_storable, kept_each}
+use Rattle.myi_pair.proofs.KeptLaws.{packs_values, row_storable, readable_storable, all-mapped, kept_each}
 
 -- ranges that are apart have no more bytes than the file
 
@@ -196,13 +199,39 @@ first_after_less d repeats before (row ∷ rows) = choose (list_any (repeats row
     choose true dropped added = omega (arith, sum_by-cons (λ r. stored_size d r) row rows)
     choose false dropped added = omega (arith, sum_by-cons (λ r. stored_size d r) row rows, sum_by-cons (λ r. stored_size d r) row (first_after repeats (before ++ row ∷ []) rows))
 
-pub shorter : (d : Defs) (extend : Bool) (x : List ℕ) → AreDefs d → AreBytes x → length (new_data d extend x) ≤ length x
-unfolding new_data kept first_rows
-shorter d extend x are bytes =
+-- all readable rows, stored anew, are no longer than the file
+all_room : (d : Defs) (extend : Bool) (x : List ℕ) → AreDefs d → AreBytes x → stored_length d (map (sized_row d) (readable d extend x)) ≤ length x
+all_room d extend x are bytes =
     let rows : List Row = readable d extend x in
     let fine : AllByRecursion (IsFine d.format d (length x)) rows = readable_fine d extend x bytes in
     let few = few_in (length x) (ranges_of rows) (rows_apart d extend x (sound d are)) (rows_inside d.format d (length x) rows fine) in
-    omega (arith, few, rows_room d (length x) rows are fine, length-laid d (kept d extend x) (sound d are) (kept_each d extend x are bytes), first_after_less d (repeats_row d) [] (map (sized_row d) rows))
+    omega (arith, few, rows_room d (length x) rows are fine)
+
+pub shorter : (d : Defs) (extend : Bool) (x : List ℕ) → AreDefs d → AreBytes x → length (new_data d extend x) ≤ length x
+unfolding new_data kept first_rows
+shorter d extend x are bytes =
+    omega (arith, all_room d extend x are bytes, length-laid d (kept d extend x) (sound d are) (kept_each d extend x are bytes), first_after_less d (repeats_row d) [] (map (sized_row d) (readable d extend x)))
+
+-- and so are some of them, in any order
+
+left_all : (P : SizedRow → Type 0) (rows others : List SizedRow) → AllByRecursion P (rows ++ others) → AllByRecursion P rows
+left_all P [] others all = tt
+left_all P (row ∷ rows) others all = (all.0, left_all P rows others all.1)
+
+pub some_shorter : (d : Defs) (extend : Bool) (x : List ℕ) → AreDefs d → AreBytes x → (rows others : List SizedRow) → IsPermutation (map (sized_row d) (readable d extend x)) (rows ++ others) → length (stored_file d rows) ≤ length x
+some_shorter d extend x are bytes rows others same =
+    let read : List SizedRow = map (sized_row d) (readable d extend x) in
+    let each : All (IsStorable d) read = All-from_recursion (IsStorable d) read (all-mapped (IsStorable d) (sized_row d) (readable d extend x) (readable_storable d extend x are bytes)) in
+    let all : AllByRecursion (IsStorable d) rows = left_all (IsStorable d) rows others (recursion_from_All (IsStorable d) (rows ++ others) (All-permutation (IsStorable d) read (rows ++ others) same each)) in
+    let sizes : stored_length d (rows ++ others) ≡ stored_length d read = sum_by-IsPermutation (λ r. stored_size d r) read (rows ++ others) same in
+    omega (arith, all_room d extend x are bytes, sizes, sum_by-append (λ r. stored_size d r) rows others, length-laid d rows (sound d are) all)
+
+pub each_shorter : (d : Defs) (extend : Bool) (x : List ℕ) → AreDefs d → AreBytes x → AllByRecursion (λ (r : Row). stored_size d (sized_row d r) ≤ total r.blocks) (readable d extend x)
+each_shorter d extend x are bytes = each (readable d extend x) (readable_fine d extend x bytes)
+  where
+    each : (rows : List Row) → AllByRecursion (IsFine d.format d (length x)) rows → AllByRecursion (λ (r : Row). stored_size d (sized_row d r) ≤ total r.blocks) rows
+    each [] fine = tt
+    each (r ∷ rows) fine = (stored_room d (length x) r are fine.0, each rows fine.1)
 
 -- a file that is no longer is within reach too
 
@@ -225,10 +254,10 @@ reach_less d n m s less reached =
 pub new_reached : (d : Defs) (extend : Bool) (x : List ℕ) → AreDefs d → AreBytes x → is_addressable d (length x) ≡ true → is_addressable d (length (new_data d extend x)) ≡ true
 new_reached d extend x are bytes reached = reach_less d (length x) (length (new_data d extend x)) (sound d are) (shorter d extend x are bytes) reached
 
--- so each place of it is a number of eight bytes
-pub new_near : (d : Defs) (extend : Bool) (x : List ℕ) → AreDefs d → AreBytes x → is_addressable d (length x) ≡ true → length (new_data d extend x) < 2 ^ 64 - 1
+-- each place of a file within reach is a number of eight bytes
+pub near_reached : (d : Defs) (n : ℕ) → is_addressable d n ≡ true → n < 2 ^ 64 - 1
 unfolding is_addressable
-new_near d extend x are bytes reached =
-    let both = and_parts (nat_le (length x) (2 ^ 40)) (nat_lt (pointers d.format d.slot_length (length x)) (256 ^ d.rec_ref - 1)) reached in
-    let most : length x ≤ 2 ^ 40 = leb-true _ _ both.0 in
-    omega (arith, most, shorter d extend x are bytes)
+near_reached d n reached =
+    let both = and_parts (nat_le n (2 ^ 40)) (nat_lt (pointers d.format d.slot_length n) (256 ^ d.rec_ref - 1)) reached in
+    let most : n ≤ 2 ^ 40 = leb-true _ _ both.0 in
+    omega (arith, most)

@@ -1,30 +1,27 @@
 -- The trees of a new index file stand where they are laid, and each is that of its key list.
-use Rattle.std.proofs.Common.{◌≡◌, ℕ, zero, suc, ◌+◌, ◌-◌, ◌*◌, ◌%◌, ◌^◌, ◌<◌, ◌≤◌, true, Some, List, [], ◌∷◌, ◌++◌, length, map, take, drop, replicate, nat_le, refl, sym, ap, subst, ◌∙◌, arith, append_assoc, length-append}
+use Rattle.std.proofs.Common.{◌≡◌, ℕ, zero, suc, ◌+◌, ◌-◌, ◌*◌, ◌%◌, ◌^◌, ◌<◌, ◌≤◌, true, Some, List, [], ◌∷◌, ◌++◌, length, map, take, drop, nat_le, refl, sym, ap, subst, ◌∙◌, arith, append_assoc, length-append}
 use Rattle.std.specs.List.{flat_map, AllByRecursion}
 use Rattle.std.proofs.lemmas.Bool.{le-leb, eq-eqb}
-use Rattle.std.proofs.lemmas.List.{take_at, drop_at, drop-drop, length-replicate}
+use Rattle.std.proofs.lemmas.List.{take_at, drop_at, drop-drop}
 use Rattle.std.proofs.lemmas.List.Sums.{sum_by-append}
 use Rattle.myi_base.specs.Ranges.{Range}
 use Rattle.myi_defs.specs.declared.types.Defs.{Defs}
 use Rattle.myi_defs.specs.Sound.{IsSound}
 use Rattle.myi_defs.specs.Addressable.{is_addressable}
-use Rattle.myi_keypage.specs.Page.{page_bytes}
-use Rattle.myi_keypage.proofs.CallerLemmas.{page_length}
 use Rattle.myi_keycache.specs.Lent.{bytes_at}
 use Rattle.myi_keylist.specs.declared.pair.Pair.{Pair}
 use Rattle.myi_btree.specs.declared.place.Place.{Place}
 use Rattle.myi_btree.specs.Walk.{Node}
-use Rattle.myi_btree.specs.Nodes.{page_of_node}
 use Rattle.myi_btree.specs.Sizes.{IsPlaced, AreSized, fits_in}
 use Rattle.myi_btree.specs.LaidPages.{laid, Stands, root_of}
 use Rattle.myi_btree.specs.Building.{page_for}
 use Rattle.myi_btree.specs.LaidOnce.{WalksOnce}
 use Rattle.myi_btree.specs.Building.{AreKeys, IsWritten}
-use Rattle.myi_btree.proofs.CallerLemmas.{walks_once, root_some, laid_written, written_read}
+use Rattle.myi_btree.proofs.CallerLemmas.{walks_once, root_some, laid_written, written_read, page_long, pages_long}
 use Rattle.myi_data.specs.Keys.{IsKeyNumber}
 use Rattle.myi_pair.specs.KeyList.{PlacedRow, key_list}
 use Rattle.myi_pair.specs.Trees.{block_of_key, place_of, node_at, HasTree, HaveTrees, total}
-use Rattle.myi_pair.specs.RecoveredBytes.{LaidTrees, laid_trees}
+use Rattle.myi_pair.specs.RebuiltBytes.{LaidTrees, laid_trees}
 use Rattle.myi_pair.proofs.SizedLaws.{IsNear, placed, list_sized}
 use Rattle.myi_pair.proofs.PageRanges.{ranges_at, total_pages, all_between, EndBy, end_later, end_append, between_free, between_end}
 
@@ -34,12 +31,6 @@ behind n k j x p q at long sum =
     ap (λ i. drop i x) sum ∙ sym (drop-drop k n x) ∙ ap (drop k) at ∙ drop_at p q k long
 
 -- pages that stand in a file are read
-
-pub page_long : (place : Place) (node : Node) → IsWritten place node → length (page_for place node) ≡ place.block_length
-unfolding page_for
-page_long place node w =
-    let text : List ℕ = page_bytes place.rec_ref (page_of_node node) in
-    omega (arith, length-append text (replicate (place.block_length - length text) 0), length-replicate {A = ℕ} (place.block_length - length text) 0, page_length place.rec_ref (page_of_node node) w.branching, w.fits)
 
 bytes_there : (x : List ℕ) (at n : ℕ) (part rest : List ℕ) → drop at x ≡ part ++ rest → length part ≡ n → bytes_at x at n ≡ Some part
 unfolding bytes_at
@@ -52,10 +43,6 @@ node_there : (place : Place) (x : List ℕ) (at : ℕ) (node : Node) (rest : Lis
 unfolding node_at
 node_there place x at node rest whole w is =
     rw (eq-eqb (at % 1024) 0 whole, bytes_there x at place.block_length (page_for place node) rest is (page_long place node w)) (written_read place node w)
-
-pub pages_long : (place : Place) (nodes : List Node) → AllByRecursion (IsWritten place) nodes → length (flat_map (page_for place) nodes) ≡ place.block_length * length nodes
-pages_long place [] w = omega arith
-pages_long place (node ∷ nodes) w = length-append (page_for place node) (flat_map (page_for place) nodes) ∙ omega (arith, page_long place node w.0, pages_long place nodes w.1)
 
 nodes_stand : (place : Place) (x : List ℕ) (first : ℕ) (nodes : List Node) (rest : List ℕ) → IsPlaced place → first % 1024 ≡ 0 → AllByRecursion (IsWritten place) nodes → drop first x ≡ flat_map (page_for place) nodes ++ rest
     → Stands (node_at place.rec_ref place.block_length x) place.block_length first nodes

@@ -15,7 +15,7 @@ use Rattle.myi_base.specs.Numbers.{num_bytes}
 use Rattle.myi_keypage.specs.Page.{page_bytes}
 use Rattle.myi_btree.specs.Building.{page_for}
 use Rattle.myi_pair.specs.KeyList.{key_list}
-use Rattle.myi_pair.specs.RecoveredBytes.{placed_from, laid_trees}
+use Rattle.myi_pair.specs.RebuiltBytes.{placed_from, laid_trees}
 use Rattle.myi_pair.specs.FirstRows.{repeats, first_rows}
 
 segment_at : ℕ → ℕ → Segment

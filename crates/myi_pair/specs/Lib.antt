@@ -6,10 +6,12 @@ pub mod FirstRows
 pub mod KeyList
 -- the trees of an index file
 pub mod Trees
--- the pages of trees behind a header
-pub mod TreePages
 -- a clean pair of files
 pub mod Clean
+-- the two files of a table of given rows that is made anew, as bytes
+pub mod RebuiltBytes
+-- what is to hold of them
+pub mod Rebuilt
 -- the two files that a repair leaves, as bytes
 pub mod RecoveredBytes
 -- what is to hold of them

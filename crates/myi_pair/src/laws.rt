@@ -1,6 +1,6 @@
 //! Laws over pairs of files. Each is the contract of a function that does nothing, so that it is proved
 //! with the crate and stands for the crates above.
-ghost use Rattle.std.specs.Prelude.{◌≡◌, ◌+◌, ◌^◌, ◌<◌, ◌≤◌, ℕ, suc, Bool, true, false, List, [], ◌∷◌, ◌++◌, length, map, Some, Ok, All};
+ghost use Rattle.std.specs.Prelude.{◌≡◌, ◌+◌, ◌^◌, ◌<◌, ◌≤◌, ℕ, suc, Bool, true, false, List, [], ◌∷◌, ◌++◌, length, map, Some, Ok, IsPermutation};
 ghost use Rattle.std.specs.List.{AllByRecursion};
 ghost use Rattle.myi_base.specs.Numbers.{AreBytes};
 ghost use Rattle.myi_base.specs.Ranges.{Range};
@@ -18,8 +18,7 @@ ghost use Rattle.myi_keylist.specs.PairOrder.{pair_with};
 ghost use Rattle.myi_keylist.specs.FirstBy.{first_by, repeats_in};
 ghost use Rattle.myi_data.specs.Readable.{readable};
 ghost use Rattle.myi_data.specs.Keys.{IsKeyNumber, key_of};
-ghost use Rattle.myi_data.specs.Stored.{SizedRow, values_in, IsStorable, stored_size, stored_rows};
-ghost use Rattle.myi_btree.specs.declared.place.Place.{Place};
+ghost use Rattle.myi_data.specs.Stored.{SizedRow, values_in, IsStorable, stored_size, stored_file, stored_rows};
 ghost use Rattle.myi_btree.specs.Walk.{Walked, walk_of, AreNodes};
 ghost use Rattle.myi_btree.specs.Nodes.{entry_of};
 ghost use Rattle.myi_btree.specs.Sizes.{IsPlaced, IsSized, AreSized};
@@ -27,12 +26,11 @@ ghost use Rattle.myi_rowkeys.specs.TableKeys.{unique_keys};
 ghost use Rattle.myi_pair.specs.FirstRows.{key_numbers, first_rows, AreDistinct};
 ghost use Rattle.myi_pair.specs.KeyList.{PlacedRow, pointer, pair_of, pairs_of, key_list};
 ghost use Rattle.myi_pair.specs.Trees.{place_of, node_at, HaveTrees, total};
-ghost use Rattle.myi_pair.specs.TreePages.{tree_pages, tree_end, with_tree, CanBeLaid, HasBehind};
 ghost use Rattle.myi_pair.specs.Clean.{values_of, sized_row, IsClean};
-ghost use Rattle.myi_pair.specs.RecoveredBytes.{without_free_pages, kept, new_data, placed_from, new_trees, new_index};
+ghost use Rattle.myi_pair.specs.RebuiltBytes.{without_free_pages, placed_from, new_trees, rebuilt_index, rebuilt};
+ghost use Rattle.myi_pair.specs.Rebuilt.{CanBeRebuilt, Rebuilt};
+ghost use Rattle.myi_pair.specs.RecoveredBytes.{kept, new_data, new_index};
 ghost use Rattle.myi_pair.specs.Recovered.{IsRepairable, Recovered};
-
-use myi_keylist::Pair;
 
 /// Of the first rows of unique keys none repeats one before it, and where no row of a list repeats one
 /// before it, all of them are kept. They are the first rows by the unique keys of the table.
@@ -45,41 +43,51 @@ pub fn first_rows_are_distinct()
         → first_rows d rows ≡ first_by (repeats_in (unique_keys d)) rows }
 {}
 
-/// Each readable row of a file of bytes can be stored anew, and so can each that a repair keeps. The new
-/// data file of one within reach is read as the kept rows, whether every place is tried or not.
-pub fn kept_rows_are_stored()
-    ensures rows { (d : Defs) (extend : Bool) (x : List ℕ) → AreDefs d → AreBytes x
+/// A table can be made of the rows that a repair keeps: each readable row of a file of bytes can be
+/// stored anew, and none of those that are kept repeats another.
+pub fn kept_rows_make_a_table()
+    ensures readable { (d : Defs) (extend : Bool) (x : List ℕ) → AreDefs d → AreBytes x
         → AllByRecursion (λ r. IsStorable d (sized_row d r)) (readable d extend x) }
     ensures storable { (d : Defs) (extend : Bool) (x : List ℕ) → AreDefs d → AreBytes x
-        → All (IsStorable d) (kept d extend x) }
-    ensures laid { (d : Defs) (any extend : Bool) (x : List ℕ) → AreDefs d → AreBytes x
-        → is_addressable d (length x) ≡ true
-        → readable d any (new_data d extend x) ≡ stored_rows d 0 (kept d extend x) }
-    ensures values { (d : Defs) (any extend : Bool) (x : List ℕ) → AreDefs d → AreBytes x
-        → is_addressable d (length x) ≡ true
-        → map (values_of d) (readable d any (new_data d extend x)) ≡ values_in (kept d extend x) }
+        → AllByRecursion (IsStorable d) (kept d extend x) }
+    ensures table { (d : Defs) (extend : Bool) (x : List ℕ) (now : ℕ) → IsRepairable d x now
+        → CanBeRebuilt d (kept d extend x) now }
+    ensures data_file { (d : Defs) (extend : Bool) (x : List ℕ)
+        → new_data d extend x ≡ stored_file d (kept d extend x) }
+    ensures index_file { (d : Defs) (extend : Bool) (x : List ℕ) (now : ℕ)
+        → new_index d extend x now ≡ rebuilt_index d (kept d extend x) now }
 {}
 
-/// A repair of a data file that a repair left of one within reach keeps all its rows, and writes the same
-/// file.
-pub fn repairs_settle()
-    ensures kept { (d : Defs) (any extend : Bool) (x : List ℕ) → AreDefs d → AreBytes x
-        → is_addressable d (length x) ≡ true
-        → values_in (kept d any (new_data d extend x)) ≡ values_in (kept d extend x) }
-    ensures data_file { (d : Defs) (any extend : Bool) (x : List ℕ) → AreDefs d → AreBytes x
-        → is_addressable d (length x) ≡ true
-        → new_data d any (new_data d extend x) ≡ new_data d extend x }
+/// The two files of a table of given rows are such a table, and its data file is read as these rows,
+/// whether every place is tried or not.
+pub fn rebuilt_files_are_a_table()
+    ensures table { (d : Defs) (rows : List SizedRow) (now : ℕ) → CanBeRebuilt d rows now
+        → Rebuilt d rows now (rebuilt d rows now).0 (rebuilt d rows now).1 }
+    ensures read { (d : Defs) (rows : List SizedRow) (now : ℕ) → CanBeRebuilt d rows now
+        → (any : Bool) → readable d any (stored_file d rows) ≡ stored_rows d 0 rows }
+    ensures values { (d : Defs) (rows : List SizedRow) (now : ℕ) → CanBeRebuilt d rows now
+        → (any : Bool) → map (values_of d) (readable d any (stored_file d rows)) ≡ values_in rows }
 {}
 
-/// A run that was cut off between its renames leaves the new data file beside the old index file. A repair
-/// of these, whether every position is tried or not, writes the files that the first one would have
-/// written at the time of the second.
-pub fn cut_off_repairs_are_completed()
-    ensures data_file { (d : Defs) (extend : Bool) (x : List ℕ) (now : ℕ) → IsRepairable d x now
-        → (any : Bool) → new_data d any (new_data d extend x) ≡ new_data d extend x }
-    ensures index_file { (d : Defs) (extend : Bool) (x : List ℕ) (now : ℕ) → IsRepairable d x now
+/// A repair of a data file of given rows keeps them all, and leaves the file as it is. With the index file
+/// that was made with it, or with the one from which its definitions are, as a run leaves it that is cut
+/// off between its renames, it leaves the index file that is made at its own time. Whether every position
+/// is tried does not matter.
+pub fn repairs_of_rebuilt_files_settle()
+    ensures kept { (d : Defs) (rows : List SizedRow) (now : ℕ) → CanBeRebuilt d rows now
+        → (any : Bool) → values_in (kept d any (stored_file d rows)) ≡ values_in rows }
+    ensures data_file { (d : Defs) (rows : List SizedRow) (now : ℕ) → CanBeRebuilt d rows now
+        → (any : Bool) → new_data d any (stored_file d rows) ≡ stored_file d rows }
+    ensures index_file { (d : Defs) (rows : List SizedRow) (now : ℕ) → CanBeRebuilt d rows now
         → (any : Bool) (later : ℕ)
-        → new_index d any (new_data d extend x) later ≡ new_index d extend x later }
+        → new_index d any (stored_file d rows) later ≡ rebuilt_index d rows later }
+    ensures data_again { (d : Defs) (rows : List SizedRow) (now : ℕ) → CanBeRebuilt d rows now
+        → (again : Defs) → read_defs (rebuilt_index d rows now) ≡ Ok again
+        → (any : Bool) → new_data again any (stored_file d rows) ≡ stored_file d rows }
+    ensures index_again { (d : Defs) (rows : List SizedRow) (now : ℕ) → CanBeRebuilt d rows now
+        → (again : Defs) → read_defs (rebuilt_index d rows now) ≡ Ok again
+        → (any : Bool) (later : ℕ)
+        → new_index again any (stored_file d rows) later ≡ rebuilt_index d rows later }
 {}
 
 /// The pairs of rows that fit, at places of a data file within reach, can be laid on the pages of their
@@ -105,15 +113,18 @@ pub fn pairs_are_sized()
         × AllByRecursion (λ p. IsKey p.key) (key_list d k rows) }
 {}
 
-/// A repaired data file is no longer than the one before, and within reach where that was: a row that is
-/// stored anew is no longer than the blocks that held it. Whatever is no longer than a file within reach
-/// is within reach.
-pub fn repaired_files_are_shorter()
-    ensures shorter { (d : Defs) (extend : Bool) (x : List ℕ) → AreDefs d → AreBytes x
+/// A row that is stored anew is no longer than the blocks that held it. So a data file of readable rows of
+/// a file, all or some, in any order, is no longer than that file, and within reach where that was; a
+/// repaired one is such a file. Whatever is no longer than a file within reach is within reach.
+pub fn rebuilt_files_are_no_longer()
+    ensures row { (d : Defs) (extend : Bool) (x : List ℕ) → AreDefs d → AreBytes x
+        → AllByRecursion (λ r. stored_size d (sized_row d r) ≤ total r.blocks) (readable d extend x) }
+    ensures some { (d : Defs) (extend : Bool) (x : List ℕ) → AreDefs d → AreBytes x
+        → (rows others : List SizedRow)
+        → IsPermutation (map (sized_row d) (readable d extend x)) (rows ++ others)
+        → length (stored_file d rows) ≤ length x }
+    ensures kept { (d : Defs) (extend : Bool) (x : List ℕ) → AreDefs d → AreBytes x
         → length (new_data d extend x) ≤ length x }
-    ensures addressable { (d : Defs) (extend : Bool) (x : List ℕ) → AreDefs d → AreBytes x
-        → is_addressable d (length x) ≡ true
-        → is_addressable d (length (new_data d extend x)) ≡ true }
     ensures less { (d : Defs) (longer shorter : ℕ) → IsSound d → shorter ≤ longer
         → is_addressable d longer ≡ true → is_addressable d shorter ≡ true }
 {}
@@ -127,30 +138,19 @@ pub fn index_pages_are_nodes()
         → 2 ^ suc height ≤ length w.pairs + 1 }
 {}
 
-/// The pages of a tree that are written from the end of a file on stand behind what the file has from a
-/// place on, which may lie past its end.
-pub fn laid_pages_stand_behind()
-    ensures long { (place : Place) (first : ℕ) (pairs : List Pair) → CanBeLaid place first pairs
-        → first + length (tree_pages place first pairs) ≡ tree_end place first pairs }
-    ensures behind { (place : Place) (first : ℕ) (pairs : List Pair) → CanBeLaid place first pairs
-        → (base : ℕ) (bytes file : List ℕ) → HasBehind base first bytes file
-        → HasBehind base (tree_end place first pairs) (bytes
-        ++ tree_pages place first pairs) (with_tree place first pairs file) }
-{}
-
-/// In the new index file each key has the tree of its key list, and the pages of all trees, which have no
-/// byte in common, fill the file behind the header. The file's length is a number of eight bytes.
+/// In the index file of a table of given rows each key has the tree of its key list, and the pages of all
+/// trees, which have no byte in common, fill the file behind the header. The file's length is a number of
+/// eight bytes.
 pub fn new_trees_stand()
-    ensures room { (d : Defs) (extend : Bool) (x : List ℕ) (now : ℕ) → IsRepairable d x now
-        → (new_trees d (kept d extend x)).end < 2 ^ 64 }
-    ensures long { (d : Defs) (extend : Bool) (x : List ℕ) (now : ℕ) → IsRepairable d x now
-        → length (new_index d extend x now) ≡ (new_trees d (kept d extend x)).end }
-    ensures trees { (d : Defs) (extend : Bool) (x : List ℕ) (now : ℕ) → IsRepairable d x now
+    ensures room { (d : Defs) (rows : List SizedRow) (now : ℕ) → CanBeRebuilt d rows now
+        → (new_trees d rows).end < 2 ^ 64 }
+    ensures long { (d : Defs) (rows : List SizedRow) (now : ℕ) → CanBeRebuilt d rows now
+        → length (rebuilt_index d rows now) ≡ (new_trees d rows).end }
+    ensures trees { (d : Defs) (rows : List SizedRow) (now : ℕ) → CanBeRebuilt d rows now
         → (pages : List Range)
-        × HaveTrees d (new_index d extend x now) (placed_from d 0 (kept d extend x))
-        ((0, first_page_of d) ∷ [])
-        (key_numbers d) (new_trees d (kept d extend x)).roots pages
-        × (first_page_of d + total pages ≡ length (new_index d extend x now)) }
+        × HaveTrees d (rebuilt_index d rows now) (placed_from d 0 rows) ((0, first_page_of d) ∷ [])
+        (key_numbers d) (new_trees d rows).roots pages
+        × (first_page_of d + total pages ≡ length (rebuilt_index d rows now)) }
 {}
 
 /// The two files that a repair leaves are what a repair is to leave.
@@ -163,18 +163,6 @@ pub fn recovered_bytes_recover()
 pub fn clean_tables_keep_all()
     ensures { (defs : Defs) (d x : List ℕ) → read_defs x ≡ Ok defs → IsClean d x
         → kept defs false d ≡ map (sized_row defs) (readable defs false d) }
-{}
-
-/// A second repair, by the definitions that the new index file has, writes the files that the first one
-/// would have written at the time of the second.
-pub fn second_repairs_change_nothing()
-    ensures data_file { (d : Defs) (extend : Bool) (x : List ℕ) (now : ℕ) → IsRepairable d x now
-        → (again : Defs) → read_defs (new_index d extend x now) ≡ Ok again
-        → (any : Bool) → new_data again any (new_data d extend x) ≡ new_data d extend x }
-    ensures index_file { (d : Defs) (extend : Bool) (x : List ℕ) (now : ℕ) → IsRepairable d x now
-        → (again : Defs) → read_defs (new_index d extend x now) ≡ Ok again
-        → (any : Bool) (later : ℕ)
-        → new_index again any (new_data d extend x) later ≡ new_index d extend x later }
 {}
 
 /// The measures of what a repair writes: a static row takes its slot, a place in a file within reach fits

@@ -1,7 +1,7 @@
 -- What the loops that gather rows keep.
 use Rattle.std.proofs.Common.{◌≡◌, ℕ, ◌+◌, ◌-◌, ◌≤◌, Bool, true, false, List, [], ◌∷◌, ◌++◌, length, take, Option, Some, None, Result, Ok, unwrap_or, refl, sym, ap, subst, ◌∙◌, arith, append_assoc}
 use Rattle.std.specs.Prelude.{map}
-use Rattle.std.specs.List.{filter}
+use Rattle.std.specs.List.{AllByRecursion, filter}
 use Rattle.std.proofs.lemmas.List.{append-nil, take_all, length-map, length_push}
 use Rattle.std.proofs.Math.Nat.{one-le-pow}
 use Rattle.myi_base.specs.Holding.{Holding, HoldsBytes, IfTold, Told, Cuts, bytes_of, OthersStay}
@@ -10,6 +10,8 @@ use Rattle.myi_base.specs.Numbers.{AreBytes}
 use Rattle.myi_base.specs.Ranges.{Range}
 use Rattle.myi_defs.specs.declared.types.Defs.{Defs}
 use Rattle.myi_defs.specs.Sound.{IsSound}
+use Rattle.myi_defs.specs.ReadDefs.{AreDefs}
+use Rattle.myi_defs.proofs.CallerLemmas.{sound}
 use Rattle.myi_pack.specs.Packed.{Values}
 use Rattle.myi_pack.specs.Unpacking.{row_of}
 use Rattle.myi_pack.specs.Spelling.{fits, spelling}
@@ -26,7 +28,7 @@ use Rattle.myi_keylist.specs.PairOrder.{sorted}
 use Rattle.myi_keylist.specs.Classes.{picked}
 use Rattle.myi_keylist.specs.Columns.{has_flag, pointed}
 use Rattle.myi_keylist.specs.FirstBy.{first_by, repeats_in}
-use Rattle.myi_data.specs.Stored.{SizedRow, stored_file, block_count}
+use Rattle.myi_data.specs.Stored.{SizedRow, stored_file, block_count, IsStorable}
 use Rattle.myi_data.specs.Readable.{items_in, readable}
 use Rattle.myi_data.specs.Scanning.{TableScan, items_ahead, rows_ahead, IsAsKnown, AfterTable}
 use Rattle.myi_data.proofs.CallerLemmas.{fresh_ahead, fresh_known, ahead_same, known_same}
@@ -35,19 +37,20 @@ use Rattle.myi_rowkeys.specs.RowLists.{with_pairs, number_pairs, sorted_unique, 
 use Rattle.myi_rowkeys.proofs.CallerLemmas.{numbers_next, sorted_numbers, none_repeats, length-number_pairs, length-sorted_unique}
 use Rattle.myi_pair.specs.Clean.{values_of, sized_row}
 use Rattle.myi_pair.specs.FirstRows.{first_rows}
-use Rattle.myi_pair.specs.RecoveredBytes.{kept, repeat_count, new_data, placed_from, key_lists}
-use Rattle.myi_pair.proofs.CallerLemmas.{first_by_keys}
+use Rattle.myi_pair.specs.RebuiltBytes.{placed_from, key_lists}
+use Rattle.myi_pair.specs.RecoveredBytes.{kept, repeat_count, new_data}
+use Rattle.myi_pair.proofs.CallerLemmas.{first_by_keys, readable_storable}
 use Rattle.myi_repair.specs.declared.next_row.NextRow.{NextRow}
 use Rattle.myi_repair.specs.declared.new_rows.NewRows.{NewRows}
 use Rattle.myi_repair.specs.declared.gathering.Gathered.{Gathered}
 use Rattle.myi_repair.specs.Names.{FourNames}
 use Rattle.myi_repair.specs.Opening.{IsTable, HasTable}
 use Rattle.myi_repair.specs.Sized.{AreSizedPairs}
-use Rattle.myi_repair.specs.Keeping.{IsPrepared, is_chosen, flags_by, chosen, pointers_at, HasWritten, Adds, WritesIf}
+use Rattle.myi_repair.specs.Keeping.{IsPrepared, is_chosen, flags_by, chosen, pointers_at, AreStorable, AreStored, HasWritten, Adds, WritesIf}
 use Rattle.myi_repair.specs.Gathering.{Gathers, sized_ahead, Reads, HasTaken, TakesChosen, TakesAll, all_chosen}
 use Rattle.myi_repair.proofs.FilesLaws.{resized_none, told_and}
-use Rattle.myi_repair.proofs.KeepLaws.{storable}
-use Rattle.myi_repair.proofs.PointerLaws.{length-flags, length-pointers, chosen_all, flags_given, lists_of_all, lists_of_kept}
+use Rattle.myi_repair.proofs.StoredLaws.{all_parts}
+use Rattle.myi_repair.proofs.PointerLaws.{chosen_all, flags_given, lists_of_all, lists_of_kept}
 use Rattle.myi_repair.proofs.SizedLaws.{all_sized, kept_sized}
 use Rattle.myi_repair.proofs.OpenLaws.{is_opened}
 
@@ -77,7 +80,7 @@ reads d h old new found view bytes next s tested answer shows read fit spelled s
     let row : SizedRow = record { values = view; sizes = map (λ b. b.1) new.blocks } in
     record {
       row = row;
-      prepared = record { stored = storable d row s fit; bytes = spelled; sizes = sizes };
+      prepared = record { fit = fit; bytes = spelled; sizes = sizes };
       rises = answer.0.rises;
       within = answer.0.within;
       first = λ m told.
@@ -101,9 +104,9 @@ ended h old new answer m told = ap (map (sized_row old.test)) (answer.0.told m t
 
 -- ---- the loops
 
--- So far: the rows that came and those that are left are all, and the file holds the chosen ones.
+-- So far: the rows that came and those that are left are all, and the file holds the chosen ones if all can be stored.
 abbrev pub TakesTo : Defs → TableScan → TableScan → List ℕ → (ℕ → Bool) → List SizedRow → Holding → Holding → Type 0
-TakesTo d start now file choose rows m n = (rows ++ sized_ahead now n ≡ sized_ahead start m) × (n file ≡ Some (stored_file d (chosen choose rows)))
+TakesTo d start now file choose rows m n = (rows ++ sized_ahead now n ≡ sized_ahead start m) × (AreStorable d rows → n file ≡ Some (stored_file d (chosen choose rows)))
 
 pub record Taking (d : Defs) (start now : TableScan) (file : List ℕ) (choose : ℕ → Bool) (rows : List SizedRow) (w : NewRows) (old new : Option Holding) : Type 0 where
   pub written : HasWritten d choose rows w
@@ -117,7 +120,7 @@ taking_none d start file choose w old new apart none cut = record {
   written = none;
   few = omega arith;
   inside = omega arith;
-  told = told_more _ _ _ _ cut (λ m n held cuts. (sized_same start m n (same_name file start.name m n apart cuts.others), cuts.here ∙ ap Some (resized_none (bytes_of file m))));
+  told = told_more _ _ _ _ cut (λ m n held cuts. (sized_same start m n (same_name file start.name m n apart cuts.others), λ _. cuts.here ∙ ap Some (resized_none (bytes_of file m))));
 }
 
 -- a row that was read came
@@ -134,7 +137,9 @@ taking_more d start now next file choose b rows w v row old mid new apart ends s
       inside = omega (arith, so_far.few, read.rises, read.within, ends, length_push rows r);
       told = told_then _ _ _ _ _ _ so_far.told step (λ m k n before came. (
         append_assoc rows (r ∷ []) (sized_ahead next n) ∙ ap (λ rs. rows ++ rs) (sym came.0) ∙ before.0,
-        came.1 choose rows is so_far.written before.1,
+        λ can.
+            let before_can : AreStorable d rows = (all_parts (IsStorable d) rows r can).0 in
+            came.1 choose rows is so_far.written before_can (before.1 before_can),
       ));
     }
 
@@ -153,7 +158,7 @@ taken_all d start now file choose rows w old new so_far none = record {
 
 -- a pointer for each row
 pub written_long : (d : Defs) (choose : ℕ → Bool) (rows : List SizedRow) (w : NewRows) → HasWritten d choose rows w → length w.pointers.items ≡ length rows
-written_long d choose rows w has = ap (λ (ps : List ℕ). length ps) has.pointers ∙ length-pointers d 0 (flags_by choose (length rows)) rows (length-flags choose (length rows))
+written_long d choose rows w has = has.came.long
 
 pub keys_more : (d : Defs) (rows : List SizedRow) (row : SizedRow) (n : ℕ) (old new : List (List Pair)) → n ≡ length rows → old ≡ number_pairs d rows → new ≡ with_pairs n (row_keys d row.values) old → new ≡ number_pairs d (rows ++ row ∷ [])
 keys_more d rows row n old new count is step = step ∙ ap (with_pairs n (row_keys d row.values)) is ∙ ap (λ m. with_pairs m (row_keys d row.values) (number_pairs d rows)) count ∙ numbers_next d rows row
@@ -193,19 +198,32 @@ pub came_all : (t : FourNames) (defs : Defs) (extend : Bool) (d : List ℕ) (end
 came_all t defs extend d end scan rows m is long table came =
     came ∙ ap (λ s. sized_ahead s m) (is ∙ ap (fresh_scan t.rows defs extend) long) ∙ ap (map (sized_row defs)) (fresh_rows t.rows d defs extend m (is_opened t defs d m table).rows)
 
+all_mapped : {X Y : Type 0} (P : Y → Type 0) (f : X → Y) (xs : List X) → AllByRecursion (λ x. P (f x)) xs → AllByRecursion P (map f xs)
+all_mapped P f [] all = tt
+all_mapped P f (x ∷ xs) all = (all.0, all_mapped P f xs all.1)
+
+-- the rows of the table can be stored
+pub rows_storable : (t : FourNames) (defs : Defs) (extend : Bool) (d : List ℕ) (rows : List SizedRow) (m : Holding) → AreDefs defs → IsTable t defs d m → HoldsBytes m → rows ≡ map (sized_row defs) (readable defs extend d) → AreStorable defs rows
+rows_storable t defs extend d rows m defined table are came =
+    let o = is_opened t defs d m table in
+    let file_is : bytes_of t.rows m ≡ d = ap (λ b. unwrap_or b []) o.rows in
+    let bytes : AreBytes d = subst AreBytes file_is (are t.rows) in
+    subst (AreStorable defs) (sym came) (all_mapped (IsStorable defs) (sized_row defs) (readable defs extend d) (readable_storable defs extend d defined bytes))
+
 -- the chosen rows are the first ones of all: this was gathered
-pub gathers : (t : FourNames) (defs : Defs) (extend : Bool) (d : List ℕ) (end : ℕ) (choose : ℕ → Bool) (rows : List SizedRow) (w : NewRows) (pairs : List (List Pair)) (g : Gathered) (m n : Holding) → end ≡ length d → IsTable t defs d m → HoldsBytes m → HasWritten defs choose rows w
+pub gathers : (t : FourNames) (defs : Defs) (extend : Bool) (d : List ℕ) (end : ℕ) (choose : ℕ → Bool) (rows : List SizedRow) (w : NewRows) (pairs : List (List Pair)) (g : Gathered) (m n : Holding) → end ≡ length d → IsTable t defs d m → HoldsBytes m → HasWritten defs choose rows w → AreStorable defs rows
     → rows ≡ map (sized_row defs) (readable defs extend d) → chosen choose rows ≡ first_rows defs rows → n t.new_rows ≡ Some (stored_file defs (chosen choose rows)) → map sorted pairs ≡ key_lists defs (placed_from defs 0 (chosen choose rows))
     → g ≡ record { defs = defs; report = record { kept = w.kept; repeats = length w.pointers.items - w.kept; old_length = end; new_length = w.end }; split = w.split; pairs = pairs } → Gathers t extend g m n
 unfolding kept new_data
-gathers t defs extend d end choose rows w pairs g m n long table are has came first here listed made =
+gathers t defs extend d end choose rows w pairs g m n long table are has can came first here listed made =
+    let was : AreStored defs choose rows w = has.stored can in
     let o = is_opened t defs d m table in
     let file_is : bytes_of t.rows m ≡ d = ap (λ b. unwrap_or b []) o.rows in
     let keep : chosen choose rows ≡ kept defs extend d = first ∙ ap (first_rows defs) came in
     let count : length w.pointers.items ≡ length (readable defs extend d) = written_long defs choose rows w has ∙ ap (λ (rs : List SizedRow). length rs) came ∙ length-map (readable defs extend d) (sized_row defs) in
-    let few : w.kept ≡ length (kept defs extend d) = has.kept ∙ ap (λ (rs : List SizedRow). length rs) keep in
+    let few : w.kept ≡ length (kept defs extend d) = was.kept ∙ ap (λ (rs : List SizedRow). length rs) keep in
     let repeats : length w.pointers.items - w.kept ≡ repeat_count defs extend d = omega (arith, count, few) in
-    let size : w.end ≡ length (stored_file defs (kept defs extend d)) = has.end ∙ ap (λ rs. length (stored_file defs rs)) keep in
+    let size : w.end ≡ length (stored_file defs (kept defs extend d)) = was.end ∙ ap (λ rs. length (stored_file defs rs)) keep in
     subst (λ (x : Gathered). Gathers t extend x m n) (sym made) (
       d,
       table,
@@ -216,7 +234,7 @@ gathers t defs extend d end choose rows w pairs g m n long table are has came fi
             ∙ ap (λ x. record { kept = length (kept defs extend d); repeats = x; old_length = end; new_length = w.end }) repeats
             ∙ ap (λ x. record { kept = length (kept defs extend d); repeats = repeat_count defs extend d; old_length = x; new_length = w.end }) long
             ∙ ap (λ x. record { kept = length (kept defs extend d); repeats = repeat_count defs extend d; old_length = length d; new_length = x }) size;
-        split = has.split ∙ ap (block_count defs) keep;
+        split = was.split ∙ ap (block_count defs) keep;
         pairs = listed ∙ ap (λ rs. key_lists defs (placed_from defs 0 rs)) keep;
       },
     )
@@ -234,20 +252,22 @@ abbrev pub gathered_of : Defs → ℕ → NewRows → List (List Pair) → Gathe
 gathered_of defs end w pairs = record { defs = defs; report = record { kept = w.kept; repeats = length w.pointers.items - w.kept; old_length = end; new_length = w.end }; split = w.split; pairs = pairs }
 
 -- no row repeated another
-pub all_gathered : (t : FourNames) (defs : Defs) (extend : Bool) (end : ℕ) (scan : TableScan) (file : List ℕ) (w : NewRows) (lists sorts : List (List Pair)) (g : Gathered) (before after : Option Holding) → IsSound defs → scan ≡ fresh_scan t.rows defs extend end → file ≡ t.new_rows → IfTold before (HasTable t defs end) → IfTold before HoldsBytes
+pub all_gathered : (t : FourNames) (defs : Defs) (extend : Bool) (end : ℕ) (scan : TableScan) (file : List ℕ) (w : NewRows) (lists sorts : List (List Pair)) (g : Gathered) (before after : Option Holding) → AreDefs defs → scan ≡ fresh_scan t.rows defs extend end → file ≡ t.new_rows → IfTold before (HasTable t defs end) → IfTold before HoldsBytes
     → TakesAll defs scan file w lists before after → sorts ≡ sorted_unique defs.keys lists → any_repeat defs.keys sorts ≡ false → g ≡ gathered_of defs end w (map (map (pointed w.pointers.items)) sorts) → Told before after (Gathers t extend g)
-all_gathered t defs extend end scan file w lists sorts g before after s is named tabled bytes took step none made =
+all_gathered t defs extend end scan file w lists sorts g before after defined is named tabled bytes took step none made =
+    let s : IsSound defs = sound defs defined in
     let rows = took.0 in
     let has = took.1 in
     let are : AreNumberLists defs rows sorts = lists_sorted defs rows lists sorts took.2 step in
     let all : chosen all_chosen rows ≡ rows = chosen_all rows in
     told_more _ _ _ _ has.told (λ m n held both.
     let table = tabled m held in
-    gathers t defs extend table.0 end all_chosen rows w (map (map (pointed w.pointers.items)) sorts) g m n table.2 table.1 (bytes m held) has.written
-    (came_all t defs extend table.0 end scan rows m is table.2 table.1 both.0)
+    let came : rows ≡ map (sized_row defs) (readable defs extend table.0) = came_all t defs extend table.0 end scan rows m is table.2 table.1 both.0 in
+    let can : AreStorable defs rows = rows_storable t defs extend table.0 rows m defined table.1 (bytes m held) came in
+    gathers t defs extend table.0 end all_chosen rows w (map (map (pointed w.pointers.items)) sorts) g m n table.2 table.1 (bytes m held) has.written can came
     (all ∙ sym (first_by_keys defs rows ∙ none_repeats defs rows sorts are none))
-    (subst (λ f. n f ≡ Some (stored_file defs (chosen all_chosen rows))) named both.1)
-    (lists_of_all defs rows sorts w.pointers.items s has.written.stored are has.written.pointers ∙ ap (λ rs. key_lists defs (placed_from defs 0 rs)) (sym all))
+    (subst (λ f. n f ≡ Some (stored_file defs (chosen all_chosen rows))) named (both.1 can))
+    (lists_of_all defs rows sorts w.pointers.items s can are (has.written.stored can).pointers ∙ ap (λ rs. key_lists defs (placed_from defs 0 rs)) (sym all))
     made)
 
 -- what is known of the files once all rows were written
@@ -255,12 +275,13 @@ abbrev pub Known : FourNames → Defs → ℕ → TableScan → List ℕ → Lis
 Known t defs end scan file rows m n = HasTable t defs end m × HoldsBytes m × (rows ≡ sized_ahead scan m) × OthersStay file m n
 
 -- the first rows were written again
-pub kept_gathered : (t : FourNames) (defs : Defs) (extend : Bool) (end : ℕ) (scan again : TableScan) (file : List ℕ) (flags : List Bool) (w v : NewRows) (lists sorts left : List (List Pair)) (g : Gathered) (before mid after : Option Holding) → IsSound defs → (t.rows ≡ t.new_rows → ⊥)
+pub kept_gathered : (t : FourNames) (defs : Defs) (extend : Bool) (end : ℕ) (scan again : TableScan) (file : List ℕ) (flags : List Bool) (w v : NewRows) (lists sorts left : List (List Pair)) (g : Gathered) (before mid after : Option Holding) → AreDefs defs → (t.rows ≡ t.new_rows → ⊥)
     → scan ≡ fresh_scan t.rows defs extend end → again ≡ fresh_scan t.rows defs extend end → file ≡ t.new_rows → IfTold before (HasTable t defs end) → IfTold before HoldsBytes
     → TakesAll defs scan file w lists before mid → Told before mid (OthersStay file) → sorts ≡ sorted_unique defs.keys lists → length flags ≡ length w.pointers.items
     → ((all : List SizedRow) → length all ≡ length w.pointers.items → AreNumberLists defs all sorts → picked flags all ≡ first_by (repeats_in (unique_keys defs)) all)
     → TakesChosen defs again file (is_chosen flags) v mid after → left ≡ map (filter (has_flag flags)) sorts → g ≡ gathered_of defs end v (map (map (pointed v.pointers.items)) left) → Told before after (Gathers t extend g)
-kept_gathered t defs extend end scan again file flags w v lists sorts left g before mid after s apart is same named tabled bytes took others step long keeps second leaves made =
+kept_gathered t defs extend end scan again file flags w v lists sorts left g before mid after defined apart is same named tabled bytes took others step long keeps second leaves made =
+    let s : IsSound defs = sound defs defined in
     let rows = took.0 in
     let came = second.0 in
     let known : Told before mid (Known t defs end scan file rows) =
@@ -273,12 +294,13 @@ kept_gathered t defs extend end scan again file flags w v lists sorts left g bef
     let are : AreNumberLists defs came sorts = subst (λ rs. AreNumberLists defs rs sorts) one (lists_sorted defs rows lists sorts took.2 step) in
     let many : length w.pointers.items ≡ length came = written_long defs all_chosen rows w took.1.written ∙ ap (λ (rs : List SizedRow). length rs) one in
     let set : flags_by (is_chosen flags) (length came) ≡ flags = flags_given flags (length came) (long ∙ many) in
+    let can : AreStorable defs came = rows_storable t defs extend table.0 came m defined table.1 first.1 all in
     let picks : chosen (is_chosen flags) came ≡ picked flags came = ap (λ fs. picked fs came) set in
-    gathers t defs extend table.0 end (is_chosen flags) came v (map (map (pointed v.pointers.items)) left) g m o table.2 table.1 first.1 second.1.written all
+    gathers t defs extend table.0 end (is_chosen flags) came v (map (map (pointed v.pointers.items)) left) g m o table.2 table.1 first.1 second.1.written can all
     (picks ∙ keeps came (sym many) are ∙ sym (first_by_keys defs came))
-    (subst (λ f. o f ≡ Some (stored_file defs (chosen (is_chosen flags) came))) named next.1)
+    (subst (λ f. o f ≡ Some (stored_file defs (chosen (is_chosen flags) came))) named (next.1 can))
     (ap (λ ls. map sorted (map (map (pointed v.pointers.items)) ls)) leaves
-    ∙ lists_of_kept defs came sorts flags v.pointers.items s second.1.written.stored are (long ∙ many) (second.1.written.pointers ∙ ap (λ fs. pointers_at defs 0 fs came) set)
+    ∙ lists_of_kept defs came sorts flags v.pointers.items s can are (long ∙ many) ((second.1.written.stored can).pointers ∙ ap (λ fs. pointers_at defs 0 fs came) set)
     ∙ ap (λ rs. key_lists defs (placed_from defs 0 rs)) (sym picks))
     made)
 
@@ -288,11 +310,11 @@ pub all_laid : (defs : Defs) (end : ℕ) (w : NewRows) (lists sorts : List (List
     → g ≡ gathered_of defs end w (map (map (pointed w.pointers.items)) sorts) → AreSizedPairs g.defs g.pairs
 all_laid defs end w lists sorts scan file g before after s took step made =
     subst (λ (x : Gathered). AreSizedPairs x.defs x.pairs) (sym made)
-    (all_sized defs took.0 sorts w.pointers.items s (one-le-pow defs.rec_ref 256 (omega arith)) took.1.written.stored (lists_sorted defs took.0 lists sorts took.2 step) took.1.written.near)
+    (all_sized defs took.0 sorts w.pointers.items s (one-le-pow defs.rec_ref 256 (omega arith)) took.1.written.came.fit (lists_sorted defs took.0 lists sorts took.2 step) took.1.written.came.near)
 
 pub kept_laid : (defs : Defs) (end : ℕ) (w v : NewRows) (lists sorts left : List (List Pair)) (scan again : TableScan) (file : List ℕ) (flags : List Bool) (choose : ℕ → Bool) (g : Gathered) (before mid other after : Option Holding) → IsSound defs → TakesAll defs scan file w lists before mid → sorts ≡ sorted_unique defs.keys lists
     → TakesChosen defs again file choose v other after → left ≡ map (filter (has_flag flags)) sorts → g ≡ gathered_of defs end v (map (map (pointed v.pointers.items)) left) → AreSizedPairs g.defs g.pairs
 kept_laid defs end w v lists sorts left scan again file flags choose g before mid other after s took step second leaves made =
     subst (λ (x : Gathered). AreSizedPairs x.defs x.pairs) (sym made)
     (subst (λ ls. AreSizedPairs defs (map (map (pointed v.pointers.items)) ls)) (sym leaves)
-    (kept_sized defs took.0 sorts v.pointers.items s (one-le-pow defs.rec_ref 256 (omega arith)) took.1.written.stored (lists_sorted defs took.0 lists sorts took.2 step) second.1.written.near flags))
+    (kept_sized defs took.0 sorts v.pointers.items s (one-le-pow defs.rec_ref 256 (omega arith)) took.1.written.came.fit (lists_sorted defs took.0 lists sorts took.2 step) second.1.written.came.near flags))

@@ -1,5 +1,6 @@
 pub mod OpenLaws
 pub mod FilesLaws
+pub mod EndLaws
 pub mod StateLaws
 pub mod StoredLaws
 pub mod PointerLaws

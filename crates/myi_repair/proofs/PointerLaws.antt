@@ -8,20 +8,18 @@ use Rattle.myi_defs.specs.declared.types.RowFormat.TheVariants.{Static, Dynamic}
 use Rattle.myi_defs.specs.declared.types.Defs.{Defs}
 use Rattle.myi_defs.specs.Sound.{IsSound}
 use Rattle.std.proofs.Math.Nat.{add-div_right}
-use Rattle.myi_frames.specs.Sizes.{least_size}
-use Rattle.myi_pack.specs.Spelling.{spelling}
 use Rattle.myi_keylist.specs.declared.pair.Pair.{Pair}
 use Rattle.myi_keylist.specs.PairOrder.{sorted}
 use Rattle.myi_keylist.specs.Classes.{picked}
 use Rattle.myi_keylist.specs.Columns.{AreRisingAt, has_flag, pairs_with, pointed}
 use Rattle.myi_data.specs.Stored.{SizedRow, stored_size, stored, stored_from, stored_file, IsStorable}
-use Rattle.myi_data.proofs.CallerLemmas.{size_alone, size_one, stored_sized, spelling_some}
+use Rattle.myi_data.proofs.CallerLemmas.{stored_long, stored_some}
 use Rattle.myi_rowkeys.specs.TableKeys.{key_in}
 use Rattle.myi_rowkeys.specs.RowLists.{pointer_pairs, AreNumberLists}
 use Rattle.myi_rowkeys.proofs.CallerLemmas.{all_pointed, kept_pointed}
 use Rattle.myi_pair.specs.FirstRows.{key_numbers}
 use Rattle.myi_pair.specs.KeyList.{pointer_by, pointer, pairs_of, key_list}
-use Rattle.myi_pair.specs.RecoveredBytes.{placed_from, key_lists}
+use Rattle.myi_pair.specs.RebuiltBytes.{placed_from, key_lists}
 use Rattle.myi_pair.proofs.CallerLemmas.{length-slot}
 use Rattle.myi_repair.specs.Keeping.{is_chosen, flags_by, chosen, pointers_at}
 use Rattle.myi_repair.specs.Gathering.{all_chosen}
@@ -75,14 +73,6 @@ length-pointers d at (b ∷ flags) [] same = absurd (omega (arith, same))
 length-pointers d at (true ∷ flags) (row ∷ rows) same = ap suc (length-pointers d (at + stored_size d row) flags rows (omega (arith, same)))
 length-pointers d at (false ∷ flags) (row ∷ rows) same = ap suc (length-pointers d at flags rows (omega (arith, same)))
 
-least_some : (n : ℕ) → 0 < least_size n
-unfolding least_size
-least_some n = omega arith
-
-size_some : (f : RowFormat) (n : ℕ) → 0 < n → 0 < size_alone f n
-size_some Static n some = some
-size_some Dynamic n some = least_some n
-
 slots : (at slot : ℕ) → 0 < slot → at / slot < (at + slot) / slot
 slots at slot positive = let e : (at + slot) / slot ≡ at / slot + 1 = add-div_right at positive in omega (arith, e)
 
@@ -100,7 +90,7 @@ module _ (d : Defs) (s : IsSound d) where
   from_more at (true ∷ flags) (r ∷ rows) row b same all =
       let next : ℕ = at + stored_size d r in
       let more : List ℕ = stored_from d next (picked flags rows) in
-      let e : next + length more ≡ at + length (stored d at r ++ more) = omega (arith, stored_sized d r s all.0.fits at, length-append (stored d at r) more) in
+      let e : next + length more ≡ at + length (stored d at r ++ more) = omega (arith, stored_long d r s all.0 at, length-append (stored d at r) more) in
       ap (λ ps. pointer d at ∷ ps) (from_more next flags rows row b (omega (arith, same)) all.1) ∙ ap (λ p. pointer d at ∷ (pointers_at d next flags rows ++ cond b (pointer d p) 0 ∷ [])) e
   from_more at (false ∷ flags) (r ∷ rows) row b same all = ap (λ ps. 0 ∷ ps) (from_more at flags rows row b (omega (arith, same)) all.1)
 
@@ -117,7 +107,7 @@ module _ (d : Defs) (s : IsSound d) where
   -- the pointer behind a row is greater
   pub pointer_up : (at : ℕ) (row : SizedRow) → IsStorable d row → pointer d at < pointer d (at + stored_size d row)
   pointer_up at row can =
-      up d.format d.slot_length at (stored_size d row) (subst (λ n. 0 < n) (sym (size_one d row s can.fits)) (size_some d.format (length (spelling d row.values)) (spelling_some d row.values s can.fits))) (λ is. length-slot d row s is can)
+      up d.format d.slot_length at (stored_size d row) (stored_some d row s can).0 (λ is. length-slot d row s is can)
 
   -- each pointer of a set flag is at least the first
   low : (at : ℕ) (flags : List Bool) (rows : List SizedRow) (j : ℕ) → length flags ≡ length rows → AllByRecursion (IsStorable d) rows → get_or flags j false ≡ true → pointer d at ≤ get_or (pointers_at d at flags rows) j 0

@@ -15,8 +15,9 @@ use Rattle.myi_btree.specs.Sizes.{fits_in}
 use Rattle.myi_pair.specs.FirstRows.{key_numbers}
 use Rattle.myi_keylist.specs.PairOrder.{sorted}
 use Rattle.myi_pair.specs.Trees.{place_of, block_of_key}
-use Rattle.myi_pair.specs.TreePages.{HasBehind}
-use Rattle.myi_pair.specs.RecoveredBytes.{laid_trees, kept, new_data, placed_from, key_lists, new_trees, new_state, recovered_state, new_index}
+use Rattle.myi_btree.specs.TreePages.{HasBehind}
+use Rattle.myi_pair.specs.RebuiltBytes.{laid_trees, placed_from, key_lists, new_trees, new_state, rebuilt_index}
+use Rattle.myi_pair.specs.RecoveredBytes.{kept, new_data, recovered_state, new_index}
 use Rattle.myi_pair.specs.Recovered.{IsRepairable}
 use Rattle.myi_header.proofs.CallerLemmas.{header-long}
 use Rattle.myi_pair.proofs.CallerLemmas.{new_rest}
@@ -69,7 +70,7 @@ without_pairs g = record g { pairs = [] }
 
 pub finished_is : (t : FourNames) (extend : Bool) (d : List ℕ) (g h : Gathered) (now end : ℕ) (roots : List (Option ℕ)) (m n : Holding) → IsSound g.defs → h ≡ without_pairs g → length g.pairs ≡ length g.defs.keys → IsGathered t extend d g m
     → roots ≡ (trees_of g.defs g.pairs).roots → end ≡ (trees_of g.defs g.pairs).end → Builds g.defs g.pairs t.new_index m n → finished_index h roots end now (bytes_of t.new_index n) ≡ new_index g.defs extend d now
-unfolding new_index
+unfolding new_data new_index rebuilt_index
 finished_is t extend d g h now end roots m n s left counted is rooted ended built =
     let defs = g.defs in
     let trees : trees_of defs g.pairs ≡ new_trees defs (kept defs extend d) = trees_same defs g.pairs (kept defs extend d) is.pairs in

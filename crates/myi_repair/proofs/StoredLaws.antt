@@ -6,7 +6,7 @@ use Rattle.std.proofs.lemmas.List.Sums.{sum_by-cons, sum_by-append}
 use Rattle.myi_defs.specs.declared.types.Defs.{Defs}
 use Rattle.myi_defs.specs.Sound.{IsSound}
 use Rattle.myi_data.specs.Stored.{SizedRow, group, stored_size, stored, stored_from, stored_file, block_count, IsStorable}
-use Rattle.myi_data.proofs.CallerLemmas.{stored_sized}
+use Rattle.myi_data.proofs.CallerLemmas.{stored_long}
 
 -- ---- one more row at the end
 
@@ -16,7 +16,7 @@ module _ (d : Defs) (s : IsSound d) where
   from_more at (r ∷ rows) row all =
       let next : ℕ = at + stored_size d r in
       let more : List ℕ = stored_from d next rows in
-      let e : next + length more ≡ at + length (stored d at r ++ more) = omega (arith, stored_sized d r s all.0.fits at, length-append (stored d at r) more) in
+      let e : next + length more ≡ at + length (stored d at r ++ more) = omega (arith, stored_long d r s all.0 at, length-append (stored d at r) more) in
       ap (λ x. stored d at r ++ x) (from_more next rows row all.1)
       ∙ ap (λ p. stored d at r ++ (more ++ stored d p row)) e
       ∙ sym (append_assoc (stored d at r) more (stored d (at + length (stored d at r ++ more)) row))
@@ -28,6 +28,11 @@ module _ (d : Defs) (s : IsSound d) where
 pub blocks_more : (d : Defs) (rows : List SizedRow) (row : SizedRow) → block_count d (rows ++ row ∷ []) ≡ block_count d rows + length (group d row)
 blocks_more d rows row = sum_by-append (λ (r : SizedRow). length (group d r)) rows (row ∷ []) ∙ ap (λ n. block_count d rows + n) (sum_by-cons (λ (r : SizedRow). length (group d r)) row [] ∙ (let e : length (group d row) + 0 ≡ length (group d row) = omega arith in e))
 
-pub stored_more : (d : Defs) (rows : List SizedRow) (row : SizedRow) → AllByRecursion (IsStorable d) rows → IsStorable d row → AllByRecursion (IsStorable d) (rows ++ row ∷ [])
-stored_more d [] row all one = (one, tt)
-stored_more d (r ∷ rows) row all one = (all.0, stored_more d rows row all.1 one)
+-- what holds of all rows and one more, or of all pointers and one more
+pub all_more : {X : Type 0} (P : X → Type 0) (xs : List X) (x : X) → AllByRecursion P xs → P x → AllByRecursion P (xs ++ x ∷ [])
+all_more P [] x all one = (one, tt)
+all_more P (y ∷ xs) x all one = (all.0, all_more P xs x all.1 one)
+
+pub all_parts : {X : Type 0} (P : X → Type 0) (xs : List X) (x : X) → AllByRecursion P (xs ++ x ∷ []) → AllByRecursion P xs × P x
+all_parts P [] x all = (tt, all.0)
+all_parts P (y ∷ xs) x all = let rest = all_parts P xs x all.1 in ((all.0, rest.0), rest.1)

@@ -26,9 +26,9 @@ use Rattle.myi_btree.proofs.CallerLemmas.{ends}
 use Rattle.myi_pair.specs.FirstRows.{key_numbers, numbers_from}
 use Rattle.myi_keylist.specs.PairOrder.{sorted}
 use Rattle.myi_pair.specs.Trees.{place_of, block_of_key}
-use Rattle.myi_pair.specs.RecoveredBytes.{LaidTrees, laid_trees, pages_then}
-use Rattle.myi_pair.specs.TreePages.{tree_nodes, tree_pages, tree_end, with_tree, CanBeLaid, HasBehind}
-use Rattle.myi_pair.proofs.CallerLemmas.{tree_behind}
+use Rattle.myi_pair.specs.RebuiltBytes.{LaidTrees, laid_trees, pages_then}
+use Rattle.myi_btree.specs.TreePages.{tree_nodes, tree_pages, tree_end, with_tree, CanBeLaid, HasBehind}
+use Rattle.myi_btree.proofs.CallerLemmas.{tree_behind}
 use Rattle.myi_keylist.proofs.CallerLemmas.{sorted_permutes}
 use Rattle.myi_repair.specs.Building.{trees_of, LaysTrees}
 use Rattle.myi_rowkeys.proofs.CallerLemmas.{length-numbers}

@@ -8,8 +8,8 @@ use Rattle.myi_keylist.specs.declared.pair.Pair.{Pair}
 use Rattle.myi_keylist.specs.PairOrder.{sorted}
 use Rattle.myi_btree.specs.Building.{CanLay}
 use Rattle.myi_pair.specs.FirstRows.{key_numbers}
-use Rattle.myi_pair.specs.RecoveredBytes.{LaidTrees, laid_trees}
-use Rattle.myi_pair.specs.TreePages.{HasBehind}
+use Rattle.myi_pair.specs.RebuiltBytes.{LaidTrees, laid_trees}
+use Rattle.myi_btree.specs.TreePages.{HasBehind}
 use Rattle.myi_repair.specs.declared.trees.Trees.{Trees}
 
 -- the trees of these pairs, a list for each key

@@ -4,7 +4,7 @@ use Rattle.myi_base.specs.Holding.{Holding, bytes_of, resized, overwritten}
 use Rattle.myi_header.specs.declared.state.State.{State}
 use Rattle.myi_header.specs.StateOf.{state_of}
 use Rattle.myi_header.specs.HeaderOf.{header_of}
-use Rattle.myi_pair.specs.RecoveredBytes.{new_state}
+use Rattle.myi_pair.specs.RebuiltBytes.{new_state}
 use Rattle.myi_repair.specs.declared.gathering.Gathered.{Gathered}
 use Rattle.myi_repair.specs.Names.{FourNames, KeepsBoth, Holds}
 

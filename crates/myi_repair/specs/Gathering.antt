@@ -9,14 +9,15 @@ use Rattle.myi_data.specs.Stored.{SizedRow, stored_file, block_count}
 use Rattle.myi_data.specs.Scanning.{TableScan, rows_ahead}
 use Rattle.myi_rowkeys.specs.RowLists.{number_pairs}
 use Rattle.myi_pair.specs.Clean.{sized_row}
-use Rattle.myi_pair.specs.RecoveredBytes.{kept, repeat_count, new_data, placed_from, key_lists}
+use Rattle.myi_pair.specs.RebuiltBytes.{placed_from, key_lists}
+use Rattle.myi_pair.specs.RecoveredBytes.{kept, repeat_count, new_data}
 use Rattle.myi_repair.specs.declared.report.Report.{Report}
 use Rattle.myi_repair.specs.declared.next_row.NextRow.{NextRow}
 use Rattle.myi_repair.specs.declared.new_rows.NewRows.{NewRows}
 use Rattle.myi_repair.specs.declared.gathering.Gathered.{Gathered}
 use Rattle.myi_repair.specs.Names.{FourNames}
 use Rattle.myi_repair.specs.Opening.{IsTable}
-use Rattle.myi_repair.specs.Keeping.{IsPrepared, HasWritten, chosen}
+use Rattle.myi_repair.specs.Keeping.{IsPrepared, AreStorable, HasWritten, chosen}
 
 -- what is said of a repair of this data file
 abbrev pub report_of : Defs → Bool → List ℕ → Report
@@ -59,11 +60,11 @@ abbrev pub ReadsIf : Bool → Defs → Option Holding → TableScan → TableSca
 ReadsIf true d told s t next = Reads d told s t next
 ReadsIf false d told s t next = IfTold told (λ m. sized_ahead s m ≡ [])
 
--- the rows that a scan had left are these, and the file holds the chosen ones
+-- the rows that a scan had left are these, and the file holds the chosen ones if all can be stored
 pub record HasTaken (d : Defs) (s : TableScan) (file : List ℕ) (choose : ℕ → Bool) (rows : List SizedRow) (w : NewRows) (old new : Option Holding) : Type 0 where
   pub written : HasWritten d choose rows w
   pub few : length rows ≤ s.end
-  pub told : Told old new (λ m n. (rows ≡ sized_ahead s m) × (n file ≡ Some (stored_file d (chosen choose rows))))
+  pub told : Told old new (λ m n. (rows ≡ sized_ahead s m) × (AreStorable d rows → n file ≡ Some (stored_file d (chosen choose rows))))
 
 -- some rows came, and the chosen ones were written
 abbrev pub TakesChosen : Defs → TableScan → List ℕ → (ℕ → Bool) → NewRows → Option Holding → Option Holding → Type 0

@@ -1,6 +1,6 @@
 -- The files of a table (MySQL Reference Manual, "The MyISAM Storage Engine"; the working files are named as myisamchk
 -- names its own), and which of them stay as they are.
-use Rattle.std.specs.Prelude.{◌≡◌, ◌≢◌, ◌⊎◌, ℕ, List, ◌++◌, codes, Some, None, string_bytes}
+use Rattle.std.specs.Prelude.{◌≡◌, ◌≢◌, ◌⊎◌, ◌≤◌, ◌+◌, ℕ, List, ◌++◌, codes, Option, Some, None, string_bytes}
 use Rattle.myi_base.specs.Holding.{Holding}
 use Rattle.myi_repair.specs.declared.names.TableFiles.{TableFiles}
 
@@ -53,9 +53,18 @@ pub record NoWorking (t : FourNames) (n : Holding) : Type 0 where
   pub new_rows : n t.new_rows ≡ None
   pub new_index : n t.new_index ≡ None
 
--- nothing changed, or the working files are gone
-abbrev pub Clears : FourNames → Holding → Holding → Type 0
-Clears t m n = (n ≡ m) ⊎ NoWorking t n
+-- a file that is there, counted
+abbrev pub one_there : Option (List ℕ) → ℕ
+one_there None = 0
+one_there (Some b) = 1
+
+-- how many of the working files are there
+abbrev pub working_left : FourNames → Holding → ℕ
+working_left t n = one_there (n t.new_rows) + one_there (n t.new_index)
+
+-- nothing changed, or no more of the working files are left than so many
+abbrev pub Clears : ℕ → FourNames → Holding → Holding → Type 0
+Clears most t m n = (n ≡ m) ⊎ (working_left t n ≤ most)
 
 -- both files hold these bytes, and the working files are gone
 pub record Holds (t : FourNames) (d x : List ℕ) (n : Holding) : Type 0 where

@@ -3,14 +3,12 @@ ghost use Rattle.std.specs.Prelude.{◌≡◌, ◌≤◌, ◌+◌, ◌-◌, ◌*
 ghost use Rattle.myi_base.specs.Holding.{Told, Sets, bytes_of, resized, overwritten, OthersStay};
 ghost use Rattle.myi_base.specs.Causes.{HasCause};
 ghost use Rattle.myi_io.specs.declared.files.FileErr.TheVariants.{Failed};
-ghost use Rattle.myi_io.specs.Faults.{handed_on};
-ghost use Rattle.myi_repair.specs.declared.fault.RepairFault.TheVariants.{File, Memory};
 ghost use Rattle.myi_defs.specs.ReadDefs.{AreDefs};
 ghost use Rattle.myi_defs.specs.Sound.{IsSound};
 ghost use Rattle.myi_header.specs.StateOf.{IsPlace, rest_length};
 ghost use Rattle.myi_header.specs.HeaderOf.{header_of};
-ghost use Rattle.myi_repair.specs.Faults.{faults_told, RoseAtMost};
-ghost use Rattle.myi_repair.specs.Names.{names_of, names_for, AreApart, KeepsBut, Clears, NoWorking};
+ghost use Rattle.myi_repair.specs.Names.{names_of, names_for, AreApart, KeepsBut};
+ghost use Rattle.myi_repair.specs.Outcome.{Ends, EndsCutOff, as_repair};
 ghost use Rattle.myi_repair.specs.Finishing.{state_set, Finishes, FinishesPart};
 
 use crate::gathering::Gathered;
@@ -27,7 +25,7 @@ const REPAIRED: u8 = 40;
 /// Writes the header, with the mark and the state that a repair sets, to the front of the working index
 /// file, `NAME.TMI`, makes that file `index_length` bytes long, and gives first the working data file and
 /// then the working index file the name of the old one. `now` is the moment, in seconds since 1970. Where
-/// that is cut off, the working files are taken away.
+/// that is cut off, the working files are taken away, if there was memory for their names.
 pub fn finish<F: Files>(
     files: &mut F,
     name: &str,
@@ -44,11 +42,8 @@ pub fn finish<F: Files>(
         (Finishes (names_for name.now) gathered.now roots.now index_length now)) }
     ensures whole { Told (F.holds files.old) (F.holds files.new)
         (FinishesPart (names_for name.now) gathered.now roots.now index_length now) }
-    ensures cleared { IfErr result (λ e.
-        RoseAtMost (faults_told (handed_on File Memory e)) (F.faults files.old) (F.faults files.new)
-        → Told (F.holds files.old) (F.holds files.new) (Clears (names_for name.now))) }
-    ensures others { Told (F.holds files.old) (F.holds files.new) (KeepsBut (names_for name.now)) }
-    ensures cause { HasCause Failed (F.faults files.old) (F.faults files.new) result }
+    ensures ends { Ends (names_for name.now) (F.holds files.old) (F.holds files.new)
+        (F.faults files.old) (F.faults files.new) (as_repair result) }
 {
     let table = TableFiles::of(gathered.defs.raw.allocator(), name)?;
     finish_table(files, &table, gathered, roots, index_length, now)
@@ -72,11 +67,8 @@ pub(crate) fn finish_table<F: Files>(
         (Finishes (names_of table.now) gathered.now roots.now index_length now)) }
     ensures whole { Told (F.holds files.old) (F.holds files.new)
         (FinishesPart (names_of table.now) gathered.now roots.now index_length now) }
-    ensures cleared { IfErr result (λ e.
-        RoseAtMost (faults_told (handed_on File Memory e)) (F.faults files.old) (F.faults files.new)
-        → Told (F.holds files.old) (F.holds files.new) (λ _ n. NoWorking (names_of table.now) n)) }
-    ensures others { Told (F.holds files.old) (F.holds files.new) (KeepsBut (names_of table.now)) }
-    ensures cause { HasCause Failed (F.faults files.old) (F.faults files.new) result }
+    ensures ends { EndsCutOff (names_of table.now) (F.holds files.old) (F.holds files.new)
+        (F.faults files.old) (F.faults files.new) (as_repair result) }
 {
     match replace(files, table, gathered, roots, index_length, now) {
         Ok(()) => Ok(()),

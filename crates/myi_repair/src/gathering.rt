@@ -13,9 +13,9 @@ ghost use Rattle.myi_data.specs.Stored.{SizedRow};
 ghost use Rattle.myi_keylist.specs.Columns.{pointed};
 ghost use Rattle.myi_rowkeys.specs.TableKeys.{row_keys};
 ghost use Rattle.myi_rowkeys.specs.RowLists.{with_pairs};
-ghost use Rattle.myi_repair.specs.Faults.{faults_told, RoseAtMost};
-ghost use Rattle.myi_repair.specs.Names.{names_of, names_for, AreApart, KeepsBut, KeepsBoth, Clears};
-ghost use Rattle.myi_repair.specs.Opening.{HasTable, Refuses, CutsOff};
+ghost use Rattle.myi_repair.specs.Names.{names_of, names_for, AreApart, KeepsBoth};
+ghost use Rattle.myi_repair.specs.Opening.{HasTable, CutsOff};
+ghost use Rattle.myi_repair.specs.Outcome.{Ends};
 ghost use Rattle.myi_repair.specs.Sized.{AreSizedPairs};
 ghost use Rattle.myi_repair.specs.Keeping.{is_chosen, IsPrepared, HasWritten, Adds, WritesIf};
 ghost use Rattle.myi_repair.specs.Gathering.{Gathers, TakesChosen, TakesAll};
@@ -59,7 +59,7 @@ impl Drop for Gathered {
 
 /// Writes the rows of a table that a repair keeps into its working data file, `NAME.TMD`, which is made
 /// anew. `extend` has every position of a dynamic table tried. After a refusal the table's two files are
-/// as before; where gathering was cut off, the working file is taken away.
+/// as before; where gathering was cut off once the table was opened, the working files are taken away.
 pub fn gather<F: Files>(
     alloc: Global,
     files: &mut F,
@@ -75,20 +75,12 @@ pub fn gather<F: Files>(
     ensures header { IfOk result (λ g. AreBytes g.defs.raw) }
     ensures pairs { IfOk result (λ g. AreSizedPairs g.defs g.pairs) }
 
-    // Why a table is refused; nothing is changed then.
-    ensures refused { IfErr result (λ f.
-        CutsOff f ⊎ IfTold (F.holds files.old) (Refuses (names_for name.now) f)) }
-    ensures unchanged { IfErr result (λ f. CutsOff f ⊎ (F.holds files.new ≡ F.holds files.old)) }
-
-    // Where no other file call failed, nothing was changed by a refusal or no working file is left.
-    ensures cleared { IfErr result (λ f.
-        RoseAtMost (faults_told f) (F.faults files.old) (F.faults files.new)
-        → Told (F.holds files.old) (F.holds files.new) (Clears (names_for name.now))) }
-
     // The table's two files are as before.
     ensures both { Told (F.holds files.old) (F.holds files.new) (KeepsBoth (names_for name.now)) }
-    ensures others { Told (F.holds files.old) (F.holds files.new) (KeepsBut (names_for name.now)) }
-    ensures cause { HasCause RepairFault.File (F.faults files.old) (F.faults files.new) result }
+
+    // Why a table is refused, and what is left then; other files stay.
+    ensures ends { Ends (names_for name.now) (F.holds files.old) (F.holds files.new)
+        (F.faults files.old) (F.faults files.new) result }
 {
     let table = TableFiles::of(alloc, name)?;
     gather_table(alloc, files, &table, extend)
@@ -108,15 +100,9 @@ pub(crate) fn gather_table<F: Files>(
     ensures defs { IfOk result (λ g. AreDefs g.defs) }
     ensures header { IfOk result (λ g. AreBytes g.defs.raw) }
     ensures pairs { IfOk result (λ g. AreSizedPairs g.defs g.pairs) }
-    ensures refused { IfErr result (λ f.
-        CutsOff f ⊎ IfTold (F.holds files.old) (Refuses (names_of table.now) f)) }
-    ensures unchanged { IfErr result (λ f. CutsOff f ⊎ (F.holds files.new ≡ F.holds files.old)) }
-    ensures cleared { IfErr result (λ f.
-        RoseAtMost (faults_told f) (F.faults files.old) (F.faults files.new)
-        → Told (F.holds files.old) (F.holds files.new) (Clears (names_of table.now))) }
     ensures both { Told (F.holds files.old) (F.holds files.new) (KeepsBoth (names_of table.now)) }
-    ensures others { Told (F.holds files.old) (F.holds files.new) (KeepsBut (names_of table.now)) }
-    ensures cause { HasCause RepairFault.File (F.faults files.old) (F.faults files.new) result }
+    ensures ends { Ends (names_of table.now) (F.holds files.old) (F.holds files.new)
+        (F.faults files.old) (F.faults files.new) result }
 {
     let opened = open_table(alloc, files, table)?;
     match gather_opened(alloc, files, table, opened, extend) {

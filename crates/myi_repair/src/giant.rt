@@ -43,6 +43,7 @@ pub(crate) fn put_giant<F: Files>(
     ensures end { IfOk result (λ r. r.0
         ≡ at + length (shared_bytes at (shares sizes.now (length packed.now)) packed.now)) }
     ensures count { IfOk result (λ r. r.1 ≡ length (shares sizes.now (length packed.now))) }
+    ensures less { IfOk result (λ r. at + r.1 ≤ r.0) }
     ensures whole { OnOk result
         (bytes_taken (shares sizes.now (length packed.now)) ≡ length packed.now) }
     ensures cause { HasCause Failed (F.faults files.old) (F.faults files.new) result }
@@ -94,6 +95,7 @@ fn put_behind<F: Files>(
     ensures end { IfOk result (λ r. r.0
         ≡ at + length (bytes_behind at (shares_behind sizes.now (length rest.now)) rest.now)) }
     ensures count { IfOk result (λ r. r.1 ≡ length (shares_behind sizes.now (length rest.now))) }
+    ensures less { IfOk result (λ r. at + r.1 ≤ r.0) }
     ensures whole { OnOk result
         (bytes_taken (shares_behind sizes.now (length rest.now)) ≡ length rest.now) }
     ensures few { IfOk result (λ r. r.1 ≤ length rest.now) }
@@ -172,6 +174,7 @@ fn put_end<F: Files>(
         (WritesPart file.now at
         (block_bytes end_spec rest.now (end_size (length rest.now) size)))) }
     ensures behind { IfOk result (λ r. r ≡ at + end_size (length rest.now) size) }
+    ensures less { IfOk result (λ r. at < r) }
     ensures buffer { length buffer.new ≡ length buffer.old }
     ensures cause { HasCause Failed (F.faults files.old) (F.faults files.new) result }
 {

@@ -26,10 +26,10 @@ impl Drop for TableFiles {
 }
 
 impl TableFiles {
-    ghost use Rattle.std.specs.Prelude.{◌≡◌, ◌≤◌, IfOk, IsTrue};
+    ghost use Rattle.std.specs.Prelude.{◌≡◌, ◌≤◌, IfOk, IsTrue, ℕ};
     ghost use Rattle.myi_base.specs.Holding.{Told};
     ghost use Rattle.myi_repair.specs.Faults.{RoseAtMost};
-    ghost use Rattle.myi_repair.specs.Names.{names_of, names_for, AreApart, KeepsBut, KeepsBoth, NoWorking};
+    ghost use Rattle.myi_repair.specs.Names.{names_of, names_for, AreApart, KeepsBut, KeepsBoth, working_left};
 
     pub(crate) fn of(alloc: Global, name: &str) -> Result<TableFiles, AllocError>
         ensures { IfOk result (λ t. names_of t ≡ names_for name.now) }
@@ -46,9 +46,9 @@ impl TableFiles {
     pub(crate) fn clear<F: Files>(&self, files: &mut F)
         requires writable { IsTrue F.writable }
         requires apart { AreApart (names_of self.now) }
-        ensures gone { RoseAtMost 0 (F.faults files.old) (F.faults files.new)
+        ensures gone { (more : ℕ) → RoseAtMost more (F.faults files.old) (F.faults files.new)
             → Told (F.holds files.old) (F.holds files.new)
-            (λ _ n. NoWorking (names_of self.now) n) }
+            (λ _ n. working_left (names_of self.now) n ≤ more) }
         ensures both { Told (F.holds files.old) (F.holds files.new)
             (KeepsBoth (names_of self.now)) }
         ensures others { Told (F.holds files.old) (F.holds files.new)

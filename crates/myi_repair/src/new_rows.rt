@@ -45,7 +45,8 @@ impl NewRows {
     ghost use Rattle.myi_defs.specs.declared.types.Defs.{Defs};
     ghost use Rattle.myi_defs.specs.ReadDefs.{AreDefs};
     ghost use Rattle.myi_defs.specs.Sound.{IsSound};
-    ghost use Rattle.myi_data.specs.Stored.{SizedRow, IsStorable};
+    ghost use Rattle.myi_pack.specs.Spelling.{fits};
+    ghost use Rattle.myi_data.specs.Stored.{SizedRow};
     ghost use Rattle.myi_repair.specs.Opening.{CutsOff};
     ghost use Rattle.myi_repair.specs.Keeping.{IsPrepared, HasWritten, Adds, WritesIf, is_chosen};
 
@@ -101,7 +102,7 @@ impl NewRows {
 
     // Leaves a row out.
     fn leave_out(&mut self) -> Result<(), AllocError>
-        ensures { OnOk result ((d : Defs) (row : SizedRow) → IsSound d → IsStorable d row
+        ensures { OnOk result ((d : Defs) (row : SizedRow) → IsSound d → fits d row.values ≡ true
             → Adds d false row self.old self.new) }
     {
         self.pointers.push(0)?;

@@ -1,12 +1,10 @@
 //! Repairing a table.
-ghost use Rattle.std.specs.Prelude.{◌≡◌, ◌⊎◌, ◌<◌, ◌^◌, [], Some, Err, All, IfOk, IfErr, OnOk, IsTrue};
-ghost use Rattle.myi_base.specs.Holding.{IfTold, Told};
-ghost use Rattle.myi_base.specs.Causes.{HasCause};
+ghost use Rattle.std.specs.Prelude.{◌≡◌, [], All, IfOk, OnOk, IsTrue};
+ghost use Rattle.myi_base.specs.Holding.{Told};
 ghost use Rattle.myi_defs.specs.ReadDefs.{AreDefs};
 ghost use Rattle.myi_header.specs.StateOf.{IsPlace};
-ghost use Rattle.myi_repair.specs.Faults.{faults_told, RoseAtMost};
-ghost use Rattle.myi_repair.specs.Names.{names_of, names_for, AreApart, KeepsBoth, KeepsBut, Clears, NoWorking};
-ghost use Rattle.myi_repair.specs.Opening.{Refuses, CutsOff};
+ghost use Rattle.myi_repair.specs.Names.{names_of, names_for, AreApart, KeepsBoth};
+ghost use Rattle.myi_repair.specs.Outcome.{Ends, EndsCutOff};
 ghost use Rattle.myi_repair.specs.Sized.{AreSizedPairs};
 ghost use Rattle.myi_repair.specs.Building.{trees_of, AreTrees, Builds};
 ghost use Rattle.myi_repair.specs.Repaired.{LeavesRepaired, OldOrNew, Completes, CompletesPart};
@@ -38,20 +36,12 @@ pub fn recover<F: Files>(
     ensures repaired { IfOk result (λ said. Told (F.holds files.old) (F.holds files.new)
         (LeavesRepaired name.now extend now said)) }
 
-    // Why a table is refused; nothing is changed then.
-    ensures refused { IfErr result (λ f.
-        CutsOff f ⊎ IfTold (F.holds files.old) (Refuses (names_for name.now) f)) }
-    ensures unchanged { IfErr result (λ f. CutsOff f ⊎ (F.holds files.new ≡ F.holds files.old)) }
-
-    // Where no other file call failed, nothing was changed by a refusal or no working file is left.
-    ensures cleared { IfErr result (λ f.
-        RoseAtMost (faults_told f) (F.faults files.old) (F.faults files.new)
-        → Told (F.holds files.old) (F.holds files.new) (Clears (names_for name.now))) }
-
-    // At every outcome the table's files are the old ones or whole new ones, and other files stay.
+    // At every outcome the table's files are the old ones or whole new ones.
     ensures files { Told (F.holds files.old) (F.holds files.new) (OldOrNew name.now extend now) }
-    ensures others { Told (F.holds files.old) (F.holds files.new) (KeepsBut (names_for name.now)) }
-    ensures cause { HasCause RepairFault.File (F.faults files.old) (F.faults files.new) result }
+
+    // Why a table is refused, and what is left then; other files stay.
+    ensures ends { Ends (names_for name.now) (F.holds files.old) (F.holds files.new)
+        (F.faults files.old) (F.faults files.new) result }
 {
     let table = TableFiles::of(alloc, name)?;
     let gathered = gather_table(alloc, files, &table, extend)?;
@@ -76,12 +66,8 @@ fn complete<F: Files>(
     ensures said { IfOk result (λ said. said ≡ gathered.report) }
     ensures whole { Told (F.holds files.old) (F.holds files.new)
         (CompletesPart (names_of table.now) gathered now) }
-    ensures cleared { IfErr result (λ f.
-        RoseAtMost (faults_told f) (F.faults files.old) (F.faults files.new)
-        → Told (F.holds files.old) (F.holds files.new) (λ _ n. NoWorking (names_of table.now) n)) }
-    ensures cut { IfErr result CutsOff }
-    ensures others { Told (F.holds files.old) (F.holds files.new) (KeepsBut (names_of table.now)) }
-    ensures cause { HasCause RepairFault.File (F.faults files.old) (F.faults files.new) result }
+    ensures ends { EndsCutOff (names_of table.now) (F.holds files.old) (F.holds files.new)
+        (F.faults files.old) (F.faults files.new) result }
 {
     let trees = build(alloc, files, table, &mut gathered)?;
     finish_table(files, table, &gathered, &trees.roots, trees.end, now)?;
@@ -108,12 +94,8 @@ fn build<F: Files>(
     ensures trees { IfOk result (AreTrees gathered.old.defs gathered.old.pairs) }
     ensures places { IfOk result (λ trees. All IsPlace trees.roots.items) }
     ensures both { Told (F.holds files.old) (F.holds files.new) (KeepsBoth (names_of table.now)) }
-    ensures cleared { IfErr result (λ f.
-        RoseAtMost (faults_told f) (F.faults files.old) (F.faults files.new)
-        → Told (F.holds files.old) (F.holds files.new) (λ _ n. NoWorking (names_of table.now) n)) }
-    ensures cut { IfErr result CutsOff }
-    ensures others { Told (F.holds files.old) (F.holds files.new) (KeepsBut (names_of table.now)) }
-    ensures cause { HasCause RepairFault.File (F.faults files.old) (F.faults files.new) result }
+    ensures ends { EndsCutOff (names_of table.now) (F.holds files.old) (F.holds files.new)
+        (F.faults files.old) (F.faults files.new) result }
 {
     let none = Sequence::new(Vec::new(alloc));
     let pairs = mem::replace(&mut gathered.pairs, none).into_vec();

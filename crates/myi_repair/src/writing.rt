@@ -77,6 +77,7 @@ pub(crate) fn put_packed<F: Files>(
     ensures whole { OnOk result (bytes_taken
         (group_by defs.now.format row.entry.sizes.now (length row.entry.bytes.now))
         ≡ length row.entry.bytes.now) }
+    ensures less { IfOk result (λ r. 0 < length row.entry.bytes.now → at + r.1 ≤ r.0) }
     ensures cause { HasCause Failed (F.faults files.old) (F.faults files.new) result }
 {
     match defs.format {
@@ -107,6 +108,7 @@ fn write_row<F: Files>(
         (WritesPart file.now at bytes.now)) }
     ensures end { IfOk result (λ r. r.0 ≡ at + length bytes.now) }
     ensures count { IfOk result (λ r. r.1 ≡ 1) }
+    ensures less { IfOk result (λ r. 0 < length bytes.now → at + r.1 ≤ r.0) }
     ensures cause { HasCause Failed (F.faults files.old) (F.faults files.new) result }
 {
     files.write_at(file, at, bytes)?;

@@ -16,9 +16,10 @@ use myi_base::Sequence;
 use myi_data::key_code_into;
 use myi_defs::{Defs, Key};
 use myi_keylist::{PairList, keep_first};
-use myi_pack::{NumberedFields, RowView};
+use myi_pack::{FieldPlaces, NumberedFields, RowView};
 use std::alloc::{AllocError, Global};
 use std::marker::Model;
+use std::mem;
 
 /// Buffers for the code of one key, and for one value.
 struct CodeBuffers {
@@ -39,6 +40,7 @@ impl Drop for CodeBuffers {
 pub struct RowKeys {
     lists: Vec<PairList>,
     buffers: CodeBuffers,
+    places: FieldPlaces,
 }
 
 impl Drop for RowKeys {
@@ -46,6 +48,7 @@ impl Drop for RowKeys {
         let RowKeys {
             lists: _,
             buffers: _,
+            places: _,
         } = self;
     }
 }
@@ -85,6 +88,7 @@ impl RowKeys {
                 code: Vec::new(alloc),
                 scratch: Vec::new(alloc),
             },
+            places: FieldPlaces::new(alloc),
         })
     }
 
@@ -96,8 +100,11 @@ impl RowKeys {
         requires all { length self.old ≡ length defs.now.keys }
         ensures { OnOk result (self.new ≡ with_pairs row (row_keys defs.now view.now) self.old) }
     {
-        let mut fields = view.numbered(*self.buffers.code.allocator());
-        push_pairs(&mut self.lists, &mut self.buffers, defs, &mut fields, row)
+        let none = FieldPlaces::new(*self.buffers.code.allocator());
+        let mut fields = view.numbered(mem::replace(&mut self.places, none));
+        let pushed = push_pairs(&mut self.lists, &mut self.buffers, defs, &mut fields, row);
+        self.places = fields.into_places();
+        pushed
     }
 
     /// Puts the lists of unique keys in order. It takes no memory.
@@ -157,7 +164,11 @@ impl RowKeys {
     pub fn into_lists(self) -> Sequence<PairList>
         ensures { result ≡ self }
     {
-        let RowKeys { lists, buffers: _ } = self;
+        let RowKeys {
+            lists,
+            buffers: _,
+            places: _,
+        } = self;
         Sequence::new(lists)
     }
 }

@@ -65,14 +65,17 @@ put_front skip count xs post inside order =
     take_at (take (count - skip) (drop skip xs)) post (count - skip) (length-take-le (count - skip) (drop skip xs) (omega (arith, length-drop skip xs)))
     ∙ sym (ap (λ n. drop skip (take n xs)) e ∙ drop-take skip (count - skip) xs)
 
--- a window that was shown rightly and read on shows all
-pub full_window : (count got room from end : ℕ) (buf new d : List ℕ) → count ≤ length buf → from ≤ end → count + room ≡ min WINDOW (end - from) → AreFront (take count buf) (drop from d)
-    → take (count + got) new ≡ take count buf ++ take room (drop (from + count) d) → take (count + got) new ≡ take WINDOW (drop from (take end d))
-full_window count got room from end buf new d inside order both front told =
+-- a buffer that grew begins as it did
+pub kept_front : (count : ℕ) (old new : List ℕ) → count ≤ length old → take (length old) new ≡ old → take count new ≡ take count old
+kept_front count old new order front = sym (take-take count (length old) new order) ∙ ap (take count) front
+
+-- a window that was shown rightly and read on shows all up to an end
+full_window : (count got room from end : ℕ) (buf new d : List ℕ) → count ≤ length buf → count + room ≡ end - from → AreFront (take count buf) (drop from d)
+    → take (count + got) new ≡ take count buf ++ take room (drop (from + count) d) → take (count + got) new ≡ take (end - from) (drop from d)
+full_window count got room from end buf new d inside both front told =
     let long : length (take count buf) ≡ count = length-take-le count buf inside in
     let shown : take count buf ≡ take count (drop from d) = front ∙ ap (λ n. take n (drop from d)) long in
-    let all : take WINDOW (drop from (take end d)) ≡ take (count + room) (drop from d) = ap (take WINDOW) (cut_at_end from end d order) ∙ take_both WINDOW (end - from) (drop from d) ∙ ap (λ n. take n (drop from d)) (sym both) in
-    told ∙ ap (λ (xs : List ℕ). xs ++ take room (drop (from + count) d)) shown ∙ ap (λ (xs : List ℕ). take count (drop from d) ++ take room xs) (sym (drop-drop count from d)) ∙ sym (all ∙ take_add count room (drop from d))
+    told ∙ ap (λ (xs : List ℕ). xs ++ take room (drop (from + count) d)) shown ∙ ap (λ (xs : List ℕ). take count (drop from d) ++ take room xs) (sym (drop-drop count from d)) ∙ sym (ap (λ n. take n (drop from d)) (sym both) ∙ take_add count room (drop from d))
 
 -- a window that moves goes on showing the file
 pub moved_stands : (at end : ℕ) (s : Excerpt) (d : List ℕ) → StandsIn s d → StandsIn (moved at end s) d
@@ -99,18 +102,23 @@ excerpt_front at s d shows = by_place (leb s.from at) refl
         subst (λ (ys : List ℕ). AreFront (drop (at - s.from) s.bytes) ys) (drop-drop (at - s.from) s.from d ∙ ap (λ n. drop n d) sum) (front_drop (at - s.from) s.bytes (drop s.from d) shows)
     by_place false e = front_none (drop at d)
 
--- a whole window shows the file
-pub full_stands : (at end : ℕ) (s : Excerpt) (d : List ℕ) → s.from ≡ at → s.bytes ≡ take WINDOW (drop at (take end d)) → at ≤ end → StandsIn s d
-full_stands at end s d from bytes order =
-    let same : s.bytes ≡ take (min WINDOW (end - at)) (drop at d) = bytes ∙ ap (take WINDOW) (cut_at_end at end d order) ∙ take_both WINDOW (end - at) (drop at d) in
-    let front : AreFront (take (min WINDOW (end - at)) (drop at d)) (drop at d) = front_take (min WINDOW (end - at)) (drop at d) (drop at d) (sym (take_all (length (drop at d)) (drop at d) (omega arith))) in
+-- bytes of the file from a place on stand there
+pub full_stands : (at n : ℕ) (s : Excerpt) (d : List ℕ) → s.from ≡ at → s.bytes ≡ take n (drop at d) → StandsIn s d
+full_stands at n s d from same =
+    let front : AreFront (take n (drop at d)) (drop at d) = front_take n (drop at d) (drop at d) (sym (take_all (length (drop at d)) (drop at d) (omega arith))) in
     subst (λ k. AreFront s.bytes (drop k d)) (sym from) (subst (λ (xs : List ℕ). AreFront xs (drop at d)) (sym same) front)
 
 -- the same, said of what the window was
-pub full_of : (s : Excerpt) (count got room from end : ℕ) (buf old new d : List ℕ) → record { from = from; bytes = take count buf } ≡ s → old ≡ buf → count ≤ length buf → from ≤ end → count + room ≡ min WINDOW (end - from) → StandsIn s d
-    → take (count + got) new ≡ take count old ++ take room (drop (from + count) d) → take (count + got) new ≡ take WINDOW (drop s.from (take end d))
-full_of s count got room from end buf old new d view same inside order both shows told =
-    subst (λ (w : Excerpt). StandsIn w d → take (count + got) new ≡ take WINDOW (drop w.from (take end d))) view (λ front. full_window count got room from end buf new d inside order both front (told ∙ ap (λ (xs : List ℕ). take count xs ++ take room (drop (from + count) d)) same)) shows
+pub full_of : (s : Excerpt) (count got room from end : ℕ) (buf grown old new d : List ℕ) → record { from = from; bytes = take count buf } ≡ s → old ≡ grown → take (length buf) grown ≡ buf → count ≤ length buf → count + room ≡ end - from → StandsIn s d
+    → take (count + got) new ≡ take count old ++ take room (drop (from + count) d) → take (count + got) new ≡ take (end - s.from) (drop s.from d)
+full_of s count got room from end buf grown old new d view same front inside both shows told =
+    let kept : take count old ≡ take count buf = ap (take count) same ∙ kept_front count buf grown inside front in
+    subst (λ (w : Excerpt). StandsIn w d → take (count + got) new ≡ take (end - w.from) (drop w.from d)) view (λ shown. full_window count got room from end buf new d inside both shown (told ∙ ap (λ (xs : List ℕ). xs ++ take room (drop (from + count) d)) kept)) shows
+
+-- up to a window behind a place or an end, whichever comes first
+pub to_window : (at end to : ℕ) (d : List ℕ) → at ≤ end → to - at ≡ min WINDOW (end - at) → take (to - at) (drop at d) ≡ take WINDOW (drop at (take end d))
+to_window at end to d order long =
+    ap (λ n. take n (drop at d)) long ∙ sym (ap (take WINDOW) (cut_at_end at end d order) ∙ take_both WINDOW (end - at) (drop at d))
 
 pub excerpt_inside : (at end : ℕ) (s : Excerpt) → at ≤ end → EndsBy end s → at + length (bytes_from at s) ≤ end
 excerpt_inside at end s order inside = by_place (leb s.from at) refl

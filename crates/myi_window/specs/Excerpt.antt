@@ -36,6 +36,14 @@ EndsBy end e = e.from + length e.bytes ≤ end
 abbrev pub GoesOnStanding : List ℕ → Excerpt → Excerpt → Holding → Type 0
 GoesOnStanding name old new m = StandsIn old (bytes_of name m) → StandsIn new (bytes_of name m)
 
+-- after a call on an excerpt of a file, it is the file from a place up to an end
+abbrev pub HoldsTo : List ℕ → ℕ → ℕ → Excerpt → Excerpt → Holding → Type 0
+HoldsTo name at end old new m = StandsIn old (bytes_of name m) → new.bytes ≡ take (end - at) (drop at (bytes_of name m))
+
 -- after a call on an excerpt of a file, it is a whole window of the file from a place on, or all up to an end
 abbrev pub IsFull : List ℕ → ℕ → ℕ → Excerpt → Excerpt → Holding → Type 0
 IsFull name at end old new m = StandsIn old (bytes_of name m) → new.bytes ≡ take WINDOW (drop at (take end (bytes_of name m)))
+
+-- after a call on an excerpt of a file, its first bytes are so many of the file from a place on
+abbrev pub IsOver : List ℕ → ℕ → ℕ → Excerpt → Excerpt → Holding → Type 0
+IsOver name at size old new m = StandsIn old (bytes_of name m) → take size new.bytes ≡ take size (drop at (bytes_of name m))

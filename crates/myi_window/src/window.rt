@@ -1,9 +1,10 @@
 //! `Window`: 131,072 bytes of a file, which slide forward.
 //!
-//! The buffer of a window is taken once and holds an excerpt of a file: the bytes that were read from a
-//! place on. `slide` goes to another place: what the excerpt holds of the bytes from there on moves to
-//! the front, and one read adds what is missing. So no byte is read twice while the place rises.
-ghost use Rattle.std.specs.Prelude.{◌≡◌, ◌≤◌, ◌+◌, ◌-◌, ◌++◌, length, take, drop, min, IfOk, IfErr};
+//! The buffer of a window holds an excerpt of a file: the bytes that were read from a place on. `slide`
+//! goes to another place: what the excerpt holds of the bytes from there on moves to the front, and one
+//! read adds what is missing. So no byte is read twice while the place rises and the end stays. `stretch`
+//! does the same for a range that is longer than a window, and makes the buffer longer for it.
+ghost use Rattle.std.specs.Prelude.{◌≡◌, ◌<◌, ◌≤◌, ◌+◌, ◌-◌, ◌++◌, length, take, drop, IfOk, IfErr, OnOk, OnErr};
 ghost use Rattle.myi_base.specs.Holding.{IfTold, bytes_of};
 ghost use Rattle.myi_base.specs.Causes.{HasCause};
 ghost use Rattle.myi_io.specs.declared.files.FileErr.TheVariants.{Failed};
@@ -13,7 +14,7 @@ use myi_io::{FileErr, Files};
 use std::alloc::{AllocError, Global};
 use std::marker::Model;
 
-/// How many bytes of a file a window holds.
+/// How many bytes of a file a window holds that is not stretched.
 pub const WINDOW: usize = 131_072;
 
 /// Moves the bytes from `skip` up to `count` to the front.
@@ -48,16 +49,20 @@ fn read_behind<F: Files>(
     Ok(count)
 }
 
-/// How many bytes are missing behind the first `count` from a place on, up to the end or a whole window.
-fn room_behind(count: usize, from: u64, end: u64) -> usize
-    requires few { count ≤ WINDOW }
-    requires inside { from + count ≤ end }
-    ensures { count + result ≡ min WINDOW (end - from) }
+/// Makes a buffer so long, if it is shorter. Its bytes stay.
+fn grow(buffer: &mut Vec<u8>, len: usize) -> Result<(), AllocError>
+    ensures long { OnOk result (len ≤ length buffer.new.items) }
+    ensures front { take (length buffer.old.items) buffer.new.items ≡ buffer.old.items }
+    ensures some { OnErr result (length buffer.old.items < len) }
 {
-    if end - from < WINDOW as u64 {
-        return (end - from) as usize - count;
+    if len <= buffer.len() {
+        return Ok(());
     }
-    WINDOW - count
+    if len > isize::MAX as usize {
+        return Err(AllocError);
+    }
+    buffer.resize(len, 0)?;
+    Ok(())
 }
 
 /// A part of a file in memory.
@@ -88,18 +93,18 @@ impl Model for Window {
 
     ghost view = { λ w. record { from = w.from; bytes = take w.count w.buffer.items } };
 
-    ghost invariant = { λ w. (length w.buffer.items ≡ WINDOW) × (w.count ≤ WINDOW) };
+    ghost invariant = { λ w. (WINDOW ≤ length w.buffer.items) × (w.count ≤ length w.buffer.items) };
 }
 
 impl Window {
-    ghost use Rattle.std.specs.Prelude.{◌≡◌, ◌≤◌, length, IfOk, IfErr, OnOk, OnErr};
+    ghost use Rattle.std.specs.Prelude.{◌≡◌, ◌≤◌, ◌+◌, IfOk, IfErr, OnOk, OnErr};
     ghost use Rattle.myi_base.specs.Holding.{IfTold};
     ghost use Rattle.myi_base.specs.Causes.{HasCause};
     ghost use Rattle.myi_io.specs.declared.files.FileErr.TheVariants.{Failed};
-    ghost use Rattle.myi_window.specs.Excerpt.{nothing, bytes_from, moved, EndsBy, GoesOnStanding, IsFull};
+    ghost use Rattle.myi_window.specs.Excerpt.{nothing, bytes_from, moved, EndsBy, GoesOnStanding, HoldsTo, IsFull, IsOver};
     ghost use Rattle.myi_window.specs.declared.window.TheConstants.{WINDOW};
 
-    /// A window that holds nothing of a file yet. Its memory is taken here, and no more later.
+    /// A window that holds nothing of a file yet. Its memory is taken here, and more only by `stretch`.
     pub fn new(alloc: Global) -> Result<Window, AllocError>
         ensures { IfOk result (λ w. w ≡ nothing) }
     {
@@ -115,8 +120,7 @@ impl Window {
     /// The bytes that the window holds from a place of the file on: none where the place is before or
     /// behind them.
     pub fn bytes_from(&self, at: u64) -> &[u8]
-        ensures bytes { result.now ≡ bytes_from at self.now }
-        ensures few { length result.now ≤ WINDOW }
+        ensures { result.now ≡ bytes_from at self.now }
     {
         if at < self.from || (self.count as u64) < at - self.from {
             return &[];
@@ -124,7 +128,7 @@ impl Window {
         &self.buffer[(at - self.from) as usize..self.count]
     }
 
-    // Moves to a place. What is held of the bytes from there up to the end stays.
+    // Moves to a place. What is held of the bytes from there up to an end stays.
     fn move_to(&mut self, at: u64, end: u64)
         requires { at ≤ end }
         ensures { self.new ≡ moved at end self.old }
@@ -141,22 +145,47 @@ impl Window {
         }
     }
 
-    // Reads what is missing up to the end or a whole window.
-    fn read_more<F: Files>(&mut self, files: &mut F, name: &str, end: u64) -> Result<(), FileErr>
+    // Reads what is missing up to an end. Where that is behind a window, it may take memory.
+    fn read_to<F: Files>(&mut self, files: &mut F, name: &str, end: u64) -> Result<(), FileErr>
         requires { EndsBy end self.old }
         ensures from { self.new.from ≡ self.old.from }
         ensures full { OnOk result (IfTold (F.holds files.old)
-            (IsFull name.now self.old.from end self.old self.new)) }
+            (HoldsTo name.now self.old.from end self.old self.new)) }
         ensures inside { OnOk result (EndsBy end self.new) }
         ensures err { OnErr result (self.new ≡ self.old) }
-        ensures failed { IfErr result (λ e. e ≡ Failed) }
+        ensures failed { end ≤ self.old.from + WINDOW → IfErr result (λ e. e ≡ Failed) }
         ensures holds { F.holds files.new ≡ F.holds files.old }
         ensures cause { HasCause Failed (F.faults files.old) (F.faults files.new) result }
     {
-        let room = room_behind(self.count, self.from, end);
+        let len = (end - self.from) as usize;
+        grow(&mut self.buffer, len)?;
         let at = self.from + self.count as u64;
+        let room = len - self.count;
         let count = read_behind(files, name, at, &mut self.buffer, self.count, room)?;
         self.count += count;
+        Ok(())
+    }
+
+    // Goes to a place and reads what is missing up to an end.
+    fn hold<F: Files>(
+        &mut self,
+        files: &mut F,
+        name: &str,
+        at: u64,
+        end: u64,
+    ) -> Result<(), FileErr>
+        requires { at ≤ end }
+        ensures from { self.new.from ≡ at }
+        ensures full { OnOk result (IfTold (F.holds files.old)
+            (HoldsTo name.now at end self.old self.new)) }
+        ensures stands { IfTold (F.holds files.old) (GoesOnStanding name.now self.old self.new) }
+        ensures inside { EndsBy end self.new }
+        ensures failed { end ≤ at + WINDOW → IfErr result (λ e. e ≡ Failed) }
+        ensures holds { F.holds files.new ≡ F.holds files.old }
+        ensures cause { HasCause Failed (F.faults files.old) (F.faults files.new) result }
+    {
+        self.move_to(at, end);
+        self.read_to(files, name, end)?;
         Ok(())
     }
 
@@ -181,8 +210,37 @@ impl Window {
         ensures holds { F.holds files.new ≡ F.holds files.old }
         ensures cause { HasCause Failed (F.faults files.old) (F.faults files.new) result }
     {
-        self.move_to(at, end);
-        self.read_more(files, name, end)?;
+        let to = at + (end - at).min(WINDOW as u64);
+        self.hold(files, name, at, to)?;
+        Ok(())
+    }
+
+    /// Stretches over so many bytes from a place on, more than a window holds: as `slide`, but it takes
+    /// the memory that it needs, and keeps it. A window that is stretched already reads a further window
+    /// behind them, so that ranges that overlap are not read in small parts.
+    pub fn stretch<F: Files>(
+        &mut self,
+        files: &mut F,
+        name: &str,
+        at: u64,
+        size: u32,
+        end: u64,
+    ) -> Result<(), FileErr>
+        requires { at + size ≤ end }
+        ensures from { self.new.from ≡ at }
+        ensures over { OnOk result (IfTold (F.holds files.old)
+            (IsOver name.now at size self.old self.new)) }
+        ensures stands { IfTold (F.holds files.old) (GoesOnStanding name.now self.old self.new) }
+        ensures inside { EndsBy end self.new }
+        ensures holds { F.holds files.new ≡ F.holds files.old }
+        ensures cause { HasCause Failed (F.faults files.old) (F.faults files.new) result }
+    {
+        let mut len = size as u64;
+        if self.count > WINDOW {
+            len += WINDOW as u64;
+        }
+        let to = at + (end - at).min(len);
+        self.hold(files, name, at, to)?;
         Ok(())
     }
 }

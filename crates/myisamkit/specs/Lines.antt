@@ -18,7 +18,7 @@ absent_line file = file ++ codes ": absent\n"
 abbrev pub refused_line : List ℕ → List ℕ → List ℕ
 refused_line name reason = name ++ (codes ": refused: " ++ (reason ++ codes "\n"))
 
--- the number and the name of a refusal of definitions
+-- the number and the name of a refusal of definitions; there is no 15
 abbrev pub reason_of : DefFault → List ℕ
 reason_of fault.Short = codes "1 Short"
 reason_of fault.Magic = codes "2 Magic"
@@ -34,7 +34,6 @@ reason_of fault.SegPlace = codes "11 SegPlace"
 reason_of fault.Collation = codes "12 Collation"
 reason_of fault.BlockLength = codes "13 BlockLength"
 reason_of fault.PointerSize = codes "14 PointerSize"
-reason_of fault.WideBlob = codes "15 WideBlob"
 reason_of fault.KeyTooLong = codes "16 KeyTooLong"
 reason_of fault.Memory = codes "17 Memory"
 

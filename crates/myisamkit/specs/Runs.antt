@@ -68,10 +68,10 @@ faults_told status.Usage = 0
 faults_told status.Refused = 0
 faults_told status.Absent = 0
 
--- nothing changed, or no working file of the table is left
-abbrev pub LeavesNoWorking : Request → Holding → Holding → Type 0
-LeavesNoWorking usage m n = n ≡ m
-LeavesNoWorking (recover extend name) m n = Clears (names_for name) m n
+-- nothing changed, or no more working files of the table are left than so many
+abbrev pub ClearsAway : ℕ → Request → Holding → Holding → Type 0
+ClearsAway most usage m n = n ≡ m
+ClearsAway most (recover extend name) m n = Clears most (names_for name) m n
 
 -- at every status a table's files are the old ones or whole new ones, and other files keep what they hold
 abbrev pub LeavesWhole : Request → ℕ → Holding → Holding → Type 0

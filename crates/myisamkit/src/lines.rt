@@ -55,7 +55,6 @@ pub(crate) fn reason_of(fault: DefFault) -> &'static str
         DefFault::Collation => "12 Collation",
         DefFault::BlockLength => "13 BlockLength",
         DefFault::PointerSize => "14 PointerSize",
-        DefFault::WideBlob => "15 WideBlob",
         DefFault::KeyTooLong => "16 KeyTooLong",
         DefFault::Memory => "17 Memory",
     }

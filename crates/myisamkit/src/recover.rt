@@ -1,5 +1,5 @@
 //! `chk --recover` of one table: what is done, and the line and the status that say so.
-ghost use Rattle.std.specs.Prelude.{◌≡◌, ◌≢◌};
+ghost use Rattle.std.specs.Prelude.{◌≡◌, ◌≢◌, ◌+◌, ℕ};
 ghost use Rattle.std.specs.Prelude.{Err, string_bytes, IfOk, IfErr, OnOk, IsTrue};
 ghost use Rattle.myi_base.specs.Holding.{IfTold, Told};
 ghost use Rattle.myi_base.specs.Causes.{HasCause};
@@ -36,9 +36,10 @@ pub(crate) fn recover_table<F: Files>(
     ensures findings { IfOk result (λ r. r.0 ≢ Status.Findings) }
     ensures files { Told (F.holds files.old) (F.holds files.new)
         (LeavesWhole (recover extend name.now) now) }
-    ensures cleared { IfErr result (λ s.
-        repair.RoseAtMost (faults_told (status_of_stop s)) (F.faults files.old) (F.faults files.new)
-        → Told (F.holds files.old) (F.holds files.new) (Clears (names_for name.now))) }
+    ensures cleared { IfErr result (λ s. (more : ℕ)
+        → repair.RoseAtMost (faults_told (status_of_stop s) + more)
+        (F.faults files.old) (F.faults files.new)
+        → Told (F.holds files.old) (F.holds files.new) (Clears more (names_for name.now))) }
     ensures done { OnOk result (Told (F.holds files.old) (F.holds files.new)
         (Does (recover extend name.now) now)) }
     ensures cause { HasCause Stop.File (F.faults files.old) (F.faults files.new) result }

@@ -1,12 +1,12 @@
 //! The top call.
-ghost use Rattle.std.specs.Prelude.{◌≡◌, ◌≢◌, ◌⊎◌, ◌↔◌, string_bytes, IfOk, IfErr, OnOk, IsTrue};
+ghost use Rattle.std.specs.Prelude.{◌≡◌, ◌≢◌, ◌⊎◌, ◌↔◌, ◌+◌, ℕ, string_bytes, IfOk, IfErr, OnOk, IsTrue};
 ghost use Rattle.myi_base.specs.Holding.{IfTold, Told};
 ghost use Rattle.myi_base.specs.Causes.{Rose, HasCause};
 ghost use Rattle.myi_repair.specs.Faults.{RoseAtMost};
 ghost use Rattle.myisamkit.specs.Words.{request_of, usage};
 ghost use Rattle.myisamkit.specs.Stops.{status_of_stop};
 ghost use Rattle.myisamkit.specs.Runs.{IsText, IsStatus, faults_told, IsFault};
-ghost use Rattle.myisamkit.specs.Runs.{Says, SaysLine, LeavesWhole, LeavesNoWorking, Does};
+ghost use Rattle.myisamkit.specs.Runs.{Says, SaysLine, LeavesWhole, ClearsAway, Does};
 ghost use Rattle.myisamkit.specs.Lines as spec;
 ghost use Rattle.myisamkit.specs.Recovers.{Recovers};
 
@@ -51,10 +51,11 @@ pub fn kit<F: Files, O: Sink>(
     ensures files { Told (F.holds files.old) (F.holds files.new)
         (LeavesWhole (request_of words.now) now) }
 
-    // Where no file call failed but the one that the status tells of, nothing was changed or no working file
-    // is left.
-    ensures cleared { RoseAtMost (faults_told result) (F.faults files.old) (F.faults files.new)
-        → Told (F.holds files.old) (F.holds files.new) (LeavesNoWorking (request_of words.now)) }
+    // Nothing was changed, or no more working files are left than file calls failed besides the one that the
+    // status tells of.
+    ensures cleared { (more : ℕ)
+        → RoseAtMost (faults_told result + more) (F.faults files.old) (F.faults files.new)
+        → Told (F.holds files.old) (F.holds files.new) (ClearsAway more (request_of words.now)) }
 
     // Where no fault cuts the work off, the work is done. A fault of the output comes after it.
     ensures done { (result ≡ Status.FileFault) ⊎ ((result ≡ Status.Memory)
@@ -92,9 +93,9 @@ fn work<F: Files>(
     ensures findings { IfOk result (λ r. r.0 ≢ Status.Findings) }
     ensures files { Told (F.holds files.old) (F.holds files.new)
         (LeavesWhole (request_of words.now) now) }
-    ensures cleared { IfErr result (λ s.
-        RoseAtMost (faults_told (status_of_stop s)) (F.faults files.old) (F.faults files.new)
-        → Told (F.holds files.old) (F.holds files.new) (LeavesNoWorking (request_of words.now))) }
+    ensures cleared { IfErr result (λ s. (more : ℕ)
+        → RoseAtMost (faults_told (status_of_stop s) + more) (F.faults files.old) (F.faults files.new)
+        → Told (F.holds files.old) (F.holds files.new) (ClearsAway more (request_of words.now))) }
     ensures done { OnOk result (Told (F.holds files.old) (F.holds files.new)
         (Does (request_of words.now) now)) }
     ensures cause { HasCause Stop.File (F.faults files.old) (F.faults files.new) result }

@@ -8,4 +8,4 @@ returns-in-Static c = decides c.args.defs.now c.args.row.now c.as_slice-fields.r
 
 pub returns-in-Dynamic : goal.returns-in-Dynamic
 returns-in-Dynamic c =
-    sym (decides-dynamic c.args.defs.now c.args.row.now c.as_slice-fields.result.now c.as_slice-values.result.now c.requires c.as_slice-fields.ensures c.as_slice-values.ensures c.in-Dynamic.is (sym c.fits_fields.ensures ∙ c.if-not-fits_fields.false))
+    decides-dynamic c.args.defs.now c.args.row.now c.as_slice-fields.result.now c.as_slice-values.result.now c.packed_len.result c.as_slice-fields.ensures c.as_slice-values.ensures c.in-Dynamic.is (sym c.fits_fields.ensures ∙ c.if-not-fits_fields.false) c.packed_len.ensures

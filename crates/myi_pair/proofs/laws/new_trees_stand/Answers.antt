@@ -1,5 +1,5 @@
 use Rattle.myi_pair.proofs.NewIndexLaws.{room, index_long}
-use Rattle.myi_pair.proofs.RecoveredLaws.{trees_stand}
+use Rattle.myi_pair.proofs.RebuiltLaws.{trees_stand}
 use Rattle.myi_pair.proofs.laws.new_trees_stand.Goals as goal
 
 pub returns : goal.returns

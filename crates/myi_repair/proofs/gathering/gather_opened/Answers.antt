@@ -29,7 +29,7 @@ has_repeat-requires g c = length-sorts c.args.opened.defs c.in_ok-rows.ensures.t
 
 pub returns-then-not-has_repeat-clause-gathered : goal.returns-then-not-has_repeat-clause-gathered
 returns-then-not-has_repeat-clause-gathered g c =
-    all_gathered (names_of c.args.table.now) c.args.opened.defs c.args.extend c.args.opened.length c.in_ok-scan.scan c.as_str-file.result.now c.in_ok-rows.rows c.in_ok-rows.keys c.sort_unique.new.self c.into_gathered.result _ _ (sound c.args.opened.defs c.requires.defs)
+    all_gathered (names_of c.args.table.now) c.args.opened.defs c.args.extend c.args.opened.length c.in_ok-scan.scan c.as_str-file.result.now c.in_ok-rows.rows c.in_ok-rows.keys c.sort_unique.new.self c.into_gathered.result _ _ c.requires.defs
     c.in_ok-scan.ensures c.as_str-file.ensures.value c.requires.table (λ m held. g.met.F.Files.told_bytes c.args.files.now m held) c.in_ok-rows.ensures.took c.sort_unique.ensures (sym c.has_repeat.ensures ∙ c.if-not-has_repeat.true) c.into_gathered.ensures
 
 pub returns-then-not-has_repeat-clause-pairs : goal.returns-then-not-has_repeat-clause-pairs
@@ -69,7 +69,7 @@ returns-clause-gathered g c =
     let given = c.deref.ensures.value in
     let same = c.deref-2.ensures.value in
     kept_gathered (names_of c.args.table.now) c.args.opened.defs c.args.extend c.args.opened.length c.in_ok-scan.scan c.in_ok-again.again c.as_str-file.result.now c.in_ok-flags.flags.items c.in_ok-rows.rows c.in_ok-kept.kept c.in_ok-rows.keys c.sort_unique.new.self c.retain.new.self c.into_gathered-2.result _ _ _
-    (sound c.args.opened.defs c.requires.defs) c.requires.apart.rows-new_rows c.in_ok-scan.ensures c.in_ok-again.ensures c.as_str-file.ensures.value c.requires.table (λ m held. g.met.F.Files.told_bytes c.args.files.now m held) c.in_ok-rows.ensures.took c.take_rows.ensures.others c.sort_unique.ensures
+    c.requires.defs c.requires.apart.rows-new_rows c.in_ok-scan.ensures c.in_ok-again.ensures c.as_str-file.ensures.value c.requires.table (λ m held. g.met.F.Files.told_bytes c.args.files.now m held) c.in_ok-rows.ensures.took c.take_rows.ensures.others c.sort_unique.ensures
     (flags.long ∙ number) (λ all many are. flags.kept all (many ∙ sym number) are)
     (subst (λ fs. TakesChosen c.args.opened.defs c.in_ok-again.again c.as_str-file.result.now (is_chosen fs) c.in_ok-kept.kept (g.F.Files.holds c.take_rows.new.files) (g.F.Files.holds c.keep_rows.new.files)) given c.in_ok-kept.ensures.took)
     (c.retain.ensures ∙ ap (λ fs. map (filter (has_flag fs)) c.sort_unique.new.self) same) c.into_gathered-2.ensures

@@ -20,7 +20,7 @@ pub view_packed-row-requires-clause-packed : goal.view_packed-row-requires-claus
 view_packed-row-requires-clause-packed g c =
     let d = c.args.defs.now in
     let given = c.requires.row in
-    ap (λ b. is_some (row_of d b)) (c.deref.ensures.value ∙ given.1.bytes) ∙ ap is_some (row-reads d given.0.values (sound d c.requires.defs) given.1.stored.fits)
+    ap (λ b. is_some (row_of d b)) (c.deref.ensures.value ∙ given.1.bytes) ∙ ap is_some (row-reads d given.0.values (sound d c.requires.defs) given.1.fit)
 
 pub push-requires-clause-sound : goal.push-requires-clause-sound
 push-requires-clause-sound g c = sound c.args.defs.now c.requires.defs
@@ -29,7 +29,7 @@ pub push-requires-clause-row : goal.push-requires-clause-row
 push-requires-clause-row g c =
     let given = c.requires.row in
     let d = c.args.defs.now in
-    ap (fits d) (read_back d given.0 c.args.next.now c.deref.result.now c.view_packed-row.result c.requires.defs given.1 c.deref.ensures.value c.view_packed-row.ensures.found) ∙ given.1.stored.fits
+    ap (fits d) (read_back d given.0 c.args.next.now c.deref.result.now c.view_packed-row.result c.requires.defs given.1 c.deref.ensures.value c.view_packed-row.ensures.found) ∙ given.1.fit
 
 pub returns-clause-keys : goal.returns-clause-keys
 returns-clause-keys g c = on_ok c.put.result _ (λ row prepared.

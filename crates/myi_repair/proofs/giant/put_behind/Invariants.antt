@@ -8,6 +8,7 @@ abbrev pub invariant-loop-size : goal.invariant-loop-size
 invariant-loop-size g l = record {
   some : 0 < length l.left;
   near : l.place + 5 * length l.left ≤ l.fn.at + 5 * length l.fn.rest;
+  less : l.fn.at + l.count ≤ l.place;
   few : l.count + length l.left ≤ length l.fn.rest;
   buffer : length l.buffer ≡ length l.fn.buffer;
   counted : l.count + length (shares_behind l.sizes (length l.left)) ≡ length (shares_behind l.fn.sizes (length l.fn.rest));

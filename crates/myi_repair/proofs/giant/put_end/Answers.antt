@@ -4,6 +4,9 @@ use Rattle.myi_frames.specs.Writing.{IsWritable, end_spec}
 use Rattle.myi_data.proofs.CallerLemmas.{end_writable, end_short}
 use Rattle.myi_repair.proofs.giant.put_end.Goals as goal
 
+pub returns-clause-less : goal.returns-clause-less
+returns-clause-less g c = omega (arith, c.end_size-size.ensures, (end_writable (length c.args.rest.now) c.args.size c.requires.multiple c.requires.least c.requires.end).least)
+
 pub fill_block-requires-clause-block : goal.fill_block-requires-clause-block
 fill_block-requires-clause-block g c =
     let n = length c.args.rest.now in

@@ -1,9 +1,11 @@
-use Rattle.std.proofs.Common.{◌∙◌, List, ℕ, Option, length, refl, ap, sym, subst}
+use Rattle.std.proofs.lemmas.Result.{err_from_is_err_and}
+use Rattle.std.proofs.Common.{◌∙◌, List, ℕ, Option, Err, length, refl, ap, sym, subst}
 use Rattle.myi_base.proofs.CallerLemmas.{told_then}
 use Rattle.myi_defs.specs.Sound.{IsSound}
 use Rattle.myi_defs.proofs.CallerLemmas.{sound}
 use Rattle.myi_repair.specs.Names.{names_of}
 use Rattle.myi_repair.proofs.FilesLaws.{told_and}
+use Rattle.myi_repair.proofs.EndLaws.{cut_off_later, ends_again}
 use Rattle.myi_repair.proofs.RepairLaws.{count_roots, completed, completed_part}
 use Rattle.myi_repair.proofs.repair.complete.Goals as goal
 
@@ -37,3 +39,8 @@ returns-in_err-finish_table-clause-whole g c =
     told_then _ _ _ _ _ _ (told_and _ _ _ _ (told_and _ _ _ _ built.built built.rows) c.build.ensures.both) c.finish_table.ensures.whole (λ m k n was finished extend d is.
     completed_part t t extend d c.args.gathered c.build.new.gathered c.args.now c.in_ok-trees.trees.end c.deref.result.now m k n (sound c.args.gathered.defs c.requires.defs) refl c.build.ensures.left c.requires.pairs.all is
     (c.deref.ensures.value ∙ built.trees.roots) built.trees.end was.0.0 was.0.1 was.1 finished)
+
+pub returns-in_err-finish_table-clause-ends : goal.returns-in_err-finish_table-clause-ends
+returns-in_err-finish_table-clause-ends g c =
+    let e = err_from_is_err_and c.from_residual-in_err-finish_table.result c.from_residual-in_err-finish_table.ensures.1 in
+    cut_off_later _ _ _ _ _ _ _ _ c.build.ensures.ends.others c.build.ensures.ends.cause.later (ends_again _ _ _ _ _ _ _ (e.1 ∙ ap Err e.2) c.in_err-finish_table.ensures.ends)

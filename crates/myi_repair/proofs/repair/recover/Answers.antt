@@ -5,6 +5,7 @@ use Rattle.myi_repair.specs.Names.{names_of}
 use Rattle.myi_repair.proofs.FilesLaws.{apart_of}
 use Rattle.myi_repair.proofs.OpenLaws.{both_ok}
 use Rattle.myi_repair.proofs.RepairLaws.{repaired}
+use Rattle.myi_repair.proofs.EndLaws.{cut_off_ends, cut_off_later}
 use Rattle.myi_repair.proofs.repair.recover.Goals as goal
 
 pub gather_table-requires-clause-apart : goal.gather_table-requires-clause-apart
@@ -18,3 +19,7 @@ returns-clause-repaired g c =
     IfOk-weaker c.complete.result _ _ (λ said all. told_then _ _ _ _ _ _ c.in_ok-gathered.ensures.gathered all.0 (λ m k n gathered done.
     repaired c.args.name.now (names_of c.in_ok-table.table) c.args.extend c.args.now c.in_ok-gathered.gathered said m k n c.in_ok-table.ensures c.in_ok-gathered.ensures.defs c.in_ok-gathered.ensures.header (omega arith) gathered all.1 done))
     (both_ok c.complete.result _ _ c.complete.ensures.done c.complete.ensures.said)
+
+pub returns-clause-ends : goal.returns-clause-ends
+returns-clause-ends g c =
+    cut_off_ends _ _ _ _ _ _ _ c.in_ok-table.ensures (cut_off_later _ _ _ _ _ _ _ _ c.in_ok-gathered.ensures.ends.others c.in_ok-gathered.ensures.ends.cause.later c.complete.ensures.ends)

@@ -3,7 +3,7 @@ use Rattle.myi_base.specs.Holding.{Holding, OthersStay, bytes_of}
 use Rattle.myi_defs.proofs.CallerLemmas.{sound}
 use Rattle.myi_header.specs.Layout.{first_page_of}
 use Rattle.myi_keycache.specs.Caching.{contents, IsCurrent}
-use Rattle.myi_pair.specs.TreePages.{HasBehind}
+use Rattle.myi_btree.specs.TreePages.{HasBehind}
 use Rattle.myi_repair.specs.Building.{trees_of}
 use Rattle.myi_repair.proofs.TreeLaws.{begins, empty_contents, others_laid}
 use Rattle.myi_base.proofs.CallerLemmas.{told_then}

@@ -10,7 +10,7 @@ use Rattle.myi_keylist.specs.declared.pair.Pair.{Pair}
 use Rattle.myi_btree.specs.Sizes.{IsPlaced, AreSized}
 use Rattle.myi_keylist.specs.PairOrder.{sorted}
 use Rattle.myi_pair.specs.Trees.{place_of}
-use Rattle.myi_pair.specs.TreePages.{tree_end, CanBeLaid}
+use Rattle.myi_btree.specs.TreePages.{tree_end, CanBeLaid}
 use Rattle.myi_pair.proofs.CallerLemmas.{placed}
 use Rattle.myi_repair.proofs.TreeLaws.{AreLaidTo, LaysTo, sorted_sized, sorted_keys, item_is, laid_next, lays_next, laid_all, lays_all}
 use Rattle.myi_repair.proofs.trees.lay_trees.Goals as goal

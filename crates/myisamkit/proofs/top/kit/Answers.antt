@@ -1,5 +1,6 @@
-use Rattle.std.proofs.Common.{◌++◌, take, Some, inl, inr, sym, subst, ap, ◌∙◌}
-use Rattle.myisamkit.specs.Runs.{IsFault}
+use Rattle.std.proofs.Common.{◌+◌, ◌++◌, take, Some, inl, inr, sym, subst, ap, ◌∙◌}
+use Rattle.myi_repair.specs.Faults.{RoseAtMost}
+use Rattle.myisamkit.specs.Runs.{IsFault, faults_told}
 use Rattle.myisamkit.proofs.SinkLaws.{says_part, line_part, output_faults}
 use Rattle.myisamkit.proofs.RecoverLaws.{told_done}
 use Rattle.myisamkit.proofs.top.kit.Goals as goal
@@ -21,3 +22,6 @@ returns-in-Ok-write-clause-usage_text g c u = inr (c.in-Ok.ensures.plain, λ w w
 
 pub returns-in-Ok-clause-usage_text : goal.returns-in-Ok-clause-usage_text
 returns-in-Ok-clause-usage_text g c u = line_part _ _ _ _ _ c.into.ensures (λ w was. let p = c.in-Err-write.ensures.err w was in (p.0, p.2 ∙ ap (λ l. Some (w ++ take p.0 l)) (c.as_bytes.ensures.value ∙ c.in-Ok.ensures.usage_line u)))
+
+pub returns-clause-cleared : goal.returns-clause-cleared
+returns-clause-cleared g c more rose = c.in-Err.ensures.cleared more (subst (λ s. RoseAtMost (faults_told s + more) (g.F.Files.faults c.args.files.now) (g.F.Files.faults c.work.new.files)) c.into-in-Err.ensures rose)

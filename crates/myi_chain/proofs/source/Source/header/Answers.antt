@@ -17,7 +17,7 @@ returns-then-held-ge-LEAST_SIZE-clause-told g c m held =
     let s = c.args.self.now in
     let end = ap (λ (s : SourceModel). s.end) c.self.view_is in
     let inside = subst (λ (s : SourceModel). EndsBy s.end s.kept) c.self.view_is c.self.invariant in
-    let part = kept_part s m c.args.at _ (c.requires.ready m held) inside (omega (arith, end, c.if-self-at.false)) (c.bytes_from-held.ensures.bytes ∙ ap (λ k. bytes_from c.args.at k) (ap (λ (s : SourceModel). s.kept) c.self.view_is)) in
+    let part = kept_part s m c.args.at _ (c.requires.ready m held) inside (omega (arith, end, c.if-self-at.false)) (c.bytes_from-held.ensures ∙ ap (λ k. bytes_from c.args.at k) (ap (λ (s : SourceModel). s.kept) c.self.view_is)) in
     c.header_at.ensures.block _ (long_bytes s m (c.requires.ready m held) ∙ Rattle.std.proofs.Common.sym end) part
 
 pub returns-clause-told : goal.returns-clause-told

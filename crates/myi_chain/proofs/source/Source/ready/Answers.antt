@@ -11,7 +11,7 @@ returns-clause-inside g c is =
     let i = c.self-2.inside in
     let end = ap (λ (s : SourceModel). s.end) c.self-2.view_is in
     let held = excerpt_inside c.args.at i.end i.window (omega (arith, end, c.slide.ensures.behind)) c.self-2.invariant in
-    omega (arith, end, held, leb-true _ _ is, ap (λ (xs : List ℕ). length xs) c.bytes_from-2.ensures.bytes)
+    omega (arith, end, held, leb-true _ _ is, ap (λ (xs : List ℕ). length xs) c.bytes_from-2.ensures)
 
 pub returns-clause-stays : goal.returns-clause-stays
 returns-clause-stays g c ends order =
@@ -19,7 +19,7 @@ returns-clause-stays g c ends order =
     let rest = kept_rest c.args.at c.args.self.now.end c.args.self.now.kept ends order c.requires.order in
     let kept = ap (λ (s : SourceModel). length (bytes_from c.args.at s.kept)) c.self.view_is in
     let end = ap (λ (s : SourceModel). s.end) c.self.view_is in
-    absurd (omega (arith, rest, kept, end, ap (λ (xs : List ℕ). length xs) c.bytes_from.ensures.bytes))
+    absurd (omega (arith, rest, kept, end, ap (λ (xs : List ℕ). length xs) c.bytes_from.ensures))
 
 pub returns-in_err-slide-clause-stays : goal.returns-in_err-slide-clause-stays
 returns-in_err-slide-clause-stays g c ends order =
@@ -27,4 +27,4 @@ returns-in_err-slide-clause-stays g c ends order =
     let rest = kept_rest c.args.at c.args.self.now.end c.args.self.now.kept ends order c.requires.order in
     let kept = ap (λ (s : SourceModel). length (bytes_from c.args.at s.kept)) c.self.view_is in
     let end = ap (λ (s : SourceModel). s.end) c.self.view_is in
-    absurd (omega (arith, rest, kept, end, ap (λ (xs : List ℕ). length xs) c.bytes_from.ensures.bytes))
+    absurd (omega (arith, rest, kept, end, ap (λ (xs : List ℕ). length xs) c.bytes_from.ensures))

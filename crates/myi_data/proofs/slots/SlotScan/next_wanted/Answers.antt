@@ -1,4 +1,4 @@
-use Rattle.std.proofs.Common.{◌≡◌, ◌∙◌, refl, ap, subst, Some, None, Ok, Err, take, [], ◌∷◌}
+use Rattle.std.proofs.Common.{◌≡◌, ◌∙◌, refl, ap, subst, arith, Some, None, Ok, Err, take, [], ◌∷◌}
 use Rattle.std.specs.Prelude.{option_to_list}
 use Rattle.std.proofs.lemmas.Result.{err_from_is_err_and}
 use Rattle.myi_base.specs.Holding.{bytes_of}
@@ -10,7 +10,7 @@ use Rattle.myi_data.specs.Readable.{packs}
 use Rattle.myi_data.specs.NextSlot.{IsNext, IsPlaced, IsHeld}
 use Rattle.myi_chain.specs.declared.piece.Item.TheVariants as item
 use Rattle.myi_data.specs.Scanning.{AfterTable}
-use Rattle.myi_data.proofs.ScanLaws.{went, slot_scan, row_answered, free_answered, ended, kept, some_ahead, row_packs, row_slot, free_slot, free_meant}
+use Rattle.myi_data.proofs.ScanLaws.{went, slot_scan, row_answered, free_answered, ended, kept, some_ahead, row_packs, row_long, row_slot, free_slot, free_meant}
 use Rattle.myi_data.proofs.slots.SlotScan.next_wanted.Goals as goal
 
 pub returns-in_default : goal.returns-in_default
@@ -26,7 +26,7 @@ returns-in_default g c =
     let last = subst (IsPlaced c.args.wanted size i.place to i.end) c.in_default.is found.placed in (
       (refl, λ _. tt, subst (λ n. AfterTable c.args.wanted h c.args.self.now (Ok None) (slot_scan n i.test i.extend i.end to (option_to_list i.last) v)) c.as_str.ensures.value (ended h c.args.self.now name i.test i.extend i.end i.place to (option_to_list i.last) i.bytes.held v size k c.args.wanted c.self.invariant.3 last (λ m held stood. subst (IsNext c.args.wanted (packs i.test) size (take i.end (bytes_of name m)) i.place to) c.in_default.is (found.found m held stood)))),
       record {
-        says = record { packs = tt; meant = tt; never = tt; failing = tt };
+        says = record { packs = tt; meant = tt; counted = tt; never = tt; failing = tt };
         holds = found.holds;
         cause = record { later = found.cause.later; cause = λ e. absurd (ok_not_err e) };
         after = tt;
@@ -56,6 +56,7 @@ returns-in-Row g c =
             row_slot h c.args.self.now name i.test i.extend i.end i.place to (option_to_list i.last) i.bytes.held v size k at c.slot_at.result placed whole.0 slot,
           );
           meant = tt;
+          counted = omega (arith, row_long h c.args.self.now name i.test i.extend i.end i.place to (option_to_list i.last) i.bytes.held v size k at c.slot_at.result whole.0 slot);
           never = tt;
           failing = tt;
         };
@@ -83,6 +84,7 @@ returns-in-Free g c =
         says = record {
           packs = (tt, free_slot h c.args.self.now name i.test i.extend i.end i.place to (option_to_list i.last) i.bytes.held v size k at placed.0);
           meant = free_meant c.args.wanted at size placed.1;
+          counted = tt;
           never = tt;
           failing = tt;
         };
@@ -110,6 +112,7 @@ returns-in_err-slot g c =
         says = record {
           packs = tt;
           meant = tt;
+          counted = tt;
           never = λ e. absurd cc;
           failing = some_ahead h c.args.self.now name i.test i.extend i.end i.place to (option_to_list i.last) i.bytes.held v size k found.failing;
         };

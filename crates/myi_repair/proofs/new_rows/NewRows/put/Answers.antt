@@ -1,15 +1,19 @@
-use Rattle.std.proofs.Common.{◌≡◌, ◌+◌, ◌++◌, ◌∷◌, [], ◌∙◌, ℕ, List, length, length-append, arith, refl, ap, sym, subst}
+use Rattle.std.proofs.Common.{◌+◌, ◌<◌, ◌++◌, ◌∷◌, [], ◌∙◌, ℕ, List, length, arith, refl, ap, sym, subst}
 use Rattle.myi_base.specs.Holding.{Writes}
 use Rattle.myi_base.proofs.CallerLemmas.{told_more}
 use Rattle.myi_defs.proofs.CallerLemmas.{sound}
-use Rattle.myi_repair.proofs.KeepLaws.{row_short, put_bytes, put_size, put_count, added, written_one}
+use Rattle.myi_data.proofs.CallerLemmas.{spelling_some}
+use Rattle.myi_repair.proofs.KeepLaws.{spelled_few, put_bytes, put_count, added, written_one}
 use Rattle.myi_repair.proofs.new_rows.NewRows.put.Goals as goal
 
 pub put_packed-requires-clause-few : goal.put_packed-requires-clause-few
 put_packed-requires-clause-few g c κs lives =
     let given = c.requires.row in
-    let short = row_short c.args.defs.now given.0 c.requires.defs given.1.stored in
-    omega (arith, short, ap (λ (b : List ℕ). length b) (c.deref.ensures.value ∙ given.1.bytes))
+    let few = spelled_few c.args.defs.now given.0 (sound c.args.defs.now c.requires.defs) given.1.fit in
+    omega (arith, few, ap (λ (b : List ℕ). length b) (c.deref.ensures.value ∙ given.1.bytes))
+
+pub put_packed-requires-clause-place : goal.put_packed-requires-clause-place
+put_packed-requires-clause-place g c κs lives = c.requires.written.2.came.short
 
 pub pointer-requires : goal.pointer-requires
 pointer-requires g c = sound c.args.defs.now c.requires.defs
@@ -17,20 +21,22 @@ pointer-requires g c = sound c.args.defs.now c.requires.defs
 pub overflow_add-self-2 : goal.overflow_add-self-2
 overflow_add-self-2 g c =
     let given = c.requires.row in
-    let was = c.requires.written.2 in
-    let count : c.in_ok-end.blocks ≡ 1 = c.in_ok-end.ensures.count ∙ put_count c.args.defs.now given.0 c.deref-2.result.now c.deref.result.now c.requires.defs given.1.stored (c.deref.ensures.value ∙ given.1.bytes) in
-    let more = ap (λ (ps : List ℕ). length ps) c.in_ok-push.ensures.items ∙ length-append c.args.self.now.pointers.items (c.pointer.result ∷ []) in
-    omega (arith, count, was.one, was.few, more, c.push.new.self.ok.0)
+    let d = c.args.defs.now in
+    let some : 0 < length c.deref.result.now = subst (λ (b : List ℕ). 0 < length b) (sym (c.deref.ensures.value ∙ given.1.bytes)) (spelling_some d given.0.values (sound d c.requires.defs) given.1.fit) in
+    omega (arith, c.in_ok-end.ensures.less some, c.requires.written.2.came.less)
 
 pub returns-clause-added : goal.returns-clause-added
 returns-clause-added g c row prepared =
     let d = c.args.defs.now in
     let k = c.args.self.now in
+    let s = sound d c.requires.defs in
     let bytes = c.deref.ensures.value ∙ prepared.bytes in
     let sizes = c.deref-2.ensures.value ∙ prepared.sizes in
-    let count : c.in_ok-end.blocks ≡ 1 = c.in_ok-end.ensures.count ∙ put_count d row c.deref-2.result.now c.deref.result.now c.requires.defs prepared.stored bytes in
-    added d row k _ (sound d c.requires.defs) prepared.stored refl (ap (λ n. k.split + n) count)
-    (c.in_ok-end.ensures.end ∙ ap (λ n. k.end + n) (put_size d row k.end c.deref-2.result.now c.deref.result.now c.requires.defs prepared.stored bytes sizes))
+    let some : 0 < length c.deref.result.now = subst (λ (b : List ℕ). 0 < length b) (sym bytes) (spelling_some d row.values s prepared.fit) in
+    added d row k _ c.in_ok-end.blocks s prepared.fit refl refl
+    (c.in_ok-end.ensures.count ∙ put_count d row c.deref-2.result.now c.deref.result.now bytes sizes)
+    (c.in_ok-end.ensures.end ∙ ap (λ (x : List ℕ). k.end + length x) (put_bytes d row k.end c.deref-2.result.now c.deref.result.now bytes sizes))
+    (c.in_ok-end.ensures.less some)
     (c.in_ok-push.ensures.items ∙ ap (λ p. k.pointers.items ++ p ∷ []) c.pointer.ensures)
     (sym c.addressable.ensures ∙ c.if-not-addressable.false)
 

@@ -21,7 +21,7 @@ returns-then-is_set-clause-written g c =
 pub returns-clause-added : goal.returns-clause-added
 returns-clause-added g c row prepared =
     let is : false ≡ is_chosen c.args.flags.now (length c.args.self.now.pointers.items) = sym c.if-is_set.false ∙ c.is_set.ensures ∙ ap (is_chosen c.args.flags.now) (omega (arith, c.len.ensures, c.args.self.now.pointers.ok.0)) in
-    subst (λ b. Adds c.args.defs.now b row c.args.self.now c.leave_out.new.self) is (c.in_ok-leave_out.ensures c.args.defs.now row (sound c.args.defs.now c.requires.defs) prepared.stored)
+    subst (λ b. Adds c.args.defs.now b row c.args.self.now c.leave_out.new.self) is (c.in_ok-leave_out.ensures c.args.defs.now row (sound c.args.defs.now c.requires.defs) prepared.fit)
 
 pub returns-clause-written : goal.returns-clause-written
 returns-clause-written g c =

@@ -1,4 +1,4 @@
-use Rattle.std.proofs.Common.{◌≡◌, ◌∙◌, List, map, Ok, true, ap, subst}
+use Rattle.std.proofs.Common.{◌≡◌, ◌^◌, ◌<◌, ◌∙◌, List, length, map, Ok, true, arith, ap, subst}
 use Rattle.std.specs.Prelude.{ℕ}
 use Rattle.myi_defs.proofs.CallerLemmas.{sound}
 use Rattle.myi_pack.proofs.CallerLemmas.{row-fits}
@@ -6,9 +6,14 @@ use Rattle.myi_data.specs.Readable.{packs}
 use Rattle.myi_data.specs.Scanning.{FindsInTable}
 use Rattle.myi_chain.specs.declared.piece.Wanted.TheVariants.{Rows}
 use Rattle.myi_chain.specs.declared.piece.Piece.{Piece}
+use Rattle.myi_chain.specs.Pieces.{piece_bytes}
 use Rattle.myi_chain.specs.ScanModel.{as_items}
 use Rattle.myi_repair.proofs.GatherLaws.{answered_of, reads}
 use Rattle.myi_repair.proofs.next_row.NextRow.read.Goals as goal
+
+-- four bytes count the bytes of an answered row
+counted : (p : Piece) (b : List ℕ) → b ≡ piece_bytes p → length (piece_bytes p) < 2 ^ 32 → length b < 2 ^ 32
+counted p b is few = omega (arith, few, ap (λ (x : List ℕ). length x) is)
 
 pub view_packed-row-requires-clause-sound : goal.view_packed-row-requires-clause-sound
 view_packed-row-requires-clause-sound g c = sound c.args.defs.now c.requires.defs
@@ -22,7 +27,9 @@ pub spell_into-requires-clause-sound : goal.spell_into-requires-clause-sound
 spell_into-requires-clause-sound g c = sound c.args.defs.now c.requires.defs
 
 pub spell_into-requires-clause-fits : goal.spell_into-requires-clause-fits
-spell_into-requires-clause-fits g c = row-fits c.args.defs.now c.view_packed-row.result c.bytes.result.now (sound c.args.defs.now c.requires.defs) c.view_packed-row.ensures.packs
+spell_into-requires-clause-fits g c =
+    let says = subst (λ o. FindsInTable Rows (g.F.Files.holds c.args.files.now) c.args.scan.now (as_items (Ok o))) c.in-Some.is c.in_ok-piece.ensures.says in
+    row-fits c.args.defs.now c.view_packed-row.result c.bytes.result.now (sound c.args.defs.now c.requires.defs) c.view_packed-row.ensures.packs (λ _. counted c.in-Some.piece c.bytes.result.now c.bytes.ensures says.counted)
 
 pub returns-clause-read : goal.returns-clause-read
 returns-clause-read g c =
@@ -30,6 +37,7 @@ returns-clause-read g c =
     let d = c.args.defs.now in
     let s = sound d c.requires.defs in
     let new = c.next_row.follows.lender-at-none in
+    let says = subst (λ o. FindsInTable Rows (g.F.Files.holds c.args.files.now) c.args.scan.now (as_items (Ok o))) c.in-Some.is c.in_ok-piece.ensures.says in
     let answer = answered_of (g.F.Files.holds c.args.files.now) c.args.scan.now new _ _ found c.in_ok-piece.was c.in-Some.is c.next_row.follows.holds-at-none in
     reads d (g.F.Files.holds c.args.files.now) c.args.scan.now new found c.view_packed-row.result c.bytes.result.now _ s c.requires.test answer c.bytes.ensures c.view_packed-row.ensures.found
-    (row-fits d c.view_packed-row.result c.bytes.result.now s c.view_packed-row.ensures.packs) c.in_ok-spell_into.ensures (c.in_ok-note_sizes.ensures ∙ ap (λ (bs : List (ℕ × ℕ)). map (λ b. b.1) bs) c.blocks-2.ensures)
+    (row-fits d c.view_packed-row.result c.bytes.result.now s c.view_packed-row.ensures.packs (λ _. counted c.in-Some.piece c.bytes.result.now c.bytes.ensures says.counted)) c.in_ok-spell_into.ensures (c.in_ok-note_sizes.ensures ∙ ap (λ (bs : List (ℕ × ℕ)). map (λ b. b.1) bs) c.blocks-2.ensures)

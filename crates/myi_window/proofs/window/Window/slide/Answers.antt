@@ -1,25 +1,8 @@
-use Rattle.std.proofs.Common.{◌≡◌, ◌∙◌, take, drop, subst, ap, sym}
+use Rattle.std.proofs.Common.{◌∙◌, arith}
 use Rattle.myi_base.specs.Holding.{bytes_of}
-use Rattle.myi_window.specs.Excerpt.{Excerpt, StandsIn, EndsBy}
-use Rattle.myi_window.specs.declared.window.TheConstants.{WINDOW}
-use Rattle.myi_window.proofs.ExcerptLemmas.{moved_stands, moved_inside, full_stands}
+use Rattle.myi_window.proofs.ExcerptLemmas.{to_window}
 use Rattle.myi_window.proofs.window.Window.slide.Goals as goal
 
 pub returns-clause-full : goal.returns-clause-full
 returns-clause-full g c m held shows =
-    let d = bytes_of c.args.name.now m in
-    subst (λ (w : Excerpt). StandsIn w d → c.read_more.new.self.bytes ≡ take WINDOW (drop w.from (take c.args.end d))) c.move_to.ensures (c.in_ok-read_more.ensures.full m held) (moved_stands c.args.at c.args.end c.args.self.now d shows)
-
-pub returns-clause-stands : goal.returns-clause-stands
-returns-clause-stands g c m held shows =
-    let d = bytes_of c.args.name.now m in
-    let from : c.read_more.new.self.from ≡ c.args.at = c.in_ok-read_more.ensures.from ∙ ap (λ (w : Excerpt). w.from) c.move_to.ensures in
-    full_stands c.args.at c.args.end c.read_more.new.self d from (subst (λ (w : Excerpt). StandsIn w d → c.read_more.new.self.bytes ≡ take WINDOW (drop w.from (take c.args.end d))) c.move_to.ensures (c.in_ok-read_more.ensures.full m held) (moved_stands c.args.at c.args.end c.args.self.now d shows)) c.requires
-
-pub returns-in_err-read_more-clause-stands : goal.returns-in_err-read_more-clause-stands
-returns-in_err-read_more-clause-stands g c m held shows =
-    let d = bytes_of c.args.name.now m in
-    subst (λ (w : Excerpt). StandsIn w d) (sym (c.in_err-read_more.ensures.err ∙ c.move_to.ensures)) (moved_stands c.args.at c.args.end c.args.self.now d shows)
-
-pub returns-in_err-read_more-clause-inside : goal.returns-in_err-read_more-clause-inside
-returns-in_err-read_more-clause-inside g c = subst (λ (w : Excerpt). EndsBy c.args.end w) (sym (c.in_err-read_more.ensures.err ∙ c.move_to.ensures)) (moved_inside c.args.at c.args.end c.args.self.now c.requires)
+    c.in_ok-hold.ensures.full m held shows ∙ to_window c.args.at c.args.end _ (bytes_of c.args.name.now m) c.requires (omega (arith, c.min.ensures))

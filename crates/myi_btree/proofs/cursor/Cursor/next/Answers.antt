@@ -1,0 +1,43 @@
+use Rattle.std.proofs.Common.{◌∷◌, ℕ, Option, List, [], subst, refl}
+use Rattle.myi_btree.specs.declared.event.Event as declared
+use Rattle.myi_btree.specs.declared.place.TreeSetup.{TreeSetup}
+use Rattle.myi_btree.specs.Serving.{View, nodes_at, GoesOn}
+use Rattle.myi_btree.specs.Cursors.{event_of, events_of, CanGo, Moves, Rises, HasNoPage}
+use Rattle.myi_btree.proofs.CursorLaws.{moves_up, moves_on, risen_can, none_of}
+use Rattle.myi_btree.proofs.cursor.Cursor.next.Goals as goal
+
+pub returns-in-Some-clause-moves : goal.returns-in-Some-clause-moves
+returns-in-Some-clause-moves g c = λ v seen k.
+    let r : Rises c.args.self.now c.rise.new.self (event_of c.in-Some.event ∷ []) = subst (λ (o : Option declared.Event). Rises c.args.self.now c.rise.new.self (events_of o)) c.in-Some.is c.in_ok-event.ensures.rises in
+    let p : HasNoPage (event_of c.in-Some.event ∷ []) = subst (λ (o : Option declared.Event). HasNoPage (events_of o)) c.in-Some.is c.in_ok-event.ensures.pair in
+    moves_up c.args.self.now.setup.place.block_length (nodes_at c.args.self.now.setup.place v) v.asked seen c.args.self.now c.rise.new.self (event_of c.in-Some.event ∷ []) c.rise.ensures.visited k.has k.fits k.asks p r
+
+pub returns-in_err-go_down-in-Some-down-clause-served : goal.returns-in_err-go_down-in-Some-down-clause-served
+returns-in_err-go_down-in-Some-down-clause-served g c = λ v seen k.
+    let none = none_of c.in_ok-event.field-0 c.in_default.not-Some in
+    let r : Rises c.args.self.now c.rise.new.self [] = subst (λ (o : Option declared.Event). Rises c.args.self.now c.rise.new.self (events_of o)) none c.in_ok-event.ensures.rises in
+    let can = risen_can c.args.self.now.setup.place v _ c.args.cache.now seen c.args.self.now c.rise.new.self c.rise.ensures.visited k r in
+    (subst (λ (s : TreeSetup). (v : View) (seen : List ℕ) → CanGo s.place v (g.F.Files.holds c.args.files.now) c.args.cache.now seen c.rise.new.self → GoesOn s.place v (g.F.Files.holds c.go_down.new.files) c.go_down.new.cache c.go_down.new.self.visited) c.rise.ensures.setup c.go_down.ensures.served) v seen can
+
+pub returns-in_ok-go_down-in-Some-down-clause-served : goal.returns-in_ok-go_down-in-Some-down-clause-served
+returns-in_ok-go_down-in-Some-down-clause-served g c = λ v seen k.
+    let none = none_of c.in_ok-event.field-0 c.in_default.not-Some in
+    let r : Rises c.args.self.now c.rise.new.self [] = subst (λ (o : Option declared.Event). Rises c.args.self.now c.rise.new.self (events_of o)) none c.in_ok-event.ensures.rises in
+    let can = risen_can c.args.self.now.setup.place v _ c.args.cache.now seen c.args.self.now c.rise.new.self c.rise.ensures.visited k r in
+    (subst (λ (s : TreeSetup). (v : View) (seen : List ℕ) → CanGo s.place v (g.F.Files.holds c.args.files.now) c.args.cache.now seen c.rise.new.self → GoesOn s.place v (g.F.Files.holds c.go_down.new.files) c.go_down.new.cache c.go_down.new.self.visited) c.rise.ensures.setup c.go_down.ensures.served) v seen can
+
+pub returns-in_ok-go_down-in-Some-down-clause-moves : goal.returns-in_ok-go_down-in-Some-down-clause-moves
+returns-in_ok-go_down-in-Some-down-clause-moves g c = λ v seen k.
+    let none = none_of c.in_ok-event.field-0 c.in_default.not-Some in
+    let r : Rises c.args.self.now c.rise.new.self [] = subst (λ (o : Option declared.Event). Rises c.args.self.now c.rise.new.self (events_of o)) none c.in_ok-event.ensures.rises in
+    let can = risen_can c.args.self.now.setup.place v _ c.args.cache.now seen c.args.self.now c.rise.new.self c.rise.ensures.visited k r in
+    let given = event_of c.in_ok-go_down-in-Some-down.field-0 ∷ [] in
+    let m : Moves c.args.self.now.setup.place.block_length (nodes_at c.args.self.now.setup.place v) v.asked seen c.rise.new.self c.go_down.new.self given =
+    (subst (λ (s : TreeSetup). (v : View) (seen : List ℕ) → CanGo s.place v (g.F.Files.holds c.args.files.now) c.args.cache.now seen c.rise.new.self → Moves s.place.block_length (nodes_at s.place v) v.asked seen c.rise.new.self c.go_down.new.self (event_of c.in_ok-go_down-in-Some-down.field-0 ∷ [])) c.rise.ensures.setup c.in_ok-go_down-in-Some-down.ensures.moves) v seen can in
+    moves_on c.args.self.now.setup.place.block_length (nodes_at c.args.self.now.setup.place v) v.asked seen c.args.self.now c.rise.new.self c.go_down.new.self given can.has k.fits k.asks r (λ a f. m)
+
+pub returns-in-None-clause-moves : goal.returns-in-None-clause-moves
+returns-in-None-clause-moves g c = λ v seen k.
+    let none = none_of c.in_ok-event.field-0 c.in_default.not-Some in
+    let r : Rises c.args.self.now c.rise.new.self [] = subst (λ (o : Option declared.Event). Rises c.args.self.now c.rise.new.self (events_of o)) none c.in_ok-event.ensures.rises in
+    moves_up c.args.self.now.setup.place.block_length (nodes_at c.args.self.now.setup.place v) v.asked seen c.args.self.now c.rise.new.self [] c.rise.ensures.visited k.has k.fits k.asks (refl, refl) r

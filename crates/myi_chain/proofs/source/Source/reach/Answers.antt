@@ -1,0 +1,21 @@
+use Rattle.std.proofs.Common.{List, ℕ, length, ap, arith}
+use Rattle.std.specs.Prelude.{string_bytes}
+use Rattle.std.proofs.lemmas.Bool.{leb-false}
+use Rattle.myi_chain.proofs.SourceLemmas.{reads_on, over_held}
+use Rattle.myi_chain.proofs.source.Source.reach.Goals as goal
+
+pub returns-in_err-stretch-clause-reads : goal.returns-in_err-stretch-clause-reads
+returns-in_err-stretch-clause-reads g c =
+    let i = c.self.inside in
+    reads_on (g.F.Files.holds c.args.files.now) c.args.self.now (string_bytes i.name) c.as_str.result.now i.end i.window c.stretch.new.self c.self.view_is c.as_str.ensures.value c.requires.ready c.stretch.ensures.stands
+
+pub returns-clause-reads : goal.returns-clause-reads
+returns-clause-reads g c =
+    let i = c.self.inside in
+    reads_on (g.F.Files.holds c.args.files.now) c.args.self.now (string_bytes i.name) c.as_str.result.now i.end i.window c.stretch.new.self c.self.view_is c.as_str.ensures.value c.requires.ready c.stretch.ensures.stands
+
+pub returns-clause-short : goal.returns-clause-short
+returns-clause-short g c is m held =
+    let i = c.self.inside in
+    let h = c.args.block.now in
+    over_held c.args.self.now (string_bytes i.name) c.as_str.result.now i.end h.head.at h.head.size i.window c.stretch.new.self m c.self.view_is c.as_str.ensures.value (c.requires.ready m held) c.requires.block.place.inside c.stretch.ensures.from (c.in_ok-stretch.ensures.over m held) (omega (arith, leb-false _ _ is, ap (λ (xs : List ℕ). length xs) c.bytes_from-2.ensures))

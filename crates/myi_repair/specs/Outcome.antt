@@ -1,0 +1,42 @@
+-- How a call on the files of a table ends, whatever it does: what a refusal tells and leaves, which files stay as they are,
+-- and when a fault is told (the words are this project's own).
+use Rattle.std.specs.Prelude.{◌≡◌, ◌⊎◌, ◌≤◌, ◌+◌, ℕ, Option, Result, Ok, Err, IfErr}
+use Rattle.myi_base.specs.Holding.{Holding, IfTold, Told}
+use Rattle.myi_base.specs.Causes.{HasCause}
+use Rattle.myi_io.specs.declared.files.FileErr.{FileErr}
+use Rattle.myi_io.specs.Faults.{handed_on}
+use Rattle.myi_repair.specs.declared.fault.RepairFault.{RepairFault}
+use Rattle.myi_repair.specs.declared.fault.RepairFault.TheVariants.{File, Memory}
+use Rattle.myi_repair.specs.Faults.{faults_told, RoseAtMost}
+use Rattle.myi_repair.specs.Names.{FourNames, KeepsBut, Clears, working_left}
+use Rattle.myi_repair.specs.Opening.{CutsOff, Refuses}
+
+-- the table is refused for this reason, and nothing is changed
+pub record IsRefused (t : FourNames) (fault : RepairFault) (old new : Option Holding) : Type 0 where
+  pub reason : IfTold old (Refuses t fault)
+  pub same : new ≡ old
+
+-- A call on the files of these names, in which their count of faults rose from the one number to the other, ends so: an error
+-- has one of these reasons, and where no more calls failed besides the one that it tells of, it leaves what is allowed to
+-- stay behind so many failures.
+pub record EndsBy {X : Type 0} (reasons : RepairFault → Type 0) (left : ℕ → Holding → Holding → Type 0) (t : FourNames) (old new : Option Holding) (before now : ℕ) (result : Result X RepairFault) : Type 0 where
+  pub reason : IfErr result reasons
+  pub cleared : IfErr result (λ f. (more : ℕ) → RoseAtMost (faults_told f + more) before now → Told old new (left more))
+  -- the files of all other names stay
+  pub others : Told old new (KeepsBut t)
+  -- a fault of a file is told only where one was counted
+  pub cause : HasCause File before now result
+
+-- it was cut off, or the table is refused; then nothing is changed, or each working file is gone, but for one for each call
+-- that failed besides
+abbrev pub Ends : {X : Type 0} → FourNames → Option Holding → Option Holding → ℕ → ℕ → Result X RepairFault → Type 0
+Ends t old new before now result = EndsBy (λ f. CutsOff f ⊎ IsRefused t f old new) (λ more. Clears more t) t old new before now result
+
+-- it was cut off, and each working file is gone, but for one for each call that failed besides
+abbrev pub EndsCutOff : {X : Type 0} → FourNames → Option Holding → Option Holding → ℕ → ℕ → Result X RepairFault → Type 0
+EndsCutOff t old new before now result = EndsBy CutsOff (λ more m n. working_left t n ≤ more) t old new before now result
+
+-- an answer with the fault of a file call in its place
+abbrev pub as_repair : {X : Type 0} → Result X FileErr → Result X RepairFault
+as_repair (Ok x) = Ok x
+as_repair (Err e) = Err (handed_on File Memory e)
