@@ -1,5 +1,5 @@
 -- What two readers of files tell together.
-use Rattle.std.specs.Prelude.{◌≡◌, ◌==◌, ℕ, Bool, true, false, not, ◌&&◌, if◌then◌else◌, List, [], length, Option, Some, None, unwrap_or, refl}
+use Rattle.std.specs.Prelude.{◌≡◌, ◌==◌, ℕ, Bool, true, false, not, ◌&&◌, if◌then◌else◌, List, [], length, Option, Some, None, unwrap_or, string_bytes, refl}
 use Rattle.std.proofs.Common.{lit<}
 use Rattle.std.specs.Str.{bytes_eq}
 use Rattle.myi_base.specs.Numbers.{AreBytes}
@@ -18,6 +18,14 @@ two_told a m None b n y = None
 two_told a m (Some x) b n None = None
 two_told a m (Some x) b n (Some y) =
     if not (bytes_eq a b) && (length x == m) && (length y == n) then Some (two_files a x b y) else None
+
+-- what two readers tell together, by what each one does
+abbrev pub told_by : {R : Type 0} → (R → Option (List ℕ)) → ReaderFiles R → Option Holding
+told_by shows s = two_told (string_bytes s.rows.name) s.rows.length (shows s.rows.reader) (string_bytes s.index.name) s.index.length (shows s.index.reader)
+
+-- the length that was kept of the file of a name, and none where the name is neither of two
+abbrev pub kept_length : {R : Type 0} → ReaderFiles R → List ℕ → Option ℕ
+kept_length s q = if bytes_eq q (string_bytes s.rows.name) then Some s.rows.length else if bytes_eq q (string_bytes s.index.name) then Some s.index.length else None
 
 -- where something is told it is bytes
 

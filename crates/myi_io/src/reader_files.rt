@@ -1,8 +1,9 @@
 //! `ReaderFiles`: two reader objects (`Opened`, each with the name and the length of its file) seen as
 //! files that may not be changed.
-ghost use Rattle.std.specs.Prelude.{◌≡◌, ◌+◌, ◌^◌, ℕ, false, Some, Err, string_bytes};
+ghost use Rattle.std.specs.Prelude.{◌≡◌, ◌+◌, ◌^◌, ℕ, false, Some, Ok, Err, IfOk, string_bytes};
+ghost use Rattle.myi_base.specs.Holding.{IfTold, Measures};
 ghost use Rattle.myi_io.specs.declared.files.FileErr.TheVariants.{Failed};
-ghost use Rattle.myi_io.specs.TwoReaders.{two_told, two_told_bytes, refusing};
+ghost use Rattle.myi_io.specs.TwoReaders.{two_told, two_told_bytes, told_by, kept_length, refusing};
 ghost use Rattle.myi_io.specs.Failures.{raised};
 
 use crate::files::{FileErr, Files};
@@ -49,7 +50,13 @@ impl<R: FileReader> Files for ReaderFiles<R> {
 
     ghost writable = { false };
 
-    fn length(&mut self, name: &str) -> Result<Option<u64>, FileErr> {
+    // The length that was kept, also where the readers tell nothing.
+    fn length(&mut self, name: &str) -> Result<Option<u64>, FileErr>
+        ensures kept { result ≡ Ok (kept_length self.old name.now) }
+        ensures same { self.new ≡ self.old }
+        ensures told { IfOk result (λ size.
+            IfTold (told_by R.holds self.old) (λ m. Measures (m name.now) size)) }
+    {
         if name == self.rows.name.as_str() {
             return Ok(Some(self.rows.length));
         }
