@@ -1,13 +1,13 @@
 -- Gathered writes over plain lists: written in parts or at once, and what they leave of other files.
-use Rattle.std.proofs.Common.{◌≡◌, ◌≢◌, ◌⊎◌, ◌≤◌, ◌+◌, ◌-◌, ℕ, zero, suc, Bool, true, false, List, [], ◌∷◌, ◌++◌, length, take, drop, min, Option, Some, None, refl, sym, ap, subst, ◌∙◌, arith, inl, inr, append_assoc, length-append}
+use Rattle.std.proofs.Common.{◌≡◌, ◌≢◌, ◌≤◌, ◌+◌, ◌-◌, ℕ, Bool, true, false, List, [], ◌∷◌, ◌++◌, length, take, drop, Option, Some, None, refl, sym, ap, subst, ◌∙◌, arith, inl, inr, append_assoc, length-append}
 use Rattle.std.specs.Prelude.{replicate, unwrap_or, if◌then◌else◌}
 use Rattle.std.specs.Option.{option_map}
 use Rattle.std.specs.Str.{bytes_eq}
 use Rattle.std.proofs.Math.Path.{fun_ext}
 use Rattle.std.proofs.Math.Seq.{drop-append-add, take-append_seam}
-use Rattle.std.proofs.lemmas.List.{drop-drop, append-nil, length-take, length-replicate, take-append-le, take_all}
+use Rattle.std.proofs.lemmas.List.{drop-drop, append-nil, length-take, length-replicate}
 use Rattle.std.proofs.lemmas.Slice.Eq.{bytes_eq-Decides}
-use Rattle.myi_base.specs.Holding.{Holding, bytes_of, resized, overwritten, Sets, Writes, WritesPart, Removes, Told, Keeps, IfTold}
+use Rattle.myi_base.specs.Holding.{Holding, bytes_of, resized, overwritten, Writes, WritesPart, Removes, Told, Keeps, IfTold}
 use Rattle.myi_base.proofs.CallerLemmas.{told_same}
 use Rattle.myi_io.specs.Pending.{written, with_pending}
 

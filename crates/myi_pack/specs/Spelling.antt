@@ -1,7 +1,7 @@
 -- The one spelling that a writer gives a row: a flag is set exactly where that makes the row shorter, each
 -- length is the shortest, and what a static row does not need is zeros. And which rows have one. (A server
 -- writes rows so: MySQL Internals Manual, "MyISAM Dynamic Data File Layout"; the words are this project's own.)
-use Rattle.std.specs.Prelude.{◌+◌, ◌-◌, ◌/◌, ◌%◌, ◌^◌, ℕ, Bool, true, false, not, ◌&&◌, ◌||◌, ◌==◌, nat_le, nat_lt, if◌then◌else◌, List, [], ◌∷◌, ◌++◌, length, replicate, slice_index}
+use Rattle.std.specs.Prelude.{◌+◌, ◌-◌, ◌/◌, ◌%◌, ◌^◌, ℕ, Bool, true, false, not, ◌&&◌, ◌||◌, ◌==◌, nat_le, nat_lt, if◌then◌else◌, List, [], ◌∷◌, ◌++◌, length, replicate, slice_index, Option, Some, None}
 use Rattle.std.specs.List.{list_all}
 use Rattle.myi_base.specs.Numbers.{num_bytes, low_num_bytes}
 use Rattle.myi_defs.specs.declared.types.RowFormat.{RowFormat}
@@ -113,6 +113,10 @@ fits_fields format [] [] = true
 fits_fields format [] (v ∷ vs) = false
 fits_fields format (f ∷ fs) [] = false
 fits_fields format (f ∷ fs) (v ∷ vs) = fits_field format f.kind f.length v && fits_fields format fs vs
+
+-- how many bytes the spelling of a dynamic row has, and none where it is not of the form of its fields
+abbrev pub packed_length : List Field → Values → Option ℕ
+packed_length fs vs = if fits_fields Dynamic fs vs then Some (flag_bytes (flag_count fs) + length (spelled_fields Dynamic fs vs)) else None
 
 -- a file can hold the spelling: a slot whose first byte is 0 is a deleted one, and the length of a packed row has at
 -- most four bytes

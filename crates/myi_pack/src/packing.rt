@@ -13,7 +13,7 @@ ghost use Rattle.myi_pack.specs.Flags.{flag_bytes, flag_count, packed_bits, with
 ghost use Rattle.myi_pack.specs.Spelling.{trimmed_end, trimmed_start, is_all, skip_length};
 ghost use Rattle.myi_pack.specs.Spelling.{is_shorter, skipped_bytes, varchar_length, field_flag};
 ghost use Rattle.myi_pack.specs.Spelling.{field_bytes, slot_bytes, spelled_fields, flags_of};
-ghost use Rattle.myi_pack.specs.Spelling.{filled, spelling, fits_field, fits_fields, fits};
+ghost use Rattle.myi_pack.specs.Spelling.{filled, spelling, fits_field, fits_fields, packed_length, fits};
 
 use crate::fields::{flag_count, length_bytes, next_flag};
 use crate::values::{Row, Value, push_repeated};
@@ -35,26 +35,26 @@ pub fn fits(defs: &Defs, row: &Row) -> bool
 {
     let fields = defs.fields.as_slice();
     let values = row.as_slice();
-    if !fits_fields(defs.format, fields, values) {
-        return false;
-    }
     match defs.format {
-        RowFormat::Static => is_live(fields, values),
-        RowFormat::Dynamic => packed_len(fields, values) < PACKED_END,
+        RowFormat::Static => fits_slot(fields, values) && is_live(fields, values),
+        RowFormat::Dynamic => match packed_len(fields, values) {
+            Some(len) => len < PACKED_END,
+            None => false,
+        },
     }
 }
 
-// Whether there is one value for each field, of its form.
-fn fits_fields(format: RowFormat, fields: &[Field], values: &[Value]) -> bool
-    requires { All (λ f. IsLengthOf format f.kind f.length) fields.now }
-    ensures { result ≡ fits_fields format fields.now values.now }
+// Whether there is one value for each field, of its form in a static row.
+fn fits_slot(fields: &[Field], values: &[Value]) -> bool
+    requires { All (λ f. IsLengthOf RowFormat.Static f.kind f.length) fields.now }
+    ensures { result ≡ fits_fields RowFormat.Static fields.now values.now }
 {
     let mut rest = values;
     for field in fields {
         let [value, after @ ..] = rest else {
             return false;
         };
-        if !fits_field(format, field, value.as_slice()) {
+        if !fits_field(RowFormat::Static, field, value.as_slice()) {
             return false;
         }
         rest = after;
@@ -82,24 +82,26 @@ fn blob_end(width: usize) -> usize
     256usize.pow(width as u32)
 }
 
-// How many bytes the spelling of a dynamic row has.
-fn packed_len(fields: &[Field], values: &[Value]) -> usize
+// How many bytes the spelling of a dynamic row has, and None where a field has no value of its form.
+fn packed_len(fields: &[Field], values: &[Value]) -> Option<usize>
     requires few { length fields.now ≤ 4096 }
     requires lengths { All (λ f. IsLengthOf RowFormat.Dynamic f.kind f.length) fields.now }
-    requires fits { fits_fields RowFormat.Dynamic fields.now values.now ≡ true }
-    ensures { result ≡ flag_bytes (flag_count fields.now)
-        + length (spelled_fields RowFormat.Dynamic fields.now values.now) }
+    ensures { result ≡ packed_length fields.now values.now }
 {
     let mut len = flag_count(fields).div_ceil(8);
     let mut rest = values;
     for field in fields {
         let [value, after @ ..] = rest else {
-            return len;
+            return None;
         };
-        len += field_len(field, value.as_slice());
+        let value = value.as_slice();
+        if !fits_field(RowFormat::Dynamic, field, value) {
+            return None;
+        }
+        len += field_len(field, value);
         rest = after;
     }
-    len
+    if rest.is_empty() { Some(len) } else { None }
 }
 
 // How many bytes a field of a dynamic row takes.
@@ -129,7 +131,7 @@ fn is_live(fields: &[Field], values: &[Value]) -> bool
         ≡ not (slice_index (spelled_fields RowFormat.Static fields.now values.now) 0 == 0) }
 {
     let [value, ..] = values else {
-        return false;
+        unreachable!();
     };
     is_field_live(&fields[0], value.as_slice())
 }
@@ -187,7 +189,7 @@ fn push_slots(out: &mut Vec<u8>, fields: &[Field], values: &[Value]) -> Result<(
     let mut rest = values;
     for field in fields {
         let [value, after @ ..] = rest else {
-            return Ok(());
+            unreachable!();
         };
         push_slot(out, field, value.as_slice())?;
         rest = after;
@@ -235,7 +237,7 @@ fn push_fields(out: &mut Vec<u8>, fields: &[Field], values: &[Value]) -> Result<
     let mut k = 0;
     for field in fields {
         let [value, after @ ..] = rest else {
-            return Ok(());
+            unreachable!();
         };
         let bit = push_field(out, field, value.as_slice())?;
         set_flag(out, k, bit);

@@ -1,10 +1,11 @@
 -- What is shown after a window moved and read on.
-use Rattle.std.proofs.Common.{◌≡◌, ◌∙◌, ◌+◌, ◌-◌, ◌<◌, ◌≤◌, ℕ, zero, suc, Bool, true, false, List, [], ◌∷◌, ◌++◌, length, take, drop, min, leb, sym, ap, subst, arith, refl, append_assoc, inl, inr}
+use Rattle.std.proofs.Common.{◌≡◌, ◌∙◌, ◌+◌, ◌-◌, ◌<◌, ◌≤◌, ℕ, zero, suc, Bool, true, false, List, [], ◌∷◌, ◌++◌, length, take, drop, min, leb, Option, sym, ap, subst, arith, refl, append_assoc, inl, inr}
 use Rattle.std.specs.Prelude.{if◌then◌else◌}
 use Rattle.std.proofs.Math.Seq.{take-append-add}
 use Rattle.std.proofs.lemmas.Bool.{cases_lt, leb-true, le-leb}
 use Rattle.std.proofs.lemmas.List.{take_all, take-take, drop-drop, drop-take, length-drop, length-take, length-take-le, take_at}
-use Rattle.myi_window.specs.Excerpt.{Excerpt, bytes_from, moved, AreFront, StandsIn, EndsBy}
+use Rattle.myi_base.specs.Holding.{Holding}
+use Rattle.myi_window.specs.Excerpt.{Excerpt, bytes_from, moved, AreFront, StandsIn, EndsBy, GoesTo}
 use Rattle.myi_window.specs.declared.window.TheConstants.{WINDOW}
 
 pub front_take : (n : ℕ) (xs ys : List ℕ) → AreFront xs ys → AreFront (take n xs) ys
@@ -143,3 +144,7 @@ short_excerpt at end size s d from bytes narrow short =
     let long : length (bytes_from at s) ≡ length s.bytes - (at - s.from) = ap (λ (xs : List ℕ). length xs) is ∙ length-drop (at - s.from) s.bytes in
     let got : length s.bytes ≡ length (take WINDOW (drop at (take end d))) = ap (λ (xs : List ℕ). length xs) bytes in
     omega (arith, long, got, length-take WINDOW (drop at (take end d)), length-drop at (take end d))
+
+-- a call that reads nothing at an end reads nothing at a later one
+pub goes_within : (name : List ℕ) (at to end : ℕ) (holds : Option Holding) (old new : Excerpt) → to ≤ end → GoesTo name at to holds old new → GoesTo name at end holds old new
+goes_within name at to end holds old new order goes = record { from = goes.from; inside = omega (arith, order, goes.inside); stands = goes.stands }

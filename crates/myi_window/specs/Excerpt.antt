@@ -1,6 +1,6 @@
 -- What is known of a file in part: bytes that were read from a place on.
-use Rattle.std.specs.Prelude.{◌≡◌, ◌≤◌, ◌+◌, ◌-◌, ℕ, nat_le, if◌then◌else◌, List, [], length, take, drop}
-use Rattle.myi_base.specs.Holding.{Holding, bytes_of}
+use Rattle.std.specs.Prelude.{◌≡◌, ◌≤◌, ◌+◌, ◌-◌, ℕ, nat_le, if◌then◌else◌, List, [], length, take, drop, Option}
+use Rattle.myi_base.specs.Holding.{Holding, bytes_of, IfTold}
 use Rattle.myi_window.specs.declared.window.TheConstants.{WINDOW}
 
 -- bytes of a file from a place on, as they were read
@@ -35,6 +35,13 @@ EndsBy end e = e.from + length e.bytes ≤ end
 -- an excerpt that stands in a file stands there after a call
 abbrev pub GoesOnStanding : List ℕ → Excerpt → Excerpt → Holding → Type 0
 GoesOnStanding name old new m = StandsIn old (bytes_of name m) → StandsIn new (bytes_of name m)
+
+-- A call on an excerpt goes to a place of a file, and reads no byte at an end or behind it, in any files and whether or not
+-- it failed. What stood in the file stands there then.
+pub record GoesTo (name : List ℕ) (at end : ℕ) (holds : Option Holding) (old new : Excerpt) : Type 0 where
+  pub from : new.from ≡ at
+  pub inside : EndsBy end new
+  pub stands : IfTold holds (GoesOnStanding name old new)
 
 -- after a call on an excerpt of a file, it is the file from a place up to an end
 abbrev pub HoldsTo : List ℕ → ℕ → ℕ → Excerpt → Excerpt → Holding → Type 0

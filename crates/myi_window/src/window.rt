@@ -4,7 +4,7 @@
 //! goes to another place: what the excerpt holds of the bytes from there on moves to the front, and one
 //! read adds what is missing. So no byte is read twice while the place rises and the end stays. `stretch`
 //! does the same for a range that is longer than a window, and makes the buffer longer for it.
-ghost use Rattle.std.specs.Prelude.{◌≡◌, ◌<◌, ◌≤◌, ◌+◌, ◌-◌, ◌++◌, length, take, drop, IfOk, IfErr, OnOk, OnErr};
+ghost use Rattle.std.specs.Prelude.{◌≡◌, ◌<◌, ◌≤◌, ◌+◌, ◌-◌, ◌^◌, ◌++◌, length, take, drop, IfOk, IfErr, OnOk, OnErr};
 ghost use Rattle.myi_base.specs.Holding.{IfTold, bytes_of};
 ghost use Rattle.myi_base.specs.Causes.{HasCause};
 ghost use Rattle.myi_io.specs.declared.files.FileErr.TheVariants.{Failed};
@@ -51,15 +51,13 @@ fn read_behind<F: Files>(
 
 /// Makes a buffer so long, if it is shorter. Its bytes stay.
 fn grow(buffer: &mut Vec<u8>, len: usize) -> Result<(), AllocError>
+    requires { len ≤ 2 ^ 33 }
     ensures long { OnOk result (len ≤ length buffer.new.items) }
     ensures front { take (length buffer.old.items) buffer.new.items ≡ buffer.old.items }
     ensures some { OnErr result (length buffer.old.items < len) }
 {
     if len <= buffer.len() {
         return Ok(());
-    }
-    if len > isize::MAX as usize {
-        return Err(AllocError);
     }
     buffer.resize(len, 0)?;
     Ok(())
@@ -97,11 +95,11 @@ impl Model for Window {
 }
 
 impl Window {
-    ghost use Rattle.std.specs.Prelude.{◌≡◌, ◌≤◌, ◌+◌, IfOk, IfErr, OnOk, OnErr};
+    ghost use Rattle.std.specs.Prelude.{◌≡◌, ◌≤◌, ◌+◌, ◌^◌, IfOk, IfErr, OnOk, OnErr};
     ghost use Rattle.myi_base.specs.Holding.{IfTold};
     ghost use Rattle.myi_base.specs.Causes.{HasCause};
     ghost use Rattle.myi_io.specs.declared.files.FileErr.TheVariants.{Failed};
-    ghost use Rattle.myi_window.specs.Excerpt.{nothing, bytes_from, moved, EndsBy, GoesOnStanding, HoldsTo, IsFull, IsOver};
+    ghost use Rattle.myi_window.specs.Excerpt.{nothing, bytes_from, moved, EndsBy, GoesTo, HoldsTo, IsFull, IsOver};
     ghost use Rattle.myi_window.specs.declared.window.TheConstants.{WINDOW};
 
     /// A window that holds nothing of a file yet. Its memory is taken here, and more only by `stretch`.
@@ -147,7 +145,8 @@ impl Window {
 
     // Reads what is missing up to an end. Where that is behind a window, it may take memory.
     fn read_to<F: Files>(&mut self, files: &mut F, name: &str, end: u64) -> Result<(), FileErr>
-        requires { EndsBy end self.old }
+        requires inside { EndsBy end self.old }
+        requires near { end ≤ self.old.from + 2 ^ 33 }
         ensures from { self.new.from ≡ self.old.from }
         ensures full { OnOk result (IfTold (F.holds files.old)
             (HoldsTo name.now self.old.from end self.old self.new)) }
@@ -174,12 +173,11 @@ impl Window {
         at: u64,
         end: u64,
     ) -> Result<(), FileErr>
-        requires { at ≤ end }
-        ensures from { self.new.from ≡ at }
+        requires order { at ≤ end }
+        requires near { end ≤ at + 2 ^ 33 }
+        ensures goes { GoesTo name.now at end (F.holds files.old) self.old self.new }
         ensures full { OnOk result (IfTold (F.holds files.old)
             (HoldsTo name.now at end self.old self.new)) }
-        ensures stands { IfTold (F.holds files.old) (GoesOnStanding name.now self.old self.new) }
-        ensures inside { EndsBy end self.new }
         ensures failed { end ≤ at + WINDOW → IfErr result (λ e. e ≡ Failed) }
         ensures holds { F.holds files.new ≡ F.holds files.old }
         ensures cause { HasCause Failed (F.faults files.old) (F.faults files.new) result }
@@ -201,11 +199,9 @@ impl Window {
         end: u64,
     ) -> Result<(), FileErr>
         requires { at ≤ end }
-        ensures from { self.new.from ≡ at }
+        ensures goes { GoesTo name.now at end (F.holds files.old) self.old self.new }
         ensures full { OnOk result (IfTold (F.holds files.old)
             (IsFull name.now at end self.old self.new)) }
-        ensures stands { IfTold (F.holds files.old) (GoesOnStanding name.now self.old self.new) }
-        ensures inside { EndsBy end self.new }
         ensures failed { IfErr result (λ e. e ≡ Failed) }
         ensures holds { F.holds files.new ≡ F.holds files.old }
         ensures cause { HasCause Failed (F.faults files.old) (F.faults files.new) result }
@@ -227,11 +223,9 @@ impl Window {
         end: u64,
     ) -> Result<(), FileErr>
         requires { at + size ≤ end }
-        ensures from { self.new.from ≡ at }
+        ensures goes { GoesTo name.now at end (F.holds files.old) self.old self.new }
         ensures over { OnOk result (IfTold (F.holds files.old)
             (IsOver name.now at size self.old self.new)) }
-        ensures stands { IfTold (F.holds files.old) (GoesOnStanding name.now self.old self.new) }
-        ensures inside { EndsBy end self.new }
         ensures holds { F.holds files.new ≡ F.holds files.old }
         ensures cause { HasCause Failed (F.faults files.old) (F.faults files.new) result }
     {

@@ -1,4 +1,4 @@
-use Rattle.std.proofs.Common.{◌≡◌, ◌≢◌, ◌∙◌, ◌+◌, ◌++◌, [], ℕ, List, length, sym, subst, ap, string_bytes}
+use Rattle.std.proofs.Common.{◌≡◌, ◌≢◌, ◌+◌, ◌++◌, [], ℕ, List, length, sym, subst, string_bytes}
 use Rattle.myi_base.specs.Holding.{Holding, Writes}
 use Rattle.myi_io.specs.Pending.{with_pending}
 use Rattle.myi_io.proofs.PendingLaws.{appends, same_done}
