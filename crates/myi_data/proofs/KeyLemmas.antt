@@ -28,7 +28,7 @@ use Rattle.myi_keys.specs.Collations.{collation_of}
 use Rattle.myi_keys.specs.Weights.{weights, CanWeigh, CanWeighBy}
 use Rattle.myi_keys.specs.Limits.{IsSeg, IsKey}
 use Rattle.myi_keys.proofs.CallerLemmas.{weights_short}
-use Rattle.myi_data.specs.Keys.{AreValues, part_of, start_of, is_absent, content, seg_of, IsKeyNumber, key_at, segments_of, key_of}
+use Rattle.myi_data.specs.Keys.{AreValues, LiesIn, part_of, start_of, is_absent, content, seg_of, IsKeyNumber, key_at, segments_of, key_of}
 
 -- ---- one value for each field
 
@@ -92,6 +92,20 @@ module _ (format : RowFormat) (fs : List Field) (vs : Values) (s : Segment) (sou
       let part : content fs vs s ≡ take s.length (drop (s.start - field.start) value) = ap (λ (b : Bool). if b then value else take s.length (drop (s.start - start_of fs s.field) value)) fixed ∙ ap (λ n. take s.length (drop (s.start - n) value)) start in
       ap (λ (b : List ℕ). length b) part ∙ length-take-le s.length (drop (s.start - field.start) value) (omega (arith, place.1, place.2, long, length-drop (s.start - field.start) value))
 
+  lies : is_variable s.seg ≡ false → (field.start ≤ s.start) × (s.start - field.start + s.length ≤ length value)
+  unfolding field value
+  lies fixed =
+      let place = fixed_place (is_variable s.seg) s.seg s.start s.length field.kind field.start field.length refl fixed (sound.held some_field) in
+      let long : length value ≡ field.length = fixed_long format field.kind field.length value place.0 (field_fits format fs vs s.field some_field fit sound.inside) in
+      (place.1, omega (arith, place.1, place.2, long))
+
+  pub lies_at : (start : ℕ) (v : List ℕ) → start ≡ start_of fs s.field → get_or vs s.field [] ≡ v → LiesIn s start (length v)
+  unfolding field value
+  lies_at start v at shown fixed =
+      let is = lies fixed in
+      let here : start ≡ field.start = at ∙ start_at fs s.field some_field sound.inside in
+      (omega (arith, is.0, here), omega (arith, is.1, here, ap (λ (b : List ℕ). length b) shown))
+
   int_length : (n : ℕ) → is_variable s.seg ≡ false → int_size s.seg ≡ Some n → length (content fs vs s) ≡ n
   int_length n fixed is = fixed_length fixed ∙ sound.size n is
 
@@ -130,6 +144,10 @@ pub weigh_part : (fs : List Field) (vs : Values) (s : Segment) (start : ℕ) (v 
 weigh_part fs vs s start v part sound fit at value is =
     let same : content fs vs s ≡ part = ap (λ n. part_of s n (get_or vs s.field [])) (sym at) ∙ ap (part_of s start) value ∙ sym is in
     subst (CanWeigh s) same (can_weigh fit.0 fs vs s sound fit.1)
+
+-- the segment lies in the value of its field
+pub part_lies : (fs : List Field) (vs : Values) (s : Segment) (start : ℕ) (v : List ℕ) → IsSoundSegment fs s → AreValues fs vs → start ≡ start_of fs s.field → get_or vs s.field [] ≡ v → LiesIn s start (length v)
+part_lies fs vs s start v sound fit at shown = lies_at fit.0 fs vs s sound fit.1 start v at shown
 
 -- ---- the key
 

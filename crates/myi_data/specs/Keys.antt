@@ -1,6 +1,6 @@
 -- The key of a row (MySQL Internals Manual, "The .MYI file", on key segments: a segment is a part of a field, and where
 -- a bit of the null bits is set in the row there is no value).
-use Rattle.std.specs.Prelude.{◌≡◌, ◌-◌, ◌==◌, ◌<◌, ◌≤◌, ℕ, zero, suc, Bool, true, not, ◌&&◌, if◌then◌else◌, List, [], ◌∷◌, length, map, take, drop, slice_index, slice_index_or, slice_get, bit_and, HoldsAt, Option, None}
+use Rattle.std.specs.Prelude.{◌≡◌, ◌+◌, ◌-◌, ◌==◌, ◌<◌, ◌≤◌, ℕ, zero, suc, Bool, true, false, not, ◌&&◌, if◌then◌else◌, List, [], ◌∷◌, length, map, take, drop, slice_index, slice_index_or, slice_get, bit_and, HoldsAt, Option, None}
 use Rattle.std.specs.Option.{option_map_or}
 use Rattle.myi_defs.specs.declared.types.RowFormat.{RowFormat}
 use Rattle.myi_defs.specs.declared.types.Field.{Field}
@@ -35,6 +35,10 @@ is_absent fs row s = not (s.null_bit == 0) && not (bit_and (byte_at fs row s.nul
 -- what of a field's value is the segment's: all content of a variable one, and else its bytes in the unpacked row
 abbrev pub part_of : Segment → ℕ → List ℕ → List ℕ
 part_of s start v = if is_variable s.seg then v else take s.length (drop (s.start - start) v)
+
+-- a segment that is not variable lies in a value of so many bytes, of a field that starts at a place
+abbrev pub LiesIn : Segment → ℕ → ℕ → Type 0
+LiesIn s start size = is_variable s.seg ≡ false → (start ≤ s.start) × (s.start - start + s.length ≤ size)
 
 -- where a field starts in the unpacked row
 abbrev pub start_of : List Field → ℕ → ℕ

@@ -4,8 +4,8 @@
 //! `append_value` weighs the segment's part of a field. Both find fields by their numbers, `byte_at` that
 //! of a place. The code stands in a buffer that may live as long as a scan; `key_of` makes a key of it.
 ghost use Rattle.std.specs.Prelude.{◌≡◌, ◌≢◌, ℕ, ◌-◌, ◌<◌, ◌≤◌, true, [], length, slice_index};
-ghost use Rattle.std.specs.Prelude.{slice_index_or, HoldsAt, All, Some, IfOk, OnOk, IsTrue, nat_le};
-ghost use Rattle.myi_defs.specs.Kinds.{is_variable, is_plain_at};
+ghost use Rattle.std.specs.Prelude.{HoldsAt, All, Some, IfOk, OnOk, IsTrue, nat_le};
+ghost use Rattle.myi_defs.specs.Kinds.{is_plain_at};
 ghost use Rattle.myi_defs.specs.Sound.{IsSound, IsSoundSegment, StartFrom};
 ghost use Rattle.myi_pack.specs.Spelling.{fits};
 ghost use Rattle.myi_pack.specs.Views.{field_value};
@@ -13,10 +13,10 @@ ghost use Rattle.myi_keys.specs.Limits.{IsSeg, IsKey};
 ghost use Rattle.myi_keys.specs.Codes.{key_code, Gains};
 ghost use Rattle.myi_keys.specs.Weights.{weights, CanWeigh};
 ghost use Rattle.myi_keys.specs.declared.values.KeySeg.TheVariants.{Weights};
-ghost use Rattle.myi_data.specs.Keys.{AreValues, IsPlainPlace, byte_at, is_absent, part_of};
+ghost use Rattle.myi_data.specs.Keys.{AreValues, IsPlainPlace, LiesIn, byte_at, is_absent, part_of};
 ghost use Rattle.myi_data.specs.Keys.{start_of, content, seg_of, IsKeyNumber, key_of};
 
-use myi_defs::{Defs, Field, SegType, Segment};
+use myi_defs::{Defs, Field, Segment};
 use myi_keys::{KeyVal, append_absent, append_weighed};
 use myi_pack::{FieldPlaces, FieldView, NumberedFields, RowView, value_into};
 use std::alloc::{AllocError, Global};
@@ -165,47 +165,31 @@ fn byte_in(field: usize, view: FieldView<'_>, i: usize) -> u8
     ensures { result ≡ slice_index (field_value field view.entry) i }
 {
     match view {
-        FieldView::Plain(value) => byte_or(value, i, 0),
-        FieldView::Padded(content) => byte_or(content, i, b' '),
-        FieldView::Led(content) => match i.checked_sub(field.saturating_sub(content.len())) {
-            Some(j) => byte_or(content, j, 0),
-            None => b' ',
-        },
+        FieldView::Plain(value) => value[i],
+        FieldView::Padded(content) => if i < content.len() { content[i] } else { b' ' },
+        FieldView::Led(content) => {
+            let blanks = field.saturating_sub(content.len());
+            if i < blanks { b' ' } else { content[i - blanks] }
+        }
         FieldView::Zeros => 0,
     }
 }
 
-fn byte_or(bytes: &[u8], i: usize, other: u8) -> u8
-    ensures { result ≡ slice_index_or bytes.now i other }
-{
-    bytes.get(i).copied().unwrap_or(other)
-}
-
 fn start_of(fields: &[Field], i: usize) -> u32
+    requires { i < length fields.now }
     ensures { result ≡ start_of fields.now i }
 {
-    match fields.get(i) {
-        Some(field) => field.start,
-        None => 0,
-    }
+    fields[i].start
 }
 
 // What of a field's value is the segment's.
 fn part_of<'a>(segment: &Segment, start: u32, value: &'a [u8]) -> &'a [u8]
+    requires { LiesIn segment.now start (length value.now) }
     ensures { result.now ≡ part_of segment.now start value.now }
 {
-    if is_variable(segment.seg) {
+    if segment.seg.is_variable() {
         return value;
     }
-    let from = segment.start.saturating_sub(start) as usize;
-    match value.get(from..) {
-        Some(rest) => &rest[..rest.len().min(segment.length as usize)],
-        None => &[],
-    }
-}
-
-fn is_variable(seg: SegType) -> bool
-    ensures { result ≡ is_variable seg }
-{
-    matches!(seg, SegType::VarText | SegType::VarBinary)
+    let from = (segment.start - start) as usize;
+    &value[from..from + segment.length as usize]
 }

@@ -10,10 +10,9 @@ ghost use Rattle.myi_defs.specs.Conditions as spec;
 ghost use Rattle.myi_defs.specs.Kinds as kinds;
 
 use crate::header::{FieldItem, SegItem};
-use crate::types::{FieldKind, SegType};
+use crate::types::FieldKind;
 
 /// The number of the first field that holds a segment.
-
 pub(crate) fn holder(fields: &[FieldItem], segment: &SegItem) -> Option<usize>
     requires starts { spec.ItemsStartFrom 0 fields.now }
     requires some { list_any spec.is_empty fields.now ≡ false }
@@ -68,7 +67,7 @@ fn is_held(segment: &SegItem, field: &FieldItem) -> bool
 {
     match (segment.seg, field.kind) {
         (Some(seg), Some(kind)) => {
-            if is_variable(seg) {
+            if seg.is_variable() {
                 !is_fixed(kind) && field.start == segment.start
             } else {
                 is_fixed(kind)
@@ -101,14 +100,5 @@ fn is_fixed(kind: FieldKind) -> bool
         | FieldKind::SkipPrespace
         | FieldKind::SkipZero => true,
         FieldKind::Blob | FieldKind::Varchar => false,
-    }
-}
-
-fn is_variable(seg: SegType) -> bool
-    ensures { result ≡ kinds.is_variable seg }
-{
-    match seg {
-        SegType::VarText | SegType::VarBinary => true,
-        _ => false,
     }
 }

@@ -4,7 +4,7 @@
 //! is its place in the unpacked row, in which the fields stand one after the other in their full
 //! lengths. A segment is a part of a field that a key is made of.
 ghost use Rattle.std.specs.Prelude.{◌≡◌, ◌≤◌, ◌-◌, ◌^◌, nat_lt, IfOk};
-ghost use Rattle.myi_defs.specs.Kinds.{has_flag};
+ghost use Rattle.myi_defs.specs.Kinds.{has_flag, is_variable};
 ghost use Rattle.myi_defs.specs.Addressable.{pointers, is_addressable};
 
 use myi_base::Sequence;
@@ -72,6 +72,18 @@ pub enum SegType {
     Int8,
     VarText,
     VarBinary,
+}
+
+impl SegType {
+    /// Whether a segment of this type is a whole field of no fixed length.
+    pub fn is_variable(self) -> bool
+        ensures { result ≡ is_variable self }
+    {
+        match self {
+            SegType::VarText | SegType::VarBinary => true,
+            _ => false,
+        }
+    }
 }
 
 /// A segment of a key.

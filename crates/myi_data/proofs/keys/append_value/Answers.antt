@@ -2,11 +2,17 @@ use Rattle.std.proofs.Common.{◌∙◌, ◌≡◌, ◌≤◌, List, ℕ, length
 use Rattle.myi_keys.specs.Weights.{weights}
 use Rattle.myi_pack.specs.Views.{field_value}
 use Rattle.myi_data.specs.Keys.{content}
-use Rattle.myi_data.proofs.KeyLemmas.{length-row, weigh_part, part_is}
+use Rattle.myi_data.proofs.KeyLemmas.{length-row, weigh_part, part_is, part_lies}
 use Rattle.myi_data.proofs.keys.append_value.Goals as goal
 
 pub field-requires : goal.field-requires
 field-requires c = omega (arith, c.requires.sound.inside, length-row c.requires.row.0 c.args.fields.now c.args.row.now c.requires.row.1)
+
+pub part_of-requires : goal.part_of-requires
+part_of-requires c = part_lies c.args.fields.now c.args.row.now c.args.segment.now _ _ c.requires.sound c.requires.row c.start_of-start.ensures (c.in_ok-length.ensures.shown ∙ ap (field_value c.in_ok-length.length) c.in-Plain.is)
+
+pub part_of-requires-2 : goal.part_of-requires-2
+part_of-requires-2 c = part_lies c.args.fields.now c.args.row.now c.args.segment.now _ _ c.requires.sound c.requires.row c.start_of-start.ensures (c.in_ok-length.ensures.shown ∙ sym c.in_ok-value_into.ensures ∙ sym c.deref.ensures.value)
 
 pub append_weighed-requires : goal.append_weighed-requires
 append_weighed-requires c =

@@ -9,4 +9,4 @@ returns-clause-whole g c ready = subst (λ (xs : List ℕ). c.args.size ≤ leng
 
 pub returns-clause-short : goal.returns-clause-short
 returns-clause-short g c not m held shows =
-    short_excerpt c.args.at c.args.end c.args.size c.slide.new.self (bytes_of c.args.name.now m) c.in_ok-slide.ensures.from (c.in_ok-slide.ensures.full m held shows) c.requires.narrow (subst (λ (xs : List ℕ). length xs < c.args.size) c.bytes_from-2.ensures (leb-false _ _ not))
+    short_excerpt c.args.at c.args.end c.args.size c.slide.new.self (bytes_of c.args.name.now m) c.slide.ensures.goes.from (c.in_ok-slide.ensures.full m held shows) c.requires.narrow (subst (λ (xs : List ℕ). length xs < c.args.size) c.bytes_from-2.ensures (leb-false _ _ not))
