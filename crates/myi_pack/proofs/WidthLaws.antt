@@ -1,5 +1,5 @@
 -- How many bytes a row of a dynamic table is spelled in.
-use Rattle.std.proofs.Common.{◌≡◌, ℕ, ◌+◌, ◌-◌, ◌^◌, ◌<◌, ◌≤◌, ◌==◌, Bool, true, false, if◌then◌else◌, List, [], ◌++◌, length, nat_lt, nat_le, refl, ap, subst, arith, length-append}
+use Rattle.std.proofs.Common.{◌≡◌, ℕ, ◌+◌, ◌-◌, ◌^◌, ◌<◌, ◌≤◌, ◌==◌, Bool, true, false, if◌then◌else◌, List, [], ◌++◌, length, nat_lt, nat_le, Option, Some, None, refl, ap, subst, arith, length-append}
 use Rattle.std.proofs.lemmas.Bool.{and_parts, ltb-true, lt-leb, le-ltb}
 use Rattle.std.proofs.Math.Nat.{pow-le-pow_right}
 use Rattle.myi_base.specs.Numbers.{num_bytes, low_num_bytes}
@@ -13,7 +13,7 @@ use Rattle.myi_defs.specs.declared.types.Defs.{Defs}
 use Rattle.myi_defs.specs.Sound.{IsLengthOf}
 use Rattle.myi_pack.specs.Flags.{flag_count, flag_bytes, packed_bits}
 use Rattle.myi_pack.specs.Packed.{Values}
-use Rattle.myi_pack.specs.Spelling.{varchar_length, field_bytes, spelled_fields, flags_of, spelled_row, spelling, fits_field, fits_fields, can_stand, fits}
+use Rattle.myi_pack.specs.Spelling.{varchar_length, field_bytes, packed_length, spelled_fields, flags_of, spelled_row, spelling, fits_field, fits_fields, can_stand, fits}
 use Rattle.myi_pack.proofs.FlagLemmas.{length-packed}
 
 -- ---- a field
@@ -40,6 +40,14 @@ blob-below kind n v is long fit =
     (narrow, omega (arith, most, ltb-true _ _ (subst (λ k. fits_field Dynamic k n v ≡ true) is fit)))
 
 -- ---- the row
+
+-- a row whose bytes were counted is of the form of its fields
+pub counted : (fs : List Field) (vs : Values) (n : ℕ) → Some n ≡ packed_length fs vs → (fits_fields Dynamic fs vs ≡ true) × (n ≡ flag_bytes (flag_count fs) + length (spelled_fields Dynamic fs vs))
+counted fs vs n e = by (fits_fields Dynamic fs vs) (flag_bytes (flag_count fs) + length (spelled_fields Dynamic fs vs)) e
+  where
+    by : (b : Bool) (k : ℕ) → Some n ≡ (if b then Some k else None) → (b ≡ true) × (n ≡ k)
+    by true k e = (refl, cc)
+    by false k e = absurd cc
 
 pub decides-dynamic : (d : Defs) (row : Values) (fs : List Field) (vs : Values) (n : ℕ) → fs ≡ d.fields → vs ≡ row → d.format ≡ Dynamic → fits_fields d.format fs vs ≡ true
     → n ≡ flag_bytes (flag_count fs) + length (spelled_fields Dynamic fs vs) → nat_lt n (2 ^ 32) ≡ fits d row
