@@ -1,8 +1,8 @@
 -- How many bytes a row of a dynamic table is spelled in.
-use Rattle.std.proofs.Common.{◌≡◌, ℕ, ◌+◌, ◌-◌, ◌^◌, ◌<◌, ◌≤◌, ◌==◌, Bool, true, false, if◌then◌else◌, List, [], ◌++◌, length, nat_lt, nat_le, Option, Some, None, refl, ap, subst, arith, length-append}
+use Rattle.std.proofs.Common.{◌≡◌, ℕ, ◌+◌, ◌-◌, ◌^◌, ◌<◌, ◌≤◌, ◌==◌, Bool, true, false, if◌then◌else◌, List, [], ◌++◌, length, nat_lt, nat_le, Some, None, refl, subst, arith, length-append}
 use Rattle.std.proofs.lemmas.Bool.{and_parts, ltb-true, lt-leb, le-ltb}
 use Rattle.std.proofs.Math.Nat.{pow-le-pow_right}
-use Rattle.myi_base.specs.Numbers.{num_bytes, low_num_bytes}
+use Rattle.myi_base.specs.Numbers.{low_num_bytes}
 use Rattle.myi_base.proofs.CallerLemmas.{length-num_bytes, length-low_num_bytes}
 use Rattle.myi_defs.specs.declared.types.RowFormat.{RowFormat}
 use Rattle.myi_defs.specs.declared.types.RowFormat.TheVariants.{Dynamic}
