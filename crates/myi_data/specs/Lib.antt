@@ -12,14 +12,16 @@ pub mod Stored
 pub mod Keys
 -- what a scan is, and what its calls answer
 pub mod Scanning
+-- that a scan of either format is such a one
+pub mod Inner
 -- what an object on a data file shows
 pub mod DataFile
+
 -- what serves private contracts
 
 -- the bytes of slots
 pub mod SlotBytes
+-- the two things that hold them
 pub mod Held
 -- the next slot from a place on
 pub mod NextSlot
--- the parts of a scan
-pub mod Inner

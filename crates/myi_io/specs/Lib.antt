@@ -14,11 +14,12 @@ pub mod Pending
 pub mod Gathering
 -- what two readers tell together
 pub mod TwoReaders
+-- the counts of real files and of standard output
+pub mod RealFiles
 -- how a layer above tells of faults
 pub mod Faults
+
 -- what serves private contracts and the laws
 
 -- what is told is bytes
 pub mod Told
--- the counts of real files
-pub mod RealFiles
