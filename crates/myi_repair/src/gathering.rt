@@ -75,8 +75,10 @@ pub fn gather<F: Files>(
     ensures header { IfOk result (λ g. AreBytes g.defs.raw) }
     ensures pairs { IfOk result (λ g. AreSizedPairs g.defs g.pairs) }
 
-    // The table's two files are as before.
+    // The table's two files are as before; so is a working index file where all was gathered.
     ensures both { Told (F.holds files.old) (F.holds files.new) (KeepsBoth (names_for name.now)) }
+    ensures index { OnOk result (Told (F.holds files.old) (F.holds files.new)
+        (λ m n. n (names_for name.now).new_index ≡ m (names_for name.now).new_index)) }
 
     // Why a table is refused, and what is left then; other files stay.
     ensures ends { Ends (names_for name.now) (F.holds files.old) (F.holds files.new)
@@ -101,6 +103,8 @@ pub(crate) fn gather_table<F: Files>(
     ensures header { IfOk result (λ g. AreBytes g.defs.raw) }
     ensures pairs { IfOk result (λ g. AreSizedPairs g.defs g.pairs) }
     ensures both { Told (F.holds files.old) (F.holds files.new) (KeepsBoth (names_of table.now)) }
+    ensures index { OnOk result (Told (F.holds files.old) (F.holds files.new)
+        (λ m n. n (names_of table.now).new_index ≡ m (names_of table.now).new_index)) }
     ensures ends { Ends (names_of table.now) (F.holds files.old) (F.holds files.new)
         (F.faults files.old) (F.faults files.new) result }
 {
@@ -157,17 +161,17 @@ fn gather_opened<F: Files>(
 
 // What was gathered, of lists that have rows by their numbers.
 fn into_gathered(defs: Defs, old_length: u64, rows: NewRows, mut keys: RowKeys) -> Gathered
-    requires { rows.kept ≤ length rows.pointers.items }
+    requires { rows.kept ≤ length rows.pointers }
     ensures { result ≡ record {
       defs = defs;
       report = record {
         kept = rows.kept;
-        repeats = length rows.pointers.items - rows.kept;
+        repeats = length rows.pointers - rows.kept;
         old_length = old_length;
         new_length = rows.end;
       };
       split = rows.split;
-      pairs = map (map (pointed rows.pointers.items)) keys;
+      pairs = map (map (pointed rows.pointers)) keys;
     } }
 {
     keys.point(&rows.pointers);
@@ -229,7 +233,7 @@ fn take_row<F: Files>(
         × HasWritten defs.now choose came rows.old }
     requires all { length keys.old ≡ length defs.now.keys }
     ensures keys { OnOk result ((row : SizedRow) → IsPrepared defs.now row next.now → keys.new
-        ≡ with_pairs (length rows.old.pointers.items) (row_keys defs.now row.values) keys.old) }
+        ≡ with_pairs (length rows.old.pointers) (row_keys defs.now row.values) keys.old) }
     ensures added { OnOk result ((row : SizedRow) → IsPrepared defs.now row next.now
         → Adds defs.now true row rows.old rows.new) }
     ensures written { OnOk result (Told (F.holds files.old) (F.holds files.new)

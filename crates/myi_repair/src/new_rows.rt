@@ -2,7 +2,7 @@
 //!
 //! Each row that comes is written at the end of the file or left out. Its pointer is noted, so that what
 //! names rows by their numbers can name them by their pointers then.
-ghost use Rattle.std.specs.Prelude.{◌≡◌};
+ghost use Rattle.std.specs.Prelude.{◌≡◌, ◌≤◌};
 ghost use Rattle.myi_defs.specs.Sound.{IsSound};
 ghost use Rattle.myi_pair.specs.KeyList.{pointer};
 ghost use Rattle.myi_repair.specs.Keeping.{is_chosen};
@@ -12,6 +12,7 @@ use crate::next_row::NextRow;
 use crate::writing::{PackedRow, put_packed};
 use myi_defs::{Defs, RowFormat};
 use myi_io::Files;
+use myi_keylist::RowPointers;
 use std::alloc::{AllocError, Global};
 
 /// The rows that came so far, and what of them was written.
@@ -22,7 +23,7 @@ pub(crate) struct NewRows {
     /// The place behind the last row in the new data file.
     pub(crate) end: u64,
     /// For each row that came its pointer, and 0 where it was left out.
-    pub(crate) pointers: Vec<u64>,
+    pub(crate) pointers: RowPointers,
     block: Vec<u8>,
 }
 
@@ -58,7 +59,7 @@ impl NewRows {
             kept: 0,
             split: 0,
             end: 0,
-            pointers: Vec::new(alloc),
+            pointers: RowPointers::new(alloc),
             block: Vec::new(alloc),
         }
     }
@@ -124,11 +125,11 @@ impl NewRows {
         requires written { (choose : ℕ → Bool) × (rows : List SizedRow)
             × HasWritten defs.now choose rows self.old }
         ensures added { OnOk result ((row : SizedRow) → IsPrepared defs.now row next.now
-            → Adds defs.now (is_chosen flags.now (length self.old.pointers.items)) row
+            → Adds defs.now (is_chosen flags.now (length self.old.pointers)) row
             self.old self.new) }
         ensures written { OnOk result (Told (F.holds files.old) (F.holds files.new)
             (λ m n. (row : SizedRow) → IsPrepared defs.now row next.now
-            → WritesIf defs.now file.now (is_chosen flags.now (length self.old.pointers.items)) row
+            → WritesIf defs.now file.now (is_chosen flags.now (length self.old.pointers)) row
             self.old m n)) }
         ensures cut { IfErr result CutsOff }
         ensures others { Told (F.holds files.old) (F.holds files.new) (OthersStay file.now) }
@@ -152,7 +153,8 @@ fn is_set(flags: &[bool], number: usize) -> bool
 // The pointer of the row at a place of the data file.
 fn pointer(defs: &Defs, at: u64) -> u64
     requires { IsSound defs.now }
-    ensures { result ≡ pointer defs.now at }
+    ensures is { result ≡ pointer defs.now at }
+    ensures less { result ≤ at }
 {
     match defs.format {
         RowFormat::Static => at / defs.slot_length as u64,

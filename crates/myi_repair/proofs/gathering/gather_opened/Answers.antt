@@ -44,13 +44,13 @@ keep_first-requires-clause-few g c =
     let took = c.in_ok-rows.ensures.took in
     let many = written_long c.args.opened.defs all_chosen took.0 c.in_ok-rows.rows took.1.written in
     let end : c.in_ok-scan.scan.end ≡ c.args.opened.length = ap (λ s. s.end) c.in_ok-scan.ensures in
-    omega (arith, c.len.ensures, c.in_ok-rows.rows.pointers.ok.0, many, took.1.few, end, short_enough c.args.opened.defs c.args.opened.length c.requires.reached)
+    omega (arith, c.len.ensures, many, took.1.few, end, short_enough c.args.opened.defs c.args.opened.length c.requires.reached)
 
 pub keep_first-requires-clause-lists : goal.keep_first-requires-clause-lists
 keep_first-requires-clause-lists g c =
     let took = c.in_ok-rows.ensures.took in
     let many = written_long c.args.opened.defs all_chosen took.0 c.in_ok-rows.rows took.1.written in
-    (took.0, omega (arith, c.len.ensures, c.in_ok-rows.rows.pointers.ok.0, many), lists_sorted c.args.opened.defs took.0 c.in_ok-rows.keys c.sort_unique.new.self took.2 c.sort_unique.ensures)
+    (took.0, omega (arith, c.len.ensures, many), lists_sorted c.args.opened.defs took.0 c.in_ok-rows.keys c.sort_unique.new.self took.2 c.sort_unique.ensures)
 
 pub keep_rows-requires-clause-current : goal.keep_rows-requires-clause-current
 keep_rows-requires-clause-current g c κs lives n now =
@@ -65,7 +65,7 @@ returns-clause-others g c = told_then _ _ _ _ _ _ c.take_rows.ensures.others c.k
 pub returns-clause-gathered : goal.returns-clause-gathered
 returns-clause-gathered g c =
     let flags = c.in_ok-flags.ensures in
-    let number : c.len.result ≡ length c.in_ok-rows.rows.pointers.items = omega (arith, c.len.ensures, c.in_ok-rows.rows.pointers.ok.0) in
+    let number : c.len.result ≡ length c.in_ok-rows.rows.pointers = c.len.ensures in
     let given = c.deref.ensures.value in
     let same = c.deref-2.ensures.value in
     kept_gathered (names_of c.args.table.now) c.args.opened.defs c.args.extend c.args.opened.length c.in_ok-scan.scan c.in_ok-again.again c.as_str-file.result.now c.in_ok-flags.flags.items c.in_ok-rows.rows c.in_ok-kept.kept c.in_ok-rows.keys c.sort_unique.new.self c.retain.new.self c.into_gathered-2.result _ _ _

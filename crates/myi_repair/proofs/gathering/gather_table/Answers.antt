@@ -1,4 +1,4 @@
-use Rattle.std.proofs.Common.{Err, refl, ap, arith}
+use Rattle.std.proofs.Common.{Err, refl, sym, ap, arith}
 use Rattle.myi_base.proofs.CallerLemmas.{told_more, told_then}
 use Rattle.myi_repair.specs.Names.{names_of}
 use Rattle.myi_repair.proofs.FilesLaws.{told_from, both_new_rows, both_after}
@@ -9,6 +9,11 @@ pub returns-in-Ok-clause-both : goal.returns-in-Ok-clause-both
 returns-in-Ok-clause-both g c =
     let t = names_of c.args.table.now in
     told_from _ _ _ _ c.open_table.ensures.holds (told_more _ _ _ _ c.gather_opened.ensures.others (λ m n held kept. both_new_rows t m n c.requires.apart kept))
+
+pub returns-in-Ok-clause-index : goal.returns-in-Ok-clause-index
+returns-in-Ok-clause-index g c =
+    let t = names_of c.args.table.now in
+    told_from _ _ _ _ c.open_table.ensures.holds (told_more _ _ _ _ c.gather_opened.ensures.others (λ m n held kept. kept t.new_index (λ e. c.requires.apart.new_rows-new_index (sym e))))
 
 pub returns-in-Err-clause-both : goal.returns-in-Err-clause-both
 returns-in-Err-clause-both g c =

@@ -54,7 +54,7 @@ loop-rows-preserved g c =
       later = omega (arith, was.later, c.read.ensures.cause.later, took.cause.later);
       others = told_then _ _ _ _ _ _ was.others others (λ m k n before kept q differs. kept q differs ∙ before q differs);
       came = was.came ++ read.row ∷ [];
-      so_far = taking_more d start c.loop-rows.scan next file (is_chosen c.args.flags.now) (is_chosen c.args.flags.now (length c.loop-rows.rows.pointers.items)) was.came c.loop-rows.rows c.put_chosen.new.self c.read.new.self _ mid after (λ e. c.requires.apart (sym same.name ∙ e)) same.end was.so_far read (ap (is_chosen c.args.flags.now) (sym number)) took.added writes others;
+      so_far = taking_more d start c.loop-rows.scan next file (is_chosen c.args.flags.now) (is_chosen c.args.flags.now (length c.loop-rows.rows.pointers)) was.came c.loop-rows.rows c.put_chosen.new.self c.read.new.self _ mid after (λ e. c.requires.apart (sym same.name ∙ e)) same.end was.so_far read (ap (is_chosen c.args.flags.now) (sym number)) took.added writes others;
     }
 
 pub loop-rows-smaller : goal.loop-rows-smaller

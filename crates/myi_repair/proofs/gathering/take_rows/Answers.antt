@@ -63,7 +63,7 @@ loop-keys-preserved g c =
       others = told_then _ _ _ _ _ _ was.others others (λ m k n before kept q differs. kept q differs ∙ before q differs);
       came = was.came ++ read.row ∷ [];
       so_far = taking_more d start c.loop-keys.scan next file all_chosen true was.came c.loop-keys.rows c.take_row.new.rows c.read.new.self _ mid after (λ e. c.requires.apart (sym same.name ∙ e)) same.end was.so_far read refl took.added writes others;
-      lists = keys_more d was.came read.row (length c.loop-keys.rows.pointers.items) c.loop-keys.keys c.take_row.new.keys number was.lists (took.keys read.row read.prepared);
+      lists = keys_more d was.came read.row (length c.loop-keys.rows.pointers) c.loop-keys.keys c.take_row.new.keys number was.lists (took.keys read.row read.prepared);
     }
 
 pub loop-keys-smaller : goal.loop-keys-smaller
