@@ -7,6 +7,9 @@ ghost use Rattle.std.specs.Prelude.{◌≡◌, slice_index};
 use std::alloc::{AllocError, Global};
 use std::marker::Model;
 
+/// No more pointers are counted.
+const MOST_COUNTED: u64 = 1 << 62;
+
 /// The row pointers of rows, by the rows' numbers.
 pub struct RowPointers {
     /// How many rows at the front have their own numbers as pointers.
@@ -33,7 +36,7 @@ impl Model for RowPointers {
 }
 
 impl RowPointers {
-    ghost use Rattle.std.specs.Prelude.{◌≡◌, ◌<◌, ◌^◌, ◌++◌, ◌∷◌, [], length, slice_index, OnOk, OnErr};
+    ghost use Rattle.std.specs.Prelude.{◌≡◌, ◌++◌, ◌∷◌, [], length, slice_index, OnOk, OnErr};
 
     /// No row yet.
     pub fn new(alloc: Global) -> RowPointers
@@ -54,11 +57,10 @@ impl RowPointers {
 
     /// Adds the pointer of the next row. Where memory runs out the list is as before.
     pub fn push(&mut self, pointer: u64) -> Result<(), AllocError>
-        requires { pointer < 2 ^ 62 }
         ensures added { OnOk result (self.new ≡ self.old ++ pointer ∷ []) }
         ensures unchanged { OnErr result (self.new ≡ self.old) }
     {
-        if pointer == self.same && self.others.is_empty() {
+        if pointer == self.same && pointer < MOST_COUNTED && self.others.is_empty() {
             self.same += 1;
             return Ok(());
         }

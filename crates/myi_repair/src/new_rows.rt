@@ -2,7 +2,7 @@
 //!
 //! Each row that comes is written at the end of the file or left out. Its pointer is noted, so that what
 //! names rows by their numbers can name them by their pointers then.
-ghost use Rattle.std.specs.Prelude.{◌≡◌, ◌≤◌};
+ghost use Rattle.std.specs.Prelude.{◌≡◌};
 ghost use Rattle.myi_defs.specs.Sound.{IsSound};
 ghost use Rattle.myi_pair.specs.KeyList.{pointer};
 ghost use Rattle.myi_repair.specs.Keeping.{is_chosen};
@@ -153,8 +153,7 @@ fn is_set(flags: &[bool], number: usize) -> bool
 // The pointer of the row at a place of the data file.
 fn pointer(defs: &Defs, at: u64) -> u64
     requires { IsSound defs.now }
-    ensures is { result ≡ pointer defs.now at }
-    ensures less { result ≤ at }
+    ensures { result ≡ pointer defs.now at }
 {
     match defs.format {
         RowFormat::Static => at / defs.slot_length as u64,

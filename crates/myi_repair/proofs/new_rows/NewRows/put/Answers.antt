@@ -18,9 +18,6 @@ put_packed-requires-clause-place g c κs lives = c.requires.written.2.came.short
 pub pointer-requires : goal.pointer-requires
 pointer-requires g c = sound c.args.defs.now c.requires.defs
 
-pub push-requires : goal.push-requires
-push-requires g c = omega (arith, c.pointer.ensures.less, c.requires.written.2.came.short)
-
 pub overflow_add-self-2 : goal.overflow_add-self-2
 overflow_add-self-2 g c =
     let given = c.requires.row in
@@ -40,7 +37,7 @@ returns-clause-added g c row prepared =
     (c.in_ok-end.ensures.count ∙ put_count d row c.deref-2.result.now c.deref.result.now bytes sizes)
     (c.in_ok-end.ensures.end ∙ ap (λ (x : List ℕ). k.end + length x) (put_bytes d row k.end c.deref-2.result.now c.deref.result.now bytes sizes))
     (c.in_ok-end.ensures.less some)
-    (c.in_ok-push.ensures.added ∙ ap (λ p. k.pointers ++ p ∷ []) c.pointer.ensures.is)
+    (c.in_ok-push.ensures.added ∙ ap (λ p. k.pointers ++ p ∷ []) c.pointer.ensures)
     (sym c.addressable.ensures ∙ c.if-not-addressable.false)
 
 pub returns-clause-written : goal.returns-clause-written
