@@ -12,3 +12,5 @@ pub mod Holding
 pub mod Output
 -- when a fault may be told
 pub mod Causes
+-- how an error is told by the layer above
+pub mod HandsOn

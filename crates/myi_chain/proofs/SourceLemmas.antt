@@ -42,7 +42,7 @@ pub kept_rest : (at end : ℕ) (e : Excerpt) → IsCutOff e end → e.from ≤ a
 kept_rest at end e cut order inside =
     let test : leb e.from at ≡ true = le-leb e.from at order in
     let is : bytes_from at e ≡ drop (at - e.from) e.bytes = rw test refl in
-    omega (arith, ap (λ (xs : List ℕ). length xs) is, length-drop (at - e.from) e.bytes, cut.0)
+    omega (arith, ap (λ (xs : List ℕ). length xs) is, length-drop (at - e.from) e.bytes, cut)
 
 pub falls_none : (at : ℕ) (old new : SourceModel) → new.end ≡ old.end → MayFall at old new
 falls_none at old new e = inl e
@@ -104,6 +104,19 @@ over_held s name file end at size w v m view same ready inside from over few =
     let count : length (take size v.bytes) ≡ length (take size (drop at d)) = ap (λ (xs : List ℕ). length xs) (over stood) in
     let here : length (bytes_from at v) ≡ length v.bytes = ap (λ (xs : List ℕ). length xs) (held_here at v from) in
     absurd (omega (arith, few, here, count, length-take size v.bytes, length-take size (drop at d), length-drop at d, long, inside))
+
+-- the file is read on, and ends where fewer bytes came than were asked for, as no file does that tells what it holds
+pub reads_short : (holds : Option Holding) (s : SourceModel) (name file : List ℕ) (end now : ℕ) (w v : Excerpt) → record { name = name; end = end; kept = w } ≡ s → file ≡ name → IfTold holds (IsReady s) → ((m : Holding) → holds ≡ Some m → StandsIn w (bytes_of file m) → StandsIn v (bytes_of file m)) → now ≤ end → ((m : Holding) → holds ≡ Some m → ⊥)
+    → ReadsOn holds s (record { name = name; end = now; kept = v })
+reads_short holds s name file end now w v view same ready stands falls none =
+    let on = reads_on holds s name file end w v view same ready stands in
+    record { name = on.name; falls = omega (arith, falls, on.falls); end = λ m held. absurd (none m held); ready = λ m held. absurd (none m held) }
+
+-- a file that tells what it holds gives the last byte of a block that ends before it does
+pub last_there : (s : SourceModel) (file : List ℕ) (m : Holding) (at size count : ℕ) → s.name ≡ file → IsReady s m → 0 < size → at + size ≤ s.end → count ≡ min 1 (length (drop (at + (size - 1)) (bytes_of file m))) → count ≡ 1
+last_there s file m at size count same ready some inside told =
+    let long : s.end ≤ length (bytes_of file m) = subst (λ n. s.end ≤ length (bytes_of n m)) same ready.long in
+    omega (arith, told, length-drop (at + (size - 1)) (bytes_of file m), long, some, inside)
 
 none_by : (d : List ℕ) (p : ℕ) (o : Option Block) → block_of d p ≡ o → length d < p + 20 → o ≡ None
 none_by d p None e h = refl

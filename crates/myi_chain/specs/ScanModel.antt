@@ -56,11 +56,11 @@ pub record IsSameScan {A : Type 0} (old new : Scanning A) : Type 0 where
   pub extend : new.extend ≡ old.extend
   pub end : new.end ≤ old.end
 
--- fewer bytes than a window holds are kept of a file, and they end where it does
+-- the bytes that are kept of a file end where it does
 abbrev pub IsCutOff : Excerpt → ℕ → Type 0
-IsCutOff kept end = (kept.from + length kept.bytes ≡ end) × (length kept.bytes < WINDOW)
+IsCutOff kept end = kept.from + length kept.bytes ≡ end
 
--- the end stays, or falls to behind the bytes that the scan keeps then, which are fewer than a window holds
+-- the end stays, or falls to behind the bytes that the scan keeps then
 abbrev pub FallsToKept : {A : Type 0} → Scanning A → Scanning A → Type 0
 FallsToKept old new = (new.end ≡ old.end) ⊎ IsCutOff new.kept new.end
 

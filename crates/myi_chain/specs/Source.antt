@@ -44,7 +44,7 @@ pub record ReadsOn (holds : Option Holding) (old new : SourceModel) : Type 0 whe
   pub end : IfTold holds (λ m. new.end ≡ old.end)
   pub ready : IfTold holds (IsReady new)
 
--- the bytes that are kept, fewer than a window holds, end where the file does
+-- the bytes that are kept end where the file does
 abbrev pub EndsWithKept : SourceModel → Type 0
 EndsWithKept s = IsCutOff s.kept s.end
 

@@ -3,9 +3,8 @@
 //! `slide_to` goes to a place with the window, and answers what the header of the block there says; a block
 //! that the window can hold, and a whole one of any size, is then in it whole, and `row_bytes` lends its row
 //! bytes. `header` answers it for any other place, and leaves the window where it is. The row bytes of other
-//! blocks are appended to a buffer by `append`. Where the file gives a window that slides fewer bytes than
-//! its end says, it ends behind them from then on; what a window cannot hold, and the further blocks of a
-//! chain, count as that end allows.
+//! blocks are appended to a buffer by `append`. Where the file gives the window fewer bytes than its end
+//! says, it ends behind them from then on; the further blocks of a chain count as that end allows.
 ghost use Rattle.std.specs.Prelude.{◌≡◌, ◌≤◌, ◌+◌, ◌++◌, ℕ, true, length, take, drop, IfOk, IfErr, IfSome};
 ghost use Rattle.myi_base.specs.Holding.{IfTold, bytes_of};
 ghost use Rattle.myi_base.specs.Causes.{HasCause};
@@ -195,17 +194,21 @@ impl Source {
         Ok(size <= self.window.bytes_from(at).len())
     }
 
-    // Whether the window holds a block that is longer than a window, once it is stretched over it. If not,
-    // the file does not tell what it holds.
+    // Whether the window holds a block that is longer than a window, once it is stretched over it. Where
+    // fewer bytes come, the file ends behind them.
     fn reach<F: Files>(&mut self, files: &mut F, block: &Header) -> Result<bool, FileErr>
         requires block { IsHeader block.now.head.at self.old.end block.now }
         requires long { WINDOW < block.now.head.size }
         requires ready { IfTold (F.holds files.old) (IsReady self.old) }
         ensures held { IfOk result (λ is. is ≡ true → block.now.head.size
             ≤ length (bytes_from block.now.head.at self.new.kept)) }
-        ensures short { IfOk result (λ is. is ≡ false → IfTold (F.holds files.old) (λ m. ⊥)) }
-        ensures end { self.new.end ≡ self.old.end }
+        ensures inside { IfOk result (λ is. is ≡ true
+            → block.now.head.at + block.now.head.size ≤ self.new.end) }
+        ensures short { IfOk result (λ is. is ≡ false
+            → self.new.end < block.now.head.at + block.now.head.size) }
+        ensures falls { MayFall block.now.head.at self.old self.new }
         ensures stays { StaysAt block.now.head.at self.old self.new }
+        ensures behind { block.now.head.at ≤ self.new.end }
         ensures reads { ReadsOn (F.holds files.old) self.old self.new }
         ensures holds { F.holds files.new ≡ F.holds files.old }
         ensures cause { HasCause Failed (F.faults files.old) (F.faults files.new) result }
@@ -217,11 +220,35 @@ impl Source {
         }
         self.window
             .stretch(files, self.name.as_str(), at, size, self.end)?;
-        Ok(size as usize <= self.window.bytes_from(at).len())
+        let count = self.window.bytes_from(at).len();
+        if size as usize <= count {
+            return Ok(true);
+        }
+        self.end = at + count as u64;
+        Ok(false)
     }
 
-    // Whether a block that a window can hold, or a whole one, is in the window, once it is there. If not,
-    // the file ends before the block does.
+    // Whether the file goes on to the end of a block that is longer than a window. Its last byte shows it.
+    fn ends_there<F: Files>(&self, files: &mut F, block: &Header) -> Result<bool, FileErr>
+        requires block { IsHeader block.now.head.at self.now.end block.now }
+        requires ready { IfTold (F.holds files.old) (IsReady self.now) }
+        ensures short { IfOk result (λ is. is ≡ false → IfTold (F.holds files.old) (λ m. ⊥)) }
+        ensures failed { IfErr result (λ e. e ≡ Failed) }
+        ensures holds { F.holds files.new ≡ F.holds files.old }
+        ensures cause { HasCause Failed (F.faults files.old) (F.faults files.new) result }
+    {
+        let size = block.head.size;
+        if size as usize <= self.window.bytes_from(block.head.at).len() {
+            return Ok(true);
+        }
+        let mut last = [0u8];
+        let at = block.head.at + (size - 1) as u64;
+        let count = files.read_at(self.name.as_str(), at, &mut last)?;
+        Ok(count == 1)
+    }
+
+    // Whether a block ends where the file does or before. One that a window can hold, and a whole one, is in
+    // the window then.
     fn hold<F: Files>(&mut self, files: &mut F, block: &Header) -> Result<bool, FileErr>
         requires block { IsHeader block.now.head.at self.old.end block.now }
         requires ready { IfTold (F.holds files.old) (IsReady self.old) }
@@ -247,7 +274,10 @@ impl Source {
                 let there = self.reach(files, block)?;
                 Ok(there)
             }
-            FrameKind::Deleted | FrameKind::Start | FrameKind::Middle | FrameKind::End => Ok(true),
+            FrameKind::Deleted | FrameKind::Start | FrameKind::Middle | FrameKind::End => {
+                let there = self.ends_there(files, block)?;
+                Ok(there)
+            }
         }
     }
 

@@ -26,4 +26,4 @@ returns-clause-reads g c =
 pub returns-clause-falls : goal.returns-clause-falls
 returns-clause-falls g c =
     let count : length c.bytes_from-count.result.now ≡ length c.slide.new.self.bytes = ap (λ (xs : List ℕ). length xs) (c.bytes_from-count.ensures ∙ held_here c.args.at c.slide.new.self c.slide.ensures.from) in
-    inr ((omega (arith, count, c.slide.ensures.from), omega (arith, count, c.if-count-ge-WINDOW.false)), omega (arith, c.slide.ensures.from))
+    inr (omega (arith, count, c.slide.ensures.from), omega (arith, c.slide.ensures.from))
