@@ -40,15 +40,14 @@ impl Drop for NewRows {
 }
 
 impl NewRows {
-    ghost use Rattle.std.specs.Prelude.{◌≡◌, ℕ, Bool, true, false, List, [], length, OnOk, IfErr, IsTrue};
-    ghost use Rattle.myi_base.specs.Holding.{Told, OthersStay};
-    ghost use Rattle.myi_base.specs.Causes.{HasCause};
+    ghost use Rattle.std.specs.Prelude.{◌≡◌, ℕ, Bool, true, false, List, [], length, OnOk, IsTrue};
+    ghost use Rattle.myi_base.specs.Holding.{Told};
     ghost use Rattle.myi_defs.specs.declared.types.Defs.{Defs};
     ghost use Rattle.myi_defs.specs.ReadDefs.{AreDefs};
     ghost use Rattle.myi_defs.specs.Sound.{IsSound};
     ghost use Rattle.myi_pack.specs.Spelling.{fits};
     ghost use Rattle.myi_data.specs.Stored.{SizedRow};
-    ghost use Rattle.myi_repair.specs.Opening.{CutsOff};
+    ghost use Rattle.myi_repair.specs.Outcome.{EndsIn};
     ghost use Rattle.myi_repair.specs.Keeping.{IsPrepared, HasWritten, Adds, WritesIf, is_chosen};
 
     /// No row yet.
@@ -82,9 +81,8 @@ impl NewRows {
         ensures written { OnOk result (Told (F.holds files.old) (F.holds files.new)
             (λ m n. (row : SizedRow) → IsPrepared defs.now row next.now
             → WritesIf defs.now file.now true row self.old m n)) }
-        ensures cut { IfErr result CutsOff }
-        ensures others { Told (F.holds files.old) (F.holds files.new) (OthersStay file.now) }
-        ensures cause { HasCause RepairFault.File (F.faults files.old) (F.faults files.new) result }
+        ensures ends { EndsIn file.now (F.holds files.old) (F.holds files.new)
+            (F.faults files.old) (F.faults files.new) result }
     {
         let row = PackedRow {
             bytes: &next.bytes,
@@ -131,9 +129,8 @@ impl NewRows {
             (λ m n. (row : SizedRow) → IsPrepared defs.now row next.now
             → WritesIf defs.now file.now (is_chosen flags.now (length self.old.pointers)) row
             self.old m n)) }
-        ensures cut { IfErr result CutsOff }
-        ensures others { Told (F.holds files.old) (F.holds files.new) (OthersStay file.now) }
-        ensures cause { HasCause RepairFault.File (F.faults files.old) (F.faults files.new) result }
+        ensures ends { EndsIn file.now (F.holds files.old) (F.holds files.new)
+            (F.faults files.old) (F.faults files.new) result }
     {
         if is_set(flags, self.pointers.len()) {
             return self.put(files, file, defs, next);
