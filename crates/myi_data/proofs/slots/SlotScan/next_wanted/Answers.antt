@@ -1,7 +1,8 @@
-use Rattle.std.proofs.Common.{◌≡◌, ◌∙◌, refl, ap, subst, arith, Some, None, Ok, Err, take, [], ◌∷◌}
+use Rattle.std.proofs.Common.{◌≡◌, ◌∙◌, refl, sym, ap, subst, arith, Some, None, Ok, Err, take, [], ◌∷◌, inl, inr}
 use Rattle.std.specs.Prelude.{option_to_list}
 use Rattle.std.proofs.lemmas.Result.{err_from_is_err_and}
 use Rattle.myi_base.specs.Holding.{bytes_of}
+use Rattle.myi_io.specs.declared.files.FileErr.TheVariants as file
 use Rattle.myi_base.proofs.CallerLemmas.{ok_not_err}
 use Rattle.myi_chain.specs.Pieces.{piece_bytes}
 use Rattle.myi_chain.specs.declared.piece.ScanFault.TheVariants as fault
@@ -104,7 +105,10 @@ returns-in_err-slot g c =
     let found = c.in_err-slot.ensures in
     let k = went h c.args.self.now name _ i.test i.extend i.end i.place to (option_to_list i.last) i.bytes.held v size c.as_str.ensures.value c.self.view_is c.self.invariant.0 c.self.invariant.1 c.slot_length-size.ensures found.within c.self.invariant.5 found.inside c.requires found.stands in
     let e = err_from_is_err_and c.from_residual.result c.from_residual.ensures.1 in
-    let handed : e.0 ≡ fault.File = elim e.2 [ inl is ↦ is.1 | inr is ↦ absurd (cc (is.0, found.failed)) ] in
+    let handed : e.0 ≡ fault.File = elim e.2 [
+      | inl is ↦ is.1
+      | inr is ↦ let none : file.Memory ≡ file.Failed = sym is.0 ∙ found.failed in absurd cc
+    ] in
     let same : c.from_residual.result ≡ Err fault.File = e.1 ∙ ap Err handed in
     rw same (
       (refl, λ _. tt, subst (λ n. AfterTable c.args.wanted h c.args.self.now (Err fault.File) (slot_scan n i.test i.extend i.end to (option_to_list i.last) v)) c.as_str.ensures.value (kept h c.args.self.now name i.test i.extend i.end i.place to (option_to_list i.last) i.bytes.held v size k c.args.wanted found.err)),
