@@ -1,6 +1,6 @@
 //! Lists of keys with their row pointers.
 use case_lines::{Fault, Words, key_of_code, number, push_word, sides};
-use myi_keylist::PairList;
+use myi_keylist::{PairList, RowPointers};
 
 /// Adds the pair that a word `CODE:ROW` says.
 pub(crate) fn push_pair(pairs: &mut PairList, words: &Words, word: &str) -> Result<(), Fault> {
@@ -68,7 +68,7 @@ fn kept(words: &Words, args: &[&str]) -> Result<String, Fault> {
     let alloc = words.alloc();
     let mut pairs = PairList::new(alloc);
     let mut flags = Vec::new(alloc);
-    let mut pointers = Vec::new(alloc);
+    let mut pointers = RowPointers::new(alloc);
     for word in args {
         let (code, pointer) = sides(*word, ':')?;
         let key = key_of_code(words, code)?;

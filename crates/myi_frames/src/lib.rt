@@ -37,4 +37,4 @@ pub use laws::{
     least_sizes_are_least, rooms_are_greatest, written_blocks_read_back,
 };
 pub use sizes::{GIANT, LEAST_SIZE, MOST_SIZE, least_size, middle_room, start_room};
-pub use write::{FrameSpec, deleted_head, write_frame};
+pub use write::{FrameSpec, deleted_head, frame_header, write_frame};

@@ -9,7 +9,7 @@ ghost use Rattle.myi_base.specs.Holding.{overwritten};
 ghost use Rattle.myi_base.specs.Items.{Fit};
 ghost use Rattle.myi_frames.specs.Form.{header_len, IsNarrow};
 ghost use Rattle.myi_frames.specs.Block.{block_of, IsPlace, IsPointer};
-ghost use Rattle.myi_frames.specs.Writing.{type_for, len_of, unused_of, link_number, widths, numbers_of, header_as, block_bytes, deleted_head, written_block, deleted_spec, IsWritable};
+ghost use Rattle.myi_frames.specs.Writing.{type_for, len_of, unused_of, link_number, widths, numbers_of, header_as, header_bytes, block_bytes, deleted_head, written_block, deleted_spec, IsWritable};
 
 use crate::form::{Form, FrameKind, form_of};
 use crate::sizes::{GIANT, LEAST_SIZE, MOST_SHORT};
@@ -139,6 +139,23 @@ pub fn write_frame(into: &mut [u8], spec: &FrameSpec, bytes: &[u8])
     put_header(into, number, form, spec, bytes.len(), size);
     put_bytes(into, start, bytes);
     put_zeros(into, start + bytes.len());
+}
+
+/// The header of such a block, with `len` row bytes and this size, in bytes: at the front of 20 bytes, and its
+/// length. The block is its header, its row bytes, and zeros up to its size.
+pub fn frame_header(spec: &FrameSpec, len: usize, size: u32) -> ([u8; 20], usize)
+    requires { IsWritable spec.now len size }
+    ensures header { take result.1 result.0 ≡ header_bytes spec.now len size }
+    ensures inside { result.1 + len ≤ size }
+    ensures most { result.1 ≤ 20 }
+{
+    let number = type_for(spec.kind, spec.rec_len, len, size as usize);
+    let Some(form) = form_of(number) else {
+        unreachable!();
+    };
+    let mut head = [0u8; LEAST_SIZE];
+    put_header(&mut head, number, form, spec, len, size as usize);
+    (head, form.header_len())
 }
 
 /// The first 20 bytes of a deleted block of this size, in bytes. Its other bytes stay as they are.

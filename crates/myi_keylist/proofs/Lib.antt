@@ -4,6 +4,7 @@ pub mod SortedLaws
 pub mod MarkLaws
 pub mod TogetherLaws
 pub mod RepeatLaws
+pub mod RunLaws
 pub mod FirstLaws
 pub mod ClassLaws
 pub mod PointerLaws

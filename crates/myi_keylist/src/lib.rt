@@ -12,7 +12,7 @@
 //! - `keep_first` says which rows are kept where keys repeat (`specs/FirstBy`), by class numbers: two
 //!   rows share one exactly where one repeats the other (`specs/Classes`). `PairList::number` gives the
 //!   numbers of one key (`specs/Columns`), `retain` takes the other rows out, and `point` puts row
-//!   pointers in place of the numbers of rows.
+//!   pointers in place of the numbers of rows. `RowPointers` has the pointers.
 //! - The rest are laws over the definitions.
 //!
 //! ```
@@ -37,6 +37,7 @@ mod laws;
 mod pair;
 mod pair_entries;
 mod pair_list;
+mod row_pointers;
 
 pub use class_numbers::keep_first;
 pub use laws::{
@@ -46,3 +47,4 @@ pub use laws::{
 };
 pub use pair::Pair;
 pub use pair_list::PairList;
+pub use row_pointers::RowPointers;

@@ -17,6 +17,7 @@ ghost use Rattle.myi_keylist.specs.Columns.{IsColumn, numbered, has_flag, pointe
 ghost use Rattle.myi_keylist.specs.PairLists.{led, code_from, mark_cmp, pairs_at, pointed_mark, IsMark};
 ghost use Rattle.myi_keylist.specs.PairLists.{repeats_last, next_number, is_flagged};
 
+use crate::row_pointers::RowPointers;
 use myi_keys::{code_prefix, compare_codes, is_complete_code};
 use std::alloc::{AllocError, Global};
 use std::cmp::Ordering;
@@ -184,7 +185,7 @@ impl PairList {
 
     /// Where the pairs have the numbers of rows, puts in place of each the pointer that stands at it, 0
     /// where none does.
-    pub fn point(&mut self, pointers: &[u64])
+    pub fn point(&mut self, pointers: &RowPointers)
         ensures { self.new ≡ map (pointed pointers.now) self.old }
     {
         point_marks(&mut self.marks, pointers);
@@ -270,14 +271,14 @@ fn retain_marks(marks: &mut Vec<Mark>, flags: &[bool])
 }
 
 // Puts in place of a mark's row number the pointer that stands at it.
-fn point_mark(mark: &mut Mark, pointers: &[u64])
+fn point_mark(mark: &mut Mark, pointers: &RowPointers)
     ensures { mark.new ≡ pointed_mark pointers.now mark.old }
 {
-    mark.row = pointers.get(mark.row as usize).copied().unwrap_or(0);
+    mark.row = pointers.at(mark.row);
 }
 
 // The same for each mark.
-fn point_marks(marks: &mut [Mark], pointers: &[u64])
+fn point_marks(marks: &mut [Mark], pointers: &RowPointers)
     ensures { marks.new ≡ map (pointed_mark pointers.now) marks.old }
 {
     for mark in marks.iter_mut() {

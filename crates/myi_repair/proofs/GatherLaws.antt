@@ -157,7 +157,7 @@ taken_all d start now file choose rows w old new so_far none = record {
 }
 
 -- a pointer for each row
-pub written_long : (d : Defs) (choose : ℕ → Bool) (rows : List SizedRow) (w : NewRows) → HasWritten d choose rows w → length w.pointers.items ≡ length rows
+pub written_long : (d : Defs) (choose : ℕ → Bool) (rows : List SizedRow) (w : NewRows) → HasWritten d choose rows w → length w.pointers ≡ length rows
 written_long d choose rows w has = has.came.long
 
 pub keys_more : (d : Defs) (rows : List SizedRow) (row : SizedRow) (n : ℕ) (old new : List (List Pair)) → n ≡ length rows → old ≡ number_pairs d rows → new ≡ with_pairs n (row_keys d row.values) old → new ≡ number_pairs d (rows ++ row ∷ [])
@@ -213,16 +213,16 @@ rows_storable t defs extend d rows m defined table are came =
 -- the chosen rows are the first ones of all: this was gathered
 pub gathers : (t : FourNames) (defs : Defs) (extend : Bool) (d : List ℕ) (end : ℕ) (choose : ℕ → Bool) (rows : List SizedRow) (w : NewRows) (pairs : List (List Pair)) (g : Gathered) (m n : Holding) → end ≡ length d → IsTable t defs d m → HoldsBytes m → HasWritten defs choose rows w → AreStorable defs rows
     → rows ≡ map (sized_row defs) (readable defs extend d) → chosen choose rows ≡ first_rows defs rows → n t.new_rows ≡ Some (stored_file defs (chosen choose rows)) → map sorted pairs ≡ key_lists defs (placed_from defs 0 (chosen choose rows))
-    → g ≡ record { defs = defs; report = record { kept = w.kept; repeats = length w.pointers.items - w.kept; old_length = end; new_length = w.end }; split = w.split; pairs = pairs } → Gathers t extend g m n
+    → g ≡ record { defs = defs; report = record { kept = w.kept; repeats = length w.pointers - w.kept; old_length = end; new_length = w.end }; split = w.split; pairs = pairs } → Gathers t extend g m n
 unfolding kept new_data
 gathers t defs extend d end choose rows w pairs g m n long table are has can came first here listed made =
     let was : AreStored defs choose rows w = has.stored can in
     let o = is_opened t defs d m table in
     let file_is : bytes_of t.rows m ≡ d = ap (λ b. unwrap_or b []) o.rows in
     let keep : chosen choose rows ≡ kept defs extend d = first ∙ ap (first_rows defs) came in
-    let count : length w.pointers.items ≡ length (readable defs extend d) = written_long defs choose rows w has ∙ ap (λ (rs : List SizedRow). length rs) came ∙ length-map (readable defs extend d) (sized_row defs) in
+    let count : length w.pointers ≡ length (readable defs extend d) = written_long defs choose rows w has ∙ ap (λ (rs : List SizedRow). length rs) came ∙ length-map (readable defs extend d) (sized_row defs) in
     let few : w.kept ≡ length (kept defs extend d) = was.kept ∙ ap (λ (rs : List SizedRow). length rs) keep in
-    let repeats : length w.pointers.items - w.kept ≡ repeat_count defs extend d = omega (arith, count, few) in
+    let repeats : length w.pointers - w.kept ≡ repeat_count defs extend d = omega (arith, count, few) in
     let size : w.end ≡ length (stored_file defs (kept defs extend d)) = was.end ∙ ap (λ rs. length (stored_file defs rs)) keep in
     subst (λ (x : Gathered). Gathers t extend x m n) (sym made) (
       d,
@@ -230,7 +230,7 @@ gathers t defs extend d end choose rows w pairs g m n long table are has can cam
       record {
         bytes = subst AreBytes file_is (are t.rows);
         written = here ∙ ap (λ rs. Some (stored_file defs rs)) keep;
-        report = ap (λ x. record { kept = x; repeats = length w.pointers.items - w.kept; old_length = end; new_length = w.end }) few
+        report = ap (λ x. record { kept = x; repeats = length w.pointers - w.kept; old_length = end; new_length = w.end }) few
             ∙ ap (λ x. record { kept = length (kept defs extend d); repeats = x; old_length = end; new_length = w.end }) repeats
             ∙ ap (λ x. record { kept = length (kept defs extend d); repeats = repeat_count defs extend d; old_length = x; new_length = w.end }) long
             ∙ ap (λ x. record { kept = length (kept defs extend d); repeats = repeat_count defs extend d; old_length = length d; new_length = x }) size;
@@ -249,11 +249,11 @@ pub length-sorts : (d : Defs) (rows : List SizedRow) (lists sorts : List (List P
 length-sorts d rows lists sorts is step = ap (λ (ls : List (List Pair)). length ls) step ∙ length-sorted_unique d.keys lists ∙ ap (λ (ls : List (List Pair)). length ls) is ∙ length-number_pairs d rows
 
 abbrev pub gathered_of : Defs → ℕ → NewRows → List (List Pair) → Gathered
-gathered_of defs end w pairs = record { defs = defs; report = record { kept = w.kept; repeats = length w.pointers.items - w.kept; old_length = end; new_length = w.end }; split = w.split; pairs = pairs }
+gathered_of defs end w pairs = record { defs = defs; report = record { kept = w.kept; repeats = length w.pointers - w.kept; old_length = end; new_length = w.end }; split = w.split; pairs = pairs }
 
 -- no row repeated another
 pub all_gathered : (t : FourNames) (defs : Defs) (extend : Bool) (end : ℕ) (scan : TableScan) (file : List ℕ) (w : NewRows) (lists sorts : List (List Pair)) (g : Gathered) (before after : Option Holding) → AreDefs defs → scan ≡ fresh_scan t.rows defs extend end → file ≡ t.new_rows → IfTold before (HasTable t defs end) → IfTold before HoldsBytes
-    → TakesAll defs scan file w lists before after → sorts ≡ sorted_unique defs.keys lists → any_repeat defs.keys sorts ≡ false → g ≡ gathered_of defs end w (map (map (pointed w.pointers.items)) sorts) → Told before after (Gathers t extend g)
+    → TakesAll defs scan file w lists before after → sorts ≡ sorted_unique defs.keys lists → any_repeat defs.keys sorts ≡ false → g ≡ gathered_of defs end w (map (map (pointed w.pointers)) sorts) → Told before after (Gathers t extend g)
 all_gathered t defs extend end scan file w lists sorts g before after defined is named tabled bytes took step none made =
     let s : IsSound defs = sound defs defined in
     let rows = took.0 in
@@ -264,10 +264,10 @@ all_gathered t defs extend end scan file w lists sorts g before after defined is
     let table = tabled m held in
     let came : rows ≡ map (sized_row defs) (readable defs extend table.0) = came_all t defs extend table.0 end scan rows m is table.2 table.1 both.0 in
     let can : AreStorable defs rows = rows_storable t defs extend table.0 rows m defined table.1 (bytes m held) came in
-    gathers t defs extend table.0 end all_chosen rows w (map (map (pointed w.pointers.items)) sorts) g m n table.2 table.1 (bytes m held) has.written can came
+    gathers t defs extend table.0 end all_chosen rows w (map (map (pointed w.pointers)) sorts) g m n table.2 table.1 (bytes m held) has.written can came
     (all ∙ sym (first_by_keys defs rows ∙ none_repeats defs rows sorts are none))
     (subst (λ f. n f ≡ Some (stored_file defs (chosen all_chosen rows))) named (both.1 can))
-    (lists_of_all defs rows sorts w.pointers.items s can are (has.written.stored can).pointers ∙ ap (λ rs. key_lists defs (placed_from defs 0 rs)) (sym all))
+    (lists_of_all defs rows sorts w.pointers s can are (has.written.stored can).pointers ∙ ap (λ rs. key_lists defs (placed_from defs 0 rs)) (sym all))
     made)
 
 -- what is known of the files once all rows were written
@@ -277,9 +277,9 @@ Known t defs end scan file rows m n = HasTable t defs end m × HoldsBytes m × (
 -- the first rows were written again
 pub kept_gathered : (t : FourNames) (defs : Defs) (extend : Bool) (end : ℕ) (scan again : TableScan) (file : List ℕ) (flags : List Bool) (w v : NewRows) (lists sorts left : List (List Pair)) (g : Gathered) (before mid after : Option Holding) → AreDefs defs → (t.rows ≡ t.new_rows → ⊥)
     → scan ≡ fresh_scan t.rows defs extend end → again ≡ fresh_scan t.rows defs extend end → file ≡ t.new_rows → IfTold before (HasTable t defs end) → IfTold before HoldsBytes
-    → TakesAll defs scan file w lists before mid → Told before mid (OthersStay file) → sorts ≡ sorted_unique defs.keys lists → length flags ≡ length w.pointers.items
-    → ((all : List SizedRow) → length all ≡ length w.pointers.items → AreNumberLists defs all sorts → picked flags all ≡ first_by (repeats_in (unique_keys defs)) all)
-    → TakesChosen defs again file (is_chosen flags) v mid after → left ≡ map (filter (has_flag flags)) sorts → g ≡ gathered_of defs end v (map (map (pointed v.pointers.items)) left) → Told before after (Gathers t extend g)
+    → TakesAll defs scan file w lists before mid → Told before mid (OthersStay file) → sorts ≡ sorted_unique defs.keys lists → length flags ≡ length w.pointers
+    → ((all : List SizedRow) → length all ≡ length w.pointers → AreNumberLists defs all sorts → picked flags all ≡ first_by (repeats_in (unique_keys defs)) all)
+    → TakesChosen defs again file (is_chosen flags) v mid after → left ≡ map (filter (has_flag flags)) sorts → g ≡ gathered_of defs end v (map (map (pointed v.pointers)) left) → Told before after (Gathers t extend g)
 kept_gathered t defs extend end scan again file flags w v lists sorts left g before mid after defined apart is same named tabled bytes took others step long keeps second leaves made =
     let s : IsSound defs = sound defs defined in
     let rows = took.0 in
@@ -292,29 +292,29 @@ kept_gathered t defs extend end scan again file flags w v lists sorts left g bef
     let all : came ≡ map (sized_row defs) (readable defs extend table.0) = came_all t defs extend table.0 end again came m same table.2 table.1 here in
     let one : rows ≡ came = came_all t defs extend table.0 end scan rows m is table.2 table.1 first.2 ∙ sym all in
     let are : AreNumberLists defs came sorts = subst (λ rs. AreNumberLists defs rs sorts) one (lists_sorted defs rows lists sorts took.2 step) in
-    let many : length w.pointers.items ≡ length came = written_long defs all_chosen rows w took.1.written ∙ ap (λ (rs : List SizedRow). length rs) one in
+    let many : length w.pointers ≡ length came = written_long defs all_chosen rows w took.1.written ∙ ap (λ (rs : List SizedRow). length rs) one in
     let set : flags_by (is_chosen flags) (length came) ≡ flags = flags_given flags (length came) (long ∙ many) in
     let can : AreStorable defs came = rows_storable t defs extend table.0 came m defined table.1 first.1 all in
     let picks : chosen (is_chosen flags) came ≡ picked flags came = ap (λ fs. picked fs came) set in
-    gathers t defs extend table.0 end (is_chosen flags) came v (map (map (pointed v.pointers.items)) left) g m o table.2 table.1 first.1 second.1.written can all
+    gathers t defs extend table.0 end (is_chosen flags) came v (map (map (pointed v.pointers)) left) g m o table.2 table.1 first.1 second.1.written can all
     (picks ∙ keeps came (sym many) are ∙ sym (first_by_keys defs came))
     (subst (λ f. o f ≡ Some (stored_file defs (chosen (is_chosen flags) came))) named (next.1 can))
-    (ap (λ ls. map sorted (map (map (pointed v.pointers.items)) ls)) leaves
-    ∙ lists_of_kept defs came sorts flags v.pointers.items s can are (long ∙ many) ((second.1.written.stored can).pointers ∙ ap (λ fs. pointers_at defs 0 fs came) set)
+    (ap (λ ls. map sorted (map (map (pointed v.pointers)) ls)) leaves
+    ∙ lists_of_kept defs came sorts flags v.pointers s can are (long ∙ many) ((second.1.written.stored can).pointers ∙ ap (λ fs. pointers_at defs 0 fs came) set)
     ∙ ap (λ rs. key_lists defs (placed_from defs 0 rs)) (sym picks))
     made)
 
 -- ---- what was gathered can be laid, also where nothing is told
 
 pub all_laid : (defs : Defs) (end : ℕ) (w : NewRows) (lists sorts : List (List Pair)) (scan : TableScan) (file : List ℕ) (g : Gathered) (before after : Option Holding) → IsSound defs → TakesAll defs scan file w lists before after → sorts ≡ sorted_unique defs.keys lists
-    → g ≡ gathered_of defs end w (map (map (pointed w.pointers.items)) sorts) → AreSizedPairs g.defs g.pairs
+    → g ≡ gathered_of defs end w (map (map (pointed w.pointers)) sorts) → AreSizedPairs g.defs g.pairs
 all_laid defs end w lists sorts scan file g before after s took step made =
     subst (λ (x : Gathered). AreSizedPairs x.defs x.pairs) (sym made)
-    (all_sized defs took.0 sorts w.pointers.items s (one-le-pow defs.rec_ref 256 (omega arith)) took.1.written.came.fit (lists_sorted defs took.0 lists sorts took.2 step) took.1.written.came.near)
+    (all_sized defs took.0 sorts w.pointers s (one-le-pow defs.rec_ref 256 (omega arith)) took.1.written.came.fit (lists_sorted defs took.0 lists sorts took.2 step) took.1.written.came.near)
 
 pub kept_laid : (defs : Defs) (end : ℕ) (w v : NewRows) (lists sorts left : List (List Pair)) (scan again : TableScan) (file : List ℕ) (flags : List Bool) (choose : ℕ → Bool) (g : Gathered) (before mid other after : Option Holding) → IsSound defs → TakesAll defs scan file w lists before mid → sorts ≡ sorted_unique defs.keys lists
-    → TakesChosen defs again file choose v other after → left ≡ map (filter (has_flag flags)) sorts → g ≡ gathered_of defs end v (map (map (pointed v.pointers.items)) left) → AreSizedPairs g.defs g.pairs
+    → TakesChosen defs again file choose v other after → left ≡ map (filter (has_flag flags)) sorts → g ≡ gathered_of defs end v (map (map (pointed v.pointers)) left) → AreSizedPairs g.defs g.pairs
 kept_laid defs end w v lists sorts left scan again file flags choose g before mid other after s took step second leaves made =
     subst (λ (x : Gathered). AreSizedPairs x.defs x.pairs) (sym made)
-    (subst (λ ls. AreSizedPairs defs (map (map (pointed v.pointers.items)) ls)) (sym leaves)
-    (kept_sized defs took.0 sorts v.pointers.items s (one-le-pow defs.rec_ref 256 (omega arith)) took.1.written.came.fit (lists_sorted defs took.0 lists sorts took.2 step) second.1.written.came.near flags))
+    (subst (λ ls. AreSizedPairs defs (map (map (pointed v.pointers)) ls)) (sym leaves)
+    (kept_sized defs took.0 sorts v.pointers s (one-le-pow defs.rec_ref 256 (omega arith)) took.1.written.came.fit (lists_sorted defs took.0 lists sorts took.2 step) second.1.written.came.near flags))

@@ -6,7 +6,8 @@ use Rattle.std.proofs.lemmas.List.{drop-drop, append-nil, length-take, length-ta
 use Rattle.myi_base.specs.Holding.{Holding, bytes_of, resized, overwritten, Told, Writes, WritesPart, Keeps}
 use Rattle.myi_base.proofs.CallerLemmas.{told_same, told_more, told_then}
 use Rattle.myi_frames.specs.Sizes.{start_room, middle_room}
-use Rattle.myi_frames.specs.Writing.{IsWritable, block_bytes, start_spec, middle_spec, end_spec}
+use Rattle.myi_frames.specs.declared.write.FrameSpec.{FrameSpec}
+use Rattle.myi_frames.specs.Writing.{IsWritable, header_bytes, block_bytes, start_spec, middle_spec, end_spec}
 use Rattle.myi_frames.proofs.CallerLemmas.{length-block, middle-writable, start-writable}
 use Rattle.myi_repair.specs.Giant.{start_block, bytes_taken}
 use Rattle.myi_data.specs.Stored.{Share, is_end, end_size, shares_behind, shares, bytes_behind, shared_bytes}
@@ -318,3 +319,49 @@ start_takes at size room to ss sizes b left m behind =
     let all : bytes_taken (shares ss (length b)) ≡ r + bytes_taken (shares_behind sizes (length left)) =
     ap (λ (t : List ℕ). bytes_taken (shares t (length b))) m.parted ∙ ap (λ n. r + bytes_taken (shares_behind sizes n)) long in
     omega (arith, all, behind, long, m.few, m.giant)
+
+-- ---- a block in parts: its header, its row bytes, and what is unused
+
+-- the header, and how many bytes are unused
+pub record IsParted (f : FrameSpec) (b : List ℕ) (size : ℕ) (header : List ℕ) (start end count : ℕ) (at : ℕ) : Type 0 where
+  pub is : header ≡ header_bytes f (length b) size
+  pub start : start ≡ at + length header
+  pub end : end ≡ start + length b
+  pub unused : count ≡ size - (length header + length b)
+
+module _ (old : Option Holding) (name : List ℕ) (at : ℕ) (f : FrameSpec) (b : List ℕ) (size : ℕ) (header : List ℕ) (start end count : ℕ) (p : IsParted f b size header start end count at) where
+  parted : block_bytes f b size ≡ header ++ (b ++ replicate count 0)
+  unfolding block_bytes
+  parted =
+      ap (λ (h : List ℕ). h ++ (b ++ replicate (size - (length h + length b)) 0)) (sym p.is) ∙ ap (λ n. header ++ (b ++ replicate n 0)) (sym p.unused)
+
+  parts_first : Goes old old name at (block_bytes f b size) at (header ++ (b ++ replicate count 0))
+  parts_first = subst (Goes old old name at (block_bytes f b size) at) parted (goes_first old name at (block_bytes f b size))
+
+  pub header_part : (new : Option Holding) → Told old new (WritesPart name at header) → Told old new (WritesPart name at (block_bytes f b size))
+  header_part new told = goes_part old old new name at (block_bytes f b size) at header (b ++ replicate count 0) parts_first told
+
+  header_goes : (mid : Option Holding) → Told old mid (Writes name at header) → Goes old mid name at (block_bytes f b size) start (b ++ replicate count 0)
+  header_goes mid told =
+      subst (λ q. Goes old mid name at (block_bytes f b size) q (b ++ replicate count 0)) (sym p.start) (goes_on old old mid name at (block_bytes f b size) at header (b ++ replicate count 0) parts_first told)
+
+  pub bytes_part : (mid new : Option Holding) → Told old mid (Writes name at header) → Told mid new (WritesPart name start b) → Told old new (WritesPart name at (block_bytes f b size))
+  bytes_part mid new first told = goes_part old mid new name at (block_bytes f b size) start b (replicate count 0) (header_goes mid first) told
+
+  bytes_go : (mid next : Option Holding) → Told old mid (Writes name at header) → Told mid next (Writes name start b) → Goes old next name at (block_bytes f b size) end (replicate count 0)
+  bytes_go mid next first told =
+      subst (λ q. Goes old next name at (block_bytes f b size) q (replicate count 0)) (sym p.end) (goes_on old mid next name at (block_bytes f b size) start b (replicate count 0) (header_goes mid first) told)
+
+  pub unused_part : (mid next new : Option Holding) → Told old mid (Writes name at header) → Told mid next (Writes name start b) → Told next new (WritesPart name end (replicate count 0)) → Told old new (WritesPart name at (block_bytes f b size))
+  unused_part mid next new first second told = goes_end_part old next new name at (block_bytes f b size) end (replicate count 0) (bytes_go mid next first second) told
+
+  pub parts_whole : (mid next new : Option Holding) → Told old mid (Writes name at header) → Told mid next (Writes name start b) → Told next new (Writes name end (replicate count 0)) → Told old new (Writes name at (block_bytes f b size))
+  parts_whole mid next new first second told = goes_whole old next new name at (block_bytes f b size) end (replicate count 0) (bytes_go mid next first second) told
+
+-- so few bytes of a block are unused
+pub end_unused : (n size : ℕ) → IsWritable end_spec n size → size ≤ n + 260
+end_unused n size w = by (nat_le n 65535) w.kind.0.few
+  where
+    by : (b : Bool) → size ≤ (if b then 3 else 4) + n + 256 → size ≤ n + 260
+    by true few = omega (arith, few)
+    by false few = omega (arith, few)

@@ -29,7 +29,7 @@ use Rattle.myi_repair.proofs.StoredLaws.{laid_more, blocks_more, all_more, all_p
 use Rattle.myi_repair.proofs.PointerLaws.{chosen_more, pointers_more}
 
 -- none has come
-pub written_none : (d : Defs) (choose : ℕ → Bool) (w : NewRows) → w.kept ≡ 0 → w.split ≡ 0 → w.end ≡ 0 → w.pointers.items ≡ [] → HasWritten d choose [] w
+pub written_none : (d : Defs) (choose : ℕ → Bool) (w : NewRows) → w.kept ≡ 0 → w.split ≡ 0 → w.end ≡ 0 → w.pointers ≡ [] → HasWritten d choose [] w
 unfolding stored_file
 written_none d choose w kept split end pointers = record {
   came = record {
@@ -44,20 +44,20 @@ written_none d choose w kept split end pointers = record {
 }
 
 -- one more has come, with its pointer
-came_more : (d : Defs) (rows : List SizedRow) (row : SizedRow) (p : ℕ) (k l : NewRows) → HaveCome d rows k → fits d row.values ≡ true → l.pointers.items ≡ k.pointers.items ++ p ∷ [] → p < 256 ^ d.rec_ref → l.kept ≤ k.kept + 1 → l.split ≤ l.end → l.end ≤ 2 ^ 40 → HaveCome d (rows ++ row ∷ []) l
+came_more : (d : Defs) (rows : List SizedRow) (row : SizedRow) (p : ℕ) (k l : NewRows) → HaveCome d rows k → fits d row.values ≡ true → l.pointers ≡ k.pointers ++ p ∷ [] → p < 256 ^ d.rec_ref → l.kept ≤ k.kept + 1 → l.split ≤ l.end → l.end ≤ 2 ^ 40 → HaveCome d (rows ++ row ∷ []) l
 came_more d rows row p k l came fit pointers near few less short =
-    let long : length l.pointers.items ≡ length k.pointers.items + 1 = ap (λ (ps : List ℕ). length ps) pointers ∙ length_push k.pointers.items p in
+    let long : length l.pointers ≡ length k.pointers + 1 = ap (λ (ps : List ℕ). length ps) pointers ∙ length_push k.pointers p in
     record {
       fit = all_more (λ (r : SizedRow). fits d r.values ≡ true) rows row came.fit fit;
       long = omega (arith, long, came.long, length_push rows row);
-      near = subst (AllByRecursion (λ (q : ℕ). q < 256 ^ d.rec_ref)) (sym pointers) (all_more (λ (q : ℕ). q < 256 ^ d.rec_ref) k.pointers.items p came.near near);
+      near = subst (AllByRecursion (λ (q : ℕ). q < 256 ^ d.rec_ref)) (sym pointers) (all_more (λ (q : ℕ). q < 256 ^ d.rec_ref) k.pointers p came.near near);
       few = omega (arith, few, long, came.few);
       less = less;
       short = short;
     }
 
 -- a row was left out
-pub left_out : (d : Defs) (row : SizedRow) (k l : NewRows) → fits d row.values ≡ true → l.kept ≡ k.kept → l.split ≡ k.split → l.end ≡ k.end → l.pointers.items ≡ k.pointers.items ++ 0 ∷ [] → IsSound d → Adds d false row k l
+pub left_out : (d : Defs) (row : SizedRow) (k l : NewRows) → fits d row.values ≡ true → l.kept ≡ k.kept → l.split ≡ k.split → l.end ≡ k.end → l.pointers ≡ k.pointers ++ 0 ∷ [] → IsSound d → Adds d false row k l
 left_out d row k l fit kept split end pointers s choose rows is has =
     let same : chosen choose (rows ++ row ∷ []) ≡ chosen choose rows = chosen_more choose rows row false is in
     record {
@@ -84,7 +84,7 @@ picked_stored d (true ∷ flags) (r ∷ rows) all = (all.0, picked_stored d flag
 picked_stored d (false ∷ flags) (r ∷ rows) all = picked_stored d flags rows all.1
 
 -- a row was written at the end
-pub added : (d : Defs) (row : SizedRow) (k l : NewRows) (blocks : ℕ) → IsSound d → fits d row.values ≡ true → l.kept ≡ k.kept + 1 → l.split ≡ k.split + blocks → blocks ≡ length (group d row) → l.end ≡ k.end + length (stored d k.end row) → k.end + blocks ≤ l.end → l.pointers.items ≡ k.pointers.items ++ pointer d k.end ∷ [] → is_addressable d l.end ≡ true → Adds d true row k l
+pub added : (d : Defs) (row : SizedRow) (k l : NewRows) (blocks : ℕ) → IsSound d → fits d row.values ≡ true → l.kept ≡ k.kept + 1 → l.split ≡ k.split + blocks → blocks ≡ length (group d row) → l.end ≡ k.end + length (stored d k.end row) → k.end + blocks ≤ l.end → l.pointers ≡ k.pointers ++ pointer d k.end ∷ [] → is_addressable d l.end ≡ true → Adds d true row k l
 added d row k l blocks s fit kept split count end less pointers reached choose rows is has =
     let same : chosen choose (rows ++ row ∷ []) ≡ chosen choose rows ++ row ∷ [] = chosen_more choose rows row true is in
     record {

@@ -1,5 +1,5 @@
--- The new index file that is finished is the one of the recovered bytes.
-use Rattle.std.proofs.Common.{◌≡◌, ℕ, suc, ◌+◌, ◌-◌, ◌*◌, ◌^◌, ◌<◌, Bool, List, [], ◌∷◌, ◌++◌, length, drop, Option, refl, sym, ap, subst, ◌∙◌, arith, length-append}
+-- The new index file that is finished is the one of a table of the rows that were gathered.
+use Rattle.std.proofs.Common.{◌≡◌, ℕ, suc, ◌+◌, ◌-◌, ◌*◌, ◌^◌, ◌<◌, Bool, List, [], ◌∷◌, ◌++◌, length, drop, Option, refl, sym, ap, subst, ◌∙◌, arith, length-append, Some}
 use Rattle.std.specs.Prelude.{map}
 use Rattle.std.proofs.lemmas.List.{append-nil, take_all, length-map}
 use Rattle.myi_base.specs.Holding.{Holding, bytes_of, resized, overwritten}
@@ -8,7 +8,7 @@ use Rattle.myi_defs.specs.Sound.{IsSound}
 use Rattle.myi_header.specs.Layout.{first_page_of}
 use Rattle.myi_header.specs.StateOf.{state_of}
 use Rattle.myi_header.specs.HeaderOf.{header_of}
-use Rattle.myi_data.specs.Stored.{SizedRow, block_count}
+use Rattle.myi_data.specs.Stored.{SizedRow, stored_file, block_count}
 use Rattle.myi_keylist.specs.declared.pair.Pair.{Pair}
 use Rattle.myi_btree.specs.LaidPages.{laid}
 use Rattle.myi_btree.specs.Sizes.{fits_in}
@@ -16,8 +16,8 @@ use Rattle.myi_pair.specs.FirstRows.{key_numbers}
 use Rattle.myi_keylist.specs.PairOrder.{sorted}
 use Rattle.myi_pair.specs.Trees.{place_of, block_of_key}
 use Rattle.myi_btree.specs.TreePages.{HasBehind}
-use Rattle.myi_pair.specs.RebuiltBytes.{laid_trees, placed_from, key_lists, new_trees, new_state, rebuilt_index}
-use Rattle.myi_pair.specs.RecoveredBytes.{kept, new_data, recovered_state, new_index}
+use Rattle.myi_pair.specs.RebuiltBytes.{laid_trees, placed_from, key_lists, new_trees, new_state, rebuilt_state, rebuilt_index}
+use Rattle.myi_pair.specs.RecoveredBytes.{kept, new_data, new_index}
 use Rattle.myi_pair.specs.Recovered.{IsRepairable}
 use Rattle.myi_header.proofs.CallerLemmas.{header-long}
 use Rattle.myi_pair.proofs.CallerLemmas.{new_rest}
@@ -28,7 +28,7 @@ use Rattle.myi_repair.proofs.OpenLaws.{is_opened}
 use Rattle.myi_repair.specs.declared.report.Report.{Report}
 use Rattle.myi_repair.specs.declared.gathering.Gathered.{Gathered}
 use Rattle.myi_repair.specs.Names.{FourNames, names_for, Holds, KeepsBoth}
-use Rattle.myi_repair.specs.Gathering.{IsGathered, Gathers}
+use Rattle.myi_repair.specs.Gathering.{IsOfRows, IsGathered, Gathers}
 use Rattle.myi_repair.specs.Repaired.{LeavesRepaired, Completes}
 use Rattle.myi_repair.specs.Building.{trees_of, Builds}
 use Rattle.myi_repair.specs.Finishing.{state_set, finished_index, IsWhole, Finishes, FinishesPart}
@@ -68,23 +68,45 @@ over_front first end header bytes index long is =
 abbrev pub without_pairs : Gathered → Gathered
 without_pairs g = record g { pairs = [] }
 
-pub finished_is : (t : FourNames) (extend : Bool) (d : List ℕ) (g h : Gathered) (now end : ℕ) (roots : List (Option ℕ)) (m n : Holding) → IsSound g.defs → h ≡ without_pairs g → length g.pairs ≡ length g.defs.keys → IsGathered t extend d g m
-    → roots ≡ (trees_of g.defs g.pairs).roots → end ≡ (trees_of g.defs g.pairs).end → Builds g.defs g.pairs t.new_index m n → finished_index h roots end now (bytes_of t.new_index n) ≡ new_index g.defs extend d now
-unfolding new_data new_index rebuilt_index
-finished_is t extend d g h now end roots m n s left counted is rooted ended built =
+pub made_index : (t : FourNames) (rows : List SizedRow) (g h : Gathered) (now end : ℕ) (roots : List (Option ℕ)) (m n : Holding) → IsSound g.defs → h ≡ without_pairs g → length g.pairs ≡ length g.defs.keys → IsOfRows rows g
+    → roots ≡ (trees_of g.defs g.pairs).roots → end ≡ (trees_of g.defs g.pairs).end → Builds g.defs g.pairs t.new_index m n → finished_index h roots end now (bytes_of t.new_index n) ≡ rebuilt_index g.defs rows now
+unfolding rebuilt_index
+made_index t rows g h now end roots m n s left counted is rooted ended built =
     let defs = g.defs in
-    let trees : trees_of defs g.pairs ≡ new_trees defs (kept defs extend d) = trees_same defs g.pairs (kept defs extend d) is.pairs in
+    let trees : trees_of defs g.pairs ≡ new_trees defs rows = trees_same defs g.pairs rows is.pairs in
     let many : length roots ≡ length defs.keys = ap (λ (rs : List (Option ℕ)). length rs) rooted ∙ count_roots defs g.pairs counted in
-    let set : state_set g roots end now ≡ recovered_state defs extend d now =
-    ap (λ (r : Report). new_state defs (state_of defs defs.raw) r.kept g.split r.new_length roots end now) is.report
-    ∙ ap (λ x. new_state defs (state_of defs defs.raw) (length (kept defs extend d)) x (length (new_data defs extend d)) roots end now) is.split
-    ∙ ap (λ rs. new_state defs (state_of defs defs.raw) (length (kept defs extend d)) (block_count defs (kept defs extend d)) (length (new_data defs extend d)) rs end now) (rooted ∙ ap (λ u. u.roots) trees)
-    ∙ ap (λ e. new_state defs (state_of defs defs.raw) (length (kept defs extend d)) (block_count defs (kept defs extend d)) (length (new_data defs extend d)) (new_trees defs (kept defs extend d)).roots e now) (ended ∙ ap (λ u. u.end) trees) in
+    let set : state_set g roots end now ≡ rebuilt_state defs rows now =
+    ap (λ x. new_state defs (state_of defs defs.raw) x g.split g.report.new_length roots end now) is.kept
+    ∙ ap (λ x. new_state defs (state_of defs defs.raw) (length rows) x g.report.new_length roots end now) is.split
+    ∙ ap (λ x. new_state defs (state_of defs defs.raw) (length rows) (block_count defs rows) x roots end now) is.long
+    ∙ ap (λ rs. new_state defs (state_of defs defs.raw) (length rows) (block_count defs rows) (length (stored_file defs rows)) rs end now) (rooted ∙ ap (λ u. u.roots) trees)
+    ∙ ap (λ e. new_state defs (state_of defs defs.raw) (length rows) (block_count defs rows) (length (stored_file defs rows)) (new_trees defs rows).roots e now) (ended ∙ ap (λ u. u.end) trees) in
     let long : length (header_of defs (state_set g roots end now)) ≡ first_page_of defs = header-long defs (state_set g roots end now) s many (new_rest defs s) in
     let behind : HasBehind (first_page_of defs) end (trees_of defs g.pairs).bytes (bytes_of t.new_index n) = subst (λ e. HasBehind (first_page_of defs) e (trees_of defs g.pairs).bytes (bytes_of t.new_index n)) (sym ended) built in
     ap (λ k. finished_index k roots end now (bytes_of t.new_index n)) left
     ∙ over_front (first_page_of defs) end (header_of defs (state_set g roots end now)) (trees_of defs g.pairs).bytes (bytes_of t.new_index n) long behind
-    ∙ ap (λ s. header_of defs s ++ (trees_of defs g.pairs).bytes) set ∙ ap (λ u. header_of defs (recovered_state defs extend d now) ++ u.bytes) trees
+    ∙ ap (λ s. header_of defs s ++ (trees_of defs g.pairs).bytes) set ∙ ap (λ u. header_of defs (rebuilt_state defs rows now) ++ u.bytes) trees
+
+pub made_files : (t : FourNames) (rows : List SizedRow) (g h : Gathered) (now end : ℕ) (roots : List (Option ℕ)) (m n o : Holding) → IsSound g.defs → h ≡ without_pairs g → length g.pairs ≡ length g.defs.keys → IsOfRows rows g
+    → roots ≡ (trees_of g.defs g.pairs).roots → end ≡ (trees_of g.defs g.pairs).end → Builds g.defs g.pairs t.new_index m n → n t.new_rows ≡ Some (stored_file g.defs rows) → Finishes t h roots end now n o → Holds t (stored_file g.defs rows) (rebuilt_index g.defs rows now) o
+made_files t rows g h now end roots m n o s left counted is rooted ended built there done =
+    subst (λ x. Holds t (stored_file g.defs rows) x o) (made_index t rows g h now end roots m n s left counted is rooted ended built) (done (stored_file g.defs rows) there)
+
+-- what was gathered is of the kept rows
+pub gathered_rows : (t : FourNames) (extend : Bool) (d : List ℕ) (g : Gathered) (m : Holding) → IsGathered t extend d g m → IsOfRows (kept g.defs extend d) g
+unfolding new_data
+gathered_rows t extend d g m is = record {
+  kept = ap (λ (r : Report). r.kept) is.report;
+  split = is.split;
+  long = ap (λ (r : Report). r.new_length) is.report;
+  pairs = is.pairs;
+}
+
+pub finished_is : (t : FourNames) (extend : Bool) (d : List ℕ) (g h : Gathered) (now end : ℕ) (roots : List (Option ℕ)) (m n : Holding) → IsSound g.defs → h ≡ without_pairs g → length g.pairs ≡ length g.defs.keys → IsGathered t extend d g m
+    → roots ≡ (trees_of g.defs g.pairs).roots → end ≡ (trees_of g.defs g.pairs).end → Builds g.defs g.pairs t.new_index m n → finished_index h roots end now (bytes_of t.new_index n) ≡ new_index g.defs extend d now
+unfolding new_index
+finished_is t extend d g h now end roots m n s left counted is rooted ended built =
+    made_index t (kept g.defs extend d) g h now end roots m n s left counted (gathered_rows t extend d g m is) rooted ended built
 
 -- ---- the steps together
 

@@ -1,13 +1,7 @@
--- The fault of a repair that the fault of a scan stands for, and how many faults of the files a call met.
+-- How many faults of the files a call met.
 use Rattle.std.specs.Prelude.{◌≤◌, ◌<◌, ◌+◌, ◌-◌, ◌^◌, ℕ}
-use Rattle.myi_chain.specs.declared.piece.ScanFault.{ScanFault}
-use Rattle.myi_chain.specs.declared.piece.ScanFault.TheVariants as scan
 use Rattle.myi_repair.specs.declared.fault.RepairFault.{RepairFault}
 use Rattle.myi_repair.specs.declared.fault.RepairFault.TheVariants as repair
-
-abbrev pub of_scan : ScanFault → RepairFault
-of_scan scan.File = repair.File
-of_scan scan.Memory = repair.Memory
 
 -- how many faults of the files an answer tells of
 abbrev pub faults_told : RepairFault → ℕ

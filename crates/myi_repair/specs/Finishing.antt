@@ -1,5 +1,5 @@
 -- How the new files of a table take the place of the old ones.
-use Rattle.std.specs.Prelude.{◌≡◌, ◌⊎◌, ℕ, List, Option, Some}
+use Rattle.std.specs.Prelude.{◌≡◌, ◌⊎◌, ℕ, List, Option, Some, None}
 use Rattle.myi_base.specs.Holding.{Holding, bytes_of, resized, overwritten}
 use Rattle.myi_header.specs.declared.state.State.{State}
 use Rattle.myi_header.specs.StateOf.{state_of}
@@ -25,9 +25,18 @@ pub record Replaces (t : FourNames) (d x : List ℕ) (m n : Holding) : Type 0 wh
 abbrev pub IsWhole : FourNames → List ℕ → List ℕ → Holding → Holding → Type 0
 IsWhole t d x m n = KeepsBoth t m n ⊎ Replaces t d x m n
 
+-- the data file stays, and the index file is as before or holds these bytes
+pub record KeepsRows (t : FourNames) (x : List ℕ) (m n : Holding) : Type 0 where
+  pub rows : n t.rows ≡ m t.rows
+  pub index : (n t.index ≡ m t.index) ⊎ (n t.index ≡ Some x)
+
 -- the working files have taken the places of the two files
 abbrev pub Finishes : FourNames → Gathered → List (Option ℕ) → ℕ → ℕ → Holding → Holding → Type 0
 Finishes t g roots index_length now m n = (d : List ℕ) → m t.new_rows ≡ Some d → Holds t d (finished_index g roots index_length now (bytes_of t.new_index m)) n
 
 abbrev pub FinishesPart : FourNames → Gathered → List (Option ℕ) → ℕ → ℕ → Holding → Holding → Type 0
 FinishesPart t g roots index_length now m n = (d : List ℕ) → m t.new_rows ≡ Some d → IsWhole t d (finished_index g roots index_length now (bytes_of t.new_index m)) m n
+
+-- where there is no working data file the data file stays
+abbrev pub FinishesAlone : FourNames → Gathered → List (Option ℕ) → ℕ → ℕ → Holding → Holding → Type 0
+FinishesAlone t g roots index_length now m n = m t.new_rows ≡ None → KeepsRows t (finished_index g roots index_length now (bytes_of t.new_index m)) m n

@@ -28,6 +28,14 @@ report_of defs extend d = record {
   new_length = length (new_data defs extend d);
 }
 
+-- the numbers and the pairs are those of a table of these rows
+pub record IsOfRows (rows : List SizedRow) (g : Gathered) : Type 0 where
+  pub kept : g.report.kept ≡ length rows
+  pub split : g.split ≡ block_count g.defs rows
+  pub long : g.report.new_length ≡ length (stored_file g.defs rows)
+  -- in any order
+  pub pairs : map sorted g.pairs ≡ key_lists g.defs (placed_from g.defs 0 rows)
+
 -- this was gathered of a data file, and the working data file holds its kept rows
 pub record IsGathered (t : FourNames) (extend : Bool) (d : List ℕ) (g : Gathered) (n : Holding) : Type 0 where
   pub bytes : AreBytes d

@@ -51,10 +51,10 @@ AreStorable d rows = AllByRecursion (IsStorable d) rows
 -- these rows came, and each has a pointer
 pub record HaveCome (d : Defs) (rows : List SizedRow) (w : NewRows) : Type 0 where
   pub fit : AreFit d rows
-  pub long : length w.pointers.items ≡ length rows
-  pub near : AllByRecursion (λ p. p < 256 ^ d.rec_ref) w.pointers.items
+  pub long : length w.pointers ≡ length rows
+  pub near : AllByRecursion (λ p. p < 256 ^ d.rec_ref) w.pointers
   -- bounds
-  pub few : w.kept ≤ length w.pointers.items
+  pub few : w.kept ≤ length w.pointers
   pub less : w.split ≤ w.end
   pub short : w.end ≤ 2 ^ 40
 
@@ -63,7 +63,7 @@ pub record AreStored (d : Defs) (choose : ℕ → Bool) (rows : List SizedRow) (
   pub kept : w.kept ≡ length (chosen choose rows)
   pub split : w.split ≡ block_count d (chosen choose rows)
   pub end : w.end ≡ length (stored_file d (chosen choose rows))
-  pub pointers : w.pointers.items ≡ pointers_at d 0 (flags_by choose (length rows)) rows
+  pub pointers : w.pointers ≡ pointers_at d 0 (flags_by choose (length rows)) rows
 
 -- these rows came, and the chosen ones were written if all can be stored
 pub record HasWritten (d : Defs) (choose : ℕ → Bool) (rows : List SizedRow) (w : NewRows) : Type 0 where

@@ -1,7 +1,7 @@
 -- How a call on the files of a table ends, whatever it does: what a refusal tells and leaves, which files stay as they are,
 -- and when a fault is told (the words are this project's own).
 use Rattle.std.specs.Prelude.{◌≡◌, ◌⊎◌, ◌≤◌, ◌+◌, ℕ, Option, Result, Ok, Err, IfErr}
-use Rattle.myi_base.specs.Holding.{Holding, IfTold, Told}
+use Rattle.myi_base.specs.Holding.{Holding, IfTold, Told, OthersStay}
 use Rattle.myi_base.specs.Causes.{HasCause}
 use Rattle.myi_io.specs.declared.files.FileErr.{FileErr}
 use Rattle.myi_io.specs.Faults.{handed_on}
@@ -15,6 +15,13 @@ use Rattle.myi_repair.specs.Opening.{CutsOff, Refuses}
 pub record IsRefused (t : FourNames) (fault : RepairFault) (old new : Option Holding) : Type 0 where
   pub reason : IfTold old (Refuses t fault)
   pub same : new ≡ old
+
+-- A call on the file of this name, in which the files' count of faults rose from the one number to the other, ends so: an
+-- error is that it was cut off, files of other names stay, and a fault of a file is told only where one was counted.
+pub record EndsIn {X : Type 0} (file : List ℕ) (old new : Option Holding) (before now : ℕ) (result : Result X RepairFault) : Type 0 where
+  pub cut : IfErr result CutsOff
+  pub others : Told old new (OthersStay file)
+  pub cause : HasCause File before now result
 
 -- A call on the files of these names, in which their count of faults rose from the one number to the other, ends so: an error
 -- has one of these reasons, and where no more calls failed besides the one that it tells of, it leaves what is allowed to

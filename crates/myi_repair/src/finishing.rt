@@ -9,7 +9,7 @@ ghost use Rattle.myi_header.specs.StateOf.{IsPlace, rest_length};
 ghost use Rattle.myi_header.specs.HeaderOf.{header_of};
 ghost use Rattle.myi_repair.specs.Names.{names_of, names_for, AreApart, KeepsBut};
 ghost use Rattle.myi_repair.specs.Outcome.{Ends, EndsCutOff, as_repair};
-ghost use Rattle.myi_repair.specs.Finishing.{state_set, Finishes, FinishesPart};
+ghost use Rattle.myi_repair.specs.Finishing.{state_set, Finishes, FinishesPart, FinishesAlone};
 
 use crate::gathering::Gathered;
 use crate::names::TableFiles;
@@ -25,7 +25,8 @@ const REPAIRED: u8 = 40;
 /// Writes the header, with the mark and the state that a repair sets, to the front of the working index
 /// file, `NAME.TMI`, makes that file `index_length` bytes long, and gives first the working data file and
 /// then the working index file the name of the old one. `now` is the moment, in seconds since 1970. Where
-/// that is cut off, the working files are taken away, if there was memory for their names.
+/// that is cut off, the working files are taken away, if there was memory for their names. Where `NAME.TMD`
+/// is not there `NAME.MYD` stays, and the index file is replaced all the same.
 pub fn finish<F: Files>(
     files: &mut F,
     name: &str,
@@ -42,6 +43,8 @@ pub fn finish<F: Files>(
         (Finishes (names_for name.now) gathered.now roots.now index_length now)) }
     ensures whole { Told (F.holds files.old) (F.holds files.new)
         (FinishesPart (names_for name.now) gathered.now roots.now index_length now) }
+    ensures alone { Told (F.holds files.old) (F.holds files.new)
+        (FinishesAlone (names_for name.now) gathered.now roots.now index_length now) }
     ensures ends { Ends (names_for name.now) (F.holds files.old) (F.holds files.new)
         (F.faults files.old) (F.faults files.new) (as_repair result) }
 {
@@ -67,6 +70,8 @@ pub(crate) fn finish_table<F: Files>(
         (Finishes (names_of table.now) gathered.now roots.now index_length now)) }
     ensures whole { Told (F.holds files.old) (F.holds files.new)
         (FinishesPart (names_of table.now) gathered.now roots.now index_length now) }
+    ensures alone { Told (F.holds files.old) (F.holds files.new)
+        (FinishesAlone (names_of table.now) gathered.now roots.now index_length now) }
     ensures ends { EndsCutOff (names_of table.now) (F.holds files.old) (F.holds files.new)
         (F.faults files.old) (F.faults files.new) (as_repair result) }
 {
@@ -96,6 +101,8 @@ fn replace<F: Files>(
         (Finishes (names_of table.now) gathered.now roots.now index_length now)) }
     ensures whole { Told (F.holds files.old) (F.holds files.new)
         (FinishesPart (names_of table.now) gathered.now roots.now index_length now) }
+    ensures alone { Told (F.holds files.old) (F.holds files.new)
+        (FinishesAlone (names_of table.now) gathered.now roots.now index_length now) }
     ensures others { Told (F.holds files.old) (F.holds files.new) (KeepsBut (names_of table.now)) }
     ensures cause { HasCause Failed (F.faults files.old) (F.faults files.new) result }
 {

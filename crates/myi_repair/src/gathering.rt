@@ -1,8 +1,7 @@
 //! Gathering: the rows that are kept, in the working data file, and the pairs of their keys.
 ghost use Rattle.std.specs.Prelude.{◌≡◌, ◌≢◌, ◌⊎◌, ◌≤◌, ◌-◌, ℕ, Bool, List, true, length, map};
-ghost use Rattle.std.specs.Prelude.{IfOk, IfErr, OnOk, IsTrue};
-ghost use Rattle.myi_base.specs.Holding.{IfTold, Told, OthersStay};
-ghost use Rattle.myi_base.specs.Causes.{HasCause};
+ghost use Rattle.std.specs.Prelude.{IfOk, OnOk, IsTrue};
+ghost use Rattle.myi_base.specs.Holding.{IfTold, Told};
 ghost use Rattle.myi_base.specs.Numbers.{AreBytes};
 ghost use Rattle.myi_defs.specs.Addressable.{is_addressable};
 ghost use Rattle.myi_defs.specs.ReadDefs.{AreDefs};
@@ -14,8 +13,8 @@ ghost use Rattle.myi_keylist.specs.Columns.{pointed};
 ghost use Rattle.myi_rowkeys.specs.TableKeys.{row_keys};
 ghost use Rattle.myi_rowkeys.specs.RowLists.{with_pairs};
 ghost use Rattle.myi_repair.specs.Names.{names_of, names_for, AreApart, KeepsBoth};
-ghost use Rattle.myi_repair.specs.Opening.{HasTable, CutsOff};
-ghost use Rattle.myi_repair.specs.Outcome.{Ends};
+ghost use Rattle.myi_repair.specs.Opening.{HasTable};
+ghost use Rattle.myi_repair.specs.Outcome.{Ends, EndsIn};
 ghost use Rattle.myi_repair.specs.Sized.{AreSizedPairs};
 ghost use Rattle.myi_repair.specs.Keeping.{is_chosen, IsPrepared, HasWritten, Adds, WritesIf};
 ghost use Rattle.myi_repair.specs.Gathering.{Gathers, TakesChosen, TakesAll};
@@ -75,8 +74,10 @@ pub fn gather<F: Files>(
     ensures header { IfOk result (λ g. AreBytes g.defs.raw) }
     ensures pairs { IfOk result (λ g. AreSizedPairs g.defs g.pairs) }
 
-    // The table's two files are as before.
+    // The table's two files are as before; so is a working index file where all was gathered.
     ensures both { Told (F.holds files.old) (F.holds files.new) (KeepsBoth (names_for name.now)) }
+    ensures index { OnOk result (Told (F.holds files.old) (F.holds files.new)
+        (λ m n. n (names_for name.now).new_index ≡ m (names_for name.now).new_index)) }
 
     // Why a table is refused, and what is left then; other files stay.
     ensures ends { Ends (names_for name.now) (F.holds files.old) (F.holds files.new)
@@ -101,6 +102,8 @@ pub(crate) fn gather_table<F: Files>(
     ensures header { IfOk result (λ g. AreBytes g.defs.raw) }
     ensures pairs { IfOk result (λ g. AreSizedPairs g.defs g.pairs) }
     ensures both { Told (F.holds files.old) (F.holds files.new) (KeepsBoth (names_of table.now)) }
+    ensures index { OnOk result (Told (F.holds files.old) (F.holds files.new)
+        (λ m n. n (names_of table.now).new_index ≡ m (names_of table.now).new_index)) }
     ensures ends { Ends (names_of table.now) (F.holds files.old) (F.holds files.new)
         (F.faults files.old) (F.faults files.new) result }
 {
@@ -135,10 +138,8 @@ fn gather_opened<F: Files>(
     ensures defs { IfOk result (λ g. AreDefs g.defs) }
     ensures header { IfOk result (λ g. AreBytes g.defs.raw) }
     ensures pairs { IfOk result (λ g. AreSizedPairs g.defs g.pairs) }
-    ensures cut { IfErr result CutsOff }
-    ensures others { Told (F.holds files.old) (F.holds files.new)
-        (OthersStay (names_of table.now).new_rows) }
-    ensures cause { HasCause RepairFault.File (F.faults files.old) (F.faults files.new) result }
+    ensures ends { EndsIn (names_of table.now).new_rows (F.holds files.old) (F.holds files.new)
+        (F.faults files.old) (F.faults files.new) result }
 {
     let OpenedTable { defs, length } = opened;
     let file = table.new_rows.as_str();
@@ -157,17 +158,17 @@ fn gather_opened<F: Files>(
 
 // What was gathered, of lists that have rows by their numbers.
 fn into_gathered(defs: Defs, old_length: u64, rows: NewRows, mut keys: RowKeys) -> Gathered
-    requires { rows.kept ≤ length rows.pointers.items }
+    requires { rows.kept ≤ length rows.pointers }
     ensures { result ≡ record {
       defs = defs;
       report = record {
         kept = rows.kept;
-        repeats = length rows.pointers.items - rows.kept;
+        repeats = length rows.pointers - rows.kept;
         old_length = old_length;
         new_length = rows.end;
       };
       split = rows.split;
-      pairs = map (map (pointed rows.pointers.items)) keys;
+      pairs = map (map (pointed rows.pointers)) keys;
     } }
 {
     keys.point(&rows.pointers);
@@ -199,9 +200,8 @@ fn take_rows<F: Files>(
     requires defs { AreDefs defs.now }
     ensures took { IfOk result (λ r. TakesAll defs.now scan.old file.now r.0 r.1
         (F.holds files.old) (F.holds files.new)) }
-    ensures cut { IfErr result CutsOff }
-    ensures others { Told (F.holds files.old) (F.holds files.new) (OthersStay file.now) }
-    ensures cause { HasCause RepairFault.File (F.faults files.old) (F.faults files.new) result }
+    ensures ends { EndsIn file.now (F.holds files.old) (F.holds files.new)
+        (F.faults files.old) (F.faults files.new) result }
 {
     files.cut(file, 0)?;
     let mut next = NextRow::new(alloc);
@@ -229,15 +229,14 @@ fn take_row<F: Files>(
         × HasWritten defs.now choose came rows.old }
     requires all { length keys.old ≡ length defs.now.keys }
     ensures keys { OnOk result ((row : SizedRow) → IsPrepared defs.now row next.now → keys.new
-        ≡ with_pairs (length rows.old.pointers.items) (row_keys defs.now row.values) keys.old) }
+        ≡ with_pairs (length rows.old.pointers) (row_keys defs.now row.values) keys.old) }
     ensures added { OnOk result ((row : SizedRow) → IsPrepared defs.now row next.now
         → Adds defs.now true row rows.old rows.new) }
     ensures written { OnOk result (Told (F.holds files.old) (F.holds files.new)
         (λ m n. (row : SizedRow) → IsPrepared defs.now row next.now
         → WritesIf defs.now file.now true row rows.old m n)) }
-    ensures cut { IfErr result CutsOff }
-    ensures others { Told (F.holds files.old) (F.holds files.new) (OthersStay file.now) }
-    ensures cause { HasCause RepairFault.File (F.faults files.old) (F.faults files.new) result }
+    ensures ends { EndsIn file.now (F.holds files.old) (F.holds files.new)
+        (F.faults files.old) (F.faults files.new) result }
 {
     let row = view_packed(defs, &next.bytes);
     keys.push(defs, &row, rows.pointers.len() as u64)?;
@@ -260,9 +259,8 @@ fn keep_rows<F: Files>(
     requires defs { AreDefs defs.now }
     ensures took { IfOk result (λ w. TakesChosen defs.now scan.old file.now (is_chosen flags.now) w
         (F.holds files.old) (F.holds files.new)) }
-    ensures cut { IfErr result CutsOff }
-    ensures others { Told (F.holds files.old) (F.holds files.new) (OthersStay file.now) }
-    ensures cause { HasCause RepairFault.File (F.faults files.old) (F.faults files.new) result }
+    ensures ends { EndsIn file.now (F.holds files.old) (F.holds files.new)
+        (F.faults files.old) (F.faults files.new) result }
 {
     files.cut(file, 0)?;
     let mut next = NextRow::new(alloc);

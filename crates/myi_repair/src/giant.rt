@@ -1,9 +1,10 @@
 //! Writing a row of 2^24 bytes and more into blocks of the sizes of those that held it.
 //!
 //! A start and middles are filled, one after the other, and what is left is an end in the first block that
-//! has room for it. Each block is made in one buffer and written. Where the sizes do not hold the row, as
-//! they may where the files tell nothing, the answer is that there is no memory.
-ghost use Rattle.std.specs.Prelude.{◌≡◌, ◌+◌, ◌%◌, ◌^◌, ◌<◌, ◌≤◌, length, take, Some, IfOk, OnOk, OnErr, IsTrue, true};
+//! has room for it. Of each block the header is written, then the row bytes as they stand in the row, then
+//! the unused part, so that no block is made in memory. Where the sizes do not hold the row, as they may
+//! where the files tell nothing, the answer is that there is no memory.
+ghost use Rattle.std.specs.Prelude.{◌≡◌, ◌+◌, ◌%◌, ◌^◌, ◌<◌, ◌≤◌, length, replicate, Some, IfOk, OnOk, OnErr, IsTrue, true};
 ghost use Rattle.myi_base.specs.Holding.{Told, Writes, WritesPart};
 ghost use Rattle.myi_base.specs.Causes.{HasCause};
 ghost use Rattle.myi_io.specs.declared.files.FileErr.TheVariants.{Failed};
@@ -13,18 +14,16 @@ ghost use Rattle.myi_frames.specs.Writing.{IsWritable, block_bytes, middle_spec,
 ghost use Rattle.myi_data.specs.Stored.{is_end, end_size, shares_behind, shares, bytes_behind, shared_bytes};
 
 use myi_frames::{
-    FrameKind, FrameSpec, GIANT, LEAST_SIZE, least_size, middle_room, start_room, write_frame,
+    FrameKind, FrameSpec, GIANT, LEAST_SIZE, frame_header, least_size, middle_room, start_room,
 };
 use myi_io::{FileErr, Files};
-use std::alloc::{AllocError, Global};
 
-/// The most bytes of a block in which fewer than 2^24 row bytes fill a start or a middle or are an end.
-const MOST_BLOCK: usize = (1 << 24) + 64;
+/// No block of a giant row has more bytes unused.
+const MOST_UNUSED: usize = 260;
 
 /// Writes a row of 2^24 bytes and more at a place of the file of that name, into blocks of these sizes, in
 /// their order, and answers the place behind them and their number.
 pub(crate) fn put_giant<F: Files>(
-    alloc: Global,
     files: &mut F,
     file: &str,
     at: u64,
@@ -58,18 +57,10 @@ pub(crate) fn put_giant<F: Files>(
     if room >= GIANT {
         return Err(FileErr::Memory);
     }
-    let mut buffer = zeros(alloc, MOST_BLOCK)?;
-    let next = put_start(files, file, at, packed, size, &mut buffer)?;
+    let next = put_start(files, file, at, packed, size)?;
     let (_, left) = packed.split_at(room as usize);
-    let (end, count) = put_behind(files, file, next, left, behind, &mut buffer)?;
+    let (end, count) = put_behind(files, file, next, left, behind)?;
     Ok((end, count + 1))
-}
-
-// A buffer of so many bytes.
-fn zeros(alloc: Global, count: usize) -> Result<Vec<u8>, AllocError>
-    ensures { IfOk result (λ buffer. length buffer.items ≡ count) }
-{
-    vec![in alloc; 0u8; count]
 }
 
 // Writes what is left of a row into middles and an end of these sizes.
@@ -79,13 +70,11 @@ fn put_behind<F: Files>(
     at: u64,
     rest: &[u8],
     sizes: &[u32],
-    buffer: &mut [u8],
 ) -> Result<(u64, u64), FileErr>
     requires writable { IsTrue F.writable }
     requires some { 0 < length rest.now }
     requires few { length rest.now < 2 ^ 32 }
     requires place { at ≤ 2 ^ 41 }
-    requires buffer { length buffer.old ≡ 2 ^ 24 + 64 }
     ensures ok { OnOk result (Told (F.holds files.old) (F.holds files.new)
         (Writes file.now at
         (bytes_behind at (shares_behind sizes.now (length rest.now)) rest.now))) }
@@ -110,14 +99,14 @@ fn put_behind<F: Files>(
             return Err(FileErr::Memory);
         }
         if is_end(left.len(), size) {
-            let end = put_end(files, file, place, left, size, buffer)?;
+            let end = put_end(files, file, place, left, size)?;
             return Ok((end, count + 1));
         }
         if behind.is_empty() || middle_room(size) >= GIANT {
             return Err(FileErr::Memory);
         }
         let (piece, more) = left.split_at(middle_room(size) as usize);
-        place = put_middle(files, file, place, piece, size, buffer)?;
+        place = put_middle(files, file, place, piece, size)?;
         count += 1;
         left = more;
         sizes = behind;
@@ -160,14 +149,12 @@ fn put_end<F: Files>(
     at: u64,
     rest: &[u8],
     size: u32,
-    buffer: &mut [u8],
 ) -> Result<u64, FileErr>
     requires writable { IsTrue F.writable }
     requires multiple { size % 4 ≡ 0 }
     requires least { 20 ≤ size }
     requires end { is_end (length rest.now) size ≡ true }
     requires place { at < 2 ^ 63 }
-    requires buffer { length buffer.old ≡ 2 ^ 24 + 64 }
     ensures ok { OnOk result (Told (F.holds files.old) (F.holds files.new)
         (Writes file.now at (block_bytes end_spec rest.now (end_size (length rest.now) size)))) }
     ensures err { OnErr result (Told (F.holds files.old) (F.holds files.new)
@@ -175,7 +162,6 @@ fn put_end<F: Files>(
         (block_bytes end_spec rest.now (end_size (length rest.now) size)))) }
     ensures behind { IfOk result (λ r. r ≡ at + end_size (length rest.now) size) }
     ensures less { IfOk result (λ r. at < r) }
-    ensures buffer { length buffer.new ≡ length buffer.old }
     ensures cause { HasCause Failed (F.faults files.old) (F.faults files.new) result }
 {
     let size = end_size(rest.len(), size);
@@ -185,9 +171,7 @@ fn put_end<F: Files>(
         next: None,
         prev: None,
     };
-    fill_block(&spec, rest, size, buffer);
-    files.write_at(file, at, &buffer[..size as usize])?;
-    Ok(at + size as u64)
+    put_block(files, file, at, &spec, rest, size)
 }
 
 // Writes a start that a row fills, and answers the place behind it, which it names.
@@ -197,7 +181,6 @@ fn put_start<F: Files>(
     at: u64,
     packed: &[u8],
     size: u32,
-    buffer: &mut [u8],
 ) -> Result<u64, FileErr>
     requires writable { IsTrue F.writable }
     requires multiple { size % 4 ≡ 0 }
@@ -206,27 +189,22 @@ fn put_start<F: Files>(
     requires short { length packed.now < 2 ^ 32 }
     requires few { start_room (length packed.now) size < 2 ^ 24 }
     requires place { at < 2 ^ 63 }
-    requires buffer { length buffer.old ≡ 2 ^ 24 + 64 }
     ensures ok { OnOk result (Told (F.holds files.old) (F.holds files.new)
         (Writes file.now at (start_block at size packed.now))) }
     ensures err { OnErr result (Told (F.holds files.old) (F.holds files.new)
         (WritesPart file.now at (start_block at size packed.now))) }
     ensures behind { IfOk result (λ r. r ≡ at + size) }
-    ensures buffer { length buffer.new ≡ length buffer.old }
     ensures cause { HasCause Failed (F.faults files.old) (F.faults files.new) result }
 {
     let rec_len = packed.len() as u32;
-    let next = at + size as u64;
     let spec = FrameSpec {
         kind: FrameKind::Start,
         rec_len,
-        next: Some(next),
+        next: Some(at + size as u64),
         prev: None,
     };
     let room = start_room(rec_len, size) as usize;
-    fill_block(&spec, &packed[..room], size, buffer);
-    files.write_at(file, at, &buffer[..size as usize])?;
-    Ok(next)
+    put_block(files, file, at, &spec, &packed[..room], size)
 }
 
 // Writes a middle that is filled, and answers the place behind it, which it names.
@@ -236,7 +214,6 @@ fn put_middle<F: Files>(
     at: u64,
     piece: &[u8],
     size: u32,
-    buffer: &mut [u8],
 ) -> Result<u64, FileErr>
     requires writable { IsTrue F.writable }
     requires multiple { size % 4 ≡ 0 }
@@ -244,33 +221,62 @@ fn put_middle<F: Files>(
     requires room { length piece.now ≡ middle_room size }
     requires few { middle_room size < 2 ^ 24 }
     requires place { at < 2 ^ 63 }
-    requires buffer { length buffer.old ≡ 2 ^ 24 + 64 }
     ensures ok { OnOk result (Told (F.holds files.old) (F.holds files.new)
         (Writes file.now at (block_bytes (middle_spec (Some (at + size))) piece.now size))) }
     ensures err { OnErr result (Told (F.holds files.old) (F.holds files.new)
         (WritesPart file.now at (block_bytes (middle_spec (Some (at + size))) piece.now size))) }
     ensures behind { IfOk result (λ r. r ≡ at + size) }
-    ensures buffer { length buffer.new ≡ length buffer.old }
     ensures cause { HasCause Failed (F.faults files.old) (F.faults files.new) result }
 {
-    let next = at + size as u64;
     let spec = FrameSpec {
         kind: FrameKind::Middle,
         rec_len: 0,
-        next: Some(next),
+        next: Some(at + size as u64),
         prev: None,
     };
-    fill_block(&spec, piece, size, buffer);
-    files.write_at(file, at, &buffer[..size as usize])?;
-    Ok(next)
+    put_block(files, file, at, &spec, piece, size)
 }
 
-// Makes a block of this size at the front of a buffer.
-fn fill_block(spec: &FrameSpec, bytes: &[u8], size: u32, buffer: &mut [u8])
+// Writes a block, and answers the place behind it.
+fn put_block<F: Files>(
+    files: &mut F,
+    file: &str,
+    at: u64,
+    spec: &FrameSpec,
+    bytes: &[u8],
+    size: u32,
+) -> Result<u64, FileErr>
+    requires writable { IsTrue F.writable }
     requires block { IsWritable spec.now (length bytes.now) size }
-    requires room { size ≤ length buffer.old }
-    ensures front { take size buffer.new ≡ block_bytes spec.now bytes.now size }
-    ensures buffer { length buffer.new ≡ length buffer.old }
+    requires unused { size ≤ length bytes.now + 260 }
+    requires place { at < 2 ^ 63 }
+    ensures ok { OnOk result (Told (F.holds files.old) (F.holds files.new)
+        (Writes file.now at (block_bytes spec.now bytes.now size))) }
+    ensures err { OnErr result (Told (F.holds files.old) (F.holds files.new)
+        (WritesPart file.now at (block_bytes spec.now bytes.now size))) }
+    ensures behind { IfOk result (λ r. r ≡ at + size) }
+    ensures cause { HasCause Failed (F.faults files.old) (F.faults files.new) result }
 {
-    write_frame(&mut buffer[..size as usize], spec, bytes);
+    let (header, header_length) = frame_header(spec, bytes.len(), size);
+    let start = at + header_length as u64;
+    let end = start + bytes.len() as u64;
+    let behind = at + size as u64;
+    files.write_at(file, at, &header[..header_length])?;
+    files.write_at(file, start, bytes)?;
+    put_unused(files, file, end, (behind - end) as usize)?;
+    Ok(behind)
+}
+
+// Writes so many zeros.
+fn put_unused<F: Files>(files: &mut F, file: &str, at: u64, count: usize) -> Result<(), FileErr>
+    requires writable { IsTrue F.writable }
+    requires few { count ≤ 260 }
+    ensures ok { OnOk result (Told (F.holds files.old) (F.holds files.new)
+        (Writes file.now at (replicate count 0))) }
+    ensures err { OnErr result (Told (F.holds files.old) (F.holds files.new)
+        (WritesPart file.now at (replicate count 0))) }
+    ensures cause { HasCause Failed (F.faults files.old) (F.faults files.new) result }
+{
+    let zeros = [0u8; MOST_UNUSED];
+    files.write_at(file, at, &zeros[..count])
 }

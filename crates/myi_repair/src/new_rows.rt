@@ -12,6 +12,7 @@ use crate::next_row::NextRow;
 use crate::writing::{PackedRow, put_packed};
 use myi_defs::{Defs, RowFormat};
 use myi_io::Files;
+use myi_keylist::RowPointers;
 use std::alloc::{AllocError, Global};
 
 /// The rows that came so far, and what of them was written.
@@ -22,7 +23,7 @@ pub(crate) struct NewRows {
     /// The place behind the last row in the new data file.
     pub(crate) end: u64,
     /// For each row that came its pointer, and 0 where it was left out.
-    pub(crate) pointers: Vec<u64>,
+    pub(crate) pointers: RowPointers,
     block: Vec<u8>,
 }
 
@@ -39,15 +40,14 @@ impl Drop for NewRows {
 }
 
 impl NewRows {
-    ghost use Rattle.std.specs.Prelude.{◌≡◌, ℕ, Bool, true, false, List, [], length, OnOk, IfErr, IsTrue};
-    ghost use Rattle.myi_base.specs.Holding.{Told, OthersStay};
-    ghost use Rattle.myi_base.specs.Causes.{HasCause};
+    ghost use Rattle.std.specs.Prelude.{◌≡◌, ℕ, Bool, true, false, List, [], length, OnOk, IsTrue};
+    ghost use Rattle.myi_base.specs.Holding.{Told};
     ghost use Rattle.myi_defs.specs.declared.types.Defs.{Defs};
     ghost use Rattle.myi_defs.specs.ReadDefs.{AreDefs};
     ghost use Rattle.myi_defs.specs.Sound.{IsSound};
     ghost use Rattle.myi_pack.specs.Spelling.{fits};
     ghost use Rattle.myi_data.specs.Stored.{SizedRow};
-    ghost use Rattle.myi_repair.specs.Opening.{CutsOff};
+    ghost use Rattle.myi_repair.specs.Outcome.{EndsIn};
     ghost use Rattle.myi_repair.specs.Keeping.{IsPrepared, HasWritten, Adds, WritesIf, is_chosen};
 
     /// No row yet.
@@ -58,7 +58,7 @@ impl NewRows {
             kept: 0,
             split: 0,
             end: 0,
-            pointers: Vec::new(alloc),
+            pointers: RowPointers::new(alloc),
             block: Vec::new(alloc),
         }
     }
@@ -81,9 +81,8 @@ impl NewRows {
         ensures written { OnOk result (Told (F.holds files.old) (F.holds files.new)
             (λ m n. (row : SizedRow) → IsPrepared defs.now row next.now
             → WritesIf defs.now file.now true row self.old m n)) }
-        ensures cut { IfErr result CutsOff }
-        ensures others { Told (F.holds files.old) (F.holds files.new) (OthersStay file.now) }
-        ensures cause { HasCause RepairFault.File (F.faults files.old) (F.faults files.new) result }
+        ensures ends { EndsIn file.now (F.holds files.old) (F.holds files.new)
+            (F.faults files.old) (F.faults files.new) result }
     {
         let row = PackedRow {
             bytes: &next.bytes,
@@ -124,15 +123,14 @@ impl NewRows {
         requires written { (choose : ℕ → Bool) × (rows : List SizedRow)
             × HasWritten defs.now choose rows self.old }
         ensures added { OnOk result ((row : SizedRow) → IsPrepared defs.now row next.now
-            → Adds defs.now (is_chosen flags.now (length self.old.pointers.items)) row
+            → Adds defs.now (is_chosen flags.now (length self.old.pointers)) row
             self.old self.new) }
         ensures written { OnOk result (Told (F.holds files.old) (F.holds files.new)
             (λ m n. (row : SizedRow) → IsPrepared defs.now row next.now
-            → WritesIf defs.now file.now (is_chosen flags.now (length self.old.pointers.items)) row
+            → WritesIf defs.now file.now (is_chosen flags.now (length self.old.pointers)) row
             self.old m n)) }
-        ensures cut { IfErr result CutsOff }
-        ensures others { Told (F.holds files.old) (F.holds files.new) (OthersStay file.now) }
-        ensures cause { HasCause RepairFault.File (F.faults files.old) (F.faults files.new) result }
+        ensures ends { EndsIn file.now (F.holds files.old) (F.holds files.new)
+            (F.faults files.old) (F.faults files.new) result }
     {
         if is_set(flags, self.pointers.len()) {
             return self.put(files, file, defs, next);

@@ -13,6 +13,7 @@ ghost use Rattle.myi_btree.specs.Building.{CanLay, Lays};
 ghost use Rattle.myi_keylist.specs.PairOrder.{sorted};
 ghost use Rattle.myi_pair.specs.Trees.{place_of};
 ghost use Rattle.myi_repair.specs.Opening.{CutsOff};
+ghost use Rattle.myi_repair.specs.Outcome.{EndsIn};
 ghost use Rattle.myi_repair.specs.Sized.{AreSizedPairs};
 ghost use Rattle.myi_repair.specs.Building.{AreTrees, Builds, LaysTrees};
 
@@ -76,9 +77,8 @@ pub(crate) fn build_trees<F: Files>(
         (Builds defs.now pairs.items file.now)) }
     ensures trees { IfOk result (AreTrees defs.now pairs.items) }
     ensures places { IfOk result (λ trees. All IsPlace trees.roots.items) }
-    ensures cut { IfErr result CutsOff }
-    ensures others { Told (F.holds files.old) (F.holds files.new) (OthersStay file.now) }
-    ensures cause { HasCause RepairFault.File (F.faults files.old) (F.faults files.new) result }
+    ensures ends { EndsIn file.now (F.holds files.old) (F.holds files.new)
+        (F.faults files.old) (F.faults files.new) result }
 {
     files.cut(file, 0)?;
     let mut cache = KeyCache::new(alloc, file, SETUP)?;

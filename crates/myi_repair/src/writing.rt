@@ -84,8 +84,7 @@ pub(crate) fn put_packed<F: Files>(
         RowFormat::Static => write_row(files, file, at, row.bytes),
         RowFormat::Dynamic => {
             if row.bytes.len() >= GIANT as usize {
-                let alloc = defs.raw.allocator();
-                return put_giant(alloc, files, file, at, row.bytes, row.sizes);
+                return put_giant(files, file, at, row.bytes, row.sizes);
             }
             fill_block(block, row.bytes)?;
             write_row(files, file, at, block)

@@ -15,7 +15,7 @@ ghost use Rattle.myi_rowkeys.specs.RowLists.{with_pairs, sorted_unique, any_repe
 use myi_base::Sequence;
 use myi_data::key_code_into;
 use myi_defs::{Defs, Key};
-use myi_keylist::{PairList, keep_first};
+use myi_keylist::{PairList, RowPointers, keep_first};
 use myi_pack::{FieldPlaces, NumberedFields, RowView};
 use std::alloc::{AllocError, Global};
 use std::marker::Model;
@@ -154,7 +154,7 @@ impl RowKeys {
     }
 
     /// Puts in place of each row's number the pointer that stands at it, 0 where none does.
-    pub fn point(&mut self, pointers: &[u64])
+    pub fn point(&mut self, pointers: &RowPointers)
         ensures { self.new ≡ map (map (pointed pointers.now)) self.old }
     {
         point_rows(&mut self.lists, pointers);
@@ -261,7 +261,7 @@ fn retain_rows(lists: &mut [PairList], flags: &[bool])
 }
 
 // Puts row pointers in place of the numbers of rows.
-fn point_rows(lists: &mut [PairList], pointers: &[u64])
+fn point_rows(lists: &mut [PairList], pointers: &RowPointers)
     ensures { lists.new ≡ map (map (pointed pointers.now)) lists.old }
 {
     for list in lists.iter_mut() {

@@ -1,4 +1,4 @@
-use Rattle.std.proofs.Common.{◌≡◌, ◌∙◌, List, length, map, arith, sym, ap, subst}
+use Rattle.std.proofs.Common.{rules, ◌≡◌, ◌∙◌, List, length, map, arith, sym, ap, subst}
 use Rattle.myi_base.proofs.CallerLemmas.{told_then}
 use Rattle.myi_defs.proofs.CallerLemmas.{sound}
 use Rattle.std.specs.List.{filter}
@@ -44,32 +44,40 @@ keep_first-requires-clause-few g c =
     let took = c.in_ok-rows.ensures.took in
     let many = written_long c.args.opened.defs all_chosen took.0 c.in_ok-rows.rows took.1.written in
     let end : c.in_ok-scan.scan.end ≡ c.args.opened.length = ap (λ s. s.end) c.in_ok-scan.ensures in
-    omega (arith, c.len.ensures, c.in_ok-rows.rows.pointers.ok.0, many, took.1.few, end, short_enough c.args.opened.defs c.args.opened.length c.requires.reached)
+    omega (arith, c.len.ensures, many, took.1.few, end, short_enough c.args.opened.defs c.args.opened.length c.requires.reached)
 
 pub keep_first-requires-clause-lists : goal.keep_first-requires-clause-lists
 keep_first-requires-clause-lists g c =
     let took = c.in_ok-rows.ensures.took in
     let many = written_long c.args.opened.defs all_chosen took.0 c.in_ok-rows.rows took.1.written in
-    (took.0, omega (arith, c.len.ensures, c.in_ok-rows.rows.pointers.ok.0, many), lists_sorted c.args.opened.defs took.0 c.in_ok-rows.keys c.sort_unique.new.self took.2 c.sort_unique.ensures)
+    (took.0, omega (arith, c.len.ensures, many), lists_sorted c.args.opened.defs took.0 c.in_ok-rows.keys c.sort_unique.new.self took.2 c.sort_unique.ensures)
 
 pub keep_rows-requires-clause-current : goal.keep_rows-requires-clause-current
 keep_rows-requires-clause-current g c κs lives n now =
-    still_known (names_of c.args.table.now) c.args.opened.defs c.args.extend c.args.opened.length c.in_ok-again.again c.as_str-file.result.now _ _ c.in_ok-again.ensures c.as_str-file.ensures.value c.requires.apart.rows-new_rows c.requires.table c.take_rows.ensures.others n now
+    still_known (names_of c.args.table.now) c.args.opened.defs c.args.extend c.args.opened.length c.in_ok-again.again c.as_str-file.result.now _ _ c.in_ok-again.ensures c.as_str-file.ensures.value c.requires.apart.rows-new_rows c.requires.table c.take_rows.ensures.ends.others n now
 
-pub returns-in_err-kept-clause-others : goal.returns-in_err-kept-clause-others
-returns-in_err-kept-clause-others g c = told_then _ _ _ _ _ _ c.take_rows.ensures.others c.keep_rows.ensures.others (λ m k n one two q differs. two q (λ e. differs (e ∙ c.as_str-file.ensures.value)) ∙ one q (λ e. differs (e ∙ c.as_str-file.ensures.value)))
+pub returns-in_err-kept-clause-ends : goal.returns-in_err-kept-clause-ends
+returns-in_err-kept-clause-ends g c = record {
+  cut = search rules;
+  others = told_then _ _ _ _ _ _ c.take_rows.ensures.ends.others c.keep_rows.ensures.ends.others (λ m k n one two q differs. two q (λ e. differs (e ∙ c.as_str-file.ensures.value)) ∙ one q (λ e. differs (e ∙ c.as_str-file.ensures.value)));
+  cause = search rules;
+}
 
-pub returns-clause-others : goal.returns-clause-others
-returns-clause-others g c = told_then _ _ _ _ _ _ c.take_rows.ensures.others c.keep_rows.ensures.others (λ m k n one two q differs. two q (λ e. differs (e ∙ c.as_str-file.ensures.value)) ∙ one q (λ e. differs (e ∙ c.as_str-file.ensures.value)))
+pub returns-clause-ends : goal.returns-clause-ends
+returns-clause-ends g c = record {
+  cut = search rules;
+  others = told_then _ _ _ _ _ _ c.take_rows.ensures.ends.others c.keep_rows.ensures.ends.others (λ m k n one two q differs. two q (λ e. differs (e ∙ c.as_str-file.ensures.value)) ∙ one q (λ e. differs (e ∙ c.as_str-file.ensures.value)));
+  cause = search rules;
+}
 
 pub returns-clause-gathered : goal.returns-clause-gathered
 returns-clause-gathered g c =
     let flags = c.in_ok-flags.ensures in
-    let number : c.len.result ≡ length c.in_ok-rows.rows.pointers.items = omega (arith, c.len.ensures, c.in_ok-rows.rows.pointers.ok.0) in
+    let number : c.len.result ≡ length c.in_ok-rows.rows.pointers = c.len.ensures in
     let given = c.deref.ensures.value in
     let same = c.deref-2.ensures.value in
     kept_gathered (names_of c.args.table.now) c.args.opened.defs c.args.extend c.args.opened.length c.in_ok-scan.scan c.in_ok-again.again c.as_str-file.result.now c.in_ok-flags.flags.items c.in_ok-rows.rows c.in_ok-kept.kept c.in_ok-rows.keys c.sort_unique.new.self c.retain.new.self c.into_gathered-2.result _ _ _
-    c.requires.defs c.requires.apart.rows-new_rows c.in_ok-scan.ensures c.in_ok-again.ensures c.as_str-file.ensures.value c.requires.table (λ m held. g.met.F.Files.told_bytes c.args.files.now m held) c.in_ok-rows.ensures.took c.take_rows.ensures.others c.sort_unique.ensures
+    c.requires.defs c.requires.apart.rows-new_rows c.in_ok-scan.ensures c.in_ok-again.ensures c.as_str-file.ensures.value c.requires.table (λ m held. g.met.F.Files.told_bytes c.args.files.now m held) c.in_ok-rows.ensures.took c.take_rows.ensures.ends.others c.sort_unique.ensures
     (flags.long ∙ number) (λ all many are. flags.kept all (many ∙ sym number) are)
     (subst (λ fs. TakesChosen c.args.opened.defs c.in_ok-again.again c.as_str-file.result.now (is_chosen fs) c.in_ok-kept.kept (g.F.Files.holds c.take_rows.new.files) (g.F.Files.holds c.keep_rows.new.files)) given c.in_ok-kept.ensures.took)
     (c.retain.ensures ∙ ap (λ fs. map (filter (has_flag fs)) c.sort_unique.new.self) same) c.into_gathered-2.ensures

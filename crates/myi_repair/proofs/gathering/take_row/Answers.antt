@@ -35,5 +35,5 @@ pub returns-clause-keys : goal.returns-clause-keys
 returns-clause-keys g c = on_ok c.put.result _ (λ row prepared.
     let d = c.args.defs.now in
     c.in_ok-push.ensures
-    ∙ ap (λ n. with_pairs n (row_keys d c.view_packed-row.result) c.args.keys.now) (omega (arith, c.len.ensures, c.args.rows.now.pointers.ok.0))
-    ∙ ap (λ v. with_pairs (length c.args.rows.now.pointers.items) (row_keys d v) c.args.keys.now) (read_back d row c.args.next.now c.deref.result.now c.view_packed-row.result c.requires.defs prepared c.deref.ensures.value c.view_packed-row.ensures.found))
+    ∙ ap (λ n. with_pairs n (row_keys d c.view_packed-row.result) c.args.keys.now) c.len.ensures
+    ∙ ap (λ v. with_pairs (length c.args.rows.now.pointers) (row_keys d v) c.args.keys.now) (read_back d row c.args.next.now c.deref.result.now c.view_packed-row.result c.requires.defs prepared c.deref.ensures.value c.view_packed-row.ensures.found))

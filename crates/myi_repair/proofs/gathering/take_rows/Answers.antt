@@ -52,18 +52,18 @@ loop-keys-preserved g c =
     let next = c.read.new.scan in
     let read = subst (λ more. ReadsIf more d mid c.loop-keys.scan next c.read.new.self) c.if-branch.true c.in_ok-read.ensures.read in
     let took = c.in_ok-take_row.ensures in
-    let others = told_from mid _ after _ c.read.ensures.holds took.others in
+    let others = told_from mid _ after _ c.read.ensures.holds took.ends.others in
     let writes = told_from mid _ after _ c.read.ensures.holds took.written in
     let same = same_then start c.loop-keys.scan next was.same c.in_ok-read.ensures.same in
     let number = written_long d all_chosen was.came c.loop-keys.rows was.so_far.written in
     record {
       same = same;
       current = stays_known file mid mid after next next refl (λ e. c.requires.apart (sym same.name ∙ e)) (record { name = refl; test = refl; extend = refl; end = omega arith }) c.in_ok-read.ensures.current others;
-      later = omega (arith, was.later, c.read.ensures.cause.later, took.cause.later);
+      later = omega (arith, was.later, c.read.ensures.cause.later, took.ends.cause.later);
       others = told_then _ _ _ _ _ _ was.others others (λ m k n before kept q differs. kept q differs ∙ before q differs);
       came = was.came ++ read.row ∷ [];
       so_far = taking_more d start c.loop-keys.scan next file all_chosen true was.came c.loop-keys.rows c.take_row.new.rows c.read.new.self _ mid after (λ e. c.requires.apart (sym same.name ∙ e)) same.end was.so_far read refl took.added writes others;
-      lists = keys_more d was.came read.row (length c.loop-keys.rows.pointers.items) c.loop-keys.keys c.take_row.new.keys number was.lists (took.keys read.row read.prepared);
+      lists = keys_more d was.came read.row (length c.loop-keys.rows.pointers) c.loop-keys.keys c.take_row.new.keys number was.lists (took.keys read.row read.prepared);
     }
 
 pub loop-keys-smaller : goal.loop-keys-smaller

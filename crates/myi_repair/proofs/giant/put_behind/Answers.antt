@@ -112,7 +112,6 @@ loop-size-preserved g c =
       near = omega (arith, less, short, c.middle_room-in-Some.ensures, was.near, c.in_ok-place.ensures.behind, bounds.0, bounds.1);
       less = omega (arith, was.less, c.in_ok-place.ensures.behind, sized.1);
       few = omega (arith, less, short, c.middle_room-in-Some.ensures, was.few, bounds.1);
-      buffer = c.in_ok-place.ensures.buffer ∙ was.buffer;
       counted = omega (arith, was.counted, middle_counts _ _ _ _ _ _ _ _ m);
       taken = omega (arith, was.taken, less, short, c.middle_room-in-Some.ensures, middle_takes _ _ _ _ _ _ _ _ m);
       faults = omega (arith, was.faults, c.in_ok-place.ensures.cause.later);

@@ -10,7 +10,6 @@ invariant-loop-size g l = record {
   near : l.place + 5 * length l.left ≤ l.fn.at + 5 * length l.fn.rest;
   less : l.fn.at + l.count ≤ l.place;
   few : l.count + length l.left ≤ length l.fn.rest;
-  buffer : length l.buffer ≡ length l.fn.buffer;
   counted : l.count + length (shares_behind l.sizes (length l.left)) ≡ length (shares_behind l.fn.sizes (length l.fn.rest));
   taken : bytes_taken (shares_behind l.fn.sizes (length l.fn.rest)) + length l.left ≡ bytes_taken (shares_behind l.sizes (length l.left)) + length l.fn.rest;
   faults : g.F.Files.faults l.fn.files ≤ g.F.Files.faults l.files;

@@ -1,22 +1,32 @@
-use Rattle.std.proofs.Common.{length, sym, subst, arith}
-use Rattle.std.proofs.lemmas.List.{length-take-le}
-use Rattle.myi_frames.specs.Writing.{IsWritable, end_spec}
-use Rattle.myi_data.proofs.CallerLemmas.{end_writable, end_short}
+use Rattle.std.proofs.Common.{◌+◌, ◌∙◌, length, sym, ap, subst, arith}
+use Rattle.std.specs.Prelude.{OnOk, OnErr}
+use Rattle.std.proofs.lemmas.Result.{IfOk-weaker}
+use Rattle.myi_base.specs.Holding.{Told, Writes, WritesPart}
+use Rattle.myi_frames.specs.Writing.{IsWritable, block_bytes, end_spec}
+use Rattle.myi_data.proofs.CallerLemmas.{end_writable}
+use Rattle.myi_repair.proofs.GiantLaws.{end_unused}
 use Rattle.myi_repair.proofs.giant.put_end.Goals as goal
 
-pub returns-clause-less : goal.returns-clause-less
-returns-clause-less g c = omega (arith, c.end_size-size.ensures, (end_writable (length c.args.rest.now) c.args.size c.requires.multiple c.requires.least c.requires.end).least)
-
-pub fill_block-requires-clause-block : goal.fill_block-requires-clause-block
-fill_block-requires-clause-block g c =
+pub put_block-requires-clause-block : goal.put_block-requires-clause-block
+put_block-requires-clause-block g c κs lives =
     let n = length c.args.rest.now in
     subst (λ size. IsWritable end_spec n size) (sym c.end_size-size.ensures) (end_writable n c.args.size c.requires.multiple c.requires.least c.requires.end)
 
-pub fill_block-requires-clause-room : goal.fill_block-requires-clause-room
-fill_block-requires-clause-room g c = omega (arith, c.requires.buffer, c.end_size-size.ensures, end_short (length c.args.rest.now) c.args.size c.requires.end)
+pub put_block-requires-clause-unused : goal.put_block-requires-clause-unused
+put_block-requires-clause-unused g c κs lives =
+    let n = length c.args.rest.now in
+    end_unused n c.end_size-size.result (subst (λ size. IsWritable end_spec n size) (sym c.end_size-size.ensures) (end_writable n c.args.size c.requires.multiple c.requires.least c.requires.end))
 
-pub slice_bounds-write_at-end : goal.slice_bounds-write_at-end
-slice_bounds-write_at-end g c = omega (arith, c.fill_block.ensures.buffer, c.requires.buffer, c.end_size-size.ensures, end_short (length c.args.rest.now) c.args.size c.requires.end)
+pub returns-clause-ok : goal.returns-clause-ok
+returns-clause-ok g c = subst (λ n. OnOk c.put_block.result (Told (g.F.Files.holds c.args.files.now) (g.F.Files.holds c.put_block.new.files) (Writes c.args.file.now c.args.at (block_bytes end_spec c.args.rest.now n)))) c.end_size-size.ensures c.put_block.ensures.ok
 
-pub slice_bounds-write_at-end-2 : goal.slice_bounds-write_at-end-2
-slice_bounds-write_at-end-2 g c = sym (length-take-le c.end_size-size.result c.fill_block.new.buffer (omega (arith, c.fill_block.ensures.buffer, c.requires.buffer, c.end_size-size.ensures, end_short (length c.args.rest.now) c.args.size c.requires.end)))
+pub returns-clause-err : goal.returns-clause-err
+returns-clause-err g c = subst (λ n. OnErr c.put_block.result (Told (g.F.Files.holds c.args.files.now) (g.F.Files.holds c.put_block.new.files) (WritesPart c.args.file.now c.args.at (block_bytes end_spec c.args.rest.now n)))) c.end_size-size.ensures c.put_block.ensures.err
+
+pub returns-clause-behind : goal.returns-clause-behind
+returns-clause-behind g c = IfOk-weaker c.put_block.result _ _ (λ r is. is ∙ ap (λ n. c.args.at + n) c.end_size-size.ensures) c.put_block.ensures.behind
+
+pub returns-clause-less : goal.returns-clause-less
+returns-clause-less g c =
+    let least = (end_writable (length c.args.rest.now) c.args.size c.requires.multiple c.requires.least c.requires.end).least in
+    IfOk-weaker c.put_block.result _ _ (λ r is. omega (arith, is, c.end_size-size.ensures, least)) c.put_block.ensures.behind

@@ -5,6 +5,6 @@ use Rattle.myi_repair.proofs.repair.build.Goals as goal
 
 pub returns-in-Err-clause-ends : goal.returns-in-Err-clause-ends
 returns-in-Err-clause-ends g c =
-    cleared_ends _ _ _ _ _ _ _ _ c.in-Err.ensures.cut (λ file. c.in-Err.ensures.cause.cause (ap Err file)) c.in-Err.ensures.cause.later
-    (told_more _ _ _ _ c.in-Err.ensures.others (λ m n held kept q a b other d. kept q (λ e. d (e ∙ c.as_str-index.ensures.value))))
+    cleared_ends _ _ _ _ _ _ _ _ c.in-Err.ensures.ends.cut (λ file. c.in-Err.ensures.ends.cause.cause (ap Err file)) c.in-Err.ensures.ends.cause.later
+    (told_more _ _ _ _ c.in-Err.ensures.ends.others (λ m n held kept q a b other d. kept q (λ e. d (e ∙ c.as_str-index.ensures.value))))
     c.clear.ensures.later c.clear.ensures.others c.clear.ensures.gone

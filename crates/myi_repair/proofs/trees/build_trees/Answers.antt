@@ -1,4 +1,4 @@
-use Rattle.std.proofs.Common.{◌∙◌, ap, sym, subst}
+use Rattle.std.proofs.Common.{rules, ◌∙◌, ap, sym, subst}
 use Rattle.myi_base.specs.Holding.{Holding, OthersStay, bytes_of}
 use Rattle.myi_defs.proofs.CallerLemmas.{sound}
 use Rattle.myi_header.specs.Layout.{first_page_of}
@@ -12,24 +12,36 @@ use Rattle.myi_repair.proofs.trees.build_trees.Goals as goal
 pub lay_trees-requires-clause-sound : goal.lay_trees-requires-clause-sound
 lay_trees-requires-clause-sound g c κs lives = sound c.args.defs.now c.requires.defs
 
-pub returns-in_err-trees-clause-others : goal.returns-in_err-trees-clause-others
-returns-in_err-trees-clause-others g c =
+pub returns-in_err-trees-clause-ends : goal.returns-in_err-trees-clause-ends
+returns-in_err-trees-clause-ends g c =
     let made = c.in_ok-cache.ensures in
-    told_then _ _ _ _ _ _ c.in_ok-cut.ensures.ok c.lay_trees.ensures.others (λ m k n cut laid. others_laid c.in_ok-cache.cache c.args.file.now (first_page_of c.args.defs.now) m k n made.pages made.name (made.current k) cut laid)
+    record {
+      cut = search rules;
+      others = told_then _ _ _ _ _ _ c.in_ok-cut.ensures.ok c.lay_trees.ensures.others (λ m k n cut laid. others_laid c.in_ok-cache.cache c.args.file.now (first_page_of c.args.defs.now) m k n made.pages made.name (made.current k) cut laid);
+      cause = search rules;
+    }
 
-pub returns-in-Ok-clause-others : goal.returns-in-Ok-clause-others
-returns-in-Ok-clause-others g c =
+pub returns-in-Ok-clause-ends : goal.returns-in-Ok-clause-ends
+returns-in-Ok-clause-ends g c =
     let made = c.in_ok-cache.ensures in
     let named = c.lay_trees.ensures.name ∙ made.name in
     let laid = told_then _ _ _ _ _ (OthersStay c.args.file.now) c.in_ok-cut.ensures.ok c.lay_trees.ensures.others (λ m k n cut laid. others_laid c.in_ok-cache.cache c.args.file.now (first_page_of c.args.defs.now) m k n made.pages made.name (made.current k) cut laid) in
-    told_then _ _ _ _ _ _ laid c.flush.ensures.others (λ m k n before flushed q differs. flushed q (λ same. differs (same ∙ named)) ∙ before q differs)
+    record {
+      cut = search rules;
+      others = told_then _ _ _ _ _ _ laid c.flush.ensures.others (λ m k n before flushed q differs. flushed q (λ same. differs (same ∙ named)) ∙ before q differs);
+      cause = search rules;
+    }
 
-pub returns-clause-others : goal.returns-clause-others
-returns-clause-others g c =
+pub returns-clause-ends : goal.returns-clause-ends
+returns-clause-ends g c =
     let made = c.in_ok-cache.ensures in
     let named = c.lay_trees.ensures.name ∙ made.name in
     let laid = told_then _ _ _ _ _ (OthersStay c.args.file.now) c.in_ok-cut.ensures.ok c.lay_trees.ensures.others (λ m k n cut laid. others_laid c.in_ok-cache.cache c.args.file.now (first_page_of c.args.defs.now) m k n made.pages made.name (made.current k) cut laid) in
-    told_then _ _ _ _ _ _ laid c.flush.ensures.others (λ m k n before flushed q differs. flushed q (λ same. differs (same ∙ named)) ∙ before q differs)
+    record {
+      cut = search rules;
+      others = told_then _ _ _ _ _ _ laid c.flush.ensures.others (λ m k n before flushed q differs. flushed q (λ same. differs (same ∙ named)) ∙ before q differs);
+      cause = search rules;
+    }
 
 pub returns-in-Ok-clause-built : goal.returns-in-Ok-clause-built
 returns-in-Ok-clause-built g c =

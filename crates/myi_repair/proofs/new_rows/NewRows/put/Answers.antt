@@ -37,7 +37,7 @@ returns-clause-added g c row prepared =
     (c.in_ok-end.ensures.count ∙ put_count d row c.deref-2.result.now c.deref.result.now bytes sizes)
     (c.in_ok-end.ensures.end ∙ ap (λ (x : List ℕ). k.end + length x) (put_bytes d row k.end c.deref-2.result.now c.deref.result.now bytes sizes))
     (c.in_ok-end.ensures.less some)
-    (c.in_ok-push.ensures.items ∙ ap (λ p. k.pointers.items ++ p ∷ []) c.pointer.ensures)
+    (c.in_ok-push.ensures.added ∙ ap (λ p. k.pointers ++ p ∷ []) c.pointer.ensures)
     (sym c.addressable.ensures ∙ c.if-not-addressable.false)
 
 pub returns-clause-written : goal.returns-clause-written
