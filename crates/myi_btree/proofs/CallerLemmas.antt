@@ -24,5 +24,12 @@ pub use Rattle.myi_btree.proofs.LaidRead.{laid_written, written_read}
 pub use Rattle.myi_btree.proofs.FilePages.{page_long, pages_long, tree_behind}
 -- trees_have_few_pages
 pub use Rattle.myi_btree.proofs.FewPages.{laid_few}
+-- events_are_walks
+pub use Rattle.myi_btree.proofs.EventLaws.{meets_once}
+pub use Rattle.myi_btree.proofs.EventWalks.{meets_walk, walk_meets, MeetsWalk}
+-- trees_have_events
+pub use Rattle.myi_btree.proofs.DepthLaws.{events_met, tree_met}
+-- disjoint ranges
+pub use Rattle.myi_btree.proofs.FewBytes.{filled, few_bytes}
 -- These hold of any fact or any function, which no clause can say.
 pub use Rattle.myi_btree.proofs.Frames.{bind_some}

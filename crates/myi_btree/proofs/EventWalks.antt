@@ -24,7 +24,7 @@ apart_parts block r (q ∷ qs) p e =
     let rest = apart_parts block r qs p k.1 in
     (and_from (are_apart r (page_range block q)) (is_apart r (map (page_range block) qs)) k.0 rest.0, rest.1)
 
-apart_from : (block : ℕ) (r : Range) (met : List ℕ) (p : ℕ) → is_apart r (map (page_range block) met) ≡ true → are_apart r (page_range block p) ≡ true → is_apart r (map (page_range block) (met ++ p ∷ [])) ≡ true
+pub apart_from : (block : ℕ) (r : Range) (met : List ℕ) (p : ℕ) → is_apart r (map (page_range block) met) ≡ true → are_apart r (page_range block p) ≡ true → is_apart r (map (page_range block) (met ++ p ∷ [])) ≡ true
 apart_from block r [] p e f = and_from (are_apart r (page_range block p)) true f refl
 apart_from block r (q ∷ qs) p e f =
     let k = and_parts (are_apart r (page_range block q)) (is_apart r (map (page_range block) qs)) e in

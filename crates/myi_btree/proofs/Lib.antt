@@ -31,6 +31,8 @@ pub mod EventLaws
 pub mod EventWalks
 pub mod GoingLaws
 pub mod UsedLaws
+pub mod FewBytes
+pub mod DepthLaws
 pub mod CursorLaws
 pub mod TreeWalks
 pub mod CanLaws

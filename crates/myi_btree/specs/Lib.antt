@@ -22,6 +22,8 @@ pub mod Visit
 pub mod Events
 -- a walk where trees before have pages
 pub mod Used
+-- the events of a tree, as a list
+pub mod TreeEvents
 -- trees in what a key cache lends
 pub mod CachedTrees
 -- what a walk still meets, by the pages that it has open

@@ -9,6 +9,7 @@ ghost use Rattle.myi_btree.specs.Visit.{HasWalk};
 ghost use Rattle.myi_btree.specs.Events.{Event, Meets, MeetsTree, first_bad, walked_in};
 ghost use Rattle.myi_base.specs.Ranges.{Range};
 ghost use Rattle.myi_btree.specs.Used.{up_to_used, apart_from};
+ghost use Rattle.myi_btree.specs.TreeEvents.{tree_events, AreWithin};
 ghost use Rattle.myi_btree.specs.Serving.{View};
 ghost use Rattle.myi_btree.specs.Walking.{Walking, walk_at, IsOver, IsStillMet, MayGo};
 ghost use Rattle.std.specs.List.{flat_map, AllByRecursion};
@@ -83,6 +84,13 @@ pub fn events_are_walks()
         → HasWalk place.block_length (node_lent place cache m) at w
         → (es : List Event) × Meets place.block_length (node_lent place cache m) at es
         × (first_bad es ≡ None) × (walked_in es ≡ w) }
+{}
+
+/// Where the pages of a tree stand in so many bytes, what its walk meets is the list of its events.
+pub fn trees_have_events()
+    ensures { (len block : ℕ) (read : Places) (root : Option ℕ) → 0 < block
+        → AreWithin len block read
+        → MeetsTree block read root (tree_events len block read root) }
 {}
 
 /// Where trees before have pages, a walk ends at the first page that has a byte of one: its events up to there

@@ -8,6 +8,8 @@ pub use Rattle.myi_pair.proofs.KeptLaws.{readable_storable}
 pub use Rattle.myi_pair.proofs.SizedLaws.{placed, is_key, laid_short}
 -- recovered_bytes_recover
 pub use Rattle.myi_pair.proofs.RecoveredLaws.{recovered}
+-- findings_are_none_where_clean
+pub use Rattle.myi_pair.proofs.FoundLaws.{none_where_clean, clean_where_none, none_recovered}
 -- written_parts_are_measured
 pub use Rattle.myi_pair.proofs.ShorterLaws.{length-slot}
 pub use Rattle.myi_pair.proofs.SizedLaws.{pointer_near}

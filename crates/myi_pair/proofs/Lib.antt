@@ -16,3 +16,7 @@ pub mod RebuiltLaws
 pub mod RecoveredLaws
 mod Worked
 pub mod SecondLaws
+pub mod FirstBadLaws
+pub mod DistinctLaws
+pub mod MetLaws
+pub mod FoundLaws

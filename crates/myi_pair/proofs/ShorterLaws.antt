@@ -1,7 +1,7 @@
 -- A repaired data file is no longer than the one before.
-use Rattle.std.proofs.Common.{◌≡◌, ℕ, zero, suc, ◌+◌, ◌-◌, ◌*◌, ◌/◌, ◌^◌, ◌<◌, ◌≤◌, min, Bool, true, false, cond, ◌⊎◌, inl, inr, List, [], ◌∷◌, ◌++◌, length, map, nat_le, nat_lt, sum, sum_by, All, refl, sym, ap, subst, ◌∙◌, arith, length-append, div-mul-le_self, le-div_iff_mul-le}
+use Rattle.std.proofs.Common.{◌≡◌, ℕ, ◌+◌, ◌-◌, ◌*◌, ◌/◌, ◌^◌, ◌<◌, ◌≤◌, Bool, true, false, cond, ◌⊎◌, inl, inr, List, [], ◌∷◌, ◌++◌, length, map, nat_le, nat_lt, sum, sum_by, All, refl, sym, ap, subst, ◌∙◌, arith, length-append, div-mul-le_self, le-div_iff_mul-le}
 use Rattle.std.specs.List.{list_any, AllByRecursion}
-use Rattle.std.proofs.lemmas.Bool.{and_parts, and_from, or_cases, or_left, or_right, leb-true, leb-false, le-leb, ltb-true, lt-ltb}
+use Rattle.std.proofs.lemmas.Bool.{and_parts, and_from, or_cases, or_left, or_right, leb-true, le-leb, ltb-true, lt-ltb}
 use Rattle.std.proofs.lemmas.List.Elements.{All-from_recursion, recursion_from_All}
 use Rattle.std.proofs.lemmas.List.Folds.{list_all-append}
 use Rattle.std.proofs.lemmas.List.Sorted.{All-permutation, sum_by-IsPermutation}
@@ -27,6 +27,7 @@ use Rattle.myi_data.specs.Readable.{readable}
 use Rattle.myi_data.specs.Stored.{SizedRow, Share, shares, group_by, group, stored_size, stored, stored_from, stored_file, IsStorable}
 use Rattle.myi_data.proofs.CallerLemmas.{spelling_some, stored_long, shares_less}
 use Rattle.myi_data.proofs.CallerLemmas.{rows_apart}
+use Rattle.myi_btree.proofs.CallerLemmas.{filled, few_bytes}
 use Rattle.myi_pair.specs.FirstRows.{repeats_row, first_rows}
 use Rattle.myi_keylist.specs.FirstBy.{first_after}
 use Rattle.myi_pair.specs.Trees.{total}
@@ -36,47 +37,6 @@ use Rattle.myi_pair.proofs.ReadLaws.{HasRoom, IsFine, readable_fine}
 use Rattle.myi_pair.proofs.KeptLaws.{packs_values, row_storable, readable_storable, all-mapped, kept_each}
 
 -- ranges that are apart have no more bytes than the file
-
-abbrev pub filled : ℕ → List Range → ℕ
-filled n [] = 0
-filled n (r ∷ rs) = (min r.1 n - r.0) + filled n rs
-
-untouched : (n : ℕ) (r : Range) (rs : List Range) → r.0 ≤ n → n < r.1 → is_apart r rs ≡ true → filled (n + 1) rs ≡ filled n rs
-untouched n r [] low high apart = refl
-untouched n r (s ∷ rs) low high apart =
-    let both = and_parts (are_apart r s) (is_apart r rs) apart in
-    let others = untouched n r rs low high both.1 in
-    by (or_cases (nat_le r.1 s.0) (nat_le s.1 r.0) both.0) others
-  where
-    by : (nat_le r.1 s.0 ≡ true) ⊎ (nat_le s.1 r.0 ≡ true) → filled (n + 1) rs ≡ filled n rs → (min s.1 (n + 1) - s.0) + filled (n + 1) rs ≡ (min s.1 n - s.0) + filled n rs
-    by (inl before) others = omega (arith, leb-true _ _ before)
-    by (inr after) others = omega (arith, leb-true _ _ after)
-
-one_more : (n : ℕ) (rs : List Range) → AreDisjoint rs → filled (n + 1) rs ≤ filled n rs + 1
-one_more n [] apart = omega arith
-one_more n (r ∷ rs) apart = by (leb_cases r.0 n) (leb_cases r.1 n) (one_more n rs apart.1)
-  where
-    leb_cases : (a b : ℕ) → (a ≤ b) ⊎ (b < a)
-    leb_cases a b = cases (nat_le a b) refl
-      where
-        cases : (t : Bool) → nat_le a b ≡ t → (a ≤ b) ⊎ (b < a)
-        cases true is = inl (leb-true a b is)
-        cases false is = inr (leb-false a b is)
-
-    by : (r.0 ≤ n) ⊎ (n < r.0) → (r.1 ≤ n) ⊎ (n < r.1) → filled (n + 1) rs ≤ filled n rs + 1 → (min r.1 (n + 1) - r.0) + filled (n + 1) rs ≤ (min r.1 n - r.0) + filled n rs + 1
-    by (inl low) (inl short) others = omega arith
-    by (inl low) (inr high) others = omega (arith, untouched n r rs low high apart.0)
-    by (inr above) short others = omega arith
-
-none_yet : (rs : List Range) → filled 0 rs ≡ 0
-none_yet [] = refl
-none_yet (r ∷ rs) = omega (arith, none_yet rs)
-
-few_bytes : (n : ℕ) (rs : List Range) → AreDisjoint rs → filled n rs ≤ n
-few_bytes zero rs apart = omega (arith, none_yet rs)
-few_bytes (suc n) rs apart =
-    let e : suc n ≡ n + 1 = omega arith in
-    subst (λ m. filled m rs ≤ m) (sym e) (omega (arith, one_more n rs apart, few_bytes n rs apart))
 
 abbrev pub Inside : ℕ → List Range → Type 0
 Inside len rs = AllByRecursion (λ (r : Range). r.1 ≤ len) rs

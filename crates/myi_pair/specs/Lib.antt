@@ -8,6 +8,10 @@ pub mod KeyList
 pub mod Trees
 -- a clean pair of files
 pub mod Clean
+-- the first failing thing of lists of tests, of deleted blocks, of what a walk meets, and of bytes
+pub mod FirstBad
+-- what is wrong with a pair
+pub mod Findings
 -- the two files of a table of given rows that is made anew, as bytes
 pub mod RebuiltBytes
 -- what is to hold of them

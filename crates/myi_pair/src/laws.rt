@@ -27,6 +27,7 @@ ghost use Rattle.myi_pair.specs.FirstRows.{key_numbers, first_rows, AreDistinct}
 ghost use Rattle.myi_pair.specs.KeyList.{PlacedRow, pointer, pair_of, pairs_of, key_list};
 ghost use Rattle.myi_pair.specs.Trees.{place_of, node_at, HaveTrees, total};
 ghost use Rattle.myi_pair.specs.Clean.{values_of, sized_row, IsClean};
+ghost use Rattle.myi_pair.specs.Findings.{findings};
 ghost use Rattle.myi_pair.specs.RebuiltBytes.{without_free_pages, placed_from, new_trees, rebuilt_index, rebuilt};
 ghost use Rattle.myi_pair.specs.Rebuilt.{CanBeRebuilt, Rebuilt};
 ghost use Rattle.myi_pair.specs.RecoveredBytes.{kept, new_data, new_index};
@@ -163,6 +164,18 @@ pub fn recovered_bytes_recover()
 pub fn clean_tables_keep_all()
     ensures { (defs : Defs) (d x : List ℕ) → read_defs x ≡ Ok defs → IsClean d x
         → kept defs false d ≡ map (sized_row defs) (readable defs false d) }
+{}
+
+/// Nothing is found wrong with a pair of files exactly where it is clean. So nothing is found wrong with what
+/// a repair leaves.
+pub fn findings_are_none_where_clean()
+    ensures none { (d : Defs) (rows x : List ℕ) → read_defs x ≡ Ok d → IsClean rows x
+        → findings d rows x ≡ [] }
+    ensures clean { (d : Defs) (rows x : List ℕ) → read_defs x ≡ Ok d → findings d rows x ≡ []
+        → IsClean rows x }
+    ensures recovered { (d again : Defs) (extend : Bool) (x : List ℕ) (now : ℕ)
+        → IsRepairable d x now → read_defs (new_index d extend x now) ≡ Ok again
+        → findings again (new_data d extend x) (new_index d extend x now) ≡ [] }
 {}
 
 /// The measures of what a repair writes: a static row takes its slot, a place in a file within reach fits

@@ -1,9 +1,11 @@
-//! A table's two files beside each other: what a clean pair is, and what a repair leaves.
+//! A table's two files beside each other: what a clean pair is, what is wrong with one that is not, and what a
+//! repair leaves.
 //!
 //! The model is in `specs/`: the first rows of unique keys (`FirstRows`), the key list of a key
-//! (`KeyList`), the trees of an index file (`Trees`), a clean pair (`Clean`), the files of a table of
-//! given rows that is made anew, as bytes (`RebuiltBytes`) and in what holds of them (`Rebuilt`), and those
-//! that a repair leaves (`RecoveredBytes`, `Recovered`). The laws over them are the contracts of the
+//! (`KeyList`), the trees of an index file (`Trees`), a clean pair (`Clean`), what is wrong with a pair
+//! (`Findings`, the first failing thing of each section, over `FirstBad`), the files of a table of given rows that is
+//! made anew, as bytes (`RebuiltBytes`) and in what holds of them (`Rebuilt`), and those that a repair leaves
+//! (`RecoveredBytes`, `Recovered`). The laws over them are the contracts of the
 //! functions in `laws`.
 //!
 //! It has definitions and laws and no code that runs, so its use is a contract that cites it:
@@ -21,10 +23,13 @@
 //! this one.
 #![tactic(auto)]
 
+mod finding;
 mod laws;
 
+pub use finding::{Finding, HeaderItem};
 pub use laws::{
-    clean_tables_keep_all, first_rows_are_distinct, index_pages_are_nodes, kept_rows_make_a_table,
-    new_trees_stand, pairs_are_sized, rebuilt_files_are_a_table, rebuilt_files_are_no_longer,
-    recovered_bytes_recover, repairs_of_rebuilt_files_settle, written_parts_are_measured,
+    clean_tables_keep_all, findings_are_none_where_clean, first_rows_are_distinct,
+    index_pages_are_nodes, kept_rows_make_a_table, new_trees_stand, pairs_are_sized,
+    rebuilt_files_are_a_table, rebuilt_files_are_no_longer, recovered_bytes_recover,
+    repairs_of_rebuilt_files_settle, written_parts_are_measured,
 };
