@@ -7,19 +7,6 @@ use std::process::ExitCode;
 use std::rt::{Clock, Env};
 use std::{env, io};
 
-fn code(status: Status) -> u8 {
-    match status {
-        Status::Ok => 0,
-        Status::Findings => 1,
-        Status::Usage => 2,
-        Status::Refused => 3,
-        Status::Absent => 4,
-        Status::FileFault => 5,
-        Status::SinkFault => 6,
-        Status::Memory => 7,
-    }
-}
-
 // The words after the program's name; none where they are no text, which is no command either.
 fn words<R: Env + AllocGlobal>(rt: &R) -> io::Result<Vec<String>> {
     Ok(env::args(rt)?.skip(1).collect(rt.alloc())?)
@@ -43,8 +30,8 @@ fn main(rt: HostRuntime) -> ExitCode {
     let mut out = RealSink::new(&rt);
     let status = kit(alloc, &words, &mut files, &mut out, now(&rt));
     match files.flush() {
-        Ok(()) => ExitCode::from(code(status)),
-        Err(FileErr::Memory) => ExitCode::from(code(Status::Memory)),
-        Err(FileErr::Failed) => ExitCode::from(code(Status::FileFault)),
+        Ok(()) => ExitCode::from(status.number()),
+        Err(FileErr::Memory) => ExitCode::from(Status::Memory.number()),
+        Err(FileErr::Failed) => ExitCode::from(Status::FileFault.number()),
     }
 }

@@ -1,2 +1,5 @@
+pub mod OptionLaws
+pub mod WordLaws
 pub mod SinkLaws
-pub mod RecoverLaws
+pub mod TurnLaws
+pub mod TableLaws

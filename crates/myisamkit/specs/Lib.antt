@@ -2,15 +2,21 @@
 
 -- the words of a command
 pub mod Words
+-- which options are known, and what they ask for together
+pub mod Options
 -- the printed lines
 pub mod Lines
--- what a run says and does
+-- the statuses
+pub mod Statuses
+-- a table's turn in a run
+pub mod Turns
+-- what a run says and does: its tables one after the other
 pub mod Runs
--- what a repair of a table comes to
-pub mod Recovers
 -- what serves private contracts
 
--- what ends a run before its line
+-- what cuts a run off
 pub mod Stops
+-- how words are read, one after the other
+pub mod Reading
 -- the plan that the code makes of the words
 pub mod Plans

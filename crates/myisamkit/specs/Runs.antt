@@ -1,103 +1,76 @@
--- What a run does, says and answers, by what the words ask for and what the files hold.
-use Rattle.std.specs.Prelude.{◌≡◌, ◌⊎◌, ℕ, Bool, List, ◌++◌, take, Option, Some, Result, Ok, Err}
+-- What a run says, answers and does, by what the words ask for and what the files hold: its tables have their turns one
+-- after the other, each on the files that the one before left.
+use Rattle.std.specs.Prelude.{◌≡◌, ◌⊎◌, ℕ, List, [], ◌∷◌, ◌++◌, Option, Some}
 use Rattle.myi_base.specs.Holding.{Holding, IfTold}
-use Rattle.myi_repair.specs.declared.fault.RepairFault.{RepairFault}
-use Rattle.myi_repair.specs.declared.fault.RepairFault.TheVariants as repair
-use Rattle.myi_repair.specs.Names.{names_for, KeepsBut, Clears}
-use Rattle.myi_repair.specs.Opening.{Table, table_in}
-use Rattle.myi_repair.specs.Gathering.{report_of}
-use Rattle.myi_repair.specs.Repaired.{Repaired, OldOrNew}
+use Rattle.myi_base.specs.Output.{Appends, AppendsPart}
 use Rattle.myisamkit.specs.declared.status.Status.{Status}
 use Rattle.myisamkit.specs.declared.status.Status.TheVariants as status
-use Rattle.myisamkit.specs.Words.{Request, usage, recover}
-use Rattle.myisamkit.specs.Lines.{usage_line, recovered_line, fault_line}
+use Rattle.myisamkit.specs.declared.status.Stop.{Stop}
+use Rattle.myisamkit.specs.declared.status.Stop.TheVariants as stop
+use Rattle.myisamkit.specs.declared.options.Options.{Options}
+use Rattle.myisamkit.specs.Words.{Request, usage, chk}
+use Rattle.myisamkit.specs.Statuses.{IsFault, worse, faults_told}
+use Rattle.myisamkit.specs.Lines.{usage_line}
+use Rattle.myisamkit.specs.Turns.{Turn, turn, TurnRecovers, CutsTurnOff, FailsInTurn}
 
--- the line on a table that is to be repaired
-abbrev pub repair_line : List ℕ → Bool → Result Table RepairFault → List ℕ
-repair_line name extend (Err f) = fault_line name f
-repair_line name extend (Ok t) = recovered_line name (report_of t.0 extend t.1)
+-- a turn and what comes after it
+abbrev pub then_run : Turn → Turn → Turn
+then_run first others = record { text = first.text ++ others.text; status = others.status; files = others.files }
 
-abbrev pub text : Request → Holding → List ℕ
-text usage m = usage_line
-text (recover extend name) m = repair_line name extend (table_in (names_for name) m)
+-- the tables of these names, behind tables of this status: all lines, the greatest status, the files at the end
+abbrev pub tables_run : Status → Options → ℕ → List (List ℕ) → Holding → Turn
+tables_run s o now [] m = record { text = []; status = s; files = m }
+tables_run s o now (name ∷ names) m = then_run (turn o now name m) (tables_run (worse s (turn o now name m).status) o now names (turn o now name m).files)
 
--- the status of a fault
-abbrev pub fault_status : RepairFault → Status
-fault_status (repair.Absent f) = status.Absent
-fault_status (repair.Def f) = status.Refused
-fault_status repair.TooLong = status.Refused
-fault_status repair.File = status.FileFault
-fault_status repair.Memory = status.Memory
+-- what a run comes to that nothing cuts off
+abbrev pub run_of : Request → ℕ → Holding → Turn
+run_of usage now m = record { text = usage_line; status = status.Usage; files = m }
+run_of (chk o names) now m = tables_run status.Ok o now names m
 
--- the status of a run that nothing cuts off
-abbrev pub repair_status : Result Table RepairFault → Status
-repair_status (Err f) = fault_status f
-repair_status (Ok t) = status.Ok
+-- ---- the files
 
-abbrev pub status_of : Request → Holding → Status
-status_of usage m = status.Usage
-status_of (recover extend name) m = repair_status (table_in (names_for name) m)
+-- each table had its turn
+abbrev pub TablesDone : Options → ℕ → List (List ℕ) → Holding → Holding → Type 0
+TablesDone o now [] m n = n ≡ m
+TablesDone o now (name ∷ names) m n = TurnRecovers o now name m × TablesDone o now names (turn o now name m).files n
 
--- this text is what the request says on these files
-abbrev pub IsText : Request → List ℕ → Holding → Type 0
-IsText request line m = line ≡ text request m
+-- a file fault or want of memory cut the turn of one of the tables off; those before it had theirs, those behind it had none
+abbrev pub CutsTablesOff : Options → ℕ → ℕ → ℕ → ℕ → List (List ℕ) → Holding → Holding → Type 0
+CutsTablesOff o now told before after [] m n = ⊥
+CutsTablesOff o now told before after (name ∷ names) m n = CutsTurnOff o now told before after name m n ⊎ (TurnRecovers o now name m × CutsTablesOff o now told before after names (turn o now name m).files n)
 
--- this status is what the request answers on these files
-abbrev pub IsStatus : Request → Status → Holding → Type 0
-IsStatus request status m = status ≡ status_of request m
+-- the output failed in the turn of one of the tables; those before it had theirs, those behind it had none
+abbrev pub FailsInTables : Options → ℕ → List (List ℕ) → Holding → Holding → Type 0
+FailsInTables o now [] m n = ⊥
+FailsInTables o now (name ∷ names) m n = FailsInTurn o now name m n ⊎ (TurnRecovers o now name m × FailsInTables o now names (turn o now name m).files n)
 
--- these three cut a run off
-abbrev pub IsFault : Status → Type 0
-IsFault status.FileFault = Unit {0}
-IsFault status.SinkFault = Unit {0}
-IsFault status.Memory = Unit {0}
-IsFault status.Ok = ⊥
-IsFault status.Findings = ⊥
-IsFault status.Usage = ⊥
-IsFault status.Refused = ⊥
-IsFault status.Absent = ⊥
+-- what a stop leaves of the tables
+abbrev pub TablesStop : Options → ℕ → ℕ → ℕ → List (List ℕ) → Stop → Holding → Holding → Type 0
+TablesStop o now before after names stop.File m n = CutsTablesOff o now 1 before after names m n
+TablesStop o now before after names stop.Memory m n = CutsTablesOff o now 0 before after names m n
+TablesStop o now before after names stop.Sink m n = FailsInTables o now names m n
 
--- how many faults of the files a status tells of
-abbrev pub faults_told : Status → ℕ
-faults_told status.FileFault = 1
-faults_told status.SinkFault = 0
-faults_told status.Memory = 0
-faults_told status.Ok = 0
-faults_told status.Findings = 0
-faults_told status.Usage = 0
-faults_told status.Refused = 0
-faults_told status.Absent = 0
+-- ---- by the status
 
--- nothing changed, or no more working files of the table are left than so many
-abbrev pub ClearsAway : ℕ → Request → Holding → Holding → Type 0
-ClearsAway most usage m n = n ≡ m
-ClearsAway most (recover extend name) m n = Clears most (names_for name) m n
+-- the files of these tables at a status, the files' count of faults having risen from the one number to the other
+abbrev pub TablesLeave : Options → ℕ → ℕ → ℕ → List (List ℕ) → Status → Holding → Holding → Type 0
+TablesLeave o now before after names status.FileFault m n = CutsTablesOff o now 1 before after names m n
+TablesLeave o now before after names status.Memory m n = CutsTablesOff o now 0 before after names m n
+TablesLeave o now before after names status.SinkFault m n = FailsInTables o now names m n
+TablesLeave o now before after names status.Ok m n = TablesDone o now names m n
+TablesLeave o now before after names status.Findings m n = TablesDone o now names m n
+TablesLeave o now before after names status.Usage m n = TablesDone o now names m n
+TablesLeave o now before after names status.Refused m n = TablesDone o now names m n
+TablesLeave o now before after names status.Absent m n = TablesDone o now names m n
 
--- at every status a table's files are the old ones or whole new ones, and other files keep what they hold
-abbrev pub LeavesWhole : Request → ℕ → Holding → Holding → Type 0
-LeavesWhole usage now m n = n ≡ m
-LeavesWhole (recover extend name) now m n = KeepsBut (names_for name) m n × OldOrNew name extend now m n
+abbrev pub Leaves : Request → ℕ → ℕ → ℕ → Status → Holding → Holding → Type 0
+Leaves usage now before after s m n = n ≡ m
+Leaves (chk o names) now before after s m n = TablesLeave o now before after names s m n
 
--- what a run does that nothing cuts off; a table that cannot be repaired keeps all that it has
-abbrev pub RepairsOrKeeps : List ℕ → Bool → ℕ → Result Table RepairFault → Holding → Holding → Type 0
-RepairsOrKeeps name extend now (Err f) m n = n ≡ m
-RepairsOrKeeps name extend now (Ok t) m n = Repaired name extend now t.0 t.1 (report_of t.0 extend t.1) n
+-- what was written is this text, or a front of it where a fault cut the run off
+abbrev pub Says : List ℕ → Option (List ℕ) → Option (List ℕ) → Status → Type 0
+Says text old new s = IfTold old (λ w. (IsFault s × AppendsPart text new w) ⊎ ((IsFault s → ⊥) × Appends text new w))
 
-abbrev pub Does : Request → ℕ → Holding → Holding → Type 0
-Does usage now m n = n ≡ m
-Does (recover extend name) now m n = RepairsOrKeeps name extend now (table_in (names_for name) m) m n
-
--- what was written is the text for these files
-abbrev pub SaysAll : Request → Option Holding → Option (List ℕ) → Option (List ℕ) → Type 0
-SaysAll request files old new = IfTold files (λ m. IfTold old (λ w. new ≡ Some (w ++ text request m)))
-
--- what was written is a prefix of the text
-abbrev pub SaysPart : Request → Option Holding → Option (List ℕ) → Option (List ℕ) → Type 0
-SaysPart request files old new = IfTold files (λ m. IfTold old (λ w. (k : ℕ) × (new ≡ Some (w ++ take k (text request m)))))
-
-abbrev pub Says : Request → Option Holding → Option (List ℕ) → Option (List ℕ) → Status → Type 0
-Says request files old new s = (IsFault s × SaysPart request files old new) ⊎ ((IsFault s → ⊥) × SaysAll request files old new)
-
--- this line was written, or a front of it where a fault cut the run off
-abbrev pub SaysLine : List ℕ → Option (List ℕ) → Option (List ℕ) → Status → Type 0
-SaysLine line old new s = (IsFault s × IfTold old (λ w. (k : ℕ) × (new ≡ Some (w ++ take k line)))) ⊎ ((IsFault s → ⊥) × IfTold old (λ w. new ≡ Some (w ++ line)))
+-- this status, or a fault
+abbrev pub IsOrFault : Status → Status → Type 0
+IsOrFault defined s = IsFault s ⊎ (s ≡ defined)

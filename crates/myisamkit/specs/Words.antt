@@ -1,22 +1,45 @@
 -- What the words of a command line ask for (MySQL Reference Manual, "myisamchk"; the commands are this
 -- project's own).
-use Rattle.std.specs.Prelude.{◌-◌, ◌&&◌, ◌||◌, true, false, ◌==◌, not, nat_lt, nat_le, ℕ, Bool, List, [], ◌∷◌, length, take, drop, map, slice_index, if◌then◌else◌, codes, String, string_bytes}
-use Rattle.std.specs.List.{list_all}
+use Rattle.std.specs.Prelude.{◌-◌, ◌&&◌, ◌||◌, true, false, ◌==◌, not, nat_lt, nat_le, ℕ, Bool, List, [], ◌∷◌, ◌++◌, length, take, drop, map, filter, slice_index, if◌then◌else◌, codes, String, string_bytes, Option}
+use Rattle.std.specs.List.{list_all, flat_map}
 use Rattle.std.specs.Str.{bytes_eq}
 use Rattle.std.specs.declared.alloc.Global.{Global}
+use Rattle.myisamkit.specs.declared.options.Flag.{Flag}
+use Rattle.myisamkit.specs.declared.options.Mode.{Mode}
+use Rattle.myisamkit.specs.declared.options.Mode.TheVariants.{Check, Recover, Describe}
+use Rattle.myisamkit.specs.declared.options.Options.{Options}
+use Rattle.myisamkit.specs.Options.{letter_flag, long_flag, go_together, options_in}
 
--- One command with its options and names, or a refusal. A repair of a table has every position tried or not.
+-- A command with its options and the names of its tables, or a refusal.
 pub data Request : Type 0 where
   usage : Request
-  recover : Bool → List ℕ → Request
+  chk : Options → List (List ℕ) → Request
 
--- an option: a word that begins with a dash and is longer than it
+-- ---- what a word is
+
+-- the word behind which all are names
+abbrev pub is_end : List ℕ → Bool
+is_end word = bytes_eq word (codes "--")
+
+-- options: a word that begins with a dash and is longer than it
 abbrev pub is_option : List ℕ → Bool
-is_option word = (slice_index word 0 == 45) && nat_lt 1 (length word)
+is_option word = nat_lt 1 (length word) && (slice_index word 0 == 45)
 
--- a name has 1 to 200 bytes, none of them below 32, and is no option
+-- the word names a table, where the word -- came before or not
+abbrev pub names_table : Bool → List ℕ → Bool
+names_table ended word = ended || not (is_end word || is_option word)
+
+-- a long option
+abbrev pub is_long : List ℕ → Bool
+is_long word = bytes_eq (take 2 word) (codes "--")
+
+-- the options that a word is: a long one, or one for each letter
+abbrev pub flags_of : List ℕ → List (Option Flag)
+flags_of word = if is_long word then long_flag (drop 2 word) ∷ [] else map letter_flag (drop 1 word)
+
+-- a name has 1 to 200 bytes, none of them below 32
 abbrev pub is_name : List ℕ → Bool
-is_name word = nat_lt 0 (length word) && (nat_le (length word) 200 && (list_all (λ b. nat_le 32 b) word && not (is_option word)))
+is_name word = nat_lt 0 (length word) && (nat_le (length word) 200 && list_all (λ b. nat_le 32 b) word)
 
 -- the word names the index file: it ends with .MYI and is longer
 abbrev pub names_index : List ℕ → Bool
@@ -26,23 +49,46 @@ names_index word = nat_lt 4 (length word) && bytes_eq (drop (length word - 4) wo
 abbrev pub table_name : List ℕ → List ℕ
 table_name word = if names_index word then take (length word - 4) word else word
 
--- the word asks for a repair
-abbrev pub is_recover : List ℕ → Bool
-is_recover word = bytes_eq word (codes "--recover") || bytes_eq word (codes "-r")
+-- ---- what a list of words is
 
--- the word asks for every position to be tried
-abbrev pub is_extend : List ℕ → Bool
-is_extend word = bytes_eq word (codes "--extend-check") || bytes_eq word (codes "-e")
+-- the words before the first --, and those behind it
+abbrev pub before_end : List (List ℕ) → List (List ℕ)
+before_end [] = []
+before_end (word ∷ words) = if is_end word then [] else word ∷ before_end words
 
--- the one command that there is
-abbrev pub plan_recover : Bool → List ℕ → List ℕ → List ℕ → Request
-plan_recover extend command mode word =
-    if bytes_eq command (codes "chk") && (is_recover mode && is_name word) then recover extend (table_name word) else usage
+abbrev pub after_end : List (List ℕ) → List (List ℕ)
+after_end [] = []
+after_end (word ∷ words) = if is_end word then words else after_end words
+
+-- the options among the words
+abbrev pub flags_in : List (List ℕ) → List (Option Flag)
+flags_in words = flat_map flags_of (filter is_option (before_end words))
+
+-- the words that are no options
+abbrev pub names_in : List (List ℕ) → List (List ℕ)
+names_in words = filter (λ word. not (is_option word)) (before_end words) ++ after_end words
+
+abbrev pub is_empty : List (List ℕ) → Bool
+is_empty [] = true
+is_empty (word ∷ words) = false
+
+-- the modes that are built
+abbrev pub is_built : Mode → Bool
+is_built Recover = true
+is_built Check = false
+is_built Describe = false
+
+-- the words behind a command have a name, all are in form, the options go together, and the mode is built
+abbrev pub are_accepted : List (List ℕ) → Bool
+are_accepted words = (not (is_empty (names_in words)) && list_all is_name (names_in words)) && (go_together (flags_in words) && is_built (options_in (flags_in words)).mode)
+
+-- what the words behind the command ask for
+abbrev pub plan_chk : List (List ℕ) → Request
+plan_chk words = if are_accepted words then chk (options_in (flags_in words)) (map table_name (names_in words)) else usage
 
 abbrev pub plan : List (List ℕ) → Request
-plan (command ∷ mode ∷ word ∷ []) = plan_recover false command mode word
-plan (command ∷ mode ∷ option ∷ word ∷ []) = if is_extend option then plan_recover true command mode word else usage
-plan words = usage
+plan [] = usage
+plan (command ∷ words) = if bytes_eq command (codes "chk") then plan_chk words else usage
 
 -- what these words ask for
 abbrev pub request_of : List (String Global) → Request

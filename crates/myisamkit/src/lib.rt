@@ -1,14 +1,15 @@
 //! The program `kit` as a library: from the words of a command line and files to the repaired files,
-//! the printed line and the status.
+//! the printed lines and the status.
 //!
-//! `kit` is the top call. What the words ask for is a `Plan`; what a run says and does is defined over
-//! what the files hold before it (`Runs`), and the files that a repair leaves over the bytes of the
-//! two files before it (`Rattle.myi_pair.specs`, `RecoveredBytes` and `Recovered`). The one command that
-//! is built is `chk --recover NAME`, also as `-r`, with `-e` or `--extend-check` before the name.
+//! `kit` is the top call. What the words ask for is a `Plan`: options, and the tables that the words
+//! name. Each table has its turn (`turn.rt`), one after the other (`tables.rt`). What a turn and a whole
+//! run say, answer and do is defined over what the files hold before (`Turns`, `Runs`), and the files
+//! that a repair leaves over the bytes of the two files before it (`Rattle.myi_pair.specs`,
+//! `RecoveredBytes` and `Recovered`). Of the modes of `chk` recover is built.
 //!
 //! ```
 //! let mut words = Vec::new(alloc);
-//! for word in ["chk", "--recover", "a"] {
+//! for word in ["chk", "--recover", "a", "b"] {
 //!     words.push(String::from_str(alloc, word)?)?;
 //! }
 //! let mut out = MemSink::new(alloc, Vec::new(alloc))?;
@@ -19,9 +20,13 @@
 #![tactic(auto)]
 
 mod lines;
+mod options;
 mod recover;
+mod say;
 mod status;
+mod tables;
 mod top;
+mod turn;
 mod words;
 
 pub use status::Status;

@@ -1,52 +1,101 @@
-//! `chk --recover` of one table: what is done, and the line and the status that say so.
-ghost use Rattle.std.specs.Prelude.{◌≡◌, ◌≢◌, ◌+◌, ℕ};
-ghost use Rattle.std.specs.Prelude.{Err, string_bytes, IfOk, IfErr, OnOk, IsTrue};
+//! The turn of a table that is repaired.
+ghost use Rattle.std.specs.Prelude.{◌≡◌, ◌≢◌, ◌+◌, ℕ, string_bytes, IfOk, IfErr, OnOk, OnErr, IsTrue};
 ghost use Rattle.myi_base.specs.Holding.{IfTold, Told};
+ghost use Rattle.myi_base.specs.Output.{Appends, AppendsPart};
 ghost use Rattle.myi_base.specs.Causes.{HasCause};
 ghost use Rattle.myi_repair.specs.Opening.{CutsOff};
 ghost use Rattle.myi_repair.specs.Faults as repair;
-ghost use Rattle.myi_repair.specs.Names.{names_for, Clears};
-ghost use Rattle.myisamkit.specs.Words.{recover};
 ghost use Rattle.myisamkit.specs.Stops.{status_of_stop};
+ghost use Rattle.myisamkit.specs.Statuses.{IsFault, faults_told};
 ghost use Rattle.myisamkit.specs.Lines as spec;
-ghost use Rattle.myisamkit.specs.Runs.{IsText, IsStatus, fault_status};
-ghost use Rattle.myisamkit.specs.Runs.{faults_told, IsFault, LeavesWhole, Does};
+ghost use Rattle.myisamkit.specs.Turns.{recover_turn, fault_status, unless_silent};
+ghost use Rattle.myisamkit.specs.Turns.{RepairDone, RepairCutOff, RepairStops};
 
 use crate::lines::{absent_line, reason_of, recovered_line, refused_line};
+use crate::options::Options;
+use crate::say::say;
 use crate::status::{Status, Stop};
-use myi_io::Files;
-use myi_repair::{RepairFault, recover};
-use std::alloc::Global;
+use myi_io::{Files, Sink};
+use myi_repair::{RepairFault, Report, recover};
+use std::alloc::{AllocError, Global};
 
-/// Repairs a table, if it can be repaired.
-pub(crate) fn recover_table<F: Files>(
+/// Repairs a table, if it can be repaired, and says so.
+pub(crate) fn recover_table<F: Files, O: Sink>(
     alloc: Global,
     files: &mut F,
+    out: &mut O,
+    options: &Options,
     name: &str,
-    extend: bool,
+    now: u64,
+) -> Result<Status, Stop>
+    requires { IsTrue F.writable }
+    ensures status { IfOk result (λ s. IfTold (F.holds files.old) (λ m.
+        s ≡ (recover_turn options.now now name.now m).status)) }
+    ensures said { OnOk result (IfTold (F.holds files.old) (λ m. IfTold (O.written out.old)
+        (Appends (recover_turn options.now now name.now m).text (O.written out.new)))) }
+    ensures part { OnErr result (IfTold (F.holds files.old) (λ m. IfTold (O.written out.old)
+        (AppendsPart (recover_turn options.now now name.now m).text (O.written out.new)))) }
+    ensures done { OnOk result (Told (F.holds files.old) (F.holds files.new)
+        (RepairDone options.now now name.now)) }
+    ensures stops { IfErr result (λ stop. Told (F.holds files.old) (F.holds files.new)
+        (RepairStops options.now now (F.faults files.old) (F.faults files.new) name.now stop)) }
+    ensures plain { IfOk result (λ s. IsFault s → ⊥) }
+    ensures usage { IfOk result (λ s. s ≢ Status.Usage) }
+    ensures findings { IfOk result (λ s. s ≢ Status.Findings) }
+    ensures file { HasCause Stop.File (F.faults files.old) (F.faults files.new) result }
+    ensures sink { HasCause Stop.Sink (O.faults out.old) (O.faults out.new) result }
+{
+    let (status, line) = repair(alloc, files, options, name, now)?;
+    say(out, line.as_str())?;
+    Ok(status)
+}
+
+// Repairs a table, if it can be repaired, and answers the status and the line.
+fn repair<F: Files>(
+    alloc: Global,
+    files: &mut F,
+    options: &Options,
+    name: &str,
     now: u64,
 ) -> Result<(Status, String), Stop>
     requires { IsTrue F.writable }
-    ensures said { IfOk result (λ r. IfTold (F.holds files.old)
-        (IsText (recover extend name.now) (string_bytes r.1))) }
-    ensures status { IfOk result (λ r.
-        IfTold (F.holds files.old) (IsStatus (recover extend name.now) r.0)) }
+    ensures said { IfOk result (λ r. IfTold (F.holds files.old) (λ m.
+        string_bytes r.1 ≡ (recover_turn options.now now name.now m).text)) }
+    ensures status { IfOk result (λ r. IfTold (F.holds files.old) (λ m.
+        r.0 ≡ (recover_turn options.now now name.now m).status)) }
     ensures plain { IfOk result (λ r. IsFault r.0 → ⊥) }
     ensures usage { IfOk result (λ r. r.0 ≢ Status.Usage) }
     ensures findings { IfOk result (λ r. r.0 ≢ Status.Findings) }
-    ensures files { Told (F.holds files.old) (F.holds files.new)
-        (LeavesWhole (recover extend name.now) now) }
-    ensures cleared { IfErr result (λ s. (more : ℕ)
-        → repair.RoseAtMost (faults_told (status_of_stop s) + more)
-        (F.faults files.old) (F.faults files.new)
-        → Told (F.holds files.old) (F.holds files.new) (Clears more (names_for name.now))) }
     ensures done { OnOk result (Told (F.holds files.old) (F.holds files.new)
-        (Does (recover extend name.now) now)) }
+        (RepairDone options.now now name.now)) }
+    ensures whole { OnOk result (Told (F.holds files.old) (F.holds files.new)
+        (RepairCutOff options.now now 0 (F.faults files.old) (F.faults files.new) name.now)) }
+    ensures off { IfErr result (λ stop. Told (F.holds files.old) (F.holds files.new)
+        (RepairCutOff options.now now (faults_told (status_of_stop stop)) (F.faults files.old)
+        (F.faults files.new) name.now)) }
+    ensures sink { IfErr result (λ stop. stop ≢ Stop.Sink) }
     ensures cause { HasCause Stop.File (F.faults files.old) (F.faults files.new) result }
 {
-    match recover(alloc, files, name, extend, now) {
-        Ok(report) => Ok((Status::Ok, recovered_line(alloc, name, report)?)),
+    match recover(alloc, files, name, options.extend, now) {
+        Ok(report) => Ok((Status::Ok, success_line(alloc, options, name, report)?)),
         Err(fault) => not_repaired(alloc, name, fault),
+    }
+}
+
+// The line on a table that was repaired, where such a line is wanted.
+fn success_line(
+    alloc: Global,
+    options: &Options,
+    name: &str,
+    report: Report,
+) -> Result<String, AllocError>
+    ensures { IfOk result (λ line. string_bytes line
+        ≡ unless_silent options.now.silent (spec.recovered_line name.now report)) }
+{
+    if options.silent {
+        Ok(String::new(alloc))
+    } else {
+        recovered_line(alloc, name, report)
     }
 }
 
@@ -54,8 +103,12 @@ pub(crate) fn recover_table<F: Files>(
 fn not_repaired(alloc: Global, name: &str, fault: RepairFault) -> Result<(Status, String), Stop>
     ensures said { IfOk result (λ r. string_bytes r.1 ≡ spec.fault_line name.now fault) }
     ensures status { IfOk result (λ r. r.0 ≡ fault_status fault) }
+    ensures plain { IfOk result (λ r. IsFault r.0 → ⊥) }
+    ensures usage { IfOk result (λ r. r.0 ≢ Status.Usage) }
+    ensures findings { IfOk result (λ r. r.0 ≢ Status.Findings) }
     ensures refusal { IfOk result (λ r. CutsOff fault → ⊥) }
     ensures file { IfErr result (λ s. s ≡ Stop.File → fault ≡ RepairFault.File) }
+    ensures sink { IfErr result (λ s. s ≢ Stop.Sink) }
     ensures told { IfErr result (λ s. faults_told (status_of_stop s) ≡ repair.faults_told fault) }
 {
     match fault {

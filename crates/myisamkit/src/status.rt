@@ -1,11 +1,12 @@
-//! `Status`, what a run answers, and `Stop`, what cuts the work of a run off.
+//! `Status`, what a run answers, and `Stop`, what cuts a run off.
 ghost use Rattle.std.specs.Prelude.{◌≡◌};
 ghost use Rattle.myisamkit.specs.declared.status.Stop.TheVariants.{Memory};
+ghost use Rattle.myisamkit.specs.Statuses.{number_of, worse};
 
 use myi_io::SinkErr;
 use std::alloc::AllocError;
 
-/// What a run answers; the program's status is its number in this order, from 0.
+/// What a run answers.
 #[derive(Clone, Copy, Debug, PartialEq, Eq)]
 pub enum Status {
     Ok,
@@ -24,10 +25,40 @@ pub enum Status {
     Memory,
 }
 
-/// What cuts the work on files off.
+impl Status {
+    /// The program's status.
+    pub fn number(self) -> u8
+        ensures { result ≡ number_of self }
+    {
+        match self {
+            Status::Ok => 0,
+            Status::Findings => 1,
+            Status::Usage => 2,
+            Status::Refused => 3,
+            Status::Absent => 4,
+            Status::FileFault => 5,
+            Status::SinkFault => 6,
+            Status::Memory => 7,
+        }
+    }
+
+    /// The one of the greater number.
+    pub(crate) fn worse(self, other: Status) -> Status
+        ensures { result ≡ worse self other }
+    {
+        if self.number() < other.number() {
+            other
+        } else {
+            self
+        }
+    }
+}
+
+/// What cuts a run off.
 #[derive(Clone, Copy, Debug, PartialEq, Eq)]
 pub(crate) enum Stop {
     File,
+    Sink,
     Memory,
 }
 
@@ -36,6 +67,20 @@ impl From<AllocError> for Stop {
 
     fn from(_: AllocError) -> Self {
         Stop::Memory
+    }
+}
+
+impl From<SinkErr> for Stop {
+    ghost use Rattle.std.specs.Prelude.{◌≡◌};
+    ghost use Rattle.myisamkit.specs.Stops.{stop_of_sink};
+
+    ghost from_gives = { λ e stop. stop ≡ stop_of_sink e };
+
+    fn from(error: SinkErr) -> Self {
+        match error {
+            SinkErr::Failed => Stop::Sink,
+            SinkErr::Memory => Stop::Memory,
+        }
     }
 }
 
@@ -48,21 +93,8 @@ impl From<Stop> for Status {
     fn from(stop: Stop) -> Self {
         match stop {
             Stop::File => Status::FileFault,
+            Stop::Sink => Status::SinkFault,
             Stop::Memory => Status::Memory,
-        }
-    }
-}
-
-impl From<SinkErr> for Status {
-    ghost use Rattle.std.specs.Prelude.{◌≡◌};
-    ghost use Rattle.myisamkit.specs.Stops.{status_of_sink};
-
-    ghost from_gives = { λ e status. status ≡ status_of_sink e };
-
-    fn from(error: SinkErr) -> Self {
-        match error {
-            SinkErr::Failed => Status::SinkFault,
-            SinkErr::Memory => Status::Memory,
         }
     }
 }

@@ -1,18 +1,18 @@
 //! The top call.
-ghost use Rattle.std.specs.Prelude.{◌≡◌, ◌≢◌, ◌⊎◌, ◌↔◌, ◌+◌, ℕ, string_bytes, IfOk, IfErr, OnOk, IsTrue};
+ghost use Rattle.std.specs.Prelude.{◌≡◌, ◌≢◌, ◌⊎◌, ◌↔◌, IfOk, IfErr, OnOk, OnErr, IsTrue};
 ghost use Rattle.myi_base.specs.Holding.{IfTold, Told};
+ghost use Rattle.myi_base.specs.Output.{Appends, AppendsPart};
 ghost use Rattle.myi_base.specs.Causes.{Rose, HasCause};
-ghost use Rattle.myi_repair.specs.Faults.{RoseAtMost};
 ghost use Rattle.myisamkit.specs.Words.{request_of, usage};
 ghost use Rattle.myisamkit.specs.Stops.{status_of_stop};
-ghost use Rattle.myisamkit.specs.Runs.{IsText, IsStatus, faults_told, IsFault};
-ghost use Rattle.myisamkit.specs.Runs.{Says, SaysLine, LeavesWhole, ClearsAway, Does};
+ghost use Rattle.myisamkit.specs.Statuses.{IsFault};
+ghost use Rattle.myisamkit.specs.Runs.{run_of, Leaves, Says, IsOrFault};
 ghost use Rattle.myisamkit.specs.Lines as spec;
-ghost use Rattle.myisamkit.specs.Recovers.{Recovers};
 
 use crate::lines::usage_line;
-use crate::recover::recover_table;
+use crate::say::say;
 use crate::status::{Status, Stop};
+use crate::tables::run_tables;
 use crate::words::{Plan, read_words};
 use myi_io::{Files, Sink};
 use std::alloc::Global;
@@ -28,80 +28,71 @@ pub fn kit<F: Files, O: Sink>(
 ) -> Status
     requires { IsTrue F.writable }
 
-    // A table that can be repaired is repaired, but where a file fault or want of memory is answered.
-    ensures recovers { Told (F.holds files.old) (F.holds files.new)
-        (Recovers (request_of words.now) now result) }
-
     // What is written is the text that the words have on these files; a fault may cut it off.
-    ensures text { Says (request_of words.now) (F.holds files.old)
-        (O.written out.old) (O.written out.new) result }
+    ensures text { IfTold (F.holds files.old) (λ m.
+        Says (run_of (request_of words.now) now m).text (O.written out.old) (O.written out.new)
+        result) }
 
-    // Where the words are no command, the line on usage is written, whatever the files tell; a fault may cut
-    // it off.
+    // Where the words are no command, the line on usage is written, whatever the files tell; a fault
+    // may cut it off.
     ensures usage_text { request_of words.now ≡ usage
-        → SaysLine spec.usage_line (O.written out.old) (O.written out.new) result }
+        → Says spec.usage_line (O.written out.old) (O.written out.new) result }
 
     // Where no fault cuts the run off, the status is the defined one.
     ensures status { IfTold (F.holds files.old) (λ m.
-        IsFault result ⊎ IsStatus (request_of words.now) result m) }
+        IsOrFault (run_of (request_of words.now) now m).status result) }
     ensures usage { IsFault result ⊎ ((request_of words.now ≡ usage) ↔ (result ≡ Status.Usage)) }
     ensures findings { result ≢ Status.Findings }
 
-    // At each status a table's files are the old ones or whole new ones, and other files stay.
+    // The tables are done, or done up to the one in whose turn a fault came; what is repaired is
+    // recovered, the files of a table are the old ones or whole new ones, other files stay.
     ensures files { Told (F.holds files.old) (F.holds files.new)
-        (LeavesWhole (request_of words.now) now) }
-
-    // Nothing was changed, or no more working files are left than file calls failed besides the one that the
-    // status tells of.
-    ensures cleared { (more : ℕ)
-        → RoseAtMost (faults_told result + more) (F.faults files.old) (F.faults files.new)
-        → Told (F.holds files.old) (F.holds files.new) (ClearsAway more (request_of words.now)) }
-
-    // Where no fault cuts the work off, the work is done. A fault of the output comes after it.
-    ensures done { (result ≡ Status.FileFault) ⊎ ((result ≡ Status.Memory)
-        ⊎ Told (F.holds files.old) (F.holds files.new) (Does (request_of words.now) now)) }
+        (Leaves (request_of words.now) now (F.faults files.old) (F.faults files.new) result) }
 
     // A fault has its cause.
     ensures file { result ≡ Status.FileFault → Rose (F.faults files.old) (F.faults files.new) }
     ensures sink { result ≡ Status.SinkFault → Rose (O.faults out.old) (O.faults out.new) }
 {
-    match work(alloc, words, files, now) {
-        Ok((status, line)) => match out.write(line.as_bytes()) {
-            Ok(()) => status,
-            Err(error) => error.into(),
-        },
+    match run(alloc, words, files, out, now) {
+        Ok(status) => status,
         Err(stop) => stop.into(),
     }
 }
 
-// Does the work, and answers the status and the text.
-fn work<F: Files>(
+fn run<F: Files, O: Sink>(
     alloc: Global,
     words: &[String],
     files: &mut F,
+    out: &mut O,
     now: u64,
-) -> Result<(Status, String), Stop>
+) -> Result<Status, Stop>
     requires { IsTrue F.writable }
-    ensures said { IfOk result (λ r. IfTold (F.holds files.old)
-        (IsText (request_of words.now) (string_bytes r.1))) }
-    ensures status { IfOk result (λ r.
-        IfTold (F.holds files.old) (IsStatus (request_of words.now) r.0)) }
-    ensures plain { IfOk result (λ r. IsFault r.0 → ⊥) }
-    ensures usage { IfOk result (λ r. (request_of words.now ≡ usage) ↔ (r.0 ≡ Status.Usage)) }
-    ensures usage_line { IfOk result (λ r. request_of words.now ≡ usage
-        → string_bytes r.1 ≡ spec.usage_line) }
-    ensures findings { IfOk result (λ r. r.0 ≢ Status.Findings) }
-    ensures files { Told (F.holds files.old) (F.holds files.new)
-        (LeavesWhole (request_of words.now) now) }
-    ensures cleared { IfErr result (λ s. (more : ℕ)
-        → RoseAtMost (faults_told (status_of_stop s) + more) (F.faults files.old) (F.faults files.new)
-        → Told (F.holds files.old) (F.holds files.new) (ClearsAway more (request_of words.now))) }
-    ensures done { OnOk result (Told (F.holds files.old) (F.holds files.new)
-        (Does (request_of words.now) now)) }
-    ensures cause { HasCause Stop.File (F.faults files.old) (F.faults files.new) result }
+    ensures said { OnOk result (IfTold (F.holds files.old) (λ m. IfTold (O.written out.old)
+        (Appends (run_of (request_of words.now) now m).text (O.written out.new)))) }
+    ensures part { OnErr result (IfTold (F.holds files.old) (λ m. IfTold (O.written out.old)
+        (AppendsPart (run_of (request_of words.now) now m).text (O.written out.new)))) }
+    ensures usage_said { OnOk result (request_of words.now ≡ usage → IfTold (O.written out.old)
+        (Appends spec.usage_line (O.written out.new))) }
+    ensures usage_part { OnErr result (request_of words.now ≡ usage → IfTold (O.written out.old)
+        (AppendsPart spec.usage_line (O.written out.new))) }
+    ensures status { IfOk result (λ s. IfTold (F.holds files.old) (λ m.
+        s ≡ (run_of (request_of words.now) now m).status)) }
+    ensures plain { IfOk result (λ s. IsFault s → ⊥) }
+    ensures usage { IfOk result (λ s. (request_of words.now ≡ usage) ↔ (s ≡ Status.Usage)) }
+    ensures findings { IfOk result (λ s. s ≢ Status.Findings) }
+    ensures done { IfOk result (λ s. Told (F.holds files.old) (F.holds files.new)
+        (Leaves (request_of words.now) now (F.faults files.old) (F.faults files.new) s)) }
+    ensures stops { IfErr result (λ stop. Told (F.holds files.old) (F.holds files.new)
+        (Leaves (request_of words.now) now (F.faults files.old) (F.faults files.new)
+        (status_of_stop stop))) }
+    ensures file { HasCause Stop.File (F.faults files.old) (F.faults files.new) result }
+    ensures sink { HasCause Stop.Sink (O.faults out.old) (O.faults out.new) result }
 {
     match read_words(words) {
-        Plan::Usage => Ok((Status::Usage, String::from_str(alloc, usage_line())?)),
-        Plan::Recover { name, extend } => Ok(recover_table(alloc, files, name, extend, now)?),
+        Plan::Usage => {
+            say(out, usage_line())?;
+            Ok(Status::Usage)
+        }
+        Plan::Chk { options, words } => run_tables(alloc, files, out, &options, words, now),
     }
 }

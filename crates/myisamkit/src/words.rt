@@ -1,66 +1,181 @@
 //! The words of a command line, and what they ask for.
-ghost use Rattle.std.specs.Prelude.{◌≡◌, ◌<◌, ◌≤◌, length, nat_le, map, string_bytes};
+ghost use Rattle.std.specs.Prelude.{◌≡◌, ◌<◌, length, map, nat_le, string_bytes};
 ghost use Rattle.std.specs.List.{list_all};
 ghost use Rattle.myisamkit.specs.Words as spec;
+ghost use Rattle.myisamkit.specs.Options.{letter_flag};
+ghost use Rattle.myisamkit.specs.Reading as reading;
 ghost use Rattle.myisamkit.specs.Plans.{asked};
 
-/// What the words ask for. A table is named without the end `.MYI` of its index file.
+use crate::options::{Mode, Options, Seen, letter_flag, long_flag};
+
+/// What the words ask for.
 #[derive(Clone, Copy)]
 pub(crate) enum Plan<'a> {
     /// The words are refused.
     Usage,
-    /// A repair of one table, with every position of its data file tried or not.
-    Recover { name: &'a str, extend: bool },
+    /// Tables are checked or repaired, those that the words name which are no options.
+    Chk {
+        options: Options,
+        words: &'a [String],
+    },
+}
+
+/// What was read of a list of words.
+#[derive(Clone, Copy)]
+pub(crate) struct Read {
+    pub(crate) seen: Seen,
+    /// The word came behind which all are names.
+    pub(crate) ended: bool,
+    /// A name came.
+    pub(crate) named: bool,
 }
 
 /// Reads the words after the program's name.
 pub(crate) fn read_words(words: &[String]) -> Plan<'_>
     ensures { asked result ≡ spec.plan (map (λ w. string_bytes w) words.now) }
 {
-    match words {
-        [command, mode, word] => {
-            plan_recover(command.as_str(), mode.as_str(), word.as_str(), false)
-        }
-        [command, mode, option, word] if is_extend(option.as_str()) => {
-            plan_recover(command.as_str(), mode.as_str(), word.as_str(), true)
-        }
+    match words.split_first() {
+        Some((command, others)) if command.as_str() == "chk" => plan_chk(others),
         _ => Plan::Usage,
     }
 }
 
-fn plan_recover<'a>(command: &str, mode: &str, word: &'a str, extend: bool) -> Plan<'a>
-    ensures { asked result ≡ spec.plan_recover extend command.now mode.now word.now }
+fn plan_chk(words: &[String]) -> Plan<'_>
+    ensures { asked result ≡ spec.plan_chk (map (λ w. string_bytes w) words.now) }
 {
-    if command == "chk" && is_recover(mode) && is_name(word) {
-        Plan::Recover {
-            name: table_name(word),
-            extend,
-        }
-    } else {
-        Plan::Usage
+    match chk_options(words) {
+        Some(options) => Plan::Chk { options, words },
+        None => Plan::Usage,
     }
 }
 
-fn is_recover(word: &str) -> bool
-    ensures { result ≡ spec.is_recover word.now }
+// The options among the words behind `chk`, where all words are in form and there is a name.
+fn chk_options(words: &[String]) -> Option<Options>
+    ensures { result ≡ reading.chk_options (map (λ w. string_bytes w) words.now) }
 {
-    word == "--recover" || word == "-r"
+    let read = read_all(words)?;
+    let options = read.seen.options();
+    if read.named && is_built(options.mode) {
+        Some(options)
+    } else {
+        None
+    }
 }
 
-fn is_extend(word: &str) -> bool
-    ensures { result ≡ spec.is_extend word.now }
+fn read_all(words: &[String]) -> Option<Read>
+    ensures { result ≡ reading.read_words reading.read_none (map (λ w. string_bytes w) words.now) }
 {
-    word == "--extend-check" || word == "-e"
+    let mut read = Read {
+        seen: Seen {
+            mode: None,
+            extend: false,
+            force: false,
+            silent: false,
+        },
+        ended: false,
+        named: false,
+    };
+    for word in words {
+        read = read_word(read, word.as_str())?;
+    }
+    Some(read)
+}
+
+fn read_word(read: Read, word: &str) -> Option<Read>
+    ensures { result ≡ reading.read_word read word.now }
+{
+    if read.ended {
+        read_name(read, word)
+    } else if is_end(word) {
+        Some(Read {
+            ended: true,
+            ..read
+        })
+    } else if is_option(word) {
+        read_flags(read, word)
+    } else {
+        read_name(read, word)
+    }
+}
+
+fn read_name(read: Read, word: &str) -> Option<Read>
+    ensures { result ≡ reading.read_name read word.now }
+{
+    if is_name(word) {
+        Some(Read {
+            named: true,
+            ..read
+        })
+    } else {
+        None
+    }
+}
+
+fn read_flags(read: Read, word: &str) -> Option<Read>
+    ensures { result ≡ reading.read_flags read word.now }
+{
+    let seen = seen_after(read.seen, word)?;
+    Some(Read { seen, ..read })
+}
+
+// The options of one word after those that were met.
+fn seen_after(seen: Seen, word: &str) -> Option<Seen>
+    ensures { result ≡ reading.seen_after seen (spec.flags_of word.now) }
+{
+    match word.strip_prefix("--") {
+        Some(name) => seen.with(long_flag(name)?),
+        None => match word.as_bytes() {
+            [] => Some(seen),
+            [_, letters @ ..] => seen_letters(seen, letters),
+        },
+    }
+}
+
+fn seen_letters(seen: Seen, letters: &[u8]) -> Option<Seen>
+    ensures { result ≡ reading.seen_after seen (map letter_flag letters.now) }
+{
+    let mut seen = seen;
+    for letter in letters {
+        seen = seen.with(letter_flag(*letter)?)?;
+    }
+    Some(seen)
+}
+
+fn is_built(mode: Mode) -> bool
+    ensures { result ≡ spec.is_built mode }
+{
+    match mode {
+        Mode::Recover => true,
+        Mode::Check | Mode::Describe => false,
+    }
+}
+
+/// All words behind this one are names.
+pub(crate) fn is_end(word: &str) -> bool
+    ensures { result ≡ spec.is_end word.now }
+{
+    word == "--"
+}
+
+fn is_option(word: &str) -> bool
+    ensures { result ≡ spec.is_option word.now }
+{
+    let bytes = word.as_bytes();
+    bytes.len() > 1 && bytes[0] == b'-'
+}
+
+/// The word names a table, where the word behind which all are names came before or not.
+pub(crate) fn names_table(word: &str, ended: bool) -> bool
+    ensures { result ≡ spec.names_table ended word.now }
+{
+    ended || !(is_end(word) || is_option(word))
 }
 
 fn is_name(word: &str) -> bool
     ensures { result ≡ spec.is_name word.now }
 {
     let bytes = word.as_bytes();
-    if bytes.is_empty() || bytes.len() > 200 {
-        return false;
-    }
-    are_printed(bytes) && !is_option(bytes)
+    !bytes.is_empty() && bytes.len() <= 200 && are_printed(bytes)
 }
 
 fn are_printed(bytes: &[u8]) -> bool
@@ -69,15 +184,8 @@ fn are_printed(bytes: &[u8]) -> bool
     bytes.iter().all(|b| *b >= 32)
 }
 
-fn is_option(bytes: &[u8]) -> bool
-    requires { 0 < length bytes.now }
-    ensures { result ≡ spec.is_option bytes.now }
-{
-    bytes[0] == b'-' && bytes.len() > 1
-}
-
 /// The table that a word names.
-fn table_name(word: &str) -> &str
+pub(crate) fn table_name(word: &str) -> &str
     ensures { result.now ≡ spec.table_name word.now }
 {
     match word.strip_suffix(".MYI") {

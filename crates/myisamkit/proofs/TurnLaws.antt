@@ -1,0 +1,103 @@
+-- What a table's turn leaves.
+use Rattle.std.proofs.Common.{arith, ◌≡◌, ◌≢◌, ◌≤◌, ◌+◌, ℕ, Bool, true, false, List, Option, Some, None, Result, Ok, Err, refl, sym, subst, ap, ◌∙◌, inl, inr, ◌⊎◌}
+use Rattle.std.specs.Prelude.{◌||◌, if◌then◌else◌}
+use Rattle.std.specs.Str.{bytes_eq}
+use Rattle.std.proofs.Math.Path.{fun_ext}
+use Rattle.std.proofs.lemmas.Bool.{cases_Bool}
+use Rattle.std.proofs.lemmas.Slice.Eq.{bytes_eq-Decides}
+use Rattle.myi_base.specs.Holding.{Holding, Told, IfTold}
+use Rattle.myi_defs.specs.declared.types.Defs.{Defs}
+use Rattle.myi_pair.specs.RecoveredBytes.{new_data, new_index}
+use Rattle.myi_pair.specs.Recovered.{Recovered}
+use Rattle.myi_repair.specs.declared.fault.RepairFault.{RepairFault}
+use Rattle.myi_repair.specs.declared.report.Report.{Report}
+use Rattle.myi_repair.specs.Names.{FourNames, names_for, Holds, KeepsBut, KeepsBoth, NoWorking, working_left, one_there, Clears}
+use Rattle.myi_repair.specs.Faults.{RoseAtMost}
+use Rattle.myi_repair.specs.Opening.{Table, table_in, IsTable}
+use Rattle.myi_repair.specs.Gathering.{report_of}
+use Rattle.myi_repair.specs.Repaired.{LeavesRepaired, OldOrNew}
+use Rattle.myisamkit.specs.declared.options.Mode.{Mode}
+use Rattle.myisamkit.specs.declared.options.Mode.TheVariants.{Check, Recover, Describe}
+use Rattle.myisamkit.specs.declared.options.Options.{Options}
+use Rattle.myisamkit.specs.Turns.{replaced, repair_turn, recover_turn, IsRecovered, RepairDone, RepairCutOff, CutsTurnOff, CutsTurnOffBy}
+
+-- what a name has that is none of these
+not_named : (q name : List ℕ) → bytes_eq q name ≡ false → q ≢ name
+not_named q name other is = absurd (true_is_false (sym ((bytes_eq-Decides q name).1 is) ∙ other))
+  where
+    true_is_false : true ≡ false → ⊥
+    true_is_false e = cc
+
+-- the files are replaced, name by name
+replaced_at : (t : FourNames) (d x : List ℕ) (m n : Holding) → Holds t d x n → KeepsBut t m n → (q : List ℕ) → n q ≡ replaced t d x m q
+replaced_at t d x m n holds keeps q = by_rows (bytes_eq q t.rows) refl
+  where
+    by_work : (a b : Bool) → bytes_eq q t.new_rows ≡ a → bytes_eq q t.new_index ≡ b → q ≢ t.rows → q ≢ t.index → n q ≡ (if a || b then None else m q)
+    by_work true b is other rows index = ap n ((bytes_eq-Decides q t.new_rows).0 is) ∙ holds.working.new_rows
+    by_work false true other is rows index = ap n ((bytes_eq-Decides q t.new_index).0 is) ∙ holds.working.new_index
+    by_work false false other another rows index = keeps q rows index (not_named q t.new_rows other) (not_named q t.new_index another)
+
+    by_index : (b : Bool) → bytes_eq q t.index ≡ b → q ≢ t.rows → n q ≡ (if b then Some x else (if bytes_eq q t.new_rows || bytes_eq q t.new_index then None else m q))
+    by_index true is rows = ap n ((bytes_eq-Decides q t.index).0 is) ∙ holds.index
+    by_index false other rows = by_work (bytes_eq q t.new_rows) (bytes_eq q t.new_index) refl refl rows (not_named q t.index other)
+
+    by_rows : (b : Bool) → bytes_eq q t.rows ≡ b → n q ≡ (if b then Some d else (if bytes_eq q t.index then Some x else (if bytes_eq q t.new_rows || bytes_eq q t.new_index then None else m q)))
+    by_rows true is = ap n ((bytes_eq-Decides q t.rows).0 is) ∙ holds.rows
+    by_rows false other = by_index (bytes_eq q t.index) refl (not_named q t.rows other)
+
+pub is_replaced : (t : FourNames) (d x : List ℕ) (m n : Holding) → Holds t d x n → KeepsBut t m n → n ≡ replaced t d x m
+is_replaced t d x m n holds keeps = fun_ext (replaced_at t d x m n holds keeps)
+
+-- a count that rose in a turn rose since any time before
+pub cut_earlier : (o : Options) (now told before at after : ℕ) (name : List ℕ) (m n : Holding) → before ≤ at → CutsTurnOff o now told at after name m n → CutsTurnOff o now told before after name m n
+unfolding CutsTurnOff
+cut_earlier o now told before at after name m n later cut = by_mode o.mode cut
+  where
+    by_mode : (mode : Mode) → CutsTurnOffBy mode o now told at after name m n → CutsTurnOffBy mode o now told before after name m n
+    by_mode Recover cut = record { whole = cut.whole; others = cut.others; cleared = λ more rose. cut.cleared more (omega (arith, rose.0, later), rose.1) }
+    by_mode Check cut = cut
+    by_mode Describe cut = cut
+
+some_same : {A : Type 0} (x y : A) (o : Option A) → o ≡ Some x → o ≡ Some y → x ≡ y
+some_same x y o a b = let e : Some x ≡ Some y = sym a ∙ b in cc
+
+ok_or : {A E : Type 0} → A → Result A E → A
+ok_or d (Ok x) = x
+ok_or d (Err e) = d
+
+ok_same : {A E : Type 0} (x y : A) (r : Result A E) → r ≡ Ok x → r ≡ Ok y → x ≡ y
+unfolding ok_or
+ok_same x y r a b = sym (ap (ok_or x) a) ∙ ap (ok_or x) b
+
+-- a table was repaired
+pub repair_done : (o : Options) (now : ℕ) (name : List ℕ) (said : Report) (old new : Option Holding)
+    → Told old new (LeavesRepaired name o.extend now said) → Told old new (KeepsBut (names_for name)) → Told old new (RepairDone o now name)
+repair_done o now name said old new repaired others = record {
+  told = λ m told.
+    let r = repaired.told m told in
+    let k = others.told m told in
+    let keeps = subst (λ n. KeepsBut (names_for name) m n) (some_same k.0 r.0 new k.1 r.1) k.2 in
+    let made = r.2.3 in
+    (r.0, r.1, record {
+      files = subst (λ t. r.0 ≡ (repair_turn o now name t m).files) (sym r.2.2) (is_replaced (names_for name) _ _ m r.0 made.holds keeps);
+      recovers = λ defs d table. subst (λ t. Recovered t.0 o.extend t.1 now (new_data t.0 o.extend t.1) (new_index t.0 o.extend t.1 now)) (ok_same (r.2.0, r.2.1) (defs, d) (table_in (names_for name) m) r.2.2 table) made.recovered;
+    });
+  untold = repaired.untold;
+}
+
+-- a repair was cut off
+pub repair_cut : (o : Options) (now told before after : ℕ) (name : List ℕ) (old new : Option Holding)
+    → Told old new (OldOrNew name o.extend now) → Told old new (KeepsBut (names_for name))
+    → ((more : ℕ) → RoseAtMost (told + more) before after → Told old new (Clears more (names_for name)))
+    → Told old new (RepairCutOff o now told before after name)
+repair_cut o now told before after name old new whole others cleared = record {
+  told = λ m is.
+    let n = whole.told m is in
+    let k = others.told m is in
+    (n.0, n.1, record {
+      whole = n.2;
+      others = subst (λ h. KeepsBut (names_for name) m h) (some_same k.0 n.0 new k.1 n.1) k.2;
+      cleared = λ more rose. let z = (cleared more rose).told m is in subst (λ h. Clears more (names_for name) m h) (some_same z.0 n.0 new z.1 n.1) z.2;
+    });
+  untold = whole.untold;
+}

@@ -1,0 +1,12 @@
+use Rattle.std.proofs.Common.{◌+◌, sym, subst, ap}
+use Rattle.std.proofs.lemmas.Result.{IfErr-weaker}
+use Rattle.myi_repair.specs.Faults as repair
+use Rattle.myisamkit.proofs.TurnLaws.{repair_done, repair_cut}
+use Rattle.myisamkit.proofs.recover.repair.Goals as goal
+
+pub returns-in_ok-success_line-in-Ok-clause-done : goal.returns-in_ok-success_line-in-Ok-clause-done
+returns-in_ok-success_line-in-Ok-clause-done g c = repair_done _ _ _ _ _ _ c.in-Ok.ensures.repaired c.in-Ok.ensures.ends.others
+
+pub returns-in-Err-clause-off : goal.returns-in-Err-clause-off
+returns-in-Err-clause-off g c =
+    IfErr-weaker c.not_repaired.result _ _ (λ s told. repair_cut _ _ _ _ _ _ _ _ c.in-Err.ensures.files c.in-Err.ensures.ends.others (λ more rose. c.in-Err.ensures.ends.cleared more (subst (λ n. repair.RoseAtMost (n + more) (g.F.Files.faults c.args.files.now) (g.F.Files.faults c.recover.new.files)) told rose))) c.not_repaired.ensures.told

@@ -1,0 +1,18 @@
+use Rattle.std.proofs.Common.{◌≡◌, subst}
+use Rattle.std.specs.Prelude.{IfOk, OnOk, OnErr}
+use Rattle.myi_base.specs.Holding.{IfTold}
+use Rattle.myi_base.specs.Output.{Appends, AppendsPart}
+use Rattle.myisamkit.specs.Runs.{run_of}
+use Rattle.myisamkit.proofs.top.run.Goals as goal
+
+pub returns-in-Chk-clause-said : goal.returns-in-Chk-clause-said
+returns-in-Chk-clause-said g c =
+    subst (λ r. OnOk c.run_tables.result (IfTold (g.F.Files.holds c.args.files.now) (λ m. IfTold (g.O.Sink.written c.args.out.now) (Appends (run_of r c.args.now m).text (g.O.Sink.written c.run_tables.new.out))))) c.in-Chk.ensures c.run_tables.ensures.said
+
+pub returns-in-Chk-clause-part : goal.returns-in-Chk-clause-part
+returns-in-Chk-clause-part g c =
+    subst (λ r. OnErr c.run_tables.result (IfTold (g.F.Files.holds c.args.files.now) (λ m. IfTold (g.O.Sink.written c.args.out.now) (AppendsPart (run_of r c.args.now m).text (g.O.Sink.written c.run_tables.new.out))))) c.in-Chk.ensures c.run_tables.ensures.part
+
+pub returns-in-Chk-clause-status : goal.returns-in-Chk-clause-status
+returns-in-Chk-clause-status g c =
+    subst (λ r. IfOk c.run_tables.result (λ s. IfTold (g.F.Files.holds c.args.files.now) (λ m. s ≡ (run_of r c.args.now m).status))) c.in-Chk.ensures c.run_tables.ensures.status

@@ -1,0 +1,11 @@
+use Rattle.std.proofs.Common.{sym, subst}
+use Rattle.std.specs.Prelude.{OnErr}
+use Rattle.myi_base.specs.Holding.{IfTold}
+use Rattle.myi_base.specs.Output.{AppendsPart}
+use Rattle.myisamkit.specs.Turns.{turn, turn_by}
+use Rattle.myisamkit.proofs.turn.run_table.Goals as goal
+
+pub returns-in-Recover-clause-part : goal.returns-in-Recover-clause-part
+unfolding turn
+returns-in-Recover-clause-part g c =
+    subst (λ mode. OnErr c.recover_table.result (IfTold (g.F.Files.holds c.args.files.now) (λ m. IfTold (g.O.Sink.written c.args.out.now) (AppendsPart (turn_by mode c.args.options.now c.args.now c.args.name.now m).text (g.O.Sink.written c.recover_table.new.out))))) (sym c.in-Recover.is) c.recover_table.ensures.part

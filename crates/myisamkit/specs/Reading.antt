@@ -1,0 +1,66 @@
+-- How words are read, one after the other, and the request that a plan is.
+use Rattle.std.specs.Prelude.{ℕ, Bool, true, false, ◌&&◌, List, [], ◌∷◌, Option, None, Some, option_and_then, option_map, if◌then◌else◌}
+use Rattle.myisamkit.specs.declared.options.Mode.{Mode}
+use Rattle.myisamkit.specs.declared.options.Mode.TheVariants.{Check}
+use Rattle.myisamkit.specs.declared.options.Flag.{Flag}
+use Rattle.myisamkit.specs.declared.options.Flag.TheVariants as flag
+use Rattle.myisamkit.specs.declared.options.Options.{Options}
+use Rattle.myisamkit.specs.declared.options.Seen.{Seen}
+use Rattle.myisamkit.specs.declared.words.Read.{Read}
+use Rattle.myisamkit.specs.Words.{is_end, is_option, is_name, flags_of, is_built}
+
+abbrev pub seen_with_mode : Seen → Option Mode → Mode → Option Seen
+seen_with_mode seen None mode = Some (record seen { mode = Some mode })
+seen_with_mode seen (Some other) mode = None
+
+-- one option more
+abbrev pub seen_with : Seen → Flag → Option Seen
+seen_with seen (flag.Mode mode) = seen_with_mode seen seen.mode mode
+seen_with seen flag.Extend = if seen.extend then None else Some (record seen { extend = true })
+seen_with seen flag.Force = if seen.force then None else Some (record seen { force = true })
+seen_with seen flag.Silent = Some (record seen { silent = true })
+
+-- options one after the other, each known
+abbrev pub seen_after : Seen → List (Option Flag) → Option Seen
+seen_after seen [] = Some seen
+seen_after seen (None ∷ flags) = None
+seen_after seen (Some f ∷ flags) = option_and_then (λ next. seen_after next flags) (seen_with seen f)
+
+abbrev pub mode_seen : Option Mode → Mode
+mode_seen None = Check
+mode_seen (Some mode) = mode
+
+abbrev pub options_seen : Seen → Options
+options_seen seen = record { mode = mode_seen seen.mode; extend = seen.extend; force = seen.force; silent = seen.silent }
+
+-- a name more
+abbrev pub read_name : Read → List ℕ → Option Read
+read_name read word = if is_name word then Some (record read { named = true }) else None
+
+-- options more
+abbrev pub read_flags : Read → List ℕ → Option Read
+read_flags read word = option_map (λ seen. record read { seen = seen }) (seen_after read.seen (flags_of word))
+
+-- a word more
+abbrev pub read_word : Read → List ℕ → Option Read
+read_word read word =
+    if read.ended then read_name read word else
+    (if is_end word then Some (record read { ended = true }) else
+    (if is_option word then read_flags read word else read_name read word))
+
+-- words one after the other
+abbrev pub read_words : Read → List (List ℕ) → Option Read
+read_words read [] = Some read
+read_words read (word ∷ words) = option_and_then (λ next. read_words next words) (read_word read word)
+
+-- nothing was read
+abbrev pub read_none : Read
+read_none = record { seen = record { mode = None; extend = false; force = false; silent = false }; ended = false; named = false }
+
+-- the options of what was read, where there was a name and the mode is built
+abbrev pub options_read : Read → Option Options
+options_read read = if read.named && is_built (options_seen read.seen).mode then Some (options_seen read.seen) else None
+
+-- the options among the words behind `chk`, where they are accepted
+abbrev pub chk_options : List (List ℕ) → Option Options
+chk_options words = option_and_then options_read (read_words read_none words)

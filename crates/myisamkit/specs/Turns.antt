@@ -1,0 +1,134 @@
+-- A table's turn in a run: what is said, answered and done, by the options and by what the files hold. Each mode has a case
+-- in each definition.
+use Rattle.std.specs.Prelude.{◌≡◌, ◌+◌, ◌||◌, ℕ, Bool, List, [], if◌then◌else◌, Option, Some, None, Result, Ok, Err}
+use Rattle.std.specs.Str.{bytes_eq}
+use Rattle.myi_base.specs.Holding.{Holding}
+use Rattle.myi_defs.specs.declared.types.Defs.{Defs}
+use Rattle.myi_pair.specs.RecoveredBytes.{new_data, new_index}
+use Rattle.myi_pair.specs.Recovered.{Recovered}
+use Rattle.myi_repair.specs.declared.fault.RepairFault.{RepairFault}
+use Rattle.myi_repair.specs.declared.fault.RepairFault.TheVariants as repair
+use Rattle.myi_repair.specs.Names.{FourNames, names_for, KeepsBut, Clears}
+use Rattle.myi_repair.specs.Faults.{RoseAtMost}
+use Rattle.myi_repair.specs.Opening.{Table, table_in, IsTable}
+use Rattle.myi_repair.specs.Gathering.{report_of}
+use Rattle.myi_repair.specs.Repaired.{OldOrNew}
+use Rattle.myisamkit.specs.declared.status.Status.{Status}
+use Rattle.myisamkit.specs.declared.status.Status.TheVariants as status
+use Rattle.myisamkit.specs.declared.status.Stop.{Stop}
+use Rattle.myisamkit.specs.declared.status.Stop.TheVariants as stop
+use Rattle.myisamkit.specs.declared.options.Mode.{Mode}
+use Rattle.myisamkit.specs.declared.options.Mode.TheVariants.{Check, Recover, Describe}
+use Rattle.myisamkit.specs.declared.options.Options.{Options}
+use Rattle.myisamkit.specs.Lines.{recovered_line, refused_line, fault_line, not_built}
+
+-- what a turn comes to that nothing cuts off: its lines, its status, and what the files hold then
+pub record Turn : Type 0 where
+  pub text : List ℕ
+  pub status : Status
+  pub files : Holding
+
+-- ---- recover
+
+-- the two files of a table hold these bytes, and the working files are gone
+abbrev pub replaced : FourNames → List ℕ → List ℕ → Holding → Holding
+replaced t d x m q =
+    if bytes_eq q t.rows then Some d else
+    (if bytes_eq q t.index then Some x else
+    (if bytes_eq q t.new_rows || bytes_eq q t.new_index then None else m q))
+
+-- the status of a fault
+abbrev pub fault_status : RepairFault → Status
+fault_status (repair.Absent f) = status.Absent
+fault_status (repair.Def f) = status.Refused
+fault_status repair.TooLong = status.Refused
+fault_status repair.File = status.FileFault
+fault_status repair.Memory = status.Memory
+
+-- a line of success, where such lines are wanted
+abbrev pub unless_silent : Bool → List ℕ → List ℕ
+unless_silent silent line = if silent then [] else line
+
+-- a table that cannot be repaired keeps its files
+abbrev pub repair_turn : Options → ℕ → List ℕ → Result Table RepairFault → Holding → Turn
+repair_turn o now name (Err f) m = record { text = fault_line name f; status = fault_status f; files = m }
+repair_turn o now name (Ok t) m = record {
+  text = unless_silent o.silent (recovered_line name (report_of t.0 o.extend t.1));
+  status = status.Ok;
+  files = replaced (names_for name) (new_data t.0 o.extend t.1) (new_index t.0 o.extend t.1 now) m;
+}
+
+abbrev pub recover_turn : Options → ℕ → List ℕ → Holding → Turn
+recover_turn o now name m = repair_turn o now name (table_in (names_for name) m) m
+
+-- what a repair makes of a table that can be repaired is recovered
+abbrev pub IsRecovered : Options → ℕ → List ℕ → Holding → Type 0
+IsRecovered o now name m = (defs : Defs) (d : List ℕ) → IsTable (names_for name) defs d m → Recovered defs o.extend d now (new_data defs o.extend d) (new_index defs o.extend d now)
+
+-- a table was repaired, or refused
+pub record RepairDone (o : Options) (now : ℕ) (name : List ℕ) (m n : Holding) : Type 0 where
+  pub files : n ≡ (recover_turn o now name m).files
+  pub recovers : IsRecovered o now name m
+
+-- A repair was cut off, the files' count of faults having risen from the one number to the other, of which the status tells
+-- so many: the table's files are the old ones or whole new ones, and other files stay; nothing was changed, or no more working
+-- files are left than file calls failed besides.
+pub record RepairCutOff (o : Options) (now told before after : ℕ) (name : List ℕ) (m n : Holding) : Type 0 where
+  pub whole : OldOrNew name o.extend now m n
+  pub others : KeepsBut (names_for name) m n
+  pub cleared : (more : ℕ) → RoseAtMost (told + more) before after → Clears more (names_for name) m n
+
+-- what a stop leaves of the turn of a table that is repaired
+abbrev pub RepairStops : Options → ℕ → ℕ → ℕ → List ℕ → Stop → Holding → Holding → Type 0
+RepairStops o now before after name stop.File m n = RepairCutOff o now 1 before after name m n
+RepairStops o now before after name stop.Memory m n = RepairCutOff o now 0 before after name m n
+RepairStops o now before after name stop.Sink m n = RepairDone o now name m n
+
+-- ---- a mode that is not built
+
+abbrev pub refused_turn : List ℕ → Holding → Turn
+refused_turn name m = record { text = refused_line name not_built; status = status.Refused; files = m }
+
+-- ---- all modes
+
+abbrev pub turn_by : Mode → Options → ℕ → List ℕ → Holding → Turn
+turn_by Recover o now name m = recover_turn o now name m
+turn_by Check o now name m = refused_turn name m
+turn_by Describe o now name m = refused_turn name m
+
+-- the turn of the table of this name
+unfoldable pub turn : Options → ℕ → List ℕ → Holding → Turn
+turn o now name m = turn_by o.mode o now name m
+
+abbrev pub TurnRecoversBy : Mode → Options → ℕ → List ℕ → Holding → Type 0
+TurnRecoversBy Recover o now name m = IsRecovered o now name m
+TurnRecoversBy Check o now name m = Unit {0}
+TurnRecoversBy Describe o now name m = Unit {0}
+
+-- what is repaired in a turn is recovered
+unfoldable pub TurnRecovers : Options → ℕ → List ℕ → Holding → Type 0
+TurnRecovers o now name m = TurnRecoversBy o.mode o now name m
+
+abbrev pub CutsTurnOffBy : Mode → Options → ℕ → ℕ → ℕ → ℕ → List ℕ → Holding → Holding → Type 0
+CutsTurnOffBy Recover o now told before after name m n = RepairCutOff o now told before after name m n
+CutsTurnOffBy Check o now told before after name m n = n ≡ m
+CutsTurnOffBy Describe o now told before after name m n = n ≡ m
+
+-- a file fault or want of memory cut the turn off
+unfoldable pub CutsTurnOff : Options → ℕ → ℕ → ℕ → ℕ → List ℕ → Holding → Holding → Type 0
+CutsTurnOff o now told before after name m n = CutsTurnOffBy o.mode o now told before after name m n
+
+-- a table had its turn
+pub record TurnDone (o : Options) (now : ℕ) (name : List ℕ) (m n : Holding) : Type 0 where
+  pub files : n ≡ (turn o now name m).files
+  pub recovers : TurnRecovers o now name m
+
+-- the output failed in the turn: what is to be done is done before lines are written
+abbrev pub FailsInTurn : Options → ℕ → List ℕ → Holding → Holding → Type 0
+FailsInTurn o now name m n = TurnDone o now name m n
+
+-- what a stop leaves of a turn
+abbrev pub TurnStops : Options → ℕ → ℕ → ℕ → List ℕ → Stop → Holding → Holding → Type 0
+TurnStops o now before after name stop.File m n = CutsTurnOff o now 1 before after name m n
+TurnStops o now before after name stop.Memory m n = CutsTurnOff o now 0 before after name m n
+TurnStops o now before after name stop.Sink m n = FailsInTurn o now name m n

@@ -1,0 +1,120 @@
+//! The options of a command: `Flag` is what one of them says, `Seen` which were met so far, and `Options`
+//! what all of them ask for.
+ghost use Rattle.std.specs.Prelude.{◌≡◌};
+ghost use Rattle.myisamkit.specs.Options as spec;
+ghost use Rattle.myisamkit.specs.Reading.{seen_with, options_seen};
+
+/// What is done with a table.
+#[derive(Clone, Copy, Debug, PartialEq, Eq)]
+pub(crate) enum Mode {
+    Check,
+    Recover,
+    Describe,
+}
+
+/// What one option says.
+#[derive(Clone, Copy, Debug, PartialEq, Eq)]
+pub(crate) enum Flag {
+    Mode(Mode),
+    Extend,
+    Force,
+    Silent,
+}
+
+/// What the options of a command ask for.
+#[derive(Clone, Copy, Debug, PartialEq, Eq)]
+pub(crate) struct Options {
+    pub(crate) mode: Mode,
+    /// Every position of a data file is tried.
+    pub(crate) extend: bool,
+    /// A check that finds something is followed by a repair.
+    pub(crate) force: bool,
+    /// Lines of success are left out.
+    pub(crate) silent: bool,
+}
+
+/// The options that were met.
+#[derive(Clone, Copy, Debug, PartialEq, Eq)]
+pub(crate) struct Seen {
+    pub(crate) mode: Option<Mode>,
+    pub(crate) extend: bool,
+    pub(crate) force: bool,
+    pub(crate) silent: bool,
+}
+
+impl Seen {
+    /// One option more, where it may follow.
+    pub(crate) fn with(self, flag: Flag) -> Option<Seen>
+        ensures { result ≡ seen_with self flag }
+    {
+        match flag {
+            Flag::Mode(mode) => match self.mode {
+                None => Some(Seen {
+                    mode: Some(mode),
+                    ..self
+                }),
+                Some(_) => None,
+            },
+            Flag::Extend if self.extend => None,
+            Flag::Extend => Some(Seen {
+                extend: true,
+                ..self
+            }),
+            Flag::Force if self.force => None,
+            Flag::Force => Some(Seen {
+                force: true,
+                ..self
+            }),
+            Flag::Silent => Some(Seen {
+                silent: true,
+                ..self
+            }),
+        }
+    }
+
+    /// What they ask for; without a mode, a check.
+    pub(crate) fn options(self) -> Options
+        ensures { result ≡ options_seen self }
+    {
+        let mode = match self.mode {
+            None => Mode::Check,
+            Some(mode) => mode,
+        };
+        Options {
+            mode,
+            extend: self.extend,
+            force: self.force,
+            silent: self.silent,
+        }
+    }
+}
+
+/// What a letter says.
+pub(crate) fn letter_flag(letter: u8) -> Option<Flag>
+    ensures { result ≡ spec.letter_flag letter }
+{
+    match letter {
+        b'c' => Some(Flag::Mode(Mode::Check)),
+        b'r' => Some(Flag::Mode(Mode::Recover)),
+        b'd' => Some(Flag::Mode(Mode::Describe)),
+        b'e' => Some(Flag::Extend),
+        b'f' => Some(Flag::Force),
+        b's' => Some(Flag::Silent),
+        _ => None,
+    }
+}
+
+/// What a long option says, by its name.
+pub(crate) fn long_flag(name: &str) -> Option<Flag>
+    ensures { result ≡ spec.long_flag name.now }
+{
+    match name {
+        "check" => Some(Flag::Mode(Mode::Check)),
+        "recover" => Some(Flag::Mode(Mode::Recover)),
+        "description" => Some(Flag::Mode(Mode::Describe)),
+        "extend-check" => Some(Flag::Extend),
+        "force" => Some(Flag::Force),
+        "silent" => Some(Flag::Silent),
+        _ => None,
+    }
+}

@@ -1,0 +1,62 @@
+//! The tables of a run, one after the other.
+ghost use Rattle.std.specs.Prelude.{◌≡◌, ◌≢◌, ◌+◌, ℕ, Err, string_bytes, map, IfOk, IfErr, OnOk, OnErr, IsTrue};
+ghost use Rattle.myi_base.specs.Holding.{IfTold, Told};
+ghost use Rattle.myi_base.specs.Output.{Appends, AppendsPart};
+ghost use Rattle.myi_base.specs.Causes.{HasCause};
+ghost use Rattle.myisamkit.specs.Words.{names_in, table_name};
+ghost use Rattle.myisamkit.specs.Statuses.{IsFault};
+ghost use Rattle.myisamkit.specs.Runs.{tables_run, TablesDone, TablesStop};
+
+use crate::options::Options;
+use crate::status::{Status, Stop};
+use crate::turn::run_table;
+use crate::words::{is_end, names_table, table_name};
+use myi_io::{Files, Sink};
+use std::alloc::Global;
+
+/// Gives each table that the words name its turn, and answers the greatest status.
+pub(crate) fn run_tables<F: Files, O: Sink>(
+    alloc: Global,
+    files: &mut F,
+    out: &mut O,
+    options: &Options,
+    words: &[String],
+    now: u64,
+) -> Result<Status, Stop>
+    requires { IsTrue F.writable }
+    ensures status { IfOk result (λ s. IfTold (F.holds files.old) (λ m.
+        s ≡ (tables_run Status.Ok options.now now
+        (map table_name (names_in (map (λ w. string_bytes w) words.now))) m).status)) }
+    ensures said { OnOk result (IfTold (F.holds files.old) (λ m. IfTold (O.written out.old)
+        (Appends (tables_run Status.Ok options.now now
+        (map table_name (names_in (map (λ w. string_bytes w) words.now))) m).text
+        (O.written out.new)))) }
+    ensures part { OnErr result (IfTold (F.holds files.old) (λ m. IfTold (O.written out.old)
+        (AppendsPart (tables_run Status.Ok options.now now
+        (map table_name (names_in (map (λ w. string_bytes w) words.now))) m).text
+        (O.written out.new)))) }
+    ensures done { OnOk result (Told (F.holds files.old) (F.holds files.new)
+        (TablesDone options.now now
+        (map table_name (names_in (map (λ w. string_bytes w) words.now))))) }
+    ensures stops { IfErr result (λ stop. Told (F.holds files.old) (F.holds files.new)
+        (TablesStop options.now now (F.faults files.old) (F.faults files.new)
+        (map table_name (names_in (map (λ w. string_bytes w) words.now))) stop)) }
+    ensures plain { IfOk result (λ s. IsFault s → ⊥) }
+    ensures usage { IfOk result (λ s. s ≢ Status.Usage) }
+    ensures findings { IfOk result (λ s. s ≢ Status.Findings) }
+    ensures file { HasCause Stop.File (F.faults files.old) (F.faults files.new) result }
+    ensures sink { HasCause Stop.Sink (O.faults out.old) (O.faults out.new) result }
+{
+    let mut status = Status::Ok;
+    let mut ended = false;
+    for word in words {
+        let word = word.as_str();
+        if !names_table(word, ended) {
+            ended = ended || is_end(word);
+            continue;
+        }
+        let table = run_table(alloc, files, out, options, table_name(word), now)?;
+        status = status.worse(table);
+    }
+    Ok(status)
+}

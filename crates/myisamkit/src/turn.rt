@@ -1,0 +1,71 @@
+//! The turn of a table, in each mode.
+ghost use Rattle.std.specs.Prelude.{◌≡◌, ◌≢◌, ℕ, IfOk, IfErr, OnOk, OnErr, IsTrue};
+ghost use Rattle.myi_base.specs.Holding.{IfTold, Told};
+ghost use Rattle.myi_base.specs.Output.{Appends, AppendsPart};
+ghost use Rattle.myi_base.specs.Causes.{HasCause};
+ghost use Rattle.myisamkit.specs.Statuses.{IsFault};
+ghost use Rattle.myisamkit.specs.Lines.{refused_line, not_built};
+ghost use Rattle.myisamkit.specs.Turns.{turn, TurnDone, TurnStops};
+
+use crate::lines::refused_line;
+use crate::options::{Mode, Options};
+use crate::recover::recover_table;
+use crate::say::say;
+use crate::status::{Status, Stop};
+use myi_io::{Files, Sink};
+use std::alloc::Global;
+
+/// Gives a table its turn.
+#[tactic(auto, unfolding(crate::specs::Turns::turn, crate::specs::Turns::TurnRecovers, crate::specs::Turns::CutsTurnOff))]
+pub(crate) fn run_table<F: Files, O: Sink>(
+    alloc: Global,
+    files: &mut F,
+    out: &mut O,
+    options: &Options,
+    name: &str,
+    now: u64,
+) -> Result<Status, Stop>
+    requires { IsTrue F.writable }
+    ensures status { IfOk result (λ s. IfTold (F.holds files.old) (λ m.
+        s ≡ (turn options.now now name.now m).status)) }
+    ensures said { OnOk result (IfTold (F.holds files.old) (λ m. IfTold (O.written out.old)
+        (Appends (turn options.now now name.now m).text (O.written out.new)))) }
+    ensures part { OnErr result (IfTold (F.holds files.old) (λ m. IfTold (O.written out.old)
+        (AppendsPart (turn options.now now name.now m).text (O.written out.new)))) }
+    ensures done { OnOk result (Told (F.holds files.old) (F.holds files.new)
+        (TurnDone options.now now name.now)) }
+    ensures stops { IfErr result (λ stop. Told (F.holds files.old) (F.holds files.new)
+        (TurnStops options.now now (F.faults files.old) (F.faults files.new) name.now stop)) }
+    ensures plain { IfOk result (λ s. IsFault s → ⊥) }
+    ensures usage { IfOk result (λ s. s ≢ Status.Usage) }
+    ensures findings { IfOk result (λ s. s ≢ Status.Findings) }
+    ensures file { HasCause Stop.File (F.faults files.old) (F.faults files.new) result }
+    ensures sink { HasCause Stop.Sink (O.faults out.old) (O.faults out.new) result }
+{
+    match options.mode {
+        Mode::Recover => recover_table(alloc, files, out, options, name, now),
+        Mode::Check | Mode::Describe => refuse_table(alloc, files, out, name),
+    }
+}
+
+// The turn in a mode that is not built.
+fn refuse_table<F: Files, O: Sink>(
+    alloc: Global,
+    files: &mut F,
+    out: &mut O,
+    name: &str,
+) -> Result<Status, Stop>
+    ensures status { IfOk result (λ s. s ≡ Status.Refused) }
+    ensures said { OnOk result (IfTold (O.written out.old)
+        (Appends (refused_line name.now not_built) (O.written out.new))) }
+    ensures part { OnErr result (IfTold (O.written out.old)
+        (AppendsPart (refused_line name.now not_built) (O.written out.new))) }
+    ensures files { F.holds files.new ≡ F.holds files.old }
+    ensures faults { F.faults files.new ≡ F.faults files.old }
+    ensures file { IfErr result (λ stop. stop ≢ Stop.File) }
+    ensures sink { HasCause Stop.Sink (O.faults out.old) (O.faults out.new) result }
+{
+    let line = refused_line(alloc, name, "not built")?;
+    say(out, line.as_str())?;
+    Ok(Status::Refused)
+}
