@@ -1,0 +1,2 @@
+//! The deleted list of a data file.
+#![tactic(auto)]
