@@ -1,2 +1,5 @@
 pub mod AreaLemmas
 pub mod ReleaseLemmas
+pub mod SizeLemmas
+pub mod PlaceLemmas
+pub mod FillLemmas
