@@ -33,7 +33,7 @@ one_more p (a ∷ areas) apart (inr h) = by_side (cases_lt p a.at) (cases_lt p (
     by_side (inr x) (inr y) ih = omega arith
     by_side (inr x) (inl y) ih = absurd (omega (arith, untouched p a areas x y apart.0))
 
-no_more : (end p : ℕ) (areas : List Area) → AreInside end areas → end ≤ p → bytes_below p areas ≡ bytes_below end areas
+pub no_more : (end p : ℕ) (areas : List Area) → AreInside end areas → end ≤ p → bytes_below p areas ≡ bytes_below end areas
 no_more end p [] inside le = refl
 no_more end p (a ∷ areas) inside le = omega (arith, inside.0, no_more end p areas inside.1 le)
 
@@ -84,10 +84,10 @@ pub tile-apart : (end : ℕ) (areas : List Area) → HaveBytes areas → Tile en
 tile-apart end areas some t = once-apart areas some (tile-once end areas t)
 
 -- no byte stands behind the end
-abbrev NoneBehind : ℕ → List Area → Type 0
+abbrev pub NoneBehind : ℕ → List Area → Type 0
 NoneBehind end areas = (p : ℕ) → end ≤ p → bytes_below p areas ≤ bytes_below end areas
 
-inside_by : (end : ℕ) (areas : List Area) → HaveBytes areas → NoneBehind end areas → AreInside end areas
+pub inside_by : (end : ℕ) (areas : List Area) → HaveBytes areas → NoneBehind end areas → AreInside end areas
 inside_by end [] some none = tt
 inside_by end (a ∷ areas) some none = (
   by_end (cases_lt end (a.at + a.size)),

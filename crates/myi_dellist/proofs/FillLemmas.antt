@@ -126,7 +126,7 @@ pub append_fills : (fuel len : ℕ) (first : Bool) (left at : ℕ) → left ≤ 
 append_fills zero len first left at le some aligned = absurd (omega arith)
 append_fills (suc fuel) len first left at le some aligned =
     let cap = room-bounds len first most_size (omega arith) in
-    by_test (nat_lt left (2 ^ 24)) refl (λ far. append_fills fuel len false (left - room len first most_size) (at + most_size) (omega (arith, far, cap.0)) (omega (arith, far, cap.1)) (omega (arith, aligned)))
+    by_test (nat_lt left (2 ^ 24)) refl (λ (far : 2 ^ 24 ≤ left). append_fills fuel len false (left - room len first most_size) (at + most_size) (omega (arith, far, cap.0)) (omega (arith, far, cap.1)) (omega (arith, aligned)))
   where
     by_test : (b : Bool) → nat_lt left (2 ^ 24) ≡ b → (2 ^ 24 ≤ left → Fill len false (left - room len first most_size) (append_from fuel len false (left - room len first most_size) (at + most_size))) → Fill len first left (append_one len first left at b (λ more. append_from fuel len false more (at + most_size)))
     by_test true t go =

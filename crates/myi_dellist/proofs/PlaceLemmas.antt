@@ -47,7 +47,7 @@ pub append_ends : (fuel len : ℕ) (first : Bool) (left at : ℕ) → left ≤ f
 append_ends zero len first left at le some = record { counts = omega arith; grows = omega arith; bytes = λ p. omega arith }
 append_ends (suc fuel) len first left at le some =
     let cap = room-bounds len first most_size (omega arith) in
-    by_test (nat_lt left (2 ^ 24)) refl (λ far. append_ends fuel len false (left - room len first most_size) (at + most_size) (omega arith) (inr (omega arith)))
+    by_test (nat_lt left (2 ^ 24)) refl (λ (far : 2 ^ 24 ≤ left). append_ends fuel len false (left - room len first most_size) (at + most_size) (omega arith) (inr (omega arith)))
   where
     by_test : (b : Bool) → nat_lt left (2 ^ 24) ≡ b → (2 ^ 24 ≤ left → Ends (append_from fuel len false (left - room len first most_size) (at + most_size)) (left - room len first most_size) (at + most_size)) → Ends (append_one len first left at b (λ more. append_from fuel len false more (at + most_size))) left at
     by_test true t more = record { counts = omega arith; grows = omega arith; bytes = λ p. omega arith }

@@ -170,3 +170,13 @@ pub record IsUsable (len : ℕ) (a : Area) : Type 0 where
   pub least : 20 ≤ a.size
   pub most : a.size ≤ half_size + most_size
   pub giant : (len < 2 ^ 24) ⊎ (a.size ≤ most_size)
+
+-- the place of a row is that of its first block
+abbrev pub place_of : List Piece → Option ℕ
+place_of [] = None
+place_of (p ∷ ps) = Some p.at
+
+-- where the next row goes: the head of the deleted list, or the end
+abbrev pub next_place : List Area → ℕ → ℕ
+next_place [] end = end
+next_place (h ∷ holes) end = h.at
