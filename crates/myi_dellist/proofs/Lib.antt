@@ -6,3 +6,4 @@ pub mod FillLemmas
 pub mod FirstLemmas
 pub mod UpdateLemmas
 pub mod SlotLemmas
+pub mod LinkLemmas

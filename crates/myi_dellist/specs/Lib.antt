@@ -3,3 +3,4 @@ pub mod Areas
 pub mod Releasing
 pub mod Placing
 pub mod Slots
+pub mod Standing

@@ -1,6 +1,6 @@
 //! Laws over the definitions of this crate. Each is the contract of a function that does nothing, so
 //! that it is proved with the crate and stands for the crates above.
-ghost use Rattle.std.specs.Prelude.{◌≡◌, ◌≢◌, ℕ, ◌+◌, ◌%◌, ◌^◌, ◌<◌, ◌≤◌, ◌++◌, true, List, [], length, take, drop, slice_index, Option, Some, None};
+ghost use Rattle.std.specs.Prelude.{◌≡◌, ◌≢◌, ◌⊎◌, ℕ, ◌+◌, ◌-◌, ◌%◌, ◌^◌, ◌<◌, ◌≤◌, ◌++◌, true, List, [], length, take, drop, slice_index, Option, Some, None};
 ghost use Rattle.std.specs.List.{AllByRecursion};
 ghost use Rattle.myi_base.specs.Numbers.{AreBytes};
 ghost use Rattle.myi_base.specs.Ranges.{are_apart};
@@ -145,4 +145,14 @@ pub fn rooms_are_greatest()
     ensures few_in_middle { (d : List ℕ) (p : ℕ) (b : Block) → AreBytes d
         → block_of d p ≡ Some b
         → b.kind ≡ Middle → middle_room b.size < 2 ^ 24 }
+{}
+
+/// What is written into a file leaves each byte that it does not meet, and makes the file no longer than
+/// needed.
+pub fn writes_leave_the_rest()
+    ensures length { (at : ℕ) (bytes d : List ℕ) → length (overwritten at bytes d)
+        ≡ at + length bytes + (length d - (at + length bytes)) }
+    ensures bytes { (at : ℕ) (bytes d : List ℕ) (p n : ℕ)
+        → (p + n ≤ at) ⊎ (at + length bytes ≤ p) → p + n ≤ length d
+        → take n (drop p (overwritten at bytes d)) ≡ take n (drop p d) }
 {}
