@@ -7,3 +7,4 @@ pub mod FirstLemmas
 pub mod UpdateLemmas
 pub mod SlotLemmas
 pub mod LinkLemmas
+pub mod ReleasedLemmas

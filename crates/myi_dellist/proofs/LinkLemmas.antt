@@ -204,3 +204,103 @@ taken-off d xs g ys on apart h =
     let y2 = prev_part e (Some g.at) prev None ys oe ss.1.1 tt lp y1 in
     let x2 = part_prev e ys prev None None next xs oe tt lp cross x1 in
     part_join (with_prev ys prev None e) None None xs ys x2 y2
+
+abbrev pub AreFar : ℕ → ℕ → List Area → Type 0
+AreFar p q xs = AllByRecursion (λ (a : Area). (q ≤ a.at) ⊎ (a.at + 20 ≤ p)) xs
+
+pub taken-off-long : (d : List ℕ) (xs ys : List Area) → AreOn (length d) xs → AreOn (length d) ys → length (without_block xs ys d) ≡ length d
+taken-off-long d xs ys ox oy =
+    let fp = first_pointer (length d) ys None tt oy in
+    let lp = last_pointer (length d) xs None tt ox in
+    let len = next_length d xs None (first_or ys None) ox fp tt in
+    prev_length (with_next xs None (first_or ys None) d) ys (last_or xs None) None (subst (λ (n : ℕ). AreOn n ys) (sym len) oy) tt lp ∙ len
+
+pub taken-off-keeps : (d : List ℕ) (xs ys : List Area) → AreOn (length d) xs → AreOn (length d) ys → KeepsBut (xs ++ ys) d (without_block xs ys d)
+taken-off-keeps d xs ys ox oy =
+    record { long = taken-off-long d xs ys ox oy; bytes = λ p n le far. by_parts p n le (all_split (λ (a : Area). (p + n ≤ a.at) ⊎ (a.at + 20 ≤ p)) xs ys far) }
+  where
+    by_parts : (p n : ℕ) → p + n ≤ length d → AreFar p (p + n) xs × AreFar p (p + n) ys → take n (drop p (without_block xs ys d)) ≡ take n (drop p d)
+    by_parts p n le far =
+        let fp = first_pointer (length d) ys None tt oy in
+        let lp = last_pointer (length d) xs None tt ox in
+        let len = next_length d xs None (first_or ys None) ox fp tt in
+        prev_keeps (with_next xs None (first_or ys None) d) ys (last_or xs None) None p n (subst (λ (m : ℕ). AreOn m ys) (sym len) oy) tt lp (omega (arith, len)) far.1
+        ∙ next_keeps d xs None (first_or ys None) p n ox fp tt le far.0
+
+-- ---- the head
+
+pub made-first : (d : List ℕ) (a : Area) (holes : List Area) → IsOn (length d) a → AreOn (length d) holes → AreApart (a ∷ holes) → IsPart d None holes None → IsPart (with_first a holes d) None (a ∷ holes) None
+made-first d a [] o on apart h = (head_stands d a None None o tt tt, tt)
+made-first d a (g ∷ rest) o on apart h =
+    let gp = on_pointer (length d) g on.0 in
+    let ap' = on_pointer (length d) a o in
+    let e = with_head a (Some g.at) None d in
+    let len = head_length d a (Some g.at) None o gp tt in
+    let oe : AreOn (length e) (g ∷ rest) = subst (λ (n : ℕ). AreOn n (g ∷ rest)) (sym len) on in
+    let here = head_stands d a (Some g.at) None o gp tt in
+    let old = head_part d a (Some g.at) None None None (g ∷ rest) o gp tt apart.0 h in
+    let more = prev_part e None (Some a.at) None (g ∷ rest) oe apart.1 tt ap' old in
+    let fp = first_pointer (length e) rest None tt oe.1 in
+    let far = head_far e g (first_or rest None) (Some a.at) a.at (hole_block a (Some g.at) None) oe.0 fp ap' (by_side apart.0.0) here in
+    (far, more)
+  where
+    by_side : IsApart a g → (a.at + a.size ≤ g.at) ⊎ (g.at + g.size ≤ a.at)
+    by_side s = s
+
+pub first-long : (d : List ℕ) (a : Area) (holes : List Area) → IsOn (length d) a → AreOn (length d) holes → length (with_first a holes d) ≡ length d
+first-long d a holes o on =
+    let fp = first_pointer (length d) holes None tt on in
+    let len = head_length d a (first_or holes None) None o fp tt in
+    prev_length (with_head a (first_or holes None) None d) holes (Some a.at) None (subst (λ (n : ℕ). AreOn n holes) (sym len) on) tt (on_pointer (length d) a o) ∙ len
+
+pub first-keeps : (d : List ℕ) (a : Area) (holes : List Area) → IsOn (length d) a → AreOn (length d) holes → KeepsBut (a ∷ holes) d (with_first a holes d)
+first-keeps d a holes o on =
+    let fp = first_pointer (length d) holes None tt on in
+    let len = head_length d a (first_or holes None) None o fp tt in
+    record {
+      long = first-long d a holes o on;
+      bytes = λ p n le far.
+          prev_keeps (with_head a (first_or holes None) None d) holes (Some a.at) None p n (subst (λ (m : ℕ). AreOn m holes) (sym len) on) tt (on_pointer (length d) a o) (omega (arith, len)) far.1
+          ∙ head_keeps d a (first_or holes None) None p n o fp tt far.0 le;
+    }
+
+-- ---- lists of files
+
+pub list_on : (d : List ℕ) (holes : List Area) → HasList d holes → AreOn (length d) holes
+list_on d holes l = by_list holes l.sizes l.inside
+  where
+    by_list : (areas : List Area) → AllByRecursion IsHole areas → AreInside (length d) areas → AreOn (length d) areas
+    by_list [] s i = tt
+    by_list (a ∷ areas) s i = (record { hole = s.0; inside = i.0; short = l.short }, by_list areas s.1 i.1)
+
+on_list : (d : List ℕ) (holes : List Area) → length d < 2 ^ 64 → IsPart d None holes None → AreOn (length d) holes → AreApart holes → HasList d holes
+on_list d holes short linked on apart = record { linked = linked; sizes = sizes holes on; inside = ends holes on; apart = apart; short = short }
+  where
+    sizes : (areas : List Area) → AreOn (length d) areas → AllByRecursion IsHole areas
+    sizes [] o = tt
+    sizes (a ∷ areas) o = (o.0.hole, sizes areas o.1)
+
+    ends : (areas : List Area) → AreOn (length d) areas → AreInside (length d) areas
+    ends [] o = tt
+    ends (a ∷ areas) o = (o.0.inside, ends areas o.1)
+
+cross_rest : (xs : List Area) (y : Area) (ys : List Area) → AreCross xs (y ∷ ys) → AreCross xs ys
+cross_rest xs y ys c = (cross_head xs y ys c).1
+
+pub list-without : (d : List ℕ) (xs : List Area) (g : Area) (ys : List Area) → HasList d (xs ++ g ∷ ys) → HasList (without_block xs ys d) (xs ++ ys)
+list-without d xs g ys l =
+    let on = list_on d (xs ++ g ∷ ys) l in
+    let os = all_split (IsOn (length d)) xs (g ∷ ys) on in
+    let ss = apart_split xs (g ∷ ys) l.apart in
+    let len = taken-off-long d xs ys os.0 os.1.1 in
+    on_list (without_block xs ys d) (xs ++ ys) (omega (arith, len, l.short)) (taken-off d xs g ys on l.apart l.linked)
+      (subst (λ (n : ℕ). AreOn n (xs ++ ys)) (sym len) (all_join (IsOn (length d)) xs ys os.0 os.1.1))
+      (apart_join xs ys ss.0 ss.1.1 (cross_rest xs g ys ss.2))
+
+pub list-first : (d : List ℕ) (a : Area) (holes : List Area) → IsHole a → a.at + a.size ≤ length d → AllByRecursion (IsApart a) holes → HasList d holes → HasList (with_first a holes d) (a ∷ holes)
+list-first d a holes h inside far l =
+    let on = list_on d holes l in
+    let o : IsOn (length d) a = record { hole = h; inside = inside; short = l.short } in
+    let len = first-long d a holes o on in
+    on_list (with_first a holes d) (a ∷ holes) (omega (arith, len, l.short)) (made-first d a holes o on (far, l.apart) l.linked)
+      (subst (λ (n : ℕ). AreOn n (a ∷ holes)) (sym len) (o, on)) (far, l.apart)

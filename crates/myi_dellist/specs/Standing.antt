@@ -1,12 +1,12 @@
 -- The deleted list in the bytes of a data file (MySQL Internals Manual, "MyISAM Dynamic Data File Layout"): each deleted block
 -- names the next one and the one before it.
-use Rattle.std.specs.Prelude.{◌≡◌, ℕ, ◌+◌, ◌^◌, ◌<◌, ◌≤◌, ◌⊎◌, List, [], ◌∷◌, ◌++◌, length, take, drop, Option, Some, None}
+use Rattle.std.specs.Prelude.{◌≡◌, ℕ, ◌+◌, ◌^◌, ◌<◌, ◌≤◌, ◌==◌, ◌⊎◌, nat_le, if◌then◌else◌, List, [], ◌∷◌, ◌++◌, length, take, drop, Option, Some, None}
 use Rattle.std.specs.List.{AllByRecursion}
 use Rattle.myi_base.specs.Holding.{overwritten}
 use Rattle.myi_frames.specs.Block.{Block, block_of}
 use Rattle.myi_frames.specs.Writing.{deleted_spec, deleted_head, written_block}
 use Rattle.myi_dellist.specs.Areas.{Area, AreApart, AreInside}
-use Rattle.myi_dellist.specs.Releasing.{IsHole}
+use Rattle.myi_dellist.specs.Releasing.{most_size, hole_at, without, release_one, front_part, back_part, IsHole}
 
 -- a deleted block with these neighbours
 abbrev pub hole_block : Area → Option ℕ → Option ℕ → Block
@@ -61,3 +61,34 @@ with_first a holes d = with_prev holes (Some a.at) None (with_head a (first_or h
 pub record KeepsBut (holes : List Area) (d e : List ℕ) : Type 0 where
   pub long : length e ≡ length d
   pub bytes : (p n : ℕ) → p + n ≤ length d → AllByRecursion (λ a. (p + n ≤ a.at) ⊎ (a.at + 20 ≤ p)) holes → take n (drop p e) ≡ take n (drop p d)
+
+-- ---- what releasing an area writes
+
+-- the blocks of a list before the one at a place, and behind it
+abbrev pub before : ℕ → List Area → List Area
+before p [] = []
+before p (h ∷ holes) = if h.at == p then [] else h ∷ before p holes
+
+abbrev pub behind : ℕ → List Area → List Area
+behind p [] = []
+behind p (h ∷ holes) = if h.at == p then holes else behind p holes
+
+-- the bytes after a block at a place was taken off the list
+abbrev pub without_at : ℕ → List Area → List ℕ → List ℕ
+without_at p holes d = without_block (before p holes) (behind p holes) d
+
+abbrev pub joined_bytes : Area → List Area → List ℕ → Option Area → List ℕ
+joined_bytes a holes d None = with_first a holes d
+joined_bytes a holes d (Some h) =
+    if nat_le (a.size + h.size) most_size then with_first (record { at = a.at; size = a.size + h.size }) (without h.at holes) (without_at h.at holes d)
+    else with_first a holes d
+
+-- the bytes after an area that a deleted block can be was released
+unfoldable pub release_one_bytes : Area → List Area → List ℕ → List ℕ
+release_one_bytes a holes d = joined_bytes a holes d (hole_at (a.at + a.size) holes)
+
+-- the bytes after an area was released
+unfoldable pub release_bytes : Area → List Area → List ℕ → List ℕ
+release_bytes a holes d =
+    if nat_le a.size most_size then release_one_bytes a holes d
+    else release_one_bytes (front_part a) (release_one (back_part a) holes) (release_one_bytes (back_part a) holes d)
