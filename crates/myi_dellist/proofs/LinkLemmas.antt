@@ -144,11 +144,11 @@ prev_keeps d (a ∷ ys) prev next p n o pn pp le far = head_keeps d a (first_or 
 
 -- ---- taken off
 
-all_split : (P : Area → Type 0) (xs ys : List Area) → AllByRecursion P (xs ++ ys) → AllByRecursion P xs × AllByRecursion P ys
+pub all_split : (P : Area → Type 0) (xs ys : List Area) → AllByRecursion P (xs ++ ys) → AllByRecursion P xs × AllByRecursion P ys
 all_split P [] ys h = (tt, h)
 all_split P (x ∷ xs) ys h = let more = all_split P xs ys h.1 in ((h.0, more.0), more.1)
 
-all_join : (P : Area → Type 0) (xs ys : List Area) → AllByRecursion P xs → AllByRecursion P ys → AllByRecursion P (xs ++ ys)
+pub all_join : (P : Area → Type 0) (xs ys : List Area) → AllByRecursion P xs → AllByRecursion P ys → AllByRecursion P (xs ++ ys)
 all_join P [] ys h k = k
 all_join P (x ∷ xs) ys h k = (h.0, all_join P xs ys h.1 k)
 
@@ -157,7 +157,7 @@ abbrev pub AreCross : List Area → List Area → Type 0
 AreCross [] ys = Unit {0}
 AreCross (x ∷ xs) ys = AllByRecursion (IsApart x) ys × AreCross xs ys
 
-apart_split : (xs ys : List Area) → AreApart (xs ++ ys) → AreApart xs × AreApart ys × AreCross xs ys
+pub apart_split : (xs ys : List Area) → AreApart (xs ++ ys) → AreApart xs × AreApart ys × AreCross xs ys
 apart_split [] ys h = (tt, h, tt)
 apart_split (x ∷ xs) ys h =
     let far = all_split (IsApart x) xs ys h.0 in
@@ -168,7 +168,7 @@ apart_join : (xs ys : List Area) → AreApart xs → AreApart ys → AreCross xs
 apart_join [] ys h k c = k
 apart_join (x ∷ xs) ys h k c = (all_join (IsApart x) xs ys h.0 c.0, apart_join xs ys h.1 k c.1)
 
-cross_head : (xs : List Area) (y : Area) (ys : List Area) → AreCross xs (y ∷ ys) → AreAway y.at (y.at + y.size) xs × AreCross xs ys
+pub cross_head : (xs : List Area) (y : Area) (ys : List Area) → AreCross xs (y ∷ ys) → AreAway y.at (y.at + y.size) xs × AreCross xs ys
 cross_head [] y ys h = (tt, tt)
 cross_head (x ∷ xs) y ys h = let more = cross_head xs y ys h.1 in ((other h.0.0, more.0), (h.0.1, more.1))
   where

@@ -44,7 +44,7 @@ below-release_all n (a ∷ areas) holes = omega (arith, below-release_all n area
 
 -- ---- the sizes of what is deleted
 
-all-without : (P : Area → Type 0) (p : ℕ) (holes : List Area) → AllByRecursion P holes → AllByRecursion P (without p holes)
+pub all-without : (P : Area → Type 0) (p : ℕ) (holes : List Area) → AllByRecursion P holes → AllByRecursion P (without p holes)
 all-without P p [] all = tt
 all-without P p (h ∷ holes) all = by_test (h.at == p) (all-without P p holes all.1)
   where

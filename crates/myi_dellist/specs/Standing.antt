@@ -92,3 +92,8 @@ unfoldable pub release_bytes : Area → List Area → List ℕ → List ℕ
 release_bytes a holes d =
     if nat_le a.size most_size then release_one_bytes a holes d
     else release_one_bytes (front_part a) (release_one (back_part a) holes) (release_one_bytes (back_part a) holes d)
+
+-- the deleted list of a changed file is these blocks, and no other byte changed
+pub record LeavesList (holes : List Area) (d e : List ℕ) : Type 0 where
+  pub list : HasList e holes
+  pub keeps : KeepsBut holes d e

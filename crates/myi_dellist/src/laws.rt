@@ -1,10 +1,13 @@
-//! Laws over the definitions of this crate, on lists of areas alone. Each is the contract of a function
-//! that does nothing, so that it is proved with the crate and stands for the crates above.
-ghost use Rattle.std.specs.Prelude.{◌≡◌, ℕ, ◌+◌, ◌%◌, ◌^◌, ◌<◌, ◌≤◌, ◌++◌, List, [], ◌∷◌, Some};
+//! Laws over the definitions of this crate: first on lists of areas and of slots alone, then on the bytes
+//! of a file. Each is the contract of a function that does nothing, so that it is proved with the crate
+//! and stands for the crates above.
+ghost use Rattle.std.specs.Prelude.{◌≡◌, ◌⊎◌, ℕ, ◌+◌, ◌%◌, ◌^◌, ◌<◌, ◌≤◌, ◌++◌, List, [], ◌∷◌, length, Some};
 ghost use Rattle.std.specs.List.{AllByRecursion};
-ghost use Rattle.myi_dellist.specs.Areas.{Area, below, bytes_below, Tile, AreApart, AreInside, Holds, HaveBytes};
+ghost use Rattle.myi_frames.specs.Block.{Block, block_of};
+ghost use Rattle.myi_dellist.specs.Areas.{Area, below, bytes_below, Tile, IsApart, AreApart, AreInside, Holds, HaveBytes};
 ghost use Rattle.myi_dellist.specs.Releasing.{release, release_all, IsHole, IsFreeable};
 ghost use Rattle.myi_dellist.specs.Placing.{Space, areas_of, taken_by, place, update, specs_of, place_of, next_place, AreWritable};
+ghost use Rattle.myi_dellist.specs.Standing.{HasList, KeepsBut, LeavesList, without_block, release_bytes};
 ghost use Rattle.myi_dellist.specs.Slots.{Slots, take_slot, take_slot_at_end, release_slot, NameEach};
 
 /// Areas tile a file, by the count of bytes below each place, exactly where no byte belongs to two of
@@ -83,4 +86,19 @@ pub fn slots_are_named_once()
     ensures released { (s : Slots) (slot : ℕ) (rows : List ℕ)
         → NameEach s.count (slot ∷ rows ++ s.holes)
         → NameEach (release_slot slot s).count (rows ++ (release_slot slot s).holes) }
+{}
+
+/// The deleted list in a file's bytes. A block that is taken off it, and an area that is released, leave
+/// the list that the definitions on lists say, and change no byte but the first 20 of the blocks that
+/// are on it then. So each block that has none of these stands as before.
+pub fn lists_stand_in_files()
+    ensures taken_off { (d : List ℕ) (before : List Area) (h : Area) (behind : List Area)
+        → HasList d (before ++ h ∷ behind)
+        → LeavesList (before ++ behind) d (without_block before behind d) }
+    ensures released { (d : List ℕ) (a : Area) (holes : List Area) → IsFreeable a
+        → a.at + a.size ≤ length d → AllByRecursion (IsApart a) holes → HasList d holes
+        → LeavesList (release a holes) d (release_bytes a holes d) }
+    ensures others { (holes : List Area) (d e : List ℕ) (p : ℕ) (b : Block) → KeepsBut holes d e
+        → AllByRecursion (λ a. (p + b.size ≤ a.at) ⊎ (a.at + 20 ≤ p)) holes
+        → block_of d p ≡ Some b → block_of e p ≡ Some b }
 {}
