@@ -1,19 +1,17 @@
 -- The blocks of a row are filled one after the other, and the last one takes what is left: so each can be written.
-use Rattle.std.proofs.Common.{◌≡◌, ℕ, zero, suc, ◌+◌, ◌-◌, ◌%◌, ◌^◌, ◌<◌, ◌≤◌, ◌⊎◌, inl, inr, min, max, Bool, true, false, List, [], ◌∷◌, ◌++◌, Option, Some, None, refl, sym, ap, subst, ◌∙◌, arith}
-use Rattle.std.specs.Prelude.{nat_lt, nat_le, ◌&&◌, if◌then◌else◌}
+use Rattle.std.proofs.Common.{◌≡◌, ℕ, zero, suc, ◌+◌, ◌-◌, ◌%◌, ◌^◌, ◌<◌, ◌≤◌, ◌⊎◌, inl, inr, Bool, true, false, List, [], ◌∷◌, ◌++◌, Some, refl, sym, ap, subst, ◌∙◌, arith}
+use Rattle.std.specs.Prelude.{nat_lt, nat_le}
 use Rattle.std.specs.List.{AllByRecursion}
 use Rattle.std.proofs.lemmas.Bool.{ltb-true, ltb-false, leb-true, leb-false}
 use Rattle.std.proofs.lemmas.List.{append-nil}
-use Rattle.myi_frames.specs.declared.write.FrameSpec.{FrameSpec}
-use Rattle.myi_frames.specs.Block.{IsPointer}
 use Rattle.myi_frames.specs.Sizes.{least_size, start_room, middle_room}
 use Rattle.myi_frames.specs.Writing.{whole_spec, start_spec, middle_spec, end_spec, IsWritable}
 use Rattle.myi_frames.proofs.CallerLemmas.{least-sized, start-writable, middle-writable}
 use Rattle.myi_dellist.specs.Areas.{Area}
-use Rattle.myi_dellist.specs.Releasing.{most_size, half_size, release_all, IsHole, IsFreeable}
-use Rattle.myi_dellist.specs.Placing.{Space, Piece, area_of, areas_of, room, fits, Taking, take_last, with_piece, take_one, take_from, take_more, append_one, append_from, end_behind, is_none, Placing, last_pieces, placed_by, place, specs_behind, specs_of, AreWritable, IsUsable}
+use Rattle.myi_dellist.specs.Releasing.{most_size, half_size, IsHole, IsFreeable}
+use Rattle.myi_dellist.specs.Placing.{Space, Piece, room, fits, Taking, take_last, with_piece, take_one, take_from, take_more, append_one, append_from, is_none, Placing, last_pieces, placed_by, place, specs_behind, specs_of, AreWritable, IsUsable}
 use Rattle.myi_dellist.proofs.ReleaseLemmas.{holes-release_all}
-use Rattle.myi_dellist.proofs.SizeLemmas.{room-bounds, not-fits, not-fits-few, does-fit, last-writable}
+use Rattle.myi_dellist.proofs.SizeLemmas.{room-bounds, not-fits-few, does-fit, last-writable}
 
 -- a block that is not the last one of its row
 pub record IsFull (len : ℕ) (first : Bool) (left : ℕ) (p : Piece) : Type 0 where

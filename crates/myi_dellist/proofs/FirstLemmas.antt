@@ -1,16 +1,16 @@
 -- Where a row begins, and that its blocks end in the file.
-use Rattle.std.proofs.Common.{◌≡◌, ℕ, zero, suc, ◌+◌, ◌-◌, ◌%◌, ◌^◌, ◌<◌, ◌≤◌, ◌⊎◌, inl, inr, min, max, Bool, true, false, List, [], ◌∷◌, ◌++◌, Option, Some, None, refl, sym, ap, subst, ◌∙◌, arith}
+use Rattle.std.proofs.Common.{◌≡◌, ℕ, zero, suc, ◌+◌, ◌-◌, ◌%◌, ◌^◌, ◌<◌, ◌≤◌, Bool, true, false, List, [], ◌∷◌, ◌++◌, Some, refl, ap, ◌∙◌, arith}
 use Rattle.std.specs.Prelude.{nat_lt, nat_le, if◌then◌else◌}
 use Rattle.std.specs.List.{AllByRecursion, flat_map}
-use Rattle.std.proofs.lemmas.Bool.{leb-true, leb-false}
+use Rattle.std.proofs.lemmas.Bool.{leb-false}
 use Rattle.myi_frames.specs.Sizes.{least_size}
 use Rattle.myi_frames.proofs.CallerLemmas.{least-sized}
-use Rattle.myi_dellist.specs.Areas.{Area, below, bytes_below, Tile, AreInside, HaveBytes}
-use Rattle.myi_dellist.specs.Releasing.{most_size, half_size, front_part, back_part, release_all, IsHole, IsFreeable}
-use Rattle.myi_dellist.specs.Placing.{Space, Piece, area_of, areas_of, room, fits, Taking, take_last, with_piece, take_one, take_from, take_more, append_one, append_from, end_behind, is_none, Placing, last_pieces, placed_by, place, own_parts, own_areas, specs_of, AreWritable, IsUsable, place_of, next_place}
+use Rattle.myi_dellist.specs.Areas.{Area, below, bytes_below, AreInside, HaveBytes}
+use Rattle.myi_dellist.specs.Releasing.{most_size, front_part, back_part, IsHole}
+use Rattle.myi_dellist.specs.Placing.{Space, Piece, areas_of, fits, take_last, take_one, take_from, take_more, append_one, append_from, is_none, last_pieces, place, own_parts, own_areas, specs_of, AreWritable, IsUsable, place_of, next_place}
 use Rattle.myi_dellist.proofs.AreaLemmas.{rising, no_more, inside_by}
-use Rattle.myi_dellist.proofs.PlaceLemmas.{Keeps, place-keeps}
-use Rattle.myi_dellist.proofs.FillLemmas.{IsFull, IsLast, Fill, IsPlaced, place-placed, AreReached, fill-writable, holes_usable}
+use Rattle.myi_dellist.proofs.PlaceLemmas.{place-keeps}
+use Rattle.myi_dellist.proofs.FillLemmas.{Fill, place-placed, AreReached, fill-writable, holes_usable}
 
 -- ---- inside
 
@@ -27,8 +27,7 @@ pub place-inside : (s : Space) (own : List Area) (len : ℕ) → 0 < len → s.e
 place-inside s own len some aligned all holes io ih =
     let r = place s own len in
     let k = place-keeps s own len all (holes_usable len s.holes holes) in
-    let p = place-placed s own len some aligned all holes in
-    (
+    let p = place-placed s own len some aligned all holes in (
       inside_by r.space.end (areas_of r.pieces) (fill_bytes len true len r.pieces p.fill) (λ q le. omega (arith, sums q le, rising r.space.end q r.space.holes le)),
       inside_by r.space.end r.space.holes (hole_bytes r.space.holes p.holes) (λ q le. omega (arith, sums q le, rising r.space.end q (areas_of r.pieces) le)),
     )

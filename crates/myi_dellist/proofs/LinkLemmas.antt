@@ -1,15 +1,14 @@
 -- Blocks that are taken off the list, wherever they stand in it, and that go to its head.
-use Rattle.std.proofs.Common.{◌≡◌, ℕ, zero, suc, ◌+◌, ◌-◌, ◌%◌, ◌^◌, ◌<◌, ◌≤◌, ◌⊎◌, inl, inr, Bool, true, false, List, [], ◌∷◌, ◌++◌, length, take, drop, Option, Some, None, refl, sym, ap, subst, ◌∙◌, arith}
+use Rattle.std.proofs.Common.{◌≡◌, ℕ, ◌+◌, ◌^◌, ◌<◌, ◌≤◌, ◌⊎◌, inl, inr, Bool, true, false, List, [], ◌∷◌, ◌++◌, length, take, drop, Option, Some, None, refl, sym, subst, ◌∙◌, arith}
 use Rattle.std.specs.Prelude.{◌||◌, nat_le}
 use Rattle.std.specs.List.{AllByRecursion}
 use Rattle.std.proofs.lemmas.Bool.{le-leb}
 use Rattle.myi_base.specs.Ranges.{are_apart}
-use Rattle.myi_base.specs.Holding.{overwritten}
-use Rattle.myi_frames.specs.Block.{Block, block_of, IsPlace, IsPointer}
+use Rattle.myi_frames.specs.Block.{Block, block_of, IsPointer}
 use Rattle.myi_frames.specs.Writing.{deleted_head}
 use Rattle.myi_frames.proofs.CallerLemmas.{block-elsewhere, deleted-overwritten, length-deleted_head, length-overwritten, part-overwritten}
 use Rattle.myi_dellist.specs.Areas.{Area, IsApart, AreApart, AreInside}
-use Rattle.myi_dellist.specs.Releasing.{most_size, IsHole}
+use Rattle.myi_dellist.specs.Releasing.{IsHole}
 use Rattle.myi_dellist.specs.Standing.{hole_block, first_or, last_or, IsPart, HasList, with_head, with_next, with_prev, without_block, with_first, KeepsBut}
 
 -- a block that may be on the list of a file of this length
@@ -294,8 +293,8 @@ list-without d xs g ys l =
     let ss = apart_split xs (g ∷ ys) l.apart in
     let len = taken-off-long d xs ys os.0 os.1.1 in
     on_list (without_block xs ys d) (xs ++ ys) (omega (arith, len, l.short)) (taken-off d xs g ys on l.apart l.linked)
-      (subst (λ (n : ℕ). AreOn n (xs ++ ys)) (sym len) (all_join (IsOn (length d)) xs ys os.0 os.1.1))
-      (apart_join xs ys ss.0 ss.1.1 (cross_rest xs g ys ss.2))
+    (subst (λ (n : ℕ). AreOn n (xs ++ ys)) (sym len) (all_join (IsOn (length d)) xs ys os.0 os.1.1))
+    (apart_join xs ys ss.0 ss.1.1 (cross_rest xs g ys ss.2))
 
 pub list-first : (d : List ℕ) (a : Area) (holes : List Area) → IsHole a → a.at + a.size ≤ length d → AllByRecursion (IsApart a) holes → HasList d holes → HasList (with_first a holes d) (a ∷ holes)
 list-first d a holes h inside far l =
@@ -303,4 +302,4 @@ list-first d a holes h inside far l =
     let o : IsOn (length d) a = record { hole = h; inside = inside; short = l.short } in
     let len = first-long d a holes o on in
     on_list (with_first a holes d) (a ∷ holes) (omega (arith, len, l.short)) (made-first d a holes o on (far, l.apart) l.linked)
-      (subst (λ (n : ℕ). AreOn n (a ∷ holes)) (sym len) (o, on)) (far, l.apart)
+    (subst (λ (n : ℕ). AreOn n (a ∷ holes)) (sym len) (o, on)) (far, l.apart)

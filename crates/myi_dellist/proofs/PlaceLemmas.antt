@@ -1,15 +1,14 @@
 -- What placing keeps: how many bytes the blocks take, and that they tile what was free.
-use Rattle.std.proofs.Common.{◌≡◌, ℕ, zero, suc, ◌+◌, ◌-◌, ◌%◌, ◌^◌, ◌<◌, ◌≤◌, ◌⊎◌, inl, inr, min, max, Bool, true, false, List, [], ◌∷◌, ◌++◌, Option, Some, None, refl, sym, ap, subst, ◌∙◌, arith}
-use Rattle.std.specs.Prelude.{nat_lt, nat_le, if◌then◌else◌}
+use Rattle.std.proofs.Common.{◌≡◌, ℕ, zero, suc, ◌+◌, ◌-◌, ◌^◌, ◌<◌, ◌≤◌, ◌⊎◌, inl, inr, min, Bool, true, false, List, [], ◌∷◌, ◌++◌, refl, arith}
+use Rattle.std.specs.Prelude.{nat_lt, nat_le}
 use Rattle.std.specs.List.{AllByRecursion}
-use Rattle.std.proofs.lemmas.Bool.{ltb-true, ltb-false, leb-true, leb-false}
+use Rattle.std.proofs.lemmas.Bool.{ltb-false, leb-true}
 use Rattle.myi_frames.specs.Sizes.{least_size}
-use Rattle.myi_frames.proofs.CallerLemmas.{least-sized}
-use Rattle.myi_dellist.specs.Areas.{Area, below, bytes_below, Tile}
-use Rattle.myi_dellist.specs.Releasing.{most_size, half_size, release_all, IsHole, IsFreeable}
-use Rattle.myi_dellist.specs.Placing.{Space, Piece, areas_of, taken_by, room, fits, Taking, take_last, with_piece, take_one, take_from, take_more, append_one, append_from, end_behind, is_none, Placing, last_pieces, placed_by, place, IsUsable}
+use Rattle.myi_dellist.specs.Areas.{Area, bytes_below, Tile}
+use Rattle.myi_dellist.specs.Releasing.{most_size, release_all}
+use Rattle.myi_dellist.specs.Placing.{Space, Piece, areas_of, taken_by, room, fits, Taking, take_last, take_one, take_from, take_more, append_one, append_from, end_behind, is_none, Placing, last_pieces, placed_by, place, IsUsable}
 use Rattle.myi_dellist.proofs.AreaLemmas.{below-append}
-use Rattle.myi_dellist.proofs.ReleaseLemmas.{below-release_all, holes-release_all}
+use Rattle.myi_dellist.proofs.ReleaseLemmas.{below-release_all}
 use Rattle.myi_dellist.proofs.SizeLemmas.{room-bounds, not-fits, does-fit}
 
 -- what taking keeps

@@ -1,10 +1,10 @@
 -- What releasing keeps.
-use Rattle.std.proofs.Common.{◌≡◌, ℕ, ◌+◌, ◌-◌, ◌%◌, ◌<◌, ◌≤◌, ◌⊎◌, inl, inr, min, Bool, true, false, List, [], ◌∷◌, ◌++◌, Option, Some, None, refl, sym, ap, subst, ◌∙◌, arith}
+use Rattle.std.proofs.Common.{◌≡◌, ℕ, ◌+◌, Bool, true, false, List, [], ◌∷◌, Option, Some, None, refl, sym, ap, subst, ◌∙◌, arith}
 use Rattle.std.specs.Prelude.{◌==◌, nat_le, if◌then◌else◌}
 use Rattle.std.specs.List.{AllByRecursion}
 use Rattle.std.proofs.lemmas.Bool.{leb-true, leb-false, eqb-true}
 use Rattle.myi_dellist.specs.Areas.{Area, below, bytes_below}
-use Rattle.myi_dellist.specs.Releasing.{most_size, half_size, hole_at, without, joined, release_one, front_part, back_part, release, release_all, IsHole, IsFreeable}
+use Rattle.myi_dellist.specs.Releasing.{most_size, hole_at, without, joined, release_one, front_part, back_part, release, release_all, IsHole, IsFreeable}
 
 taken_out : (n p : ℕ) (holes : List Area) (h : Area) → hole_at p holes ≡ Some h → (h.at ≡ p) × (bytes_below n holes ≡ below n h + bytes_below n (without p holes))
 taken_out n p [] h e = absurd cc

@@ -1,15 +1,15 @@
 -- What stands in a file after an area was released.
-use Rattle.std.proofs.Common.{◌≡◌, ℕ, ◌+◌, ◌-◌, ◌%◌, ◌^◌, ◌<◌, ◌≤◌, ◌⊎◌, inl, inr, Bool, true, false, List, [], ◌∷◌, ◌++◌, length, take, drop, Option, Some, None, refl, sym, ap, subst, ◌∙◌, arith}
+use Rattle.std.proofs.Common.{◌≡◌, ℕ, ◌+◌, ◌<◌, ◌≤◌, ◌⊎◌, inl, inr, Bool, true, false, List, [], ◌∷◌, ◌++◌, length, Option, Some, None, refl, sym, ap, subst, ◌∙◌, arith}
 use Rattle.std.specs.Prelude.{◌==◌, nat_le, if◌then◌else◌}
 use Rattle.std.specs.List.{AllByRecursion}
 use Rattle.std.proofs.lemmas.Bool.{leb-true, leb-false, eqb-true, eqb-false}
-use Rattle.myi_dellist.specs.Areas.{Area, IsApart, AreApart, AreInside}
-use Rattle.myi_dellist.specs.Releasing.{most_size, half_size, hole_at, without, joined, release_one, front_part, back_part, release, IsHole, IsFreeable}
+use Rattle.myi_dellist.specs.Areas.{Area, IsApart}
+use Rattle.myi_dellist.specs.Releasing.{most_size, hole_at, without, joined, release_one, front_part, back_part, release, IsHole, IsFreeable}
 use Rattle.myi_dellist.specs.Standing.{HasList, KeepsBut, LeavesList, with_first, without_block, before, behind, without_at, joined_bytes, release_one_bytes, release_bytes}
 use Rattle.myi_frames.specs.Block.{Block, block_of}
 use Rattle.myi_frames.proofs.CallerLemmas.{block-own, block-stands}
 use Rattle.myi_dellist.proofs.ReleaseLemmas.{all-without}
-use Rattle.myi_dellist.proofs.LinkLemmas.{IsOn, AreOn, list-without, all_split, all_join, apart_split, cross_head, list_on, list-first, taken-off-keeps, first-keeps, AreFar}
+use Rattle.myi_dellist.proofs.LinkLemmas.{IsOn, list-without, all_split, all_join, apart_split, cross_head, list_on, list-first, taken-off-keeps, first-keeps}
 
 -- ---- a block on the list
 
@@ -72,8 +72,8 @@ joined_stands d a h xs ys k at few far l =
     let whole : IsHole (both a h) = record { aligned = k.aligned; multiple = omega (arith, k.multiple, sizes.1.0.multiple); least = omega (arith, k.least); most = few } in
     let inside : a.at + (a.size + h.size) ≤ length e = omega (arith, k1.long, ends.1.0, at) in
     let away = all_join (IsApart (both a h)) xs ys
-        (both_apart a h xs at sizes.0 fars.0 (turned h xs heads.0))
-        (both_apart a h ys at sizes.1.1 fars.1.1 parts.1.0) in
+    (both_apart a h xs at sizes.0 fars.0 (turned h xs heads.0))
+    (both_apart a h ys at sizes.1.1 fars.1.1 parts.1.0) in
     let o : IsOn (length e) (both a h) = record { hole = whole; inside = inside; short = l1.short } in
     record {
       list = list-first e (both a h) (xs ++ ys) whole inside away l1;

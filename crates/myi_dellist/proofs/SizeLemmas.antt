@@ -1,12 +1,12 @@
 -- Sizes of blocks and what they take.
-use Rattle.std.proofs.Common.{◌≡◌, ℕ, ◌+◌, ◌-◌, ◌*◌, ◌/◌, ◌%◌, ◌^◌, ◌<◌, ◌≤◌, ◌⊎◌, inl, inr, min, max, Bool, true, false, Option, Some, None, refl, sym, ap, subst, ◌∙◌, arith}
+use Rattle.std.proofs.Common.{◌≡◌, ℕ, ◌+◌, ◌-◌, ◌*◌, ◌/◌, ◌%◌, ◌^◌, ◌<◌, ◌≤◌, ◌⊎◌, inl, inr, max, Bool, true, false, refl, arith}
 use Rattle.std.specs.Prelude.{nat_lt, nat_le, ◌&&◌, if◌then◌else◌}
 use Rattle.std.proofs.lemmas.Bool.{ltb-true, ltb-false, leb-true, leb-false, cases_lt}
-use Rattle.myi_frames.specs.Sizes.{row_header, least_size, start_room, middle_room, IsSized}
+use Rattle.myi_frames.specs.Sizes.{row_header, least_size, start_room, middle_room}
 use Rattle.myi_frames.specs.Writing.{whole_spec, end_spec, IsWritable}
 use Rattle.myi_frames.proofs.CallerLemmas.{least-sized, least-least}
 use Rattle.myi_dellist.specs.Areas.{Area}
-use Rattle.myi_dellist.specs.Releasing.{most_size, half_size}
+use Rattle.myi_dellist.specs.Releasing.{most_size}
 use Rattle.myi_dellist.specs.Placing.{room, fits, IsUsable}
 
 pub header-few : (n : ℕ) → (3 ≤ row_header n) × (row_header n ≤ 4)
@@ -83,8 +83,7 @@ does-fit left size e = by_tests (nat_lt left (2 ^ 24)) (nat_le (least_size left)
 pub last-writable : (n size : ℕ) → n < 2 ^ 24 → size % 4 ≡ 0 → least_size n ≤ size → size < least_size n + 20 → IsWritable (whole_spec n) n size × IsWritable end_spec n size
 last-writable n size few multiple le lt =
     let s = least-sized n in
-    let m = least-most n in
-    (
+    let m = least-most n in (
       record { multiple = multiple; least = omega (arith, s.least, le); few = few; kind = (record { room = omega (arith, s.room, le); few = omega (arith, m, lt) }, refl, refl, refl); next = tt; prev = tt },
       record { multiple = multiple; least = omega (arith, s.least, le); few = few; kind = (record { room = omega (arith, s.room, le); few = omega (arith, m, lt) }, refl, refl, refl); next = tt; prev = tt },
     )

@@ -1,8 +1,8 @@
 -- Slots: each is named once.
-use Rattle.std.proofs.Common.{◌≡◌, ℕ, ◌+◌, ◌<◌, ◌≤◌, Bool, true, false, List, [], ◌∷◌, ◌++◌, refl, sym, ap, ◌∙◌, arith}
+use Rattle.std.proofs.Common.{◌≡◌, ℕ, ◌+◌, Bool, true, false, List, [], ◌∷◌, ◌++◌, refl, arith}
 use Rattle.std.specs.Prelude.{◌==◌, nat_lt, if◌then◌else◌}
 use Rattle.std.proofs.lemmas.Bool.{eqb-true, eqb-false, ltb-true, ltb-false}
-use Rattle.myi_dellist.specs.Slots.{Slots, SlotTaken, taken_slot, take_slot, take_slot_at_end, release_slot, times, NameEach}
+use Rattle.myi_dellist.specs.Slots.{Slots, taken_slot, take_slot, take_slot_at_end, release_slot, times, NameEach}
 
 times-append : (n : ℕ) (xs ys : List ℕ) → times n (xs ++ ys) ≡ times n xs + times n ys
 times-append n [] ys = omega arith

@@ -1,15 +1,15 @@
 -- Updates: own blocks, of which the longest count as two.
-use Rattle.std.proofs.Common.{◌≡◌, ℕ, ◌+◌, ◌-◌, ◌%◌, ◌^◌, ◌<◌, ◌≤◌, ◌⊎◌, inl, inr, min, Bool, true, false, List, [], ◌∷◌, ◌++◌, Option, Some, None, refl, sym, ap, subst, ◌∙◌, arith}
+use Rattle.std.proofs.Common.{◌≡◌, ℕ, ◌+◌, ◌%◌, ◌^◌, ◌<◌, ◌≤◌, inl, inr, Bool, true, false, List, [], ◌∷◌, ◌++◌, refl, arith}
 use Rattle.std.specs.Prelude.{nat_lt, nat_le, if◌then◌else◌}
 use Rattle.std.specs.List.{AllByRecursion, flat_map}
-use Rattle.std.proofs.lemmas.Bool.{ltb-true, ltb-false, leb-true, leb-false}
-use Rattle.myi_dellist.specs.Areas.{Area, below, bytes_below, Tile, AreInside}
-use Rattle.myi_dellist.specs.Releasing.{most_size, half_size, front_part, back_part, IsHole, IsFreeable}
-use Rattle.myi_dellist.specs.Placing.{Space, areas_of, taken_by, Placing, place, own_parts, own_areas, update, specs_of, AreWritable, IsUsable}
+use Rattle.std.proofs.lemmas.Bool.{ltb-true, leb-true, leb-false}
+use Rattle.myi_dellist.specs.Areas.{Area, Tile, AreInside}
+use Rattle.myi_dellist.specs.Releasing.{most_size, front_part, back_part, IsHole, IsFreeable}
+use Rattle.myi_dellist.specs.Placing.{Space, areas_of, taken_by, own_parts, own_areas, update, specs_of, AreWritable, IsUsable}
 use Rattle.myi_dellist.proofs.AreaLemmas.{below-append}
-use Rattle.myi_dellist.proofs.PlaceLemmas.{Keeps, place-keeps, place-tile}
-use Rattle.myi_dellist.proofs.FillLemmas.{IsPlaced, place-placed, holes_usable}
-use Rattle.myi_dellist.proofs.FirstLemmas.{below-own_areas, place-writable, place-inside}
+use Rattle.myi_dellist.proofs.PlaceLemmas.{place-keeps, place-tile}
+use Rattle.myi_dellist.proofs.FillLemmas.{place-placed, holes_usable}
+use Rattle.myi_dellist.proofs.FirstLemmas.{below-own_areas, place-writable}
 
 usable_parts : (len : ℕ) (a : Area) (rest : List Area) → IsFreeable a → AllByRecursion (IsUsable len) rest → AllByRecursion (IsUsable len) (own_parts a ++ rest)
 usable_parts len a rest f all = by_size (nat_le a.size most_size) refl
@@ -17,8 +17,7 @@ usable_parts len a rest f all = by_size (nat_le a.size most_size) refl
     by_size : (t : Bool) → nat_le a.size most_size ≡ t → AllByRecursion (IsUsable len) ((if t then a ∷ [] else front_part a ∷ back_part a ∷ []) ++ rest)
     by_size true e = (record { aligned = f.aligned; multiple = f.multiple; least = f.least; most = f.most; giant = inr (leb-true _ _ e) }, all)
     by_size false e =
-        let long = leb-false _ _ e in
-        (
+        let long = leb-false _ _ e in (
           record { aligned = f.aligned; multiple = omega arith; least = omega arith; most = omega arith; giant = inr (omega arith) },
           (record { aligned = omega (arith, f.aligned); multiple = omega (arith, f.multiple, long); least = omega (arith, long); most = omega (arith, f.most); giant = inr (omega (arith, f.most)) }, all),
         )
@@ -66,7 +65,7 @@ pub update-tile : (s : Space) (own others : List Area) (len : ℕ) → AllByRecu
 update-tile s own others len all holes tile =
     let o = own_areas len own in
     place-tile s o others len (own-usable len own all) (holes_usable len s.holes holes)
-      (λ p. omega (arith, tile p, below-append p others (own ++ s.holes), below-append p own s.holes, below-append p others (o ++ s.holes), below-append p o s.holes, below-own_areas p len own))
+    (λ p. omega (arith, tile p, below-append p others (own ++ s.holes), below-append p own s.holes, below-append p others (o ++ s.holes), below-append p o s.holes, below-own_areas p len own))
 
 pub update-holes : (s : Space) (own : List Area) (len : ℕ) → 0 < len → s.end % 4 ≡ 0 → AllByRecursion IsFreeable own → AllByRecursion IsHole s.holes → AllByRecursion IsHole (update s own len).space.holes
 update-holes s own len some aligned all holes = (place-placed s (own_areas len own) len some aligned (own-usable len own all) holes).holes

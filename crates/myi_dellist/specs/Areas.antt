@@ -1,5 +1,5 @@
 -- Areas of a file, by place and size, and how many bytes of a file belong to some of them.
-use Rattle.std.specs.Prelude.{◌≡◌, ℕ, ◌+◌, ◌-◌, ◌%◌, ◌≤◌, ◌<◌, ◌⊎◌, min, List, [], ◌∷◌}
+use Rattle.std.specs.Prelude.{◌≡◌, ℕ, ◌+◌, ◌-◌, ◌≤◌, ◌<◌, ◌⊎◌, min, List, [], ◌∷◌}
 use Rattle.std.specs.List.{AllByRecursion}
 
 pub record Area : Type 0 where

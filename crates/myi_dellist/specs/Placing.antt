@@ -1,8 +1,8 @@
 -- Where the bytes of a row go in a data file of dynamic rows: first into the row's own blocks, then into the deleted blocks
 -- from the head of their list, then behind the file's end (that a row is put into its own blocks: MySQL Internals Manual,
 -- "MyISAM Dynamic Data File Layout"; the rest is this project's own).
-use Rattle.std.specs.Prelude.{◌≡◌, ℕ, zero, suc, ◌+◌, ◌-◌, ◌%◌, ◌^◌, ◌≤◌, ◌<◌, ◌⊎◌, Bool, true, false, ◌&&◌, nat_lt, nat_le, if◌then◌else◌, List, [], ◌∷◌, ◌++◌, map, Option, Some, None}
-use Rattle.std.specs.List.{AllByRecursion, flat_map}
+use Rattle.std.specs.Prelude.{◌≡◌, ℕ, zero, suc, ◌+◌, ◌-◌, ◌%◌, ◌^◌, ◌≤◌, ◌<◌, ◌⊎◌, Bool, true, false, ◌&&◌, nat_lt, nat_le, if◌then◌else◌, List, [], ◌∷◌, ◌++◌, Option, Some, None}
+use Rattle.std.specs.List.{flat_map}
 use Rattle.myi_frames.specs.declared.write.FrameSpec.{FrameSpec}
 use Rattle.myi_frames.specs.Sizes.{least_size, start_room, middle_room}
 use Rattle.myi_frames.specs.Writing.{whole_spec, start_spec, middle_spec, end_spec, IsWritable}

@@ -1,6 +1,6 @@
 -- The deleted list of a data file of static rows: slots of one size, by their numbers (MySQL Internals Manual, "MyISAM Static
 -- Data File Layout"). Nothing is joined.
-use Rattle.std.specs.Prelude.{◌≡◌, ℕ, zero, suc, ◌+◌, ◌==◌, nat_lt, if◌then◌else◌, List, [], ◌∷◌}
+use Rattle.std.specs.Prelude.{◌≡◌, ℕ, ◌+◌, ◌==◌, nat_lt, if◌then◌else◌, List, [], ◌∷◌}
 
 -- the deleted slots from the head of their list, and how many slots the file has
 pub record Slots : Type 0 where

@@ -1,6 +1,6 @@
 -- The deleted list in the bytes of a data file (MySQL Internals Manual, "MyISAM Dynamic Data File Layout"): each deleted block
 -- names the next one and the one before it.
-use Rattle.std.specs.Prelude.{◌≡◌, ℕ, ◌+◌, ◌^◌, ◌<◌, ◌≤◌, ◌==◌, ◌⊎◌, nat_le, if◌then◌else◌, List, [], ◌∷◌, ◌++◌, length, take, drop, Option, Some, None}
+use Rattle.std.specs.Prelude.{◌≡◌, ℕ, ◌+◌, ◌^◌, ◌<◌, ◌≤◌, ◌==◌, ◌⊎◌, nat_le, if◌then◌else◌, List, [], ◌∷◌, length, take, drop, Option, Some, None}
 use Rattle.std.specs.List.{AllByRecursion}
 use Rattle.myi_base.specs.Holding.{overwritten}
 use Rattle.myi_frames.specs.Block.{Block, block_of}
