@@ -1,8 +1,10 @@
 -- What the crates above cite. Each lemma states a clause of the law of its group in src/laws.rt.
 
 -- blocks_stand
-pub use Rattle.myi_frames.proofs.BlockLemmas.{block-stands, block-bytes, block-bounded}
+pub use Rattle.myi_frames.proofs.BlockLemmas.{block-stands, block-short, block-bytes, block-bounded}
 pub use Rattle.myi_frames.proofs.SizeLemmas.{block-sized}
+-- headers_are_bounded
+pub use Rattle.myi_frames.proofs.HeadLemmas.{header-deleted, header-next, header-prev}
 -- blocks_are_local
 pub use Rattle.myi_frames.proofs.BlockLemmas.{block-own}
 pub use Rattle.myi_frames.proofs.FileLemmas.{block-grown, block-elsewhere}
