@@ -8,3 +8,4 @@ pub mod UpdateLemmas
 pub mod SlotLemmas
 pub mod LinkLemmas
 pub mod ReleasedLemmas
+pub mod HoleLemmas

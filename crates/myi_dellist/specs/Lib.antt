@@ -4,3 +4,4 @@ pub mod Releasing
 pub mod Placing
 pub mod Slots
 pub mod Standing
+pub mod Freeing

@@ -15,8 +15,11 @@
 //! definitions and their laws, the contracts of the functions in `laws`; no code works on files yet.
 #![tactic(auto)]
 
+mod fault;
 mod laws;
+mod linked;
 
+pub use fault::FreeFault;
 pub use laws::{
     lists_stand_in_files, placed_blocks_can_be_written, placed_rows_tile,
     released_areas_are_deleted, rows_have_their_places, slots_are_named_once, tiling_is_counting,
