@@ -9,3 +9,4 @@ pub mod SlotLemmas
 pub mod LinkLemmas
 pub mod ReleasedLemmas
 pub mod HoleLemmas
+pub mod NeedLemmas
