@@ -18,6 +18,7 @@
 mod fault;
 mod laws;
 mod linked;
+mod links;
 
 pub use fault::FreeFault;
 pub use laws::{
