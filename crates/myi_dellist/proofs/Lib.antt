@@ -10,3 +10,4 @@ pub mod LinkLemmas
 pub mod ReleasedLemmas
 pub mod HoleLemmas
 pub mod NeedLemmas
+pub mod CutLemmas

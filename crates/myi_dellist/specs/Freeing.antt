@@ -1,5 +1,5 @@
 -- What a release needs of the deleted list, by the blocks that stand in the file; where one is not what the list needs, its place.
-use Rattle.std.specs.Prelude.{◌≡◌, ◌≢◌, ℕ, ◌+◌, ◌-◌, ◌^◌, ◌<◌, ◌≤◌, ◌==◌, Bool, true, false, nat_le, if◌then◌else◌, List, [], ◌∷◌, Option, Some, None, Result, Ok, Err, IfSome}
+use Rattle.std.specs.Prelude.{◌≡◌, ◌≢◌, ℕ, ◌+◌, ◌-◌, ◌^◌, ◌<◌, ◌≤◌, ◌==◌, Bool, true, false, nat_le, if◌then◌else◌, List, [], ◌∷◌, length, Option, Some, None, Result, Ok, Err, IfSome}
 use Rattle.std.specs.Option.{option_map}
 use Rattle.myi_base.specs.Holding.{Holding, bytes_of, OthersStay}
 use Rattle.myi_frames.specs.declared.form.FrameKind.{FrameKind}
@@ -107,6 +107,26 @@ pub record IsLinkable (h : Head) : Type 0 where
   pub next : IsPointer h.next
   pub prev : IsPointer h.prev
 
+-- a block, and those beside it
+pub record AreLinkable (l : Linked) : Type 0 where
+  pub before : IfSome l.before IsLinkable
+  pub hole : IsLinkable l.hole
+  pub behind : IfSome l.behind IsLinkable
+
+-- a call was cut off by a failed file call or for want of memory
+abbrev pub CutsOff : FreeFault → Type 0
+CutsOff fault.Full = ⊥
+CutsOff (fault.Damaged at) = ⊥
+CutsOff fault.File = Unit {0}
+CutsOff fault.Memory = Unit {0}
+
+-- where a place is damaged, this holds of it
+abbrev pub IfDamaged : FreeFault → (ℕ → Type 0) → Type 0
+IfDamaged fault.Full P = Unit {0}
+IfDamaged (fault.Damaged at) P = P at
+IfDamaged fault.File P = Unit {0}
+IfDamaged fault.Memory P = Unit {0}
+
 -- a file holds these bytes now, and the others what they held
 pub record Becomes (name bytes : List ℕ) (m n : Holding) : Type 0 where
   pub here : bytes_of name n ≡ bytes
@@ -207,3 +227,7 @@ unlinked_bytes (Some l) d = taken_off_bytes l d
 
 abbrev pub plan_bytes : ReleasePlan → ℕ → ℕ → List ℕ → List ℕ
 plan_bytes p at size d = put_first_bytes (record { at = at; size = joined_size size p.joined }) p.first (unlinked_bytes p.joined d)
+
+-- the file holds what a release of an area writes, by what it found
+abbrev pub ReleasesOne : List ℕ → ℕ → Option ℕ → ℕ → ℕ → Holding → Holding → Type 0
+ReleasesOne name end head at size m n = length (bytes_of name m) ≡ end → (p : ReleasePlan) × (plan_in (bytes_of name m) head at size ≡ Ok p) × Becomes name (plan_bytes p at size (bytes_of name m)) m n
