@@ -11,3 +11,4 @@ pub mod ReleasedLemmas
 pub mod HoleLemmas
 pub mod NeedLemmas
 pub mod CutLemmas
+pub mod PlanLemmas

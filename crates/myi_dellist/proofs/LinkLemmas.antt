@@ -58,7 +58,7 @@ head_keeps d a next prev p n o pn pp far le = part-overwritten a.at (deleted_hea
 
 -- ---- parts of the list
 
-part_split : (d : List ℕ) (prev next : Option ℕ) (xs ys : List Area) → IsPart d prev (xs ++ ys) next → IsPart d prev xs (first_or ys next) × IsPart d (last_or xs prev) ys next
+pub part_split : (d : List ℕ) (prev next : Option ℕ) (xs ys : List Area) → IsPart d prev (xs ++ ys) next → IsPart d prev xs (first_or ys next) × IsPart d (last_or xs prev) ys next
 part_split d prev next [] ys h = (tt, h)
 part_split d prev next (x ∷ []) ys h = ((h.0, tt), h.1)
 part_split d prev next (x ∷ y ∷ xs) ys h = let more = part_split d (Some x.at) next (y ∷ xs) ys h.1 in ((h.0, more.0), more.1)
