@@ -12,3 +12,4 @@ pub mod HoleLemmas
 pub mod NeedLemmas
 pub mod CutLemmas
 pub mod PlanLemmas
+pub mod FreeLemmas

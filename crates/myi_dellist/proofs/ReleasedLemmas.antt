@@ -134,7 +134,7 @@ unfolding release_one
 apart_released f b holes le far = apart_joined f b holes (hole_at (b.at + b.size) holes) le far
 
 -- no area stands directly behind the front part that it could be joined with
-back_head : (b : Area) (holes : List Area) (o : Option Area) → (c : Area) × (more : List Area) × (joined b holes o ≡ c ∷ more) × (c.at ≡ b.at) × (b.size ≤ c.size)
+pub back_head : (b : Area) (holes : List Area) (o : Option Area) → (c : Area) × (more : List Area) × (joined b holes o ≡ c ∷ more) × (c.at ≡ b.at) × (b.size ≤ c.size)
 back_head b holes None = (b, holes, refl, refl, omega arith)
 back_head b holes (Some h) = by_test (nat_le (b.size + h.size) most_size)
   where

@@ -5,3 +5,4 @@ pub mod Placing
 pub mod Slots
 pub mod Standing
 pub mod Freeing
+pub mod FreeList

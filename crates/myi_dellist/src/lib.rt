@@ -16,11 +16,13 @@
 #![tactic(auto)]
 
 mod fault;
+mod free_list;
 mod laws;
 mod linked;
 mod links;
 
 pub use fault::FreeFault;
+pub use free_list::{FreeList, Limits};
 pub use laws::{
     lists_stand_in_files, placed_blocks_can_be_written, placed_rows_tile,
     released_areas_are_deleted, rows_have_their_places, slots_are_named_once, tiling_is_counting,
