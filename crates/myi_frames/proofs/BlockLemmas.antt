@@ -257,7 +257,7 @@ block-none d e p none same le =
 pub number-below : (at w k : ℕ) (bytes : List ℕ) → AreBytes bytes → w ≤ k → num_at at w bytes < 256 ^ k
 number-below at w k bytes are h = below_width w k (num_at at w bytes) h (num-below w (drop at bytes) (bytes-drop at bytes are))
 
-link-below : (w n : ℕ) → n < 256 ^ 8 → IsPointer (link_of w n)
+pub link-below : (w n : ℕ) → n < 256 ^ 8 → IsPointer (link_of w n)
 link-below w n small = by_width (w == 0)
   where
     by_number : (b : Bool) → (n == 2 ^ 64 - 1) ≡ b → IsPointer (if b then None else Some n)

@@ -6,3 +6,4 @@ pub mod FileLemmas
 pub mod WriteLemmas
 pub mod SizeLemmas
 pub mod RuleLemmas
+pub mod HeadLemmas

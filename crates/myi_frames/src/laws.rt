@@ -1,15 +1,16 @@
 //! Laws over the definitions of this crate. Each is the contract of a function that does nothing, so
 //! that it is proved with the crate and stands for the crates above.
-ghost use Rattle.std.specs.Prelude.{◌≡◌, ◌≢◌, ℕ, ◌+◌, ◌%◌, ◌^◌, ◌<◌, ◌≤◌, ◌++◌, true, List, [], length, take, drop, slice_index, Option, Some, None};
+ghost use Rattle.std.specs.Prelude.{◌≡◌, ◌≢◌, ◌⊎◌, ℕ, ◌+◌, ◌-◌, ◌%◌, ◌^◌, ◌<◌, ◌≤◌, ◌++◌, true, List, [], length, take, drop, slice_index, Option, Some, None};
 ghost use Rattle.std.specs.List.{AllByRecursion};
 ghost use Rattle.myi_base.specs.Numbers.{AreBytes};
 ghost use Rattle.myi_base.specs.Ranges.{are_apart};
 ghost use Rattle.myi_base.specs.Holding.{resized, overwritten};
-ghost use Rattle.myi_frames.specs.declared.form.FrameKind.TheVariants.{Start, Middle};
+ghost use Rattle.myi_frames.specs.declared.form.FrameKind.TheVariants.{Deleted, Start, Middle};
 ghost use Rattle.myi_frames.specs.declared.frame.Seen.{Seen};
 ghost use Rattle.myi_frames.specs.declared.frame.Seen.TheVariants.{Nothing, Longer};
+ghost use Rattle.myi_frames.specs.declared.head.Header.{Header};
 ghost use Rattle.myi_frames.specs.declared.write.FrameSpec.{FrameSpec};
-ghost use Rattle.myi_frames.specs.Block.{Block, block_of, Stands, IsPlace, IsPointer, IsBounded};
+ghost use Rattle.myi_frames.specs.Block.{Block, block_of, header_of, Stands, IsPlace, IsPointer, IsBounded};
 ghost use Rattle.myi_frames.specs.Rules.{IsChosen};
 ghost use Rattle.myi_frames.specs.Seeing.{SeesBlock, ShowsBlock};
 ghost use Rattle.myi_frames.specs.Sizes.{least_size, start_room, middle_room, IsSized, held_bytes, total_size};
@@ -145,4 +146,25 @@ pub fn rooms_are_greatest()
     ensures few_in_middle { (d : List ℕ) (p : ℕ) (b : Block) → AreBytes d
         → block_of d p ≡ Some b
         → b.kind ≡ Middle → middle_room b.size < 2 ^ 24 }
+{}
+
+/// What is written into a file leaves each byte that it does not meet, and makes the file no longer than
+/// needed.
+pub fn writes_leave_the_rest()
+    ensures length { (at : ℕ) (bytes d : List ℕ) → length (overwritten at bytes d)
+        ≡ at + length bytes + (length d - (at + length bytes)) }
+    ensures bytes { (at : ℕ) (bytes d : List ℕ) (p n : ℕ)
+        → (p + n ≤ at) ⊎ (at + length bytes ≤ p) → p + n ≤ length d
+        → take n (drop p (overwritten at bytes d)) ≡ take n (drop p d) }
+{}
+
+/// What a header says is as small as its bytes: a deleted block of fewer than 2^24, and places that a
+/// pointer can name.
+pub fn headers_are_bounded()
+    ensures deleted { (bytes : List ℕ) (at len : ℕ) (h : Header) → AreBytes bytes
+        → header_of bytes at len ≡ Some h → h.head.kind ≡ Deleted → h.head.size < 2 ^ 24 }
+    ensures next { (bytes : List ℕ) (at len : ℕ) (h : Header) → AreBytes bytes
+        → header_of bytes at len ≡ Some h → IsPointer h.head.next }
+    ensures prev { (bytes : List ℕ) (at len : ℕ) (h : Header) → AreBytes bytes
+        → header_of bytes at len ≡ Some h → IsPointer h.head.prev }
 {}

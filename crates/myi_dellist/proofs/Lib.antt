@@ -1,0 +1,15 @@
+pub mod AreaLemmas
+pub mod ReleaseLemmas
+pub mod SizeLemmas
+pub mod PlaceLemmas
+pub mod FillLemmas
+pub mod FirstLemmas
+pub mod UpdateLemmas
+pub mod SlotLemmas
+pub mod LinkLemmas
+pub mod ReleasedLemmas
+pub mod HoleLemmas
+pub mod NeedLemmas
+pub mod CutLemmas
+pub mod PlanLemmas
+pub mod FreeLemmas

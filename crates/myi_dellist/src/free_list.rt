@@ -1,0 +1,116 @@
+//! `FreeList`: the deleted list of a data file of dynamic rows, by its head.
+//!
+//! The links stand in the file; a `FreeList` keeps where the list begins and where the file ends.
+use crate::fault::FreeFault;
+use crate::links::release_one;
+use myi_io::Files;
+use std::alloc::{AllocError, Global};
+use std::marker::Model;
+
+/// How long a data file may become.
+#[derive(Clone, Copy, Debug, PartialEq, Eq)]
+pub struct Limits {
+    /// The file's end stays below this place.
+    pub end_below: u128,
+}
+
+/// The deleted list of a data file, by the name of the file.
+pub struct FreeList {
+    name: String,
+    head: Option<u64>,
+    end: u64,
+    limits: Limits,
+}
+
+impl Drop for FreeList {
+    fn drop(self) {
+        let FreeList {
+            name: _,
+            head: _,
+            end: _,
+            limits: _,
+        } = self;
+    }
+}
+
+impl Model for FreeList {
+    ghost use Rattle.std.specs.Prelude.{string_bytes};
+    ghost use Rattle.myi_dellist.specs.FreeList.{ListState};
+
+    ghost Value = { ListState };
+
+    ghost view = { λ l. record {
+      name = string_bytes l.name;
+      head = l.head;
+      end = l.end;
+      end_below = l.limits.end_below;
+    } };
+}
+
+impl FreeList {
+    ghost use Rattle.std.specs.Prelude.{◌≡◌, ◌≤◌, ◌<◌, ◌+◌, Some, None, Err, IfOk, IfErr, OnOk, OnErr, IsTrue};
+    ghost use Rattle.std.specs.Option.{option_map_or};
+    ghost use Rattle.myi_base.specs.Holding.{Told, IfTold, OthersStay, bytes_of};
+    ghost use Rattle.myi_base.specs.Causes.{HasCause};
+    ghost use Rattle.myi_frames.specs.Block.{IsPlace};
+    ghost use Rattle.myi_dellist.specs.declared.fault.FreeFault.TheVariants.{File};
+    ghost use Rattle.myi_dellist.specs.Releasing.{most_size};
+    ghost use Rattle.myi_dellist.specs.Freeing.{plan_in, IfDamaged};
+    ghost use Rattle.myi_dellist.specs.FreeList.{Releases, IsLong, FindsAll};
+
+    /// The deleted list of the file of a name, by the place of its first block and the file's length.
+    pub fn new(
+        alloc: Global,
+        name: &str,
+        head: Option<u64>,
+        end: u64,
+        limits: Limits,
+    ) -> Result<FreeList, AllocError>
+        requires { end < limits.end_below }
+        ensures { IfOk result (λ list. list ≡ record {
+          name = name.now;
+          head = head;
+          end = end;
+          end_below = limits.end_below;
+        }) }
+    {
+        Ok(FreeList {
+            name: String::from_str(alloc, name)?,
+            head,
+            end,
+            limits,
+        })
+    }
+
+    /// Releases an area that a deleted block can be: it is joined with the deleted block directly behind it,
+    /// where both together are not too long, and becomes the head of the list. `Damaged` comes exactly
+    /// where a block that is read is not what the list needs there, and then nothing is changed.
+    pub fn release<F: Files>(
+        &mut self,
+        files: &mut F,
+        at: u64,
+        size: u32,
+    ) -> Result<(), FreeFault>
+        requires writable { IsTrue F.writable }
+        requires place { IsPlace at size self.old.end }
+        requires most { size ≤ most_size }
+        requires long { IfTold (F.holds files.old) (IsLong self.old) }
+        ensures ok { OnOk result (Told (F.holds files.old) (F.holds files.new)
+            (Releases self.old self.new (record { at = at; size = size }))) }
+        ensures others { OnOk result (Told (F.holds files.old) (F.holds files.new)
+            (OthersStay self.old.name)) }
+        ensures finds { OnOk result (IfTold (F.holds files.old)
+            (FindsAll self.old (record { at = at; size = size }))) }
+        ensures head { OnOk result (self.new ≡ record self.old { head = Some at }) }
+        ensures damaged { IfErr result (λ f. IfDamaged f (λ p. IfTold (F.holds files.old) (λ m.
+            plan_in (bytes_of self.old.name m) self.old.head at size ≡ Err p))) }
+        ensures unchanged { IfErr result (λ f. IfDamaged f (λ p.
+            F.holds files.new ≡ F.holds files.old)) }
+        ensures list { OnErr result (self.new ≡ self.old) }
+        ensures cause { HasCause File (F.faults files.old) (F.faults files.new) result }
+    {
+        release_one(files, &self.name, self.end, self.head, at, size)?;
+        self.head = Some(at);
+        Ok(())
+    }
+}

@@ -1,0 +1,104 @@
+//! Laws over the definitions of this crate: first on lists of areas and of slots alone, then on the bytes
+//! of a file. Each is the contract of a function that does nothing, so that it is proved with the crate
+//! and stands for the crates above.
+ghost use Rattle.std.specs.Prelude.{◌≡◌, ◌⊎◌, ℕ, ◌+◌, ◌%◌, ◌^◌, ◌<◌, ◌≤◌, ◌++◌, List, [], ◌∷◌, length, Some};
+ghost use Rattle.std.specs.List.{AllByRecursion};
+ghost use Rattle.myi_frames.specs.Block.{Block, block_of};
+ghost use Rattle.myi_dellist.specs.Areas.{Area, below, bytes_below, Tile, IsApart, AreApart, AreInside, Holds, HaveBytes};
+ghost use Rattle.myi_dellist.specs.Releasing.{release, release_all, IsHole, IsFreeable};
+ghost use Rattle.myi_dellist.specs.Placing.{Space, areas_of, taken_by, place, update, specs_of, place_of, next_place, AreWritable};
+ghost use Rattle.myi_dellist.specs.Standing.{HasList, KeepsBut, LeavesList, without_block, release_bytes};
+ghost use Rattle.myi_dellist.specs.Slots.{Slots, take_slot, take_slot_at_end, release_slot, NameEach};
+
+/// Areas tile a file, by the count of bytes below each place, exactly where no byte belongs to two of
+/// them, none to one behind the end, and each byte below it to one.
+pub fn tiling_is_counting()
+    ensures counted { (end : ℕ) (areas : List Area) → AreApart areas → AreInside end areas
+        → ((p : ℕ) → p < end → Holds p areas) → Tile end areas }
+    ensures apart { (end : ℕ) (areas : List Area) → HaveBytes areas → Tile end areas
+        → AreApart areas }
+    ensures inside { (end : ℕ) (areas : List Area) → HaveBytes areas → Tile end areas
+        → AreInside end areas }
+    ensures holds { (end : ℕ) (areas : List Area) → Tile end areas
+        → (p : ℕ) → p < end → Holds p areas }
+{}
+
+/// What is released is deleted afterwards, byte for byte, and nothing else is, whatever is joined: so
+/// where rows, what is released and what is deleted tile a file, rows and what is deleted tile it
+/// afterwards. Each area on the list stays one that a deleted block can be.
+pub fn released_areas_are_deleted()
+    ensures bytes { (p : ℕ) (a : Area) (holes : List Area)
+        → bytes_below p (release a holes) ≡ below p a + bytes_below p holes }
+    ensures tile { (end : ℕ) (own others holes : List Area) → Tile end (others ++ (own ++ holes))
+        → Tile end (others ++ release_all own holes) }
+    ensures sizes { (areas holes : List Area) → AllByRecursion IsFreeable areas
+        → AllByRecursion IsHole holes → AllByRecursion IsHole (release_all areas holes) }
+{}
+
+/// A row of `len` bytes in place of one with these blocks, or of none: its blocks take exactly its
+/// bytes. Where other rows, the old blocks and the deleted ones tile the file, the other rows, the new
+/// blocks and the deleted ones tile it afterwards. The file does not become shorter. Each area on the
+/// list stays one that a deleted block can be.
+pub fn placed_rows_tile()
+    ensures counts { (s : Space) (own : List Area) (len : ℕ)
+        → AllByRecursion IsFreeable own → AllByRecursion IsHole s.holes
+        → taken_by (update s own len).pieces ≡ len }
+    ensures grows { (s : Space) (own : List Area) (len : ℕ)
+        → AllByRecursion IsFreeable own → AllByRecursion IsHole s.holes
+        → s.end ≤ (update s own len).space.end }
+    ensures tile { (s : Space) (own others : List Area) (len : ℕ)
+        → AllByRecursion IsFreeable own → AllByRecursion IsHole s.holes
+        → Tile s.end (others ++ (own ++ s.holes))
+        → Tile (update s own len).space.end
+        (others ++ (areas_of (update s own len).pieces ++ (update s own len).space.holes)) }
+    ensures sizes { (s : Space) (own : List Area) (len : ℕ) → 0 < len → s.end % 4 ≡ 0
+        → AllByRecursion IsFreeable own → AllByRecursion IsHole s.holes
+        → AllByRecursion IsHole (update s own len).space.holes }
+{}
+
+/// Each block of a placed row can be written with the row bytes that it takes: as a whole row where it
+/// is the only one, and else as a start and middles that are filled, and an end.
+pub fn placed_blocks_can_be_written()
+    ensures { (s : Space) (own : List Area) (len : ℕ) → 0 < len → len < 2 ^ 32 → s.end % 4 ≡ 0
+        → AllByRecursion IsFreeable own → AllByRecursion IsHole s.holes
+        → AreInside s.end own → AreInside s.end s.holes → (update s own len).space.end < 2 ^ 64
+        → AreWritable (specs_of len (update s own len).pieces) (update s own len).pieces }
+{}
+
+/// A row that is updated keeps its place. A new one has the place of the head of the deleted list, or
+/// the end where nothing is deleted.
+pub fn rows_have_their_places()
+    ensures updated { (s : Space) (a : Area) (own : List Area) (len : ℕ)
+        → place_of (update s (a ∷ own) len).pieces ≡ Some a.at }
+    ensures inserted { (s : Space) (len : ℕ) → 0 < len
+        → place_of (place s [] len).pieces ≡ Some (next_place s.holes s.end) }
+{}
+
+/// Slots of static rows: each slot of the file is a row's or deleted, exactly once, also after one is
+/// taken for a row, or a row's is released.
+pub fn slots_are_named_once()
+    ensures taken { (s : Slots) (rows : List ℕ) → NameEach s.count (rows ++ s.holes)
+        → NameEach (take_slot s).slots.count
+        ((take_slot s).slot ∷ rows ++ (take_slot s).slots.holes) }
+    ensures at_end { (s : Slots) (rows : List ℕ) → NameEach s.count (rows ++ s.holes)
+        → NameEach (take_slot_at_end s).slots.count
+        ((take_slot_at_end s).slot ∷ rows ++ (take_slot_at_end s).slots.holes) }
+    ensures released { (s : Slots) (slot : ℕ) (rows : List ℕ)
+        → NameEach s.count (slot ∷ rows ++ s.holes)
+        → NameEach (release_slot slot s).count (rows ++ (release_slot slot s).holes) }
+{}
+
+/// The deleted list in a file's bytes. A block that is taken off it, and an area that is released, leave
+/// the list that the definitions on lists say, and change no byte but the first 20 of the blocks that
+/// are on it then. So each block that has none of these stands as before.
+pub fn lists_stand_in_files()
+    ensures taken_off { (d : List ℕ) (before : List Area) (h : Area) (behind : List Area)
+        → HasList d (before ++ h ∷ behind)
+        → LeavesList (before ++ behind) d (without_block before behind d) }
+    ensures released { (d : List ℕ) (a : Area) (holes : List Area) → IsFreeable a
+        → a.at + a.size ≤ length d → AllByRecursion (IsApart a) holes → HasList d holes
+        → LeavesList (release a holes) d (release_bytes a holes d) }
+    ensures others { (holes : List Area) (d e : List ℕ) (p : ℕ) (b : Block) → KeepsBut holes d e
+        → AllByRecursion (λ a. (p + b.size ≤ a.at) ⊎ (a.at + 20 ≤ p)) holes
+        → block_of d p ≡ Some b → block_of e p ≡ Some b }
+{}

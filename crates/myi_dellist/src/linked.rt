@@ -1,0 +1,315 @@
+//! Deleted blocks as they stand in a file, and what a release needs of them. Nothing is written here.
+ghost use Rattle.std.specs.Prelude.{◌≡◌, ◌≤◌, ◌<◌, ◌+◌, ◌^◌, ℕ, List, None, length, IfOk, IfSome};
+ghost use Rattle.myi_base.specs.Holding.{IfTold, bytes_of};
+ghost use Rattle.myi_base.specs.Causes.{HasCause};
+ghost use Rattle.myi_io.specs.declared.files.FileErr.TheVariants.{Failed};
+ghost use Rattle.myi_frames.specs.Seeing.{IsPartAt};
+ghost use Rattle.myi_dellist.specs.declared.fault.FreeFault.TheVariants.{File};
+ghost use Rattle.myi_dellist.specs.Freeing.{is_deleted, hole_in, same_link, if_says, names_next, names_prev, block_before, block_named, Answers, IsHoleAt, IsHoleIn};
+ghost use Rattle.myi_dellist.specs.Freeing.{block_linked, hole_behind, first_without, without_prev, next_past, plan_in, AreHolesIn, IsPlanIn};
+ghost use Rattle.myi_dellist.specs.Releasing.{most_size};
+
+use crate::fault::FreeFault;
+use myi_base::slices_are_bytes;
+use myi_frames::{FrameKind, Head, LEAST_SIZE, MOST_SIZE, header_at};
+use myi_io::{FileErr, Files};
+
+/// A deleted block that is taken off the list, and those beside it.
+#[derive(Clone, Copy)]
+pub(crate) struct Linked {
+    pub before: Option<Head>,
+    pub hole: Head,
+    pub behind: Option<Head>,
+}
+
+/// What a release finds: the deleted block that the area is joined with, and the block that is then the
+/// first of the list.
+#[derive(Clone, Copy)]
+pub(crate) struct ReleasePlan {
+    pub joined: Option<Linked>,
+    pub first: Option<Head>,
+}
+
+fn is_deleted(kind: FrameKind) -> bool
+    ensures { result ≡ is_deleted kind }
+{
+    match kind {
+        FrameKind::Deleted => true,
+        FrameKind::Whole | FrameKind::Start | FrameKind::Middle | FrameKind::End => false,
+    }
+}
+
+/// The deleted block at a place of a file of `end` bytes, by the first 20 bytes there.
+fn hole_of(bytes: &[u8], at: u64, end: u64) -> Option<Head>
+    requires { length bytes.now ≡ 20 }
+    ensures told { (d : List ℕ) → length d ≡ end → IsPartAt at bytes.now d
+        → result ≡ hole_in d at }
+    ensures hole { IfSome result (IsHoleAt at end) }
+{
+    slices_are_bytes(bytes);
+    let Some(header) = header_at(bytes, at, end) else {
+        return None;
+    };
+    if !is_deleted(header.head.kind) {
+        return None;
+    }
+    Some(header.head)
+}
+
+/// The deleted block at a place of a file of `end` bytes, by one read of its header. None where none is.
+pub(crate) fn hole_at<F: Files>(
+    files: &mut F,
+    name: &str,
+    at: u64,
+    end: u64,
+) -> Result<Option<Head>, FileErr>
+    ensures told { IfOk result (λ hole. IfTold (F.holds files.old) (λ m.
+        length (bytes_of name.now m) ≡ end → hole ≡ hole_in (bytes_of name.now m) at)) }
+    ensures hole { IfOk result (λ hole. IfSome hole (IsHoleAt at end)) }
+    ensures holds { F.holds files.new ≡ F.holds files.old }
+    ensures cause { HasCause Failed (F.faults files.old) (F.faults files.new) result }
+{
+    let mut bytes = [0u8; LEAST_SIZE];
+    let count = files.read_at(name, at, &mut bytes)?;
+    if count < LEAST_SIZE {
+        return Ok(None);
+    }
+    Ok(hole_of(&bytes, at, end))
+}
+
+/// Whether two links are the same.
+fn is_same(a: Option<u64>, b: Option<u64>) -> bool
+    ensures { result ≡ same_link a b }
+{
+    match a {
+        None => b.is_none(),
+        Some(p) => match b {
+            None => false,
+            Some(q) => p == q,
+        },
+    }
+}
+
+/// The deleted block at a place, which is to name this one as the next.
+fn hole_naming_next<F: Files>(
+    files: &mut F,
+    name: &str,
+    at: u64,
+    end: u64,
+    next: Option<u64>,
+) -> Result<Head, FreeFault>
+    ensures told { IfTold (F.holds files.old) (λ m. length (bytes_of name.now m) ≡ end
+        → Answers result (if_says (names_next next) at (hole_in (bytes_of name.now m) at))) }
+    ensures hole { IfOk result (IsHoleAt at end) }
+    ensures holds { F.holds files.new ≡ F.holds files.old }
+    ensures cause { HasCause File (F.faults files.old) (F.faults files.new) result }
+{
+    let Some(hole) = hole_at(files, name, at, end)? else {
+        return Err(FreeFault::Damaged { at });
+    };
+    if !is_same(hole.next, next) {
+        return Err(FreeFault::Damaged { at });
+    }
+    Ok(hole)
+}
+
+/// The deleted block at a place, which is to name this one before it.
+fn hole_naming_prev<F: Files>(
+    files: &mut F,
+    name: &str,
+    at: u64,
+    end: u64,
+    prev: Option<u64>,
+) -> Result<Head, FreeFault>
+    ensures told { IfTold (F.holds files.old) (λ m. length (bytes_of name.now m) ≡ end
+        → Answers result (if_says (names_prev prev) at (hole_in (bytes_of name.now m) at))) }
+    ensures hole { IfOk result (IsHoleAt at end) }
+    ensures holds { F.holds files.new ≡ F.holds files.old }
+    ensures cause { HasCause File (F.faults files.old) (F.faults files.new) result }
+{
+    let Some(hole) = hole_at(files, name, at, end)? else {
+        return Err(FreeFault::Damaged { at });
+    };
+    if !is_same(hole.prev, prev) {
+        return Err(FreeFault::Damaged { at });
+    }
+    Ok(hole)
+}
+
+/// The block before one that is on the list; None before its head.
+fn block_before<F: Files>(
+    files: &mut F,
+    name: &str,
+    end: u64,
+    head: Option<u64>,
+    hole: &Head,
+) -> Result<Option<Head>, FreeFault>
+    ensures told { IfTold (F.holds files.old) (λ m. length (bytes_of name.now m) ≡ end
+        → Answers result (block_before (bytes_of name.now m) head hole.now)) }
+    ensures hole { IfOk result (λ before. IfSome before (IsHoleIn end)) }
+    ensures holds { F.holds files.new ≡ F.holds files.old }
+    ensures cause { HasCause File (F.faults files.old) (F.faults files.new) result }
+{
+    let Some(at) = hole.prev else {
+        if !is_same(head, Some(hole.at)) {
+            return Err(FreeFault::Damaged { at: hole.at });
+        }
+        return Ok(None);
+    };
+    let before = hole_naming_next(files, name, at, end, Some(hole.at))?;
+    Ok(Some(before))
+}
+
+/// The block that a link names, which is to name this one before it.
+fn block_named<F: Files>(
+    files: &mut F,
+    name: &str,
+    end: u64,
+    prev: Option<u64>,
+    link: Option<u64>,
+) -> Result<Option<Head>, FreeFault>
+    ensures told { IfTold (F.holds files.old) (λ m. length (bytes_of name.now m) ≡ end
+        → Answers result (block_named (bytes_of name.now m) prev link)) }
+    ensures hole { IfOk result (λ named. IfSome named (IsHoleIn end)) }
+    ensures holds { F.holds files.new ≡ F.holds files.old }
+    ensures cause { HasCause File (F.faults files.old) (F.faults files.new) result }
+{
+    let Some(at) = link else {
+        return Ok(None);
+    };
+    let named = hole_naming_prev(files, name, at, end, prev)?;
+    Ok(Some(named))
+}
+
+/// A block that is on the list, with those beside it.
+fn link<F: Files>(
+    files: &mut F,
+    name: &str,
+    end: u64,
+    head: Option<u64>,
+    hole: Head,
+) -> Result<Linked, FreeFault>
+    requires { IsHoleIn end hole }
+    ensures told { IfTold (F.holds files.old) (λ m. length (bytes_of name.now m) ≡ end
+        → Answers result (block_linked (bytes_of name.now m) head hole)) }
+    ensures holes { IfOk result (AreHolesIn end) }
+    ensures same { IfOk result (λ l. l.hole ≡ hole) }
+    ensures holds { F.holds files.new ≡ F.holds files.old }
+    ensures cause { HasCause File (F.faults files.old) (F.faults files.new) result }
+{
+    let before = block_before(files, name, end, head, &hole)?;
+    let behind = block_named(files, name, end, Some(hole.at), hole.next)?;
+    Ok(Linked {
+        before,
+        hole,
+        behind,
+    })
+}
+
+/// The deleted block behind an area, where one deleted block may be as long as both.
+fn hole_behind<F: Files>(
+    files: &mut F,
+    name: &str,
+    end: u64,
+    at: u64,
+    size: u32,
+) -> Result<Option<Head>, FileErr>
+    requires inside { at + size ≤ end }
+    requires most { size < 2 ^ 24 }
+    ensures told { IfOk result (λ hole. IfTold (F.holds files.old) (λ m.
+        length (bytes_of name.now m) ≡ end
+        → hole ≡ hole_behind (bytes_of name.now m) at size)) }
+    ensures hole { IfOk result (λ hole. IfSome hole (IsHoleIn end)) }
+    ensures short { IfOk result (λ hole. IfSome hole (λ h. size + h.size ≤ most_size)) }
+    ensures holds { F.holds files.new ≡ F.holds files.old }
+    ensures cause { HasCause Failed (F.faults files.old) (F.faults files.new) result }
+{
+    let Some(hole) = hole_at(files, name, at + size as u64, end)? else {
+        return Ok(None);
+    };
+    if size + hole.size > MOST_SIZE {
+        return Ok(None);
+    }
+    Ok(Some(hole))
+}
+
+/// The first block of the list once a block is taken off it.
+fn first_without<F: Files>(
+    files: &mut F,
+    name: &str,
+    end: u64,
+    head: Option<u64>,
+    linked: &Linked,
+) -> Result<Option<Head>, FreeFault>
+    requires { AreHolesIn end linked.now }
+    ensures told { IfTold (F.holds files.old) (λ m. length (bytes_of name.now m) ≡ end
+        → Answers result (first_without (bytes_of name.now m) head linked.now)) }
+    ensures hole { IfOk result (λ first. IfSome first (IsHoleIn end)) }
+    ensures holds { F.holds files.new ≡ F.holds files.old }
+    ensures cause { HasCause File (F.faults files.old) (F.faults files.new) result }
+{
+    let Some(before) = linked.before else {
+        return Ok(without_prev(linked.behind));
+    };
+    let first = block_named(files, name, end, None, head)?;
+    Ok(next_past(&before, &linked.hole, first))
+}
+
+/// The block, as one that names none before it.
+fn without_prev(hole: Option<Head>) -> Option<Head>
+    ensures { result ≡ without_prev hole }
+{
+    match hole {
+        None => None,
+        Some(hole) => Some(Head { prev: None, ..hole }),
+    }
+}
+
+/// The first block, as one that names the next past a block that is taken off, where it is the one
+/// before that.
+fn next_past(before: &Head, hole: &Head, first: Option<Head>) -> Option<Head>
+    ensures { result ≡ next_past before.now hole.now first }
+{
+    let Some(first) = first else {
+        return None;
+    };
+    if first.at == before.at {
+        return Some(Head {
+            next: hole.next,
+            ..first
+        });
+    }
+    Some(first)
+}
+
+/// What a release of an area finds. Nothing is written.
+pub(crate) fn plan_release<F: Files>(
+    files: &mut F,
+    name: &str,
+    end: u64,
+    head: Option<u64>,
+    at: u64,
+    size: u32,
+) -> Result<ReleasePlan, FreeFault>
+    requires inside { at + size ≤ end }
+    requires most { size < 2 ^ 24 }
+    ensures told { IfTold (F.holds files.old) (λ m. length (bytes_of name.now m) ≡ end
+        → Answers result (plan_in (bytes_of name.now m) head at size)) }
+    ensures holes { IfOk result (IsPlanIn end size) }
+    ensures holds { F.holds files.new ≡ F.holds files.old }
+    ensures cause { HasCause File (F.faults files.old) (F.faults files.new) result }
+{
+    let Some(hole) = hole_behind(files, name, end, at, size)? else {
+        let alone = block_named(files, name, end, None, head)?;
+        return Ok(ReleasePlan {
+            joined: None,
+            first: alone,
+        });
+    };
+    let linked = link(files, name, end, head, hole)?;
+    let first = first_without(files, name, end, head, &linked)?;
+    Ok(ReleasePlan {
+        joined: Some(linked),
+        first,
+    })
+}
