@@ -16,7 +16,6 @@ pub mod Scanning
 pub mod Inner
 -- what an object on a data file shows
 pub mod DataFile
-
 -- what serves private contracts
 
 -- the bytes of slots

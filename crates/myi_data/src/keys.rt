@@ -169,7 +169,11 @@ fn byte_in(field: usize, view: FieldView<'_>, i: usize) -> u8
         FieldView::Padded(content) => if i < content.len() { content[i] } else { b' ' },
         FieldView::Led(content) => {
             let blanks = field.saturating_sub(content.len());
-            if i < blanks { b' ' } else { content[i - blanks] }
+            if i < blanks {
+                b' '
+            } else {
+                content[i - blanks]
+            }
         }
         FieldView::Zeros => 0,
     }

@@ -18,7 +18,6 @@ pub mod TwoReaders
 pub mod RealFiles
 -- how a layer above tells of faults
 pub mod Faults
-
 -- what serves private contracts and the laws
 
 -- what is told is bytes

@@ -16,7 +16,6 @@ pub mod Views
 pub mod Unpacking
 -- the values that a walk over a row has before it, which it is in a contract
 pub mod Left
-
 -- what serves private contracts
 
 -- where the fields of a dynamic row begin
