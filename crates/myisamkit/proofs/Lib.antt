@@ -3,3 +3,4 @@ pub mod WordLaws
 pub mod SinkLaws
 pub mod TurnLaws
 pub mod TableLaws
+pub mod AskedLaws

@@ -1,5 +1,5 @@
 -- What was written where a run was cut off.
-use Rattle.std.proofs.Common.{arith, ◌≡◌, ◌≤◌, ℕ, List, ◌++◌, take, length, Option, Some, Result, Ok, Err, sym, ap, ◌∙◌, append-nil}
+use Rattle.std.proofs.Common.{arith, ℕ, List, Option, Some, Result, Ok, Err, sym, ap, ◌∙◌, append-nil}
 use Rattle.std.specs.Prelude.{OnErr}
 use Rattle.myi_base.specs.Holding.{IfTold}
 use Rattle.myi_base.specs.Output.{AppendsPart}

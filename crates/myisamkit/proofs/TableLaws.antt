@@ -1,6 +1,6 @@
 -- Tables that have their turns one after the other: what is done and what is left give the whole.
 use Rattle.std.proofs.Common.{◌≡◌, ◌≤◌, ◌<◌, suc, None, drop, get_or, ◌⊎◌, ℕ, Bool, true, false, List, [], ◌∷◌, ◌++◌, Option, Some, refl, sym, subst, ap, ◌∙◌, inl, inr, map, append_assoc, append-nil, take, length, length-append, arith, ◌+◌}
-use Rattle.std.specs.Prelude.{nat_lt, not, ◌||◌, IsTrue, if◌then◌else◌}
+use Rattle.std.specs.Prelude.{nat_lt, not, ◌||◌, if◌then◌else◌}
 use Rattle.std.proofs.Math.Seq.{take-append-add, drop-cons}
 use Rattle.std.proofs.Common.{add-one}
 use Rattle.std.proofs.lemmas.List.{take-append-le}
@@ -16,7 +16,7 @@ use Rattle.myisamkit.specs.declared.status.Stop.TheVariants as stop
 use Rattle.myisamkit.specs.declared.options.Options.{Options}
 use Rattle.myisamkit.specs.Statuses.{number_of, worse}
 use Rattle.myisamkit.specs.Words.{is_end, is_option, names_table, names_in, before_end, after_end, table_name}
-use Rattle.myisamkit.specs.Turns.{Turn, turn, TurnDone, TurnRecovers, TurnStops}
+use Rattle.myisamkit.specs.Turns.{turn, TurnDone, TurnStops}
 use Rattle.myisamkit.specs.Runs.{tables_run, TablesDone, CutsTablesOff, FailsInTables, TablesStop}
 
 -- the tables from a word on, behind the word -- or not
@@ -147,9 +147,9 @@ pub stops_told : (o : Options) (now : ℕ) (all left lefts : List (List ℕ)) (n
     → Told old new (TablesStop o now before after all stop)
 stops_told o now all left lefts name s w0 w before at after stop old here new later first untold so_far stops = record {
   told = λ m0 told.
-    let r = so_far m0 told in
-    let n = stops.told r.0 r.1 in
-    (n.0, n.1, stops_in o now all left name s m0 r.0 n.0 w0 w before at after stop later (subst (λ l. Reached o now all l s m0 r.0 w0 w) first r.2) n.2);
+      let r = so_far m0 told in
+      let n = stops.told r.0 r.1 in
+      (n.0, n.1, stops_in o now all left name s m0 r.0 n.0 w0 w before at after stop later (subst (λ l. Reached o now all l s m0 r.0 w0 w) first r.2) n.2);
   untold = λ e. stops.untold (untold e);
 }
 

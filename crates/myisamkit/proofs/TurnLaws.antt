@@ -1,25 +1,21 @@
 -- What a table's turn leaves.
-use Rattle.std.proofs.Common.{arith, ◌≡◌, ◌≢◌, ◌≤◌, ◌+◌, ℕ, Bool, true, false, List, Option, Some, None, Result, Ok, Err, refl, sym, subst, ap, ◌∙◌, inl, inr, ◌⊎◌}
+use Rattle.std.proofs.Common.{arith, ◌≡◌, ◌≢◌, ◌≤◌, ◌+◌, ℕ, Bool, true, false, List, Option, Some, None, Result, Ok, Err, refl, sym, subst, ap, ◌∙◌}
 use Rattle.std.specs.Prelude.{◌||◌, if◌then◌else◌}
 use Rattle.std.specs.Str.{bytes_eq}
 use Rattle.std.proofs.Math.Path.{fun_ext}
-use Rattle.std.proofs.lemmas.Bool.{cases_Bool}
 use Rattle.std.proofs.lemmas.Slice.Eq.{bytes_eq-Decides}
-use Rattle.myi_base.specs.Holding.{Holding, Told, IfTold}
-use Rattle.myi_defs.specs.declared.types.Defs.{Defs}
+use Rattle.myi_base.specs.Holding.{Holding, Told}
 use Rattle.myi_pair.specs.RecoveredBytes.{new_data, new_index}
 use Rattle.myi_pair.specs.Recovered.{Recovered}
-use Rattle.myi_repair.specs.declared.fault.RepairFault.{RepairFault}
 use Rattle.myi_repair.specs.declared.report.Report.{Report}
-use Rattle.myi_repair.specs.Names.{FourNames, names_for, Holds, KeepsBut, KeepsBoth, NoWorking, working_left, one_there, Clears}
+use Rattle.myi_repair.specs.Names.{FourNames, names_for, Holds, KeepsBut, Clears}
 use Rattle.myi_repair.specs.Faults.{RoseAtMost}
-use Rattle.myi_repair.specs.Opening.{Table, table_in, IsTable}
-use Rattle.myi_repair.specs.Gathering.{report_of}
+use Rattle.myi_repair.specs.Opening.{table_in}
 use Rattle.myi_repair.specs.Repaired.{LeavesRepaired, OldOrNew}
 use Rattle.myisamkit.specs.declared.options.Mode.{Mode}
 use Rattle.myisamkit.specs.declared.options.Mode.TheVariants.{Check, Recover, Describe}
 use Rattle.myisamkit.specs.declared.options.Options.{Options}
-use Rattle.myisamkit.specs.Turns.{replaced, repair_turn, recover_turn, IsRecovered, RepairDone, RepairCutOff, CutsTurnOff, CutsTurnOffBy}
+use Rattle.myisamkit.specs.Turns.{replaced, repair_turn, RepairDone, RepairCutOff, CutsTurnOff, CutsTurnOffBy}
 
 -- what a name has that is none of these
 not_named : (q name : List ℕ) → bytes_eq q name ≡ false → q ≢ name
@@ -74,14 +70,17 @@ pub repair_done : (o : Options) (now : ℕ) (name : List ℕ) (said : Report) (o
     → Told old new (LeavesRepaired name o.extend now said) → Told old new (KeepsBut (names_for name)) → Told old new (RepairDone o now name)
 repair_done o now name said old new repaired others = record {
   told = λ m told.
-    let r = repaired.told m told in
-    let k = others.told m told in
-    let keeps = subst (λ n. KeepsBut (names_for name) m n) (some_same k.0 r.0 new k.1 r.1) k.2 in
-    let made = r.2.3 in
-    (r.0, r.1, record {
-      files = subst (λ t. r.0 ≡ (repair_turn o now name t m).files) (sym r.2.2) (is_replaced (names_for name) _ _ m r.0 made.holds keeps);
-      recovers = λ defs d table. subst (λ t. Recovered t.0 o.extend t.1 now (new_data t.0 o.extend t.1) (new_index t.0 o.extend t.1 now)) (ok_same (r.2.0, r.2.1) (defs, d) (table_in (names_for name) m) r.2.2 table) made.recovered;
-    });
+      let r = repaired.told m told in
+      let k = others.told m told in
+      let keeps = subst (λ n. KeepsBut (names_for name) m n) (some_same k.0 r.0 new k.1 r.1) k.2 in
+      let made = r.2.3 in (
+        r.0,
+        r.1,
+        record {
+          files = subst (λ t. r.0 ≡ (repair_turn o now name t m).files) (sym r.2.2) (is_replaced (names_for name) _ _ m r.0 made.holds keeps);
+          recovers = λ defs d table. subst (λ t. Recovered t.0 o.extend t.1 now (new_data t.0 o.extend t.1) (new_index t.0 o.extend t.1 now)) (ok_same (r.2.0, r.2.1) (defs, d) (table_in (names_for name) m) r.2.2 table) made.recovered;
+        },
+      );
   untold = repaired.untold;
 }
 
@@ -92,12 +91,15 @@ pub repair_cut : (o : Options) (now told before after : ℕ) (name : List ℕ) (
     → Told old new (RepairCutOff o now told before after name)
 repair_cut o now told before after name old new whole others cleared = record {
   told = λ m is.
-    let n = whole.told m is in
-    let k = others.told m is in
-    (n.0, n.1, record {
-      whole = n.2;
-      others = subst (λ h. KeepsBut (names_for name) m h) (some_same k.0 n.0 new k.1 n.1) k.2;
-      cleared = λ more rose. let z = (cleared more rose).told m is in subst (λ h. Clears more (names_for name) m h) (some_same z.0 n.0 new z.1 n.1) z.2;
-    });
+      let n = whole.told m is in
+      let k = others.told m is in (
+        n.0,
+        n.1,
+        record {
+          whole = n.2;
+          others = subst (λ h. KeepsBut (names_for name) m h) (some_same k.0 n.0 new k.1 n.1) k.2;
+          cleared = λ more rose. let z = (cleared more rose).told m is in subst (λ h. Clears more (names_for name) m h) (some_same z.0 n.0 new z.1 n.1) z.2;
+        },
+      );
   untold = whole.untold;
 }

@@ -1,15 +1,14 @@
 -- Words that are read one after the other, and what they are together.
-use Rattle.std.proofs.Common.{◌≡◌, ◌⊎◌, ℕ, Bool, true, false, List, [], ◌∷◌, ◌++◌, Option, Some, None, refl, sym, ap, ◌∙◌, inl, inr, filter}
+use Rattle.std.proofs.Common.{◌≡◌, ℕ, Bool, true, false, List, [], ◌∷◌, ◌++◌, Option, Some, None, refl, sym, ap, ◌∙◌, filter}
 use Rattle.std.specs.Prelude.{◌&&◌, ◌||◌, not, if◌then◌else◌, option_and_then, option_map}
 use Rattle.std.specs.List.{list_all, flat_map}
-use Rattle.std.proofs.lemmas.Bool.{cases_Bool}
 use Rattle.myisamkit.specs.declared.options.Flag.{Flag}
 use Rattle.myisamkit.specs.declared.options.Options.{Options}
 use Rattle.myisamkit.specs.declared.options.Seen.{Seen}
 use Rattle.myisamkit.specs.declared.words.Read.{Read}
 use Rattle.myisamkit.specs.Words.{is_end, is_option, is_name, is_empty, is_built, flags_of, flags_in, names_in, before_end, after_end, are_accepted}
 use Rattle.myisamkit.specs.Options.{go_together, options_in}
-use Rattle.myisamkit.specs.Reading.{seen_after, options_seen, read_words, read_word, read_name, read_flags, read_none, options_read, chk_options}
+use Rattle.myisamkit.specs.Reading.{seen_after, options_seen, read_words, read_word, read_name, read_flags, options_read, chk_options}
 use Rattle.myisamkit.proofs.OptionLaws.{seen_of, seen-append, options_met}
 
 abbrev pub read_of : Seen → Bool → Bool → Read

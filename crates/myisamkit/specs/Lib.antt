@@ -4,6 +4,8 @@
 pub mod Words
 -- which options are known, and what they ask for together
 pub mod Options
+-- what accepted words ask for; why words are refused
+pub mod Asked
 -- the printed lines
 pub mod Lines
 -- the statuses

@@ -1,5 +1,5 @@
 -- How words are read, one after the other, and the request that a plan is.
-use Rattle.std.specs.Prelude.{ℕ, Bool, true, false, ◌&&◌, List, [], ◌∷◌, Option, None, Some, option_and_then, option_map, if◌then◌else◌}
+use Rattle.std.specs.Prelude.{ℕ, true, false, ◌&&◌, List, [], ◌∷◌, Option, None, Some, option_and_then, option_map, if◌then◌else◌}
 use Rattle.myisamkit.specs.declared.options.Mode.{Mode}
 use Rattle.myisamkit.specs.declared.options.Mode.TheVariants.{Check}
 use Rattle.myisamkit.specs.declared.options.Flag.{Flag}

@@ -1,6 +1,6 @@
 -- What a run says, answers and does, by what the words ask for and what the files hold: its tables have their turns one
 -- after the other, each on the files that the one before left.
-use Rattle.std.specs.Prelude.{◌≡◌, ◌⊎◌, ℕ, List, [], ◌∷◌, ◌++◌, Option, Some}
+use Rattle.std.specs.Prelude.{◌≡◌, ◌⊎◌, ℕ, List, [], ◌∷◌, ◌++◌, Option}
 use Rattle.myi_base.specs.Holding.{Holding, IfTold}
 use Rattle.myi_base.specs.Output.{Appends, AppendsPart}
 use Rattle.myisamkit.specs.declared.status.Status.{Status}
@@ -9,7 +9,7 @@ use Rattle.myisamkit.specs.declared.status.Stop.{Stop}
 use Rattle.myisamkit.specs.declared.status.Stop.TheVariants as stop
 use Rattle.myisamkit.specs.declared.options.Options.{Options}
 use Rattle.myisamkit.specs.Words.{Request, usage, chk}
-use Rattle.myisamkit.specs.Statuses.{IsFault, worse, faults_told}
+use Rattle.myisamkit.specs.Statuses.{IsFault, worse}
 use Rattle.myisamkit.specs.Lines.{usage_line}
 use Rattle.myisamkit.specs.Turns.{Turn, turn, TurnRecovers, CutsTurnOff, FailsInTurn}
 

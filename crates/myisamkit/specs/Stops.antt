@@ -1,5 +1,4 @@
 -- The status that an answer of a layer below stands for.
-use Rattle.std.specs.Prelude.{ℕ}
 use Rattle.myi_io.specs.declared.sink.SinkErr.{SinkErr}
 use Rattle.myi_io.specs.declared.sink.SinkErr.TheVariants as sink
 use Rattle.myisamkit.specs.declared.status.Stop.{Stop}

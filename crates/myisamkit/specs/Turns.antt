@@ -1,6 +1,6 @@
 -- A table's turn in a run: what is said, answered and done, by the options and by what the files hold. Each mode has a case
 -- in each definition.
-use Rattle.std.specs.Prelude.{◌≡◌, ◌+◌, ◌||◌, ℕ, Bool, List, [], if◌then◌else◌, Option, Some, None, Result, Ok, Err}
+use Rattle.std.specs.Prelude.{◌≡◌, ◌+◌, ◌||◌, ℕ, Bool, List, [], if◌then◌else◌, Some, None, Result, Ok, Err}
 use Rattle.std.specs.Str.{bytes_eq}
 use Rattle.myi_base.specs.Holding.{Holding}
 use Rattle.myi_defs.specs.declared.types.Defs.{Defs}

@@ -19,6 +19,7 @@
 //! `crates/myi_tests/src/failing_calls.rt` runs it, over `MemFiles`.
 #![tactic(auto)]
 
+mod laws;
 mod lines;
 mod options;
 mod recover;
@@ -29,5 +30,6 @@ mod top;
 mod turn;
 mod words;
 
+pub use laws::{accepted_words_are_a_command, refused_words_have_a_reason};
 pub use status::Status;
 pub use top::kit;

@@ -1,4 +1,4 @@
-use Rattle.std.proofs.Common.{◌+◌, sym, subst, ap}
+use Rattle.std.proofs.Common.{◌+◌, subst}
 use Rattle.std.proofs.lemmas.Result.{IfErr-weaker}
 use Rattle.myi_repair.specs.Faults as repair
 use Rattle.myisamkit.proofs.TurnLaws.{repair_done, repair_cut}

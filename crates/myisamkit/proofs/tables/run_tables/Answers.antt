@@ -1,14 +1,13 @@
-use Rattle.std.proofs.Common.{arith, ◌≡◌, ◌≢◌, ◌≤◌, ◌<◌, length, false, true, List, ℕ, map, drop, ◌+◌, string_bytes, sym, subst, ap, ◌∙◌, Err, Option, Some, None}
+use Rattle.std.proofs.Common.{arith, ◌≡◌, ◌≢◌, ◌<◌, length, false, true, map, drop, ◌+◌, string_bytes, sym, subst, ap, ◌∙◌, Err}
 use Rattle.std.specs.Prelude.{IfErr, OnErr}
 use Rattle.std.proofs.lemmas.Result.{err_from_is_err_and}
-use Rattle.myi_base.specs.Holding.{Holding, Told, IfTold}
+use Rattle.myi_base.specs.Holding.{Told, IfTold}
 use Rattle.myi_base.specs.Output.{AppendsPart}
-use Rattle.myisamkit.specs.declared.status.Status.{Status}
 use Rattle.myisamkit.specs.declared.status.Status.TheVariants as status
 use Rattle.myisamkit.specs.Words.{names_table}
 use Rattle.myisamkit.specs.Statuses.{IsFault}
 use Rattle.myisamkit.specs.Runs.{tables_run, TablesStop}
-use Rattle.myisamkit.proofs.TableLaws.{names_from, Reached, reached_next, said_part, worse_keeps, left_here, stops_told, part_told}
+use Rattle.myisamkit.proofs.TableLaws.{names_from, Reached, reached_next, worse_keeps, left_here, stops_told, part_told}
 use Rattle.myisamkit.proofs.tables.run_tables.Goals as goal
 
 pub returns-in_err-table-clause-part : goal.returns-in_err-table-clause-part
@@ -46,8 +45,11 @@ loop-word-preserved g c =
       sink_later = omega (arith, c.loop-word.invariant.sink_later, c.in_ok-table.ensures.sink.later);
       untold = λ e. c.in_ok-table.ensures.done.untold (c.loop-word.invariant.untold e);
       so_far = λ m0 told.
-        let r = c.loop-word.invariant.so_far m0 told in
-        let n = c.in_ok-table.ensures.done.told r.0 r.1 in
-        (n.0, n.1, subst (λ s. Reached c.args.options.now c.args.now (names_from false (map (λ w. string_bytes w) c.args.words.now)) (names_from c.loop-word.ended (map (λ w. string_bytes w) (drop (c.loop-word.word-index + 1) c.args.words.now))) s m0 n.0 (g.O.Sink.written c.args.out.now) (g.O.Sink.written c.run_table.new.out)) (sym c.worse-status.ensures)
-        (reached_next _ _ _ _ _ _ _ _ _ _ _ _ _ (subst (λ l. Reached c.args.options.now c.args.now (names_from false (map (λ w. string_bytes w) c.args.words.now)) l c.loop-word.status m0 r.0 (g.O.Sink.written c.args.out.now) (g.O.Sink.written c.loop-word.out)) here r.2) (c.in_ok-table.ensures.status r.0 r.1) n.2 (c.in_ok-table.ensures.said r.0 r.1)));
+          let r = c.loop-word.invariant.so_far m0 told in
+          let n = c.in_ok-table.ensures.done.told r.0 r.1 in (
+            n.0,
+            n.1,
+            subst (λ s. Reached c.args.options.now c.args.now (names_from false (map (λ w. string_bytes w) c.args.words.now)) (names_from c.loop-word.ended (map (λ w. string_bytes w) (drop (c.loop-word.word-index + 1) c.args.words.now))) s m0 n.0 (g.O.Sink.written c.args.out.now) (g.O.Sink.written c.run_table.new.out)) (sym c.worse-status.ensures)
+                (reached_next _ _ _ _ _ _ _ _ _ _ _ _ _ (subst (λ l. Reached c.args.options.now c.args.now (names_from false (map (λ w. string_bytes w) c.args.words.now)) l c.loop-word.status m0 r.0 (g.O.Sink.written c.args.out.now) (g.O.Sink.written c.loop-word.out)) here r.2) (c.in_ok-table.ensures.status r.0 r.1) n.2 (c.in_ok-table.ensures.said r.0 r.1)),
+          );
     }

@@ -1,8 +1,7 @@
-use Rattle.std.proofs.Common.{◌≡◌, Bool, true, false, List, ℕ, map, string_bytes, Option, Some, None, refl, sym, ◌∙◌}
+use Rattle.std.proofs.Common.{◌≡◌, Bool, true, false, List, ℕ, map, string_bytes, Some, None, refl, sym, ◌∙◌}
 use Rattle.std.specs.Prelude.{if◌then◌else◌}
 use Rattle.myisamkit.specs.declared.options.Options.{Options}
 use Rattle.myisamkit.specs.Words as spec
-use Rattle.myisamkit.specs.Options.{options_in}
 use Rattle.myisamkit.proofs.WordLaws.{options_of_words}
 use Rattle.myisamkit.proofs.words.plan_chk.Goals as goal
 

@@ -1,0 +1,33 @@
+-- What words that are accepted ask for, and why words are refused.
+use Rattle.std.specs.Prelude.{◌≡◌, ◌≢◌, false, true, List, ◌∷◌, ℕ, map, codes, is_some}
+use Rattle.std.specs.List.{list_all, list_any}
+use Rattle.myisamkit.specs.declared.options.Options.{Options}
+use Rattle.myisamkit.specs.declared.options.Mode.TheVariants.{Check}
+use Rattle.myisamkit.specs.Words.{is_empty, is_name, is_built, names_in, flags_in, table_name}
+use Rattle.myisamkit.specs.Options.{is_mode, is_extend, is_force, is_silent, at_most_one, mode_or}
+
+-- these words are `chk` with these options and tables
+pub record AreChk (words : List (List ℕ)) (o : Options) (tables : List (List ℕ)) : Type 0 where
+  pub others : List (List ℕ)
+  pub command : words ≡ codes "chk" ∷ others
+  pub named : is_empty (names_in others) ≡ false
+  pub in_form : list_all is_name (names_in others) ≡ true
+  pub tables_are : tables ≡ map table_name (names_in others)
+  pub known : list_all is_some (flags_in others) ≡ true
+  pub one_mode : at_most_one is_mode (flags_in others) ≡ true
+  pub mode : o.mode ≡ mode_or Check (flags_in others)
+  pub built : is_built o.mode ≡ true
+  pub extend : o.extend ≡ list_any is_extend (flags_in others)
+  pub force : o.force ≡ list_any is_force (flags_in others)
+  pub silent : o.silent ≡ list_any is_silent (flags_in others)
+
+-- why words are refused: the command is none, or of the words behind it one of these holds
+pub data AreRefused (words : List (List ℕ)) : Type 0 where
+  no_command : ((others : List (List ℕ)) → words ≢ codes "chk" ∷ others) → AreRefused words
+  no_name : (command : List ℕ) (others : List (List ℕ)) → words ≡ command ∷ others → is_empty (names_in others) ≡ true → AreRefused words
+  bad_name : (command : List ℕ) (others : List (List ℕ)) → words ≡ command ∷ others → list_all is_name (names_in others) ≡ false → AreRefused words
+  unknown_option : (command : List ℕ) (others : List (List ℕ)) → words ≡ command ∷ others → list_all is_some (flags_in others) ≡ false → AreRefused words
+  two_modes : (command : List ℕ) (others : List (List ℕ)) → words ≡ command ∷ others → at_most_one is_mode (flags_in others) ≡ false → AreRefused words
+  extend_twice : (command : List ℕ) (others : List (List ℕ)) → words ≡ command ∷ others → at_most_one is_extend (flags_in others) ≡ false → AreRefused words
+  force_twice : (command : List ℕ) (others : List (List ℕ)) → words ≡ command ∷ others → at_most_one is_force (flags_in others) ≡ false → AreRefused words
+  not_built : (command : List ℕ) (others : List (List ℕ)) → words ≡ command ∷ others → is_built (mode_or Check (flags_in others)) ≡ false → AreRefused words

@@ -1,0 +1,18 @@
+//! Laws over the words of a command line. Each is the contract of a function that does nothing, so that it
+//! is proved with the crate.
+ghost use Rattle.std.specs.Prelude.{◌≡◌, ℕ, List};
+ghost use Rattle.myisamkit.specs.declared.options.Options.{Options};
+ghost use Rattle.myisamkit.specs.Words.{plan, chk, usage};
+ghost use Rattle.myisamkit.specs.Asked.{AreChk, AreRefused};
+
+/// Words that are accepted have the command, exactly its options, and its tables in their order.
+pub fn accepted_words_are_a_command()
+    ensures { (words : List (List ℕ)) (o : Options) (tables : List (List ℕ))
+        → plan words ≡ chk o tables → AreChk words o tables }
+{}
+
+/// Words that are refused have one of these reasons: no command that is known; no name, or one out of
+/// form; an option that is not known; two modes; another option twice; a mode that is not built.
+pub fn refused_words_have_a_reason()
+    ensures { (words : List (List ℕ)) → plan words ≡ usage → AreRefused words }
+{}
