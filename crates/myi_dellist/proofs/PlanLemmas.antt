@@ -1,9 +1,9 @@
 -- In a file that has a list, a release finds what the list says and writes what the definitions say.
-use Rattle.std.proofs.Common.{◌≡◌, ℕ, ◌+◌, ◌<◌, ◌≤◌, ◌⊎◌, inl, inr, Bool, true, false, List, [], ◌∷◌, ◌++◌, length, Option, Some, None, Result, Ok, Err, refl, sym, ap, subst, ◌∙◌, arith}
+use Rattle.std.proofs.Common.{◌≡◌, ℕ, ◌+◌, ◌≤◌, inl, inr, Bool, true, false, List, [], ◌∷◌, ◌++◌, Option, Some, None, Result, Ok, Err, refl, sym, ap, subst, ◌∙◌, arith}
 use Rattle.std.specs.Prelude.{◌==◌, nat_le, if◌then◌else◌}
 use Rattle.std.specs.Option.{option_map}
 use Rattle.std.specs.List.{AllByRecursion}
-use Rattle.std.proofs.lemmas.Bool.{eq-eqb, eqb-true, leb-true, leb-false}
+use Rattle.std.proofs.lemmas.Bool.{eq-eqb, eqb-true}
 use Rattle.myi_frames.specs.declared.form.FrameKind.TheVariants.{Deleted}
 use Rattle.myi_frames.specs.declared.head.Head.{Head}
 use Rattle.myi_frames.specs.Block.{block_of, head_of}
@@ -12,7 +12,7 @@ use Rattle.myi_dellist.specs.declared.linked.ReleasePlan.{ReleasePlan}
 use Rattle.myi_dellist.specs.Areas.{Area, IsApart, AreApart}
 use Rattle.myi_dellist.specs.Releasing.{most_size, hole_at, without, IsHole}
 use Rattle.myi_dellist.specs.Standing.{hole_block, first_or, last_or, IsPart, HasList, with_head, with_next, with_prev, without_block, with_first, before, behind, without_at, joined_bytes, release_one_bytes}
-use Rattle.myi_dellist.specs.Freeing.{if_deleted, hole_in, same_link, if_says, names_next, names_prev, given, block_before, block_named, named_by, block_linked, if_short, hole_behind, first_without, without_prev, next_past, with_joined, plan_linked, plan_by, plan_in, area_at, before_bytes, behind_bytes, taken_off_bytes, put_first_bytes, plan_bytes}
+use Rattle.myi_dellist.specs.Freeing.{if_deleted, hole_in, same_link, if_says, names_next, names_prev, block_before, block_named, block_linked, if_short, hole_behind, first_without, without_prev, next_past, with_joined, plan_linked, plan_in, area_at, behind_bytes, taken_off_bytes, put_first_bytes, plan_bytes}
 use Rattle.myi_dellist.proofs.LinkLemmas.{part_split, all_split, apart_split}
 use Rattle.myi_dellist.proofs.ReleasedLemmas.{SplitsAt, found_splits, both}
 use Rattle.myi_dellist.proofs.NeedLemmas.{given_ok, before_none, before_some, named_none, named_some, first_none, first_ok, link_both, plan_none, plan_some}
@@ -46,7 +46,7 @@ named_first d prev [] h = named_none d prev None refl
 named_first d prev (y ∷ ys) h =
     sym (named_some d prev (Some y.at) y.at refl)
     ∙ given_ok (the_head y (first_or ys None) prev) (if_says (names_prev prev) y.at (hole_in d y.at))
-        (says_so (names_prev prev) y.at (hole_in d y.at) (the_head y (first_or ys None) prev) (hole_on d y (first_or ys None) prev h.0) (link_same prev))
+    (says_so (names_prev prev) y.at (hole_in d y.at) (the_head y (first_or ys None) prev) (hole_on d y (first_or ys None) prev h.0) (link_same prev))
 
 -- ---- the last block of a part
 
@@ -95,7 +95,7 @@ before_is d (x ∷ xs) h ys part =
     let l = last_head None x xs (Some h.at) in
     sym (before_some d (Some x.at) (the_head h (first_or ys None) (last_or (x ∷ xs) None)) l.at (last_at None x xs (Some h.at)))
     ∙ given_ok l (if_says (names_next (Some h.at)) l.at (hole_in d l.at))
-        (says_so (names_next (Some h.at)) l.at (hole_in d l.at) l (last_on d None x xs (Some h.at) part) (ap (λ (o : Option ℕ). same_link o (Some h.at)) (last_next None x xs (Some h.at)) ∙ link_same (Some h.at)))
+    (says_so (names_next (Some h.at)) l.at (hole_in d l.at) l (last_on d None x xs (Some h.at) part) (ap (λ (o : Option ℕ). same_link o (Some h.at)) (last_next None x xs (Some h.at)) ∙ link_same (Some h.at)))
 
 abbrev the_link : List Area → Area → List Area → Linked
 the_link xs h ys = record { before = last_of xs (Some h.at); hole = the_head h (first_or ys None) (last_or xs None); behind = first_of (Some h.at) ys }
