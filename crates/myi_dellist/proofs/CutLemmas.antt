@@ -2,7 +2,6 @@
 use Rattle.myi_io.specs.declared.files.FileErr.{FileErr}
 use Rattle.myi_io.specs.declared.files.FileErr.TheVariants as io
 use Rattle.myi_io.specs.Faults.{handed_on}
-use Rattle.myi_dellist.specs.declared.fault.FreeFault.{FreeFault}
 use Rattle.myi_dellist.specs.declared.fault.FreeFault.TheVariants.{File, Memory}
 use Rattle.myi_dellist.specs.Freeing.{CutsOff}
 

@@ -1,18 +1,18 @@
 -- What the calls of a list leave.
-use Rattle.std.proofs.Common.{◌≡◌, ℕ, ◌+◌, ◌^◌, ◌<◌, ◌≤◌, Bool, true, false, List, [], ◌∷◌, length, Option, Some, None, Result, Ok, Err, refl, sym, ap, subst, ◌∙◌, arith}
-use Rattle.std.specs.Prelude.{nat_le, if◌then◌else◌}
+use Rattle.std.proofs.Common.{◌≡◌, ℕ, ◌+◌, ◌≤◌, Bool, List, length, Option, Some, None, Result, Ok, sym, ap, subst, ◌∙◌, arith}
+use Rattle.std.specs.Prelude.{if◌then◌else◌}
 use Rattle.std.proofs.lemmas.Bool.{le-leb}
 use Rattle.myi_base.specs.Holding.{Holding, bytes_of, Told, IfTold}
 use Rattle.myi_base.proofs.CallerLemmas.{told_more}
 use Rattle.myi_frames.specs.Block.{IsPlace}
 use Rattle.myi_dellist.specs.declared.linked.ReleasePlan.{ReleasePlan}
 use Rattle.myi_dellist.specs.Areas.{Area}
-use Rattle.myi_dellist.specs.Releasing.{most_size, half_size, hole_at, joined, release_one, front_part, back_part, release, IsFreeable}
-use Rattle.myi_dellist.specs.Standing.{HasList, KeepsBut, LeavesList, first_or, release_one_bytes, release_bytes}
-use Rattle.myi_dellist.specs.Freeing.{plan_in, plan_bytes, ReleasesOne, Becomes}
-use Rattle.myi_dellist.specs.FreeList.{ListState, HasHoles, MayRelease, Frees, Releases, IsLong, FindsAll}
+use Rattle.myi_dellist.specs.Releasing.{most_size, hole_at, release_one, front_part, back_part, release, IsFreeable}
+use Rattle.myi_dellist.specs.Standing.{HasList, KeepsBut, first_or, release_one_bytes, release_bytes}
+use Rattle.myi_dellist.specs.Freeing.{plan_in, plan_bytes, ReleasesOne}
+use Rattle.myi_dellist.specs.FreeList.{ListState, MayRelease, Frees, Releases, IsLong, FindsAll}
 use Rattle.myi_dellist.proofs.ReleasedLemmas.{release-stands, back_head}
-use Rattle.myi_dellist.proofs.PlanLemmas.{Plans, release-plans}
+use Rattle.myi_dellist.proofs.PlanLemmas.{release-plans}
 
 short_release : (a : Area) (holes : List Area) → a.size ≤ most_size → release a holes ≡ release_one a holes
 unfolding release
@@ -59,17 +59,17 @@ one_frees l k at size m n head long place le r holes has may =
 pub told_frees : (old new : Option Holding) (l k : ListState) (name : List ℕ) (end : ℕ) (head : Option ℕ) (at size : ℕ) → name ≡ l.name → end ≡ l.end → head ≡ l.head → k.head ≡ Some at → IfTold old (IsLong l) → IsPlace at size l.end → size ≤ most_size → Told old new (ReleasesOne name end head at size) → Told old new (Releases l k (record { at = at; size = size }))
 told_frees old new l k name end head at size en ee eh kh long place le t =
     let same : Told old new (ReleasesOne l.name l.end l.head at size) =
-      subst (λ (x : List ℕ). Told old new (ReleasesOne x l.end l.head at size)) en
-      (subst (λ (x : ℕ). Told old new (ReleasesOne name x l.head at size)) ee
-      (subst (λ (x : Option ℕ). Told old new (ReleasesOne name end x at size)) eh t)) in
+    subst (λ (x : List ℕ). Told old new (ReleasesOne x l.end l.head at size)) en
+    (subst (λ (x : ℕ). Told old new (ReleasesOne name x l.head at size)) ee
+    (subst (λ (x : Option ℕ). Told old new (ReleasesOne name end x at size)) eh t)) in
     told_more old new (ReleasesOne l.name l.end l.head at size) (Releases l k (record { at = at; size = size })) same (λ m n held r. one_frees l k at size m n kh (long m held) place le r)
 
 pub told_finds : (old new : Option Holding) (l : ListState) (name : List ℕ) (end : ℕ) (head : Option ℕ) (at size : ℕ) → name ≡ l.name → end ≡ l.end → head ≡ l.head → IfTold old (IsLong l) → Told old new (ReleasesOne name end head at size) → IfTold old (FindsAll l (record { at = at; size = size }))
 told_finds old new l name end head at size en ee eh long t m held =
     let same : Told old new (ReleasesOne l.name l.end l.head at size) =
-      subst (λ (x : List ℕ). Told old new (ReleasesOne x l.end l.head at size)) en
-      (subst (λ (x : ℕ). Told old new (ReleasesOne name x l.head at size)) ee
-      (subst (λ (x : Option ℕ). Told old new (ReleasesOne name end x at size)) eh t)) in
+    subst (λ (x : List ℕ). Told old new (ReleasesOne x l.end l.head at size)) en
+    (subst (λ (x : ℕ). Told old new (ReleasesOne name x l.head at size)) ee
+    (subst (λ (x : Option ℕ). Told old new (ReleasesOne name end x at size)) eh t)) in
     let r = same.told m held in
     let p = r.2 (long m held) in
     (p.0, p.1)

@@ -1,14 +1,12 @@
 -- Deleted blocks that are read from a file.
-use Rattle.std.proofs.Common.{◌≡◌, ℕ, ◌+◌, ◌-◌, ◌^◌, ◌<◌, ◌≤◌, Bool, true, false, List, [], ◌++◌, length, take, drop, min, Option, Some, None, refl, sym, ap, subst, ◌∙◌, arith, length-drop}
-use Rattle.std.specs.Prelude.{if◌then◌else◌}
-use Rattle.std.specs.Option.{option_map}
+use Rattle.std.proofs.Common.{◌≡◌, ℕ, ◌+◌, ◌<◌, ◌≤◌, true, false, List, [], ◌++◌, length, take, drop, Some, None, refl, sym, ap, ◌∙◌, arith}
 use Rattle.std.proofs.lemmas.List.{drop_all, append-nil, length-take-le}
 use Rattle.myi_base.specs.Numbers.{AreBytes}
 use Rattle.myi_frames.specs.declared.form.FrameKind.{FrameKind}
 use Rattle.myi_frames.specs.declared.form.FrameKind.TheVariants.{Deleted, Whole, Start, Middle, End}
 use Rattle.myi_frames.specs.declared.head.Head.{Head}
 use Rattle.myi_frames.specs.declared.head.Header.{Header}
-use Rattle.myi_frames.specs.Block.{Block, block_of, header_of, head_of, IsPlace}
+use Rattle.myi_frames.specs.Block.{block_of, header_of, IsPlace}
 use Rattle.myi_frames.specs.Seeing.{IsPartAt, HeadsBlock}
 use Rattle.myi_frames.proofs.CallerLemmas.{block-short, header-deleted, header-next, header-prev}
 use Rattle.myi_dellist.specs.Freeing.{is_deleted, if_deleted, hole_in, IsHoleAt}

@@ -1,12 +1,11 @@
 -- What a release needs, step by step.
-use Rattle.std.proofs.Common.{◌≡◌, ◌<◌, ◌≤◌, ◌+◌, ℕ, Bool, true, false, List, Option, Some, None, Result, Ok, Err, refl, sym, ap, subst, ◌∙◌}
+use Rattle.std.proofs.Common.{◌≡◌, ◌<◌, ◌≤◌, ◌+◌, ℕ, Bool, List, Option, Some, None, Result, Ok, Err, sym, ap, subst, ◌∙◌}
 use Rattle.std.specs.Prelude.{if◌then◌else◌, IfSome}
 use Rattle.std.proofs.lemmas.Bool.{lt-leb, le-leb}
 use Rattle.myi_frames.specs.declared.head.Head.{Head}
 use Rattle.myi_dellist.specs.declared.fault.FreeFault.{FreeFault}
 use Rattle.myi_dellist.specs.declared.fault.FreeFault.TheVariants as fault
 use Rattle.myi_dellist.specs.declared.linked.Linked.{Linked}
-use Rattle.myi_dellist.specs.declared.linked.ReleasePlan.{ReleasePlan}
 use Rattle.myi_dellist.specs.Releasing.{most_size}
 use Rattle.myi_dellist.specs.Freeing.{if_short, hole_behind, first_by, first_without, without_prev, next_past, past, linked_by, block_linked, with_joined, plan_linked, plan_by, plan_in, hole_in, same_link, if_says, names_next, names_prev, given, before_by, block_before, named_by, block_named, Answers}
 

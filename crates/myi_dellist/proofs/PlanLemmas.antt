@@ -1,18 +1,18 @@
 -- In a file that has a list, a release finds what the list says and writes what the definitions say.
-use Rattle.std.proofs.Common.{◌≡◌, ℕ, ◌+◌, ◌<◌, ◌≤◌, ◌⊎◌, inl, inr, Bool, true, false, List, [], ◌∷◌, ◌++◌, length, Option, Some, None, Result, Ok, Err, refl, sym, ap, subst, ◌∙◌, arith}
+use Rattle.std.proofs.Common.{◌≡◌, ℕ, ◌+◌, ◌≤◌, inl, inr, Bool, true, false, List, [], ◌∷◌, ◌++◌, Option, Some, None, Result, Ok, Err, refl, sym, ap, subst, ◌∙◌, arith}
 use Rattle.std.specs.Prelude.{◌==◌, nat_le, if◌then◌else◌}
 use Rattle.std.specs.Option.{option_map}
 use Rattle.std.specs.List.{AllByRecursion}
-use Rattle.std.proofs.lemmas.Bool.{eq-eqb, eqb-true, leb-true, leb-false}
+use Rattle.std.proofs.lemmas.Bool.{eq-eqb, eqb-true}
 use Rattle.myi_frames.specs.declared.form.FrameKind.TheVariants.{Deleted}
 use Rattle.myi_frames.specs.declared.head.Head.{Head}
 use Rattle.myi_frames.specs.Block.{block_of, head_of}
 use Rattle.myi_dellist.specs.declared.linked.Linked.{Linked}
 use Rattle.myi_dellist.specs.declared.linked.ReleasePlan.{ReleasePlan}
 use Rattle.myi_dellist.specs.Areas.{Area, IsApart, AreApart}
-use Rattle.myi_dellist.specs.Releasing.{most_size, hole_at, without, IsHole}
+use Rattle.myi_dellist.specs.Releasing.{most_size, hole_at, without, joined, release_one, IsHole}
 use Rattle.myi_dellist.specs.Standing.{hole_block, first_or, last_or, IsPart, HasList, with_head, with_next, with_prev, without_block, with_first, before, behind, without_at, joined_bytes, release_one_bytes}
-use Rattle.myi_dellist.specs.Freeing.{if_deleted, hole_in, same_link, if_says, names_next, names_prev, given, block_before, block_named, named_by, block_linked, if_short, hole_behind, first_without, without_prev, next_past, with_joined, plan_linked, plan_by, plan_in, area_at, before_bytes, behind_bytes, taken_off_bytes, put_first_bytes, plan_bytes}
+use Rattle.myi_dellist.specs.Freeing.{if_deleted, hole_in, same_link, if_says, names_next, names_prev, block_before, block_named, block_linked, if_short, hole_behind, first_without, without_prev, next_past, with_joined, plan_linked, plan_in, area_at, behind_bytes, taken_off_bytes, put_first_bytes, plan_bytes, joined_size, place_at}
 use Rattle.myi_dellist.proofs.LinkLemmas.{part_split, all_split, apart_split}
 use Rattle.myi_dellist.proofs.ReleasedLemmas.{SplitsAt, found_splits, both}
 use Rattle.myi_dellist.proofs.NeedLemmas.{given_ok, before_none, before_some, named_none, named_some, first_none, first_ok, link_both, plan_none, plan_some}
@@ -46,7 +46,7 @@ named_first d prev [] h = named_none d prev None refl
 named_first d prev (y ∷ ys) h =
     sym (named_some d prev (Some y.at) y.at refl)
     ∙ given_ok (the_head y (first_or ys None) prev) (if_says (names_prev prev) y.at (hole_in d y.at))
-        (says_so (names_prev prev) y.at (hole_in d y.at) (the_head y (first_or ys None) prev) (hole_on d y (first_or ys None) prev h.0) (link_same prev))
+    (says_so (names_prev prev) y.at (hole_in d y.at) (the_head y (first_or ys None) prev) (hole_on d y (first_or ys None) prev h.0) (link_same prev))
 
 -- ---- the last block of a part
 
@@ -95,7 +95,7 @@ before_is d (x ∷ xs) h ys part =
     let l = last_head None x xs (Some h.at) in
     sym (before_some d (Some x.at) (the_head h (first_or ys None) (last_or (x ∷ xs) None)) l.at (last_at None x xs (Some h.at)))
     ∙ given_ok l (if_says (names_next (Some h.at)) l.at (hole_in d l.at))
-        (says_so (names_next (Some h.at)) l.at (hole_in d l.at) l (last_on d None x xs (Some h.at) part) (ap (λ (o : Option ℕ). same_link o (Some h.at)) (last_next None x xs (Some h.at)) ∙ link_same (Some h.at)))
+    (says_so (names_next (Some h.at)) l.at (hole_in d l.at) l (last_on d None x xs (Some h.at) part) (ap (λ (o : Option ℕ). same_link o (Some h.at)) (last_next None x xs (Some h.at)) ∙ link_same (Some h.at)))
 
 abbrev the_link : List Area → Area → List Area → Linked
 the_link xs h ys = record { before = last_of xs (Some h.at); hole = the_head h (first_or ys None) (last_or xs None); behind = first_of (Some h.at) ys }
@@ -136,23 +136,33 @@ put_is a (h ∷ hs) e = refl
 
 -- ---- the whole
 
-pub record Plans (d : List ℕ) (a : Area) (holes : List Area) (bytes : List ℕ) : Type 0 where
+pub record Plans (d : List ℕ) (a : Area) (holes left : List Area) (bytes : List ℕ) : Type 0 where
   pub plan : ReleasePlan
   pub found : plan_in d (first_or holes None) a.at a.size ≡ Ok plan
   pub bytes_are : plan_bytes plan a.at a.size d ≡ bytes
+  pub rest : List Area
+  pub shape : left ≡ record { at = a.at; size = joined_size a.size plan.joined } ∷ rest
+  pub next : place_at plan.first ≡ first_or rest None
 
-alone_plans : (d : List ℕ) (a : Area) (holes : List Area) → None ≡ hole_behind d a.at a.size → IsPart d None holes None → Plans d a holes (with_first a holes d)
+place_first : (hs : List Area) → place_at (first_of None hs) ≡ first_or hs None
+place_first [] = refl
+place_first (h ∷ hs) = refl
+
+alone_plans : (d : List ℕ) (a : Area) (holes : List Area) → None ≡ hole_behind d a.at a.size → IsPart d None holes None → Plans d a holes (a ∷ holes) (with_first a holes d)
 alone_plans d a holes none list = record {
   plan = record { joined = None; first = first_of None holes };
   found = plan_none d (first_or holes None) a.at a.size None none refl ∙ ap (with_joined None) (named_first d None holes list);
   bytes_are = put_is a holes d;
+  rest = holes;
+  shape = refl;
+  next = place_first holes;
 }
 
 split_behind : (d : List ℕ) (a h : Area) (next prev : Option ℕ) → h.at ≡ a.at + a.size → block_of d h.at ≡ Some (hole_block h next prev) → hole_behind d a.at a.size ≡ (if nat_le (a.size + h.size) most_size then Some (the_head h next prev) else None)
 unfolding hole_behind
 split_behind d a h next prev at here = ap (λ p. if_short a.size (hole_in d p)) (sym at) ∙ ap (if_short a.size) (hole_on d h next prev here)
 
-split_plans : (d : List ℕ) (a h : Area) (xs ys : List Area) → h.at ≡ a.at + a.size → HasList d (xs ++ h ∷ ys) → (b : Bool) → nat_le (a.size + h.size) most_size ≡ b → Plans d a (xs ++ h ∷ ys) (if b then with_first (both a h) (xs ++ ys) (without_block xs ys d) else with_first a (xs ++ h ∷ ys) d)
+split_plans : (d : List ℕ) (a h : Area) (xs ys : List Area) → h.at ≡ a.at + a.size → HasList d (xs ++ h ∷ ys) → (b : Bool) → nat_le (a.size + h.size) most_size ≡ b → Plans d a (xs ++ h ∷ ys) (if b then both a h ∷ xs ++ ys else a ∷ xs ++ h ∷ ys) (if b then with_first (both a h) (xs ++ ys) (without_block xs ys d) else with_first a (xs ++ h ∷ ys) d)
 split_plans d a h xs ys at l true t =
     let parts = part_split d None None xs (h ∷ ys) l.linked in
     let behind = split_behind d a h (first_or ys None) (last_or xs None) at parts.1.0 ∙ ap (λ (b : Bool). if b then Some (the_head h (first_or ys None) (last_or xs None)) else None) t in
@@ -165,19 +175,22 @@ split_plans d a h xs ys at l true t =
           ∙ ap (plan_linked d head) (link_is d xs h ys l.linked)
           ∙ ap (with_joined (Some (the_link xs h ys))) (first_is d xs h ys sizes.0 aparts.0 l.linked);
       bytes_are = put_is (both a h) (xs ++ ys) (taken_off_bytes (the_link xs h ys) d) ∙ ap (with_first (both a h) (xs ++ ys)) (off_is d xs h ys);
+      rest = xs ++ ys;
+      shape = refl;
+      next = place_first (xs ++ ys);
     }
 split_plans d a h xs ys at l false t =
     let parts = part_split d None None xs (h ∷ ys) l.linked in
     let behind = split_behind d a h (first_or ys None) (last_or xs None) at parts.1.0 ∙ ap (λ (b : Bool). if b then Some (the_head h (first_or ys None) (last_or xs None)) else None) t in
     alone_plans d a (xs ++ h ∷ ys) (sym behind) l.linked
 
-met_plans : (d : List ℕ) (a h : Area) (holes : List Area) → hole_at (a.at + a.size) holes ≡ Some h → HasList d holes → Plans d a holes (joined_bytes a holes d (Some h))
+met_plans : (d : List ℕ) (a h : Area) (holes : List Area) → hole_at (a.at + a.size) holes ≡ Some h → HasList d holes → Plans d a holes (joined a holes (Some h)) (joined_bytes a holes d (Some h))
 met_plans d a h holes e l = by_test (nat_le (a.size + h.size) most_size) refl
   where
     s : SplitsAt (a.at + a.size) holes h
     s = found_splits (a.at + a.size) holes h e
 
-    by_test : (b : Bool) → nat_le (a.size + h.size) most_size ≡ b → Plans d a holes (if b then with_first (both a h) (without h.at holes) (without_at h.at holes d) else with_first a holes d)
+    by_test : (b : Bool) → nat_le (a.size + h.size) most_size ≡ b → Plans d a holes (if b then both a h ∷ without h.at holes else a ∷ holes) (if b then with_first (both a h) (without h.at holes) (without_at h.at holes d) else with_first a holes d)
     by_test b t =
         let q = a.at + a.size in
         let xs = before q holes in
@@ -187,18 +200,25 @@ met_plans d a h holes e l = by_test (nat_le (a.size + h.size) most_size) refl
           plan = p.plan;
           found = ap (λ (hs : List Area). plan_in d (first_or hs None) a.at a.size) s.all ∙ p.found;
           bytes_are = p.bytes_are ∙ same b;
+          rest = p.rest;
+          shape = sym (same_list b) ∙ p.shape;
+          next = p.next;
         }
       where
+        same_list : (b : Bool) → (if b then both a h ∷ before (a.at + a.size) holes ++ behind (a.at + a.size) holes else a ∷ before (a.at + a.size) holes ++ h ∷ behind (a.at + a.size) holes) ≡ (if b then both a h ∷ without h.at holes else a ∷ holes)
+        same_list true = ap (λ (hs : List Area). both a h ∷ hs) (sym (ap (λ (q : ℕ). without q holes) s.at ∙ s.rest))
+        same_list false = ap (λ (hs : List Area). a ∷ hs) (sym s.all)
+
         same : (b : Bool) → (if b then with_first (both a h) (before (a.at + a.size) holes ++ behind (a.at + a.size) holes) (without_block (before (a.at + a.size) holes) (behind (a.at + a.size) holes) d) else with_first a (before (a.at + a.size) holes ++ h ∷ behind (a.at + a.size) holes) d) ≡ (if b then with_first (both a h) (without h.at holes) (without_at h.at holes d) else with_first a holes d)
         same true =
             ap (λ (hs : List Area). with_first (both a h) hs (without_block (before (a.at + a.size) holes) (behind (a.at + a.size) holes) d)) (sym (ap (λ (q : ℕ). without q holes) s.at ∙ s.rest))
             ∙ ap (λ (q : ℕ). with_first (both a h) (without h.at holes) (without_at q holes d)) (sym s.at)
         same false = ap (λ (hs : List Area). with_first a hs d) (sym s.all)
 
-pub release-plans : (d : List ℕ) (a : Area) (holes : List Area) → HasList d holes → (hole_at (a.at + a.size) holes ≡ None → hole_in d (a.at + a.size) ≡ None) → Plans d a holes (release_one_bytes a holes d)
-unfolding release_one_bytes
+pub release-plans : (d : List ℕ) (a : Area) (holes : List Area) → HasList d holes → (hole_at (a.at + a.size) holes ≡ None → hole_in d (a.at + a.size) ≡ None) → Plans d a holes (release_one a holes) (release_one_bytes a holes d)
+unfolding release_one_bytes release_one
 release-plans d a holes l none = by_found (hole_at (a.at + a.size) holes) refl
   where
-    by_found : (o : Option Area) → hole_at (a.at + a.size) holes ≡ o → Plans d a holes (joined_bytes a holes d o)
+    by_found : (o : Option Area) → hole_at (a.at + a.size) holes ≡ o → Plans d a holes (joined a holes o) (joined_bytes a holes d o)
     by_found None e = alone_plans d a holes (Rattle.myi_dellist.proofs.NeedLemmas.behind_none d a.at a.size (hole_in d (a.at + a.size)) refl (none e)) l.linked
     by_found (Some h) e = met_plans d a h holes e l

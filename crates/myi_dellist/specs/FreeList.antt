@@ -1,7 +1,7 @@
 -- What the calls on the deleted list of a file do to the list and to the file's bytes.
-use Rattle.std.specs.Prelude.{◌≡◌, ℕ, ◌+◌, List, length, Option, Some, None, Ok}
+use Rattle.std.specs.Prelude.{◌≡◌, ℕ, ◌+◌, Bool, true, false, List, length, Option, Some, None, Ok}
 use Rattle.std.specs.List.{AllByRecursion}
-use Rattle.myi_base.specs.Holding.{Holding, bytes_of, OthersStay}
+use Rattle.myi_base.specs.Holding.{Holding, bytes_of}
 use Rattle.myi_dellist.specs.declared.linked.ReleasePlan.{ReleasePlan}
 use Rattle.myi_dellist.specs.Areas.{Area, IsApart}
 use Rattle.myi_dellist.specs.Releasing.{hole_at, release}
@@ -14,6 +14,11 @@ pub record ListState : Type 0 where
   pub head : Option ℕ
   pub end : ℕ
   pub end_below : ℕ
+
+-- where the next row goes, and whether a deleted block is there: at the head of the list, or at the end
+abbrev pub next_by : Option ℕ → ℕ → ℕ × Bool
+next_by (Some p) end = (p, true)
+next_by None end = (end, false)
 
 -- the file's deleted list is these blocks
 pub record HasHoles (l : ListState) (holes : List Area) (d : List ℕ) : Type 0 where

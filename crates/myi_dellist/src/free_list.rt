@@ -56,7 +56,7 @@ impl FreeList {
     ghost use Rattle.myi_dellist.specs.declared.fault.FreeFault.TheVariants.{File};
     ghost use Rattle.myi_dellist.specs.Releasing.{most_size};
     ghost use Rattle.myi_dellist.specs.Freeing.{plan_in, IfDamaged};
-    ghost use Rattle.myi_dellist.specs.FreeList.{Releases, IsLong, FindsAll};
+    ghost use Rattle.myi_dellist.specs.FreeList.{next_by, Releases, IsLong, FindsAll};
 
     /// The deleted list of the file of a name, by the place of its first block and the file's length.
     pub fn new(
@@ -82,15 +82,20 @@ impl FreeList {
         })
     }
 
+    /// Where the next row goes, and whether a deleted block is there. It takes no memory.
+    pub fn place(&self) -> (u64, bool)
+        ensures { result ≡ next_by self.now.head self.now.end }
+    {
+        match self.head {
+            Some(at) => (at, true),
+            None => (self.end, false),
+        }
+    }
+
     /// Releases an area that a deleted block can be: it is joined with the deleted block directly behind it,
     /// where both together are not too long, and becomes the head of the list. `Damaged` comes exactly
     /// where a block that is read is not what the list needs there, and then nothing is changed.
-    pub fn release<F: Files>(
-        &mut self,
-        files: &mut F,
-        at: u64,
-        size: u32,
-    ) -> Result<(), FreeFault>
+    pub fn release<F: Files>(&mut self, files: &mut F, at: u64, size: u32) -> Result<(), FreeFault>
         requires writable { IsTrue F.writable }
         requires place { IsPlace at size self.old.end }
         requires most { size ≤ most_size }

@@ -1,13 +1,16 @@
 //! Laws over the definitions of this crate: first on lists of areas and of slots alone, then on the bytes
 //! of a file. Each is the contract of a function that does nothing, so that it is proved with the crate
 //! and stands for the crates above.
-ghost use Rattle.std.specs.Prelude.{◌≡◌, ◌⊎◌, ℕ, ◌+◌, ◌%◌, ◌^◌, ◌<◌, ◌≤◌, ◌++◌, List, [], ◌∷◌, length, Some};
+ghost use Rattle.std.specs.Prelude.{◌≡◌, ◌⊎◌, ℕ, ◌+◌, ◌%◌, ◌^◌, ◌<◌, ◌≤◌, ◌++◌, List, [], ◌∷◌, length, Some, None, Ok};
 ghost use Rattle.std.specs.List.{AllByRecursion};
 ghost use Rattle.myi_frames.specs.Block.{Block, block_of};
 ghost use Rattle.myi_dellist.specs.Areas.{Area, below, bytes_below, Tile, IsApart, AreApart, AreInside, Holds, HaveBytes};
 ghost use Rattle.myi_dellist.specs.Releasing.{release, release_all, IsHole, IsFreeable};
 ghost use Rattle.myi_dellist.specs.Placing.{Space, areas_of, taken_by, place, update, specs_of, place_of, next_place, AreWritable};
-ghost use Rattle.myi_dellist.specs.Standing.{HasList, KeepsBut, LeavesList, without_block, release_bytes};
+ghost use Rattle.myi_dellist.specs.Standing.{HasList, KeepsBut, LeavesList, first_or, without_block, release_one_bytes, release_bytes};
+ghost use Rattle.myi_dellist.specs.declared.linked.ReleasePlan.{ReleasePlan};
+ghost use Rattle.myi_dellist.specs.Freeing.{plan_in, plan_bytes};
+ghost use Rattle.myi_dellist.specs.FreeList.{MayRelease};
 ghost use Rattle.myi_dellist.specs.Slots.{Slots, take_slot, take_slot_at_end, release_slot, NameEach};
 
 /// Areas tile a file, by the count of bytes below each place, exactly where no byte belongs to two of
@@ -101,4 +104,12 @@ pub fn lists_stand_in_files()
     ensures others { (holes : List Area) (d e : List ℕ) (p : ℕ) (b : Block) → KeepsBut holes d e
         → AllByRecursion (λ a. (p + b.size ≤ a.at) ⊎ (a.at + 20 ≤ p)) holes
         → block_of d p ≡ Some b → block_of e p ≡ Some b }
+{}
+
+/// In a file that has a list, each block that a release reads is what the list needs there, and what it
+/// writes is what the definitions on lists say; so it never finds such a file damaged.
+pub fn releases_find_their_list()
+    ensures { (d : List ℕ) (a : Area) (holes : List Area) → HasList d holes → MayRelease a holes d
+        → (p : ReleasePlan) × (plan_in d (first_or holes None) a.at a.size ≡ Ok p)
+        × (plan_bytes p a.at a.size d ≡ release_one_bytes a holes d) }
 {}

@@ -50,7 +50,14 @@ fn write_before<F: Files>(files: &mut F, name: &str, linked: &Linked) -> Result<
     let Some(before) = linked.before else {
         return Ok(());
     };
-    write_head(files, name, before.at, before.size, linked.hole.next, before.prev)?;
+    write_head(
+        files,
+        name,
+        before.at,
+        before.size,
+        linked.hole.next,
+        before.prev,
+    )?;
     Ok(())
 }
 
@@ -67,7 +74,14 @@ fn write_behind<F: Files>(files: &mut F, name: &str, linked: &Linked) -> Result<
     let Some(behind) = linked.behind else {
         return Ok(());
     };
-    write_head(files, name, behind.at, behind.size, behind.next, linked.hole.prev)?;
+    write_head(
+        files,
+        name,
+        behind.at,
+        behind.size,
+        behind.next,
+        linked.hole.prev,
+    )?;
     Ok(())
 }
 

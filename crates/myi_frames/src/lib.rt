@@ -33,8 +33,9 @@ pub use form::FrameKind;
 pub use frame::{Frame, Seen, frame_at};
 pub use head::{Head, Header, head_at, header_at};
 pub use laws::{
-    answers_are_decided, blocks_are_local, blocks_stand, forms_are_chosen_once, headers_are_bounded,
-    least_sizes_are_least, rooms_are_greatest, writes_leave_the_rest, written_blocks_read_back,
+    answers_are_decided, blocks_are_local, blocks_stand, forms_are_chosen_once,
+    headers_are_bounded, least_sizes_are_least, rooms_are_greatest, writes_leave_the_rest,
+    written_blocks_read_back,
 };
 pub use sizes::{GIANT, LEAST_SIZE, MOST_SIZE, least_size, middle_room, start_room};
 pub use write::{FrameSpec, deleted_head, frame_header, write_frame};

@@ -1,8 +1,7 @@
-use Rattle.std.proofs.Common.{◌≡◌, Option, Some, None, Result, Ok, Err, sym, ap, subst, ◌∙◌, true, false, rules}
+use Rattle.std.proofs.Common.{◌≡◌, Some, Err, sym, ap, ◌∙◌, true, false, rules}
 use Rattle.std.proofs.lemmas.Result.{err_from_is_err_and}
 use Rattle.myi_base.specs.Holding.{bytes_of}
-use Rattle.myi_frames.specs.declared.head.Head.{Head}
-use Rattle.myi_dellist.specs.Freeing.{hole_in, if_says, names_next, Answers}
+use Rattle.myi_dellist.specs.Freeing.{hole_in, if_says, names_next}
 use Rattle.myi_dellist.proofs.NeedLemmas.{err_given, given_ok, before_none, before_some}
 use Rattle.myi_dellist.proofs.linked.block_before.Goals as goal
 

@@ -1,4 +1,4 @@
-use Rattle.std.proofs.Common.{◌≡◌, ℕ, length, take, drop, min, arith, refl, length-drop}
+use Rattle.std.proofs.Common.{arith, refl, length-drop}
 use Rattle.std.specs.Prelude.{replicate}
 use Rattle.myi_base.specs.Holding.{bytes_of}
 use Rattle.myi_dellist.proofs.HoleLemmas.{short_none, read_part}

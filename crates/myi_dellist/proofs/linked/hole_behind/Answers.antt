@@ -1,5 +1,4 @@
-use Rattle.std.proofs.Common.{◌≡◌, ◌∙◌, ◌+◌, Option, Some, None, Result, Ok, Err, sym, ap, rules, arith}
-use Rattle.std.proofs.lemmas.Result.{err_from_is_err_and}
+use Rattle.std.proofs.Common.{rules, arith}
 use Rattle.myi_base.specs.Holding.{bytes_of}
 use Rattle.myi_dellist.proofs.NeedLemmas.{behind_none, behind_long, behind_some}
 use Rattle.myi_dellist.proofs.linked.hole_behind.Goals as goal

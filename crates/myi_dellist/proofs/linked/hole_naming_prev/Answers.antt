@@ -1,1 +1,0 @@
-use Rattle.myi_dellist.proofs.linked.hole_naming_prev.Goals as goal

@@ -1,5 +1,4 @@
-use Rattle.std.proofs.Common.{◌≡◌, true, false, sym, arith, rules}
-use Rattle.myi_dellist.specs.Freeing.{is_deleted}
+use Rattle.std.proofs.Common.{sym}
 use Rattle.myi_dellist.proofs.HoleLemmas.{head_none, head_other, head_hole, hole_place}
 use Rattle.myi_dellist.proofs.linked.hole_of.Goals as goal
 

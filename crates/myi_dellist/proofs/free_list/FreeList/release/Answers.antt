@@ -1,4 +1,4 @@
-use Rattle.std.proofs.Common.{◌≡◌, ◌∙◌, Some, ap, sym, refl, rules}
+use Rattle.std.proofs.Common.{◌≡◌, ap, refl, rules}
 use Rattle.myi_dellist.specs.FreeList.{ListState}
 use Rattle.myi_dellist.proofs.FreeLemmas.{told_frees, told_finds}
 use Rattle.myi_dellist.proofs.free_list.FreeList.release.Goals as goal
