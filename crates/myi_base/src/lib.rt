@@ -14,12 +14,14 @@
 //! The case `number` in `crates/cases_formats/src/numbers.rt` runs it.
 #![tactic(auto)]
 
+mod blanks;
 mod laws;
 mod numbers;
 mod sequence;
 
+pub use blanks::without_blanks;
 pub use laws::{
-    bytes_in_parts, items_read_back, low_numbers_read_back, numbers_read_back, slices_are_bytes,
+    blanks_taken_off, bytes_in_parts, items_read_back, low_numbers_read_back, numbers_read_back, slices_are_bytes,
 };
 pub use numbers::{
     append_number, append_u8, append_u16, append_u32, append_u64, be, le, number_at,
