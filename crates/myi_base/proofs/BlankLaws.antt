@@ -6,7 +6,6 @@ use Rattle.std.proofs.lemmas.List.{length-reverse, length-take-le, length-drop, 
 use Rattle.std.proofs.lemmas.List.Sums.{prefix_len_passes, prefix_len_stops, suffix_len-le-length}
 use Rattle.myi_base.specs.Blanks.{is_blank, without_blanks}
 
-
 pub blanks_short : (bytes : List ℕ) → length (without_blanks bytes) ≡ length bytes - suffix_len is_blank bytes
 blanks_short bytes = length-take-le (length bytes - suffix_len is_blank bytes) bytes (omega arith)
 
