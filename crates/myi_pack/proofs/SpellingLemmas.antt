@@ -1,8 +1,7 @@
 -- What the loops that write a row do, over plain lists.
-use Rattle.std.proofs.Common.{◌≡◌, ◌≢◌, ℕ, zero, suc, ◌+◌, ◌-◌, ◌%◌, ◌<◌, ◌≤◌, Bool, true, false, not, cond, List, [], ◌∷◌, ◌++◌, length, get_or, take, drop, replicate, refl, sym, ap, subst, ◌∙◌, arith, inl, inr, ◌⊎◌, length-append}
+use Rattle.std.proofs.Common.{◌≡◌, ℕ, zero, suc, ◌+◌, ◌-◌, ◌%◌, ◌<◌, ◌≤◌, Bool, true, false, not, cond, List, [], ◌∷◌, ◌++◌, length, get_or, drop, replicate, refl, sym, subst, ◌∙◌, arith, length-append}
 use Rattle.std.specs.Prelude.{◌&&◌, ◌==◌, nat_le}
-use Rattle.std.proofs.lemmas.Bool.{leb-true, leb-false, eqb-true, ne_eqb}
-use Rattle.std.proofs.Math.Seq.{take-suc}
+use Rattle.std.proofs.lemmas.Bool.{leb-true, eqb-true}
 use Rattle.myi_defs.specs.declared.types.RowFormat.{RowFormat}
 use Rattle.myi_defs.specs.declared.types.RowFormat.TheVariants.{Static}
 use Rattle.std.specs.Prelude.{All}
@@ -18,7 +17,7 @@ use Rattle.myi_defs.specs.declared.types.Defs.{Defs}
 use Rattle.myi_defs.specs.Sound.{IsLengthOf, fields_length}
 use Rattle.myi_pack.specs.Lengths.{length_bytes}
 use Rattle.myi_pack.specs.Packed.{Values}
-use Rattle.myi_pack.specs.Spelling.{is_all, slot_bytes, filled, spelling, fits_field, fits_fields, spelled_fields, fits}
+use Rattle.myi_pack.specs.Spelling.{slot_bytes, filled, spelling, fits_field, fits_fields, spelled_fields, fits}
 
 pub empty : {A : Type 0} (xs : List A) → length xs < 1 → xs ≡ []
 empty [] e = refl
