@@ -3,3 +3,4 @@ pub mod NumberLaws
 pub mod BytesLaws
 pub mod ItemLaws
 pub mod ToldLemmas
+mod BlankLaws

@@ -4,6 +4,8 @@
 pub mod Numbers
 -- numbers of given widths one after the other
 pub mod Items
+-- blanks at the end of a text
+pub mod Blanks
 -- ranges of bytes
 pub mod Ranges
 -- what files hold, and what one call does to it

@@ -1,8 +1,9 @@
 //! Laws over the definitions of this crate. Each is the contract of a function that does nothing, so
 //! that it is proved with the crate and stands for the crates above.
-ghost use Rattle.std.specs.Prelude.{◌≡◌, ◌≤◌, ◌<◌, ◌+◌, ◌^◌, ◌++◌};
-ghost use Rattle.std.specs.Prelude.{ℕ, List, [], length, take, drop, replicate};
+ghost use Rattle.std.specs.Prelude.{◌≡◌, ◌≢◌, ◌≤◌, ◌<◌, ◌+◌, ◌-◌, ◌^◌, ◌++◌};
+ghost use Rattle.std.specs.Prelude.{ℕ, List, [], length, take, drop, replicate, slice_index};
 ghost use Rattle.myi_base.specs.Numbers.{num, num_bytes, low_num, low_num_bytes, AreBytes};
+ghost use Rattle.myi_base.specs.Blanks.{without_blanks};
 ghost use Rattle.myi_base.specs.Items.{numbers, spelling, Fit, total_width};
 
 /// Numbers high byte first: what is written is read, in so many bytes, and the bytes are the only
@@ -51,4 +52,15 @@ pub fn bytes_in_parts()
 /// A slice of bytes holds bytes, whatever else is known of it.
 pub fn slices_are_bytes(bytes: &[u8])
     ensures { AreBytes bytes.now }
+{}
+
+/// What is taken off the end of a text is blanks, and no blank is left there.
+pub fn blanks_taken_off()
+    ensures blanks { (bytes : List ℕ)
+        → bytes
+        ≡ without_blanks bytes
+        ++ replicate (length bytes - length (without_blanks bytes)) 0x20 }
+    ensures short { (bytes : List ℕ) → length (without_blanks bytes) ≤ length bytes }
+    ensures last { (bytes : List ℕ) → 0 < length (without_blanks bytes)
+        → slice_index (without_blanks bytes) (length (without_blanks bytes) - 1) ≢ 0x20 }
 {}

@@ -1,13 +1,13 @@
 -- Which pages are unwritten after a call.
 use Rattle.std.proofs.Common.{◌≡◌, ℕ, ◌^◌, ◌<◌, Bool, true, false, ◌||◌, List, [], ◌∷◌, ◌++◌, length, position, Option, None, Some, Ok, refl, sym, ap, subst, ◌∙◌, arith, inl, inr}
-use Rattle.std.specs.Prelude.{◌&&◌, nat_le, IfSome, if◌then◌else◌}
+use Rattle.std.specs.Prelude.{◌&&◌, nat_le, IfSome}
 use Rattle.std.specs.List.{AllByRecursion}
 use Rattle.std.specs.Option.{option_len}
 use Rattle.std.proofs.lemmas.Bool.{cases_Bool, and_parts, eqb-true}
 use Rattle.std.proofs.lemmas.List.{map-append}
 use Rattle.myi_base.specs.Holding.{Holding}
 use Rattle.myi_keycache.specs.declared.setup.Counters.{Counters}
-use Rattle.myi_keycache.specs.Kept.{Page, KeptPage, is_page, is_unwritten, IsOther, KeepsFlags, KeepsOtherFlags}
+use Rattle.myi_keycache.specs.Kept.{Page, is_page, is_unwritten, IsOther, KeepsFlags, KeepsOtherFlags}
 use Rattle.myi_keycache.specs.Counts.{raised}
 use Rattle.myi_keycache.specs.Caching.{Caching, pages_of, due, WritesOne, AllOrNone}
 use Rattle.myi_keycache.specs.Order.{Order, Split, with_page, as_written, contents_of, has_name, page_of, room_in, due_in, counts_one, Pairs, Differ, Alike, IsFirstWritten, WroteOut, cache_of}
@@ -16,7 +16,7 @@ use Rattle.myi_keycache.proofs.StaysLemmas.{to_front}
 use Rattle.myi_keycache.proofs.CacheLemmas.{pages_eq}
 use Rattle.myi_keycache.proofs.LoadLemmas.{Room, rest}
 use Rattle.myi_keycache.proofs.OthersLemmas.{off_name, own_name, unwritten_later}
-use Rattle.myi_keycache.proofs.OneLemmas.{due_is, due_full, due_free, none_at, some_at}
+use Rattle.myi_keycache.proofs.OneLemmas.{due_is, due_full, none_at, some_at}
 
 off : (a b : Bool) → b ≡ false → (c : Bool) → ((a && b) || c) ≡ c
 off true b e c = ap (λ (t : Bool). t || c) e

@@ -10,7 +10,7 @@ use Rattle.myi_base.specs.Ranges.{are_apart}
 use Rattle.myi_base.specs.Holding.{Holding, bytes_of, overwritten}
 use Rattle.myi_base.proofs.CallerLemmas.{told_same, told_more}
 use Rattle.myi_keycache.specs.declared.setup.Counters.{Counters}
-use Rattle.myi_keycache.specs.Kept.{Page, KeptPage, is_page, kept, is_kept, is_unwritten, unwritten_count, NoOtherMeets, AddsOnly, SameKept, AreOthers, KeepsOthers, KeepsFlags, KeepsOtherFlags, ChangesNone}
+use Rattle.myi_keycache.specs.Kept.{Page, KeptPage, is_page, kept, is_kept, is_unwritten, unwritten_count, NoOtherMeets, AddsOnly, SameKept, AreOthers, KeepsOthers, KeepsFlags, ChangesNone}
 use Rattle.myi_keycache.specs.Counts.{raised, writes_after}
 use Rattle.myi_keycache.specs.Midpoint.{midpoint}
 use Rattle.myi_keycache.specs.Caching.{Caching, pages_of, listed_as, IsCurrent, Stays, Puts, due, WritesOne, AllOrNone}

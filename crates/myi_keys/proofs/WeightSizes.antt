@@ -17,7 +17,8 @@ use Rattle.myi_keys.specs.declared.collations.TheConstants.{LATIN1_SWEDISH_CI}
 use Rattle.myi_keys.specs.Collations.{collation_of, character_width, weight}
 use Rattle.myi_keys.specs.Weights.{sign_inverted, first_characters, character_prefix, blanks_stripped, weights_in, text_weights, weights_by, CanWeighBy}
 use Rattle.myi_keys.proofs.ByteLists.{bytes-reverse, bytes-map}
-use Rattle.myi_keys.proofs.TextCuts.{characters_front, characters_short, blanks_short}
+use Rattle.myi_base.proofs.CallerLemmas.{blanks_short}
+use Rattle.myi_keys.proofs.TextCuts.{characters_front, characters_short}
 
 -- ---- bytes
 

@@ -2,8 +2,8 @@
 -- Structure"); trailing blanks do not count in a text but in the collation binary (MySQL Reference Manual, "The binary
 -- Collation Compared to _bin Collations"); a prefix of a text counts characters (MySQL Reference Manual, "Column
 -- Indexes"), which is measured here by the bytes that begin one.
-use Rattle.std.specs.Prelude.{◌≡◌, ℕ, zero, suc, ◌-◌, ◌/◌, ◌==◌, ◌||◌, Bool, List, [], ◌∷◌, length, take, map, reverse, nat_lt, bit_xor, Option, Some, None, IsSome, if◌then◌else◌}
-use Rattle.std.specs.List.{suffix_len}
+use Rattle.std.specs.Prelude.{◌≡◌, ℕ, zero, suc, ◌/◌, ◌||◌, Bool, List, [], ◌∷◌, length, take, map, reverse, nat_lt, bit_xor, Option, Some, None, IsSome, if◌then◌else◌}
+use Rattle.myi_base.specs.Blanks.{without_blanks}
 use Rattle.myi_defs.specs.declared.types.Segment.{Segment}
 use Rattle.myi_defs.specs.declared.types.SegType.{SegType}
 use Rattle.myi_defs.specs.declared.types.SegType.TheVariants as types
@@ -34,14 +34,6 @@ first_characters (suc n) (b ∷ bs) = b ∷ first_characters (if begins_characte
 abbrev pub character_prefix : Option ℕ → ℕ → List ℕ → List ℕ
 character_prefix None limit content = content
 character_prefix (Some width) limit content = first_characters (limit / width) content
-
--- the byte that texts are filled up with
-abbrev pub is_blank : ℕ → Bool
-is_blank b = b == 0x20
-
--- all trailing blanks taken off
-abbrev pub without_blanks : List ℕ → List ℕ
-without_blanks bytes = take (length bytes - suffix_len is_blank bytes) bytes
 
 -- collation 63 alone keeps trailing blanks
 abbrev pub blanks_stripped : Collation → List ℕ → List ℕ

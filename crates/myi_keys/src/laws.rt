@@ -24,7 +24,7 @@ ghost use Rattle.myi_keys.specs.Decoding.{key_at};
 ghost use Rattle.myi_keys.specs.Faults.{BreaksOff};
 ghost use Rattle.myi_keys.specs.Collations.{weight, letters_with_accents};
 ghost use Rattle.myi_keys.specs.Weights.{weights, CanWeigh, begins_character};
-ghost use Rattle.myi_keys.specs.Weights.{first_characters, without_blanks};
+ghost use Rattle.myi_keys.specs.Weights.{first_characters};
 ghost use Rattle.myi_keys.specs.Integers.{IsSigned, IsUnsigned, signed_number, unsigned_number};
 
 use crate::collations::LATIN1_SWEDISH_CI;
@@ -109,16 +109,6 @@ pub fn characters_cut()
         → count_by begins_character (first_characters n bytes) ≤ n }
     ensures longest { (n k : ℕ) (bytes : List ℕ) → k ≤ length bytes
         → count_by begins_character (take k bytes) ≤ n → k ≤ length (first_characters n bytes) }
-{}
-
-/// What is taken off the end of a text is blanks, and no blank is left there.
-pub fn blanks_taken_off()
-    ensures blanks { (bytes : List ℕ)
-        → bytes
-        ≡ without_blanks bytes
-        ++ replicate (length bytes - length (without_blanks bytes)) 0x20 }
-    ensures last { (bytes : List ℕ) → 0 < length (without_blanks bytes)
-        → slice_index (without_blanks bytes) (length (without_blanks bytes) - 1) ≢ 0x20 }
 {}
 
 /// Weights are bytes. They are no more than the bytes of the content, and no more than the segment's

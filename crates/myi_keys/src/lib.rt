@@ -36,8 +36,8 @@ pub use codes::{KeyFault, decode, encode, key_with};
 pub use collations::Collation;
 pub use comparing::{code_prefix, compare_codes, first_segment, is_complete_code};
 pub use laws::{
-    blanks_taken_off, characters_cut, codes_fit, codes_read_back, codes_stand_for_keys,
-    faults_at_first_place, integers_in_order, keys_totally_ordered, swedish_table, weights_fit,
+    characters_cut, codes_fit, codes_read_back, codes_stand_for_keys, faults_at_first_place,
+    integers_in_order, keys_totally_ordered, swedish_table, weights_fit,
 };
 pub use values::{KeySeg, KeyVal, MOST_SEGMENTS, MOST_WEIGHTS, WeightList};
 pub use weights::weigh;

@@ -6,14 +6,12 @@ ghost use Rattle.std.specs.Prelude.{◌≡◌, take, map, reverse, IfOk};
 ghost use Rattle.myi_keys.specs.Collations.{weight};
 ghost use Rattle.myi_keys.specs.Weights.{weights, CanWeigh, sign_inverted};
 ghost use Rattle.myi_keys.specs.Weights.{begins_character, first_characters};
-ghost use Rattle.myi_keys.specs.Weights.{without_blanks, blanks_stripped, weighed_part, weights_in};
+ghost use Rattle.myi_keys.specs.Weights.{blanks_stripped, weighed_part, weights_in};
 
 use crate::collations::Collation;
+use myi_base::without_blanks;
 use myi_defs::{SegType, Segment};
 use std::alloc::{AllocError, Global};
-
-/// The byte that a text is filled up with.
-const BLANK: u8 = 0x20;
 
 /// The topmost bit of a byte, the sign of a number whose bytes stand high byte first.
 pub(crate) const SIGN: u8 = 0x80;
@@ -132,14 +130,4 @@ fn stripped(collation: Collation, content: &[u8]) -> &[u8]
         Collation::Binary => content,
         _ => without_blanks(content),
     }
-}
-
-fn without_blanks(content: &[u8]) -> &[u8]
-    ensures { result.now ≡ without_blanks content.now }
-{
-    let mut end = content.len();
-    while end > 0 && content[end - 1] == BLANK {
-        end -= 1;
-    }
-    &content[..end]
 }

@@ -1,18 +1,20 @@
 -- The spelling packs its row, no packing is shorter, and what is packed fits.
-use Rattle.std.proofs.Common.{◌≡◌, ℕ, zero, suc, ◌+◌, ◌-◌, ◌/◌, ◌%◌, ◌^◌, ◌<◌, ◌≤◌, Bool, true, false, cond, List, [], ◌∷◌, ◌++◌, length, replicate, refl, sym, ap, ◌∙◌, arith, inl, inr, ◌⊎◌, length-append}
+use Rattle.std.proofs.Common.{◌≡◌, ℕ, zero, suc, ◌+◌, ◌-◌, ◌/◌, ◌%◌, ◌^◌, ◌<◌, ◌≤◌, Bool, true, false, cond, List, [], ◌∷◌, ◌++◌, length, replicate, get_or, refl, ap, ◌∙◌, arith, inl, inr, ◌⊎◌, length-append}
 use Rattle.std.specs.Prelude.{◌&&◌, ◌||◌, ◌==◌, nat_lt, nat_le}
 use Rattle.std.proofs.lemmas.Bool.{leb-true, leb-false, le-leb, ltb-true, ltb-false, lt-ltb, le-ltb, lt-leb, eqb-true, eq-eqb, cases_lt}
-use Rattle.std.proofs.lemmas.List.{length-replicate}
+use Rattle.std.specs.List.{suffix_len}
+use Rattle.std.proofs.lemmas.List.{length-replicate, get_or-take}
 use Rattle.std.proofs.Math.Nat.{one-le-pow}
 use Rattle.myi_pack.proofs.SpellingLemmas.{length-slot_bytes}
 use Rattle.myi_base.specs.Numbers.{num_bytes, low_num_bytes}
-use Rattle.myi_base.proofs.CallerLemmas.{length-num_bytes}
+use Rattle.myi_base.specs.Blanks.{is_blank, without_blanks}
+use Rattle.myi_base.proofs.CallerLemmas.{length-num_bytes, blanks_short, blanks_only, no_blank_left}
 use Rattle.myi_defs.specs.declared.types.RowFormat.TheVariants.{Static, Dynamic}
 use Rattle.myi_defs.specs.declared.types.FieldKind.{FieldKind}
 use Rattle.myi_defs.specs.declared.types.FieldKind.TheVariants.{Normal, SkipEndspace, SkipPrespace, SkipZero, Blob, Varchar}
 use Rattle.myi_pack.specs.Lengths.{IsSkipLength, IsVarcharLength, length_bytes}
 use Rattle.myi_pack.specs.Packed.{spaces, IsPadded, IsLed, PacksField, FillsField}
-use Rattle.myi_pack.specs.Spelling.{is_all, trimmed_end, trimmed_start, skip_length, is_shorter, skipped_bytes, varchar_length, field_flag, field_bytes, slot_bytes, fits_field}
+use Rattle.myi_pack.specs.Spelling.{is_all, trimmed_start, skip_length, is_shorter, skipped_bytes, varchar_length, field_flag, field_bytes, slot_bytes, fits_field}
 
 both : (a b : Bool) → (a && b) ≡ true → (a ≡ true) × (b ≡ true)
 both true b e = (refl, e)
@@ -31,32 +33,33 @@ all-replicate : (byte m : ℕ) → is_all byte (replicate m byte) ≡ true
 all-replicate byte zero = refl
 all-replicate byte (suc m) = let e : (byte == byte) ≡ true = eq-eqb byte byte refl in rw (e, all-replicate byte m) refl
 
-end-short : (v : List ℕ) → length (trimmed_end v) ≤ length v
-end-short [] = omega arith
-end-short (x ∷ v) = by (is_all 32 (x ∷ v)) (end-short v)
-  where
-    by : (b : Bool) → length (trimmed_end v) ≤ length v → length (cond b [] (x ∷ trimmed_end v)) ≤ suc (length v)
-    by true h = omega arith
-    by false h = omega arith
+end-short : (v : List ℕ) → length (without_blanks v) ≤ length v
+end-short v = omega (arith, blanks_short v)
 
-end-again : (v : List ℕ) → v ≡ trimmed_end v ++ spaces (length v - length (trimmed_end v))
-end-again [] = refl
-end-again (x ∷ v) = by (is_all 32 (x ∷ v)) refl (end-again v)
-  where
-    by : (b : Bool) → is_all 32 (x ∷ v) ≡ b → v ≡ trimmed_end v ++ spaces (length v - length (trimmed_end v)) → x ∷ v ≡ cond b [] (x ∷ trimmed_end v) ++ spaces (length (x ∷ v) - length (cond b [] (x ∷ trimmed_end v)))
-    by true e h = let n : length (x ∷ v) - 0 ≡ length (x ∷ v) = omega arith in all-one 32 (x ∷ v) e ∙ ap (λ (k : ℕ). replicate k 32) (sym n)
-    by false e h =
-        let n : length v - length (trimmed_end v) ≡ length (x ∷ v) - length (x ∷ trimmed_end v) = omega arith in
-        ap (λ (t : List ℕ). x ∷ t) (h ∙ ap (λ (k : ℕ). trimmed_end v ++ spaces k) n)
+end-again : (v : List ℕ) → v ≡ without_blanks v ++ spaces (length v - length (without_blanks v))
+end-again v = blanks_only v
 
-end-least : (c : List ℕ) (m : ℕ) → length (trimmed_end (c ++ spaces m)) ≤ length c
-end-least [] zero = omega arith
-end-least [] (suc m) = let e : is_all 32 (replicate (suc m) 32) ≡ true = all-replicate 32 (suc m) in rw e (omega arith)
-end-least (x ∷ c) m = by (is_all 32 (x ∷ (c ++ spaces m))) (end-least c m)
-  where
-    by : (b : Bool) → length (trimmed_end (c ++ spaces m)) ≤ length c → length (cond b [] (x ∷ trimmed_end (c ++ spaces m))) ≤ suc (length c)
-    by true h = omega arith
-    by false h = omega arith
+spaces-at : (m i : ℕ) → i < m → get_or (spaces m) i 0 ≡ 32
+spaces-at zero i inside = absurd (omega arith)
+spaces-at (suc m) zero inside = refl
+spaces-at (suc m) (suc i) inside = spaces-at m i (omega arith)
+
+behind : (c : List ℕ) (m i : ℕ) → length c ≤ i → i < length c + m → get_or (c ++ spaces m) i 0 ≡ 32
+behind [] m i after inside = spaces-at m i (omega arith)
+behind (x ∷ c) m zero after inside = absurd (omega arith)
+behind (x ∷ c) m (suc i) after inside = behind c m i (omega arith) (omega arith)
+
+end-least : (c : List ℕ) (m : ℕ) → length (without_blanks (c ++ spaces m)) ≤ length c
+end-least c m = elim (cases_lt (length c) (length (without_blanks (c ++ spaces m)))) [
+  | inr few ↦ few
+  | inl more ↦
+      let b = c ++ spaces m in
+      let w = without_blanks b in
+      let i : ℕ = length w - 1 in
+      let front : get_or w i 0 ≡ get_or b i 0 = get_or-take (length b - suffix_len is_blank b) b i 0 (omega (arith, blanks_short b)) in
+      let long : length b ≡ length c + m = length-append c (spaces m) ∙ ap (λ (n : ℕ). length c + n) (length-replicate m 32) in
+      absurd (no_blank_left b (omega (arith, more)) (front ∙ behind c m i (omega (arith, more)) (omega (arith, more, blanks_short b, long))))
+]
 
 start-short : (v : List ℕ) → length (trimmed_start v) ≤ length v
 start-short [] = omega arith
@@ -183,11 +186,11 @@ varchar-least n k p (inr h) = elim (contents n k) [ inl a ↦ omega (arith, ap l
 
 -- ---- a field of a dynamic row
 
-padded-field : (n : ℕ) (v : List ℕ) → length v ≡ n → (b : Bool) → is_shorter n (length (trimmed_end v)) ≡ b → PacksField SkipEndspace n b v (cond b (skip_length n (length (trimmed_end v)) ++ trimmed_end v) v)
+padded-field : (n : ℕ) (v : List ℕ) → length v ≡ n → (b : Bool) → is_shorter n (length (without_blanks v)) ≡ b → PacksField SkipEndspace n b v (cond b (skip_length n (length (without_blanks v)) ++ without_blanks v) v)
 padded-field n v l true e =
-    let s = shorter-has n (length (trimmed_end v)) e in
-    let few : length (skip_length n (length (trimmed_end v))) + length (trimmed_end v) < n = s.1 in
-    (skip_length n (length (trimmed_end v)), trimmed_end v, omega arith, skip-is n (length (trimmed_end v)) s.0, end-again v ∙ ap (λ (k : ℕ). trimmed_end v ++ spaces (k - length (trimmed_end v))) l, refl)
+    let s = shorter-has n (length (without_blanks v)) e in
+    let few : length (skip_length n (length (without_blanks v))) + length (without_blanks v) < n = s.1 in
+    (skip_length n (length (without_blanks v)), without_blanks v, omega arith, skip-is n (length (without_blanks v)) s.0, end-again v ∙ ap (λ (k : ℕ). without_blanks v ++ spaces (k - length (without_blanks v))) l, refl)
 padded-field n v l false e = (l, refl)
 
 led-field : (n : ℕ) (v : List ℕ) → length v ≡ n → (b : Bool) → is_shorter n (length (trimmed_start v)) ≡ b → PacksField SkipPrespace n b v (cond b (skip_length n (length (trimmed_start v)) ++ trimmed_start v) v)
@@ -211,20 +214,20 @@ blob-field n v l false e = (low_num_bytes (n - 8) (length v), (l, refl), refl)
 
 pub field-spelled : (kind : FieldKind) (n : ℕ) (v : List ℕ) → fits_field Dynamic kind n v ≡ true → PacksField kind n (field_flag kind n v) v (field_bytes kind n v)
 field-spelled Normal n v h = (eqb-true _ _ h, refl)
-field-spelled SkipEndspace n v h = padded-field n v (eqb-true _ _ h) (is_shorter n (length (trimmed_end v))) refl
+field-spelled SkipEndspace n v h = padded-field n v (eqb-true _ _ h) (is_shorter n (length (without_blanks v))) refl
 field-spelled SkipPrespace n v h = led-field n v (eqb-true _ _ h) (is_shorter n (length (trimmed_start v))) refl
 field-spelled SkipZero n v h = zero-field n v (eqb-true _ _ h) (is_all 0 v) refl
 field-spelled Blob n v h = blob-field n v (ltb-true _ _ h) (length v == 0) refl
 field-spelled Varchar n v h = let b = both _ _ h in (varchar_length n (length v), leb-true _ _ b.0, varchar-is n (length v) (ltb-true _ _ b.1), refl)
 
-padded-least : (n : ℕ) (v x : List ℕ) → IsPadded n v x → length (skipped_bytes n (trimmed_end v) v) ≤ length x
+padded-least : (n : ℕ) (v x : List ℕ) → IsPadded n v x → length (skipped_bytes n (without_blanks v) v) ≤ length x
 padded-least n v x h =
     let p = h.0 in let c = h.1 in
     let few : length c < n = h.2 in
     let m = n - length c in
     let l : length v ≡ n = omega (arith, ap length h.4, length-append h.1 (spaces (n - length h.1)), length-replicate {A = ℕ}) in
-    let less : length (trimmed_end v) ≤ length c = omega (arith, ap (λ (y : List ℕ). length (trimmed_end y)) h.4, end-least c (n - length c)) in
-    omega (arith, ap length h.5, skipped-least n (trimmed_end v) c p v l less h.3)
+    let less : length (without_blanks v) ≤ length c = omega (arith, ap (λ (y : List ℕ). length (without_blanks y)) h.4, end-least c (n - length c)) in
+    omega (arith, ap length h.5, skipped-least n (without_blanks v) c p v l less h.3)
 
 led-least : (n : ℕ) (v x : List ℕ) → IsLed n v x → length (skipped_bytes n (trimmed_start v) v) ≤ length x
 led-least n v x h =
@@ -251,7 +254,7 @@ blob-least n v = by (length v == 0)
 pub field-least : (kind : FieldKind) (n : ℕ) (bit : Bool) (v x : List ℕ) → PacksField kind n bit v x → length (field_bytes kind n v) ≤ length x
 field-least Normal n bit v x h = omega (arith, ap length h.1)
 field-least SkipEndspace n true v x h = padded-least n v x h
-field-least SkipEndspace n false v x h = omega (arith, ap length h.1, plain-least n (trimmed_end v) v h.0)
+field-least SkipEndspace n false v x h = omega (arith, ap length h.1, plain-least n (without_blanks v) v h.0)
 field-least SkipPrespace n true v x h = led-least n v x h
 field-least SkipPrespace n false v x h = omega (arith, ap length h.1, plain-least n (trimmed_start v) v h.0)
 field-least SkipZero n true v x h = let e : is_all 0 v ≡ true = ap (is_all 0) h.0 ∙ all-replicate 0 n in rw e (omega arith)

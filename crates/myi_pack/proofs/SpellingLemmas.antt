@@ -1,8 +1,7 @@
 -- What the loops that write a row do, over plain lists.
-use Rattle.std.proofs.Common.{◌≡◌, ◌≢◌, ℕ, zero, suc, ◌+◌, ◌-◌, ◌%◌, ◌<◌, ◌≤◌, Bool, true, false, not, cond, List, [], ◌∷◌, ◌++◌, length, get_or, take, drop, replicate, refl, sym, ap, subst, ◌∙◌, arith, inl, inr, ◌⊎◌, length-append}
+use Rattle.std.proofs.Common.{◌≡◌, ℕ, zero, suc, ◌+◌, ◌-◌, ◌%◌, ◌<◌, ◌≤◌, Bool, true, false, not, cond, List, [], ◌∷◌, ◌++◌, length, get_or, drop, replicate, refl, sym, subst, ◌∙◌, arith, length-append}
 use Rattle.std.specs.Prelude.{◌&&◌, ◌==◌, nat_le}
-use Rattle.std.proofs.lemmas.Bool.{leb-true, leb-false, eqb-true, ne_eqb}
-use Rattle.std.proofs.Math.Seq.{take-suc}
+use Rattle.std.proofs.lemmas.Bool.{leb-true, eqb-true}
 use Rattle.myi_defs.specs.declared.types.RowFormat.{RowFormat}
 use Rattle.myi_defs.specs.declared.types.RowFormat.TheVariants.{Static}
 use Rattle.std.specs.Prelude.{All}
@@ -18,7 +17,7 @@ use Rattle.myi_defs.specs.declared.types.Defs.{Defs}
 use Rattle.myi_defs.specs.Sound.{IsLengthOf, fields_length}
 use Rattle.myi_pack.specs.Lengths.{length_bytes}
 use Rattle.myi_pack.specs.Packed.{Values}
-use Rattle.myi_pack.specs.Spelling.{is_all, trimmed_end, slot_bytes, filled, spelling, fits_field, fits_fields, spelled_fields, fits}
+use Rattle.myi_pack.specs.Spelling.{slot_bytes, filled, spelling, fits_field, fits_fields, spelled_fields, fits}
 
 pub empty : {A : Type 0} (xs : List A) → length xs < 1 → xs ≡ []
 empty [] e = refl
@@ -31,53 +30,6 @@ no_value format [] i vs h e = absurd (omega arith)
 no_value format (f ∷ fs) zero [] h e = refl
 no_value format (f ∷ fs) zero (v ∷ vs) h e = absurd (omega arith)
 no_value format (f ∷ fs) (suc i) vs h e = no_value format fs i vs (omega arith) e
-
--- ---- trailing spaces
-
-all-space : (xs : List ℕ) → is_all 32 (xs ++ 32 ∷ []) ≡ is_all 32 xs
-all-space [] = refl
-all-space (x ∷ xs) = rw (all-space xs) refl
-
-trim-space : (xs : List ℕ) → trimmed_end (xs ++ 32 ∷ []) ≡ trimmed_end xs
-trim-space [] = refl
-trim-space (x ∷ xs) = rw (all-space xs, trim-space xs) refl
-
-not-all : (xs : List ℕ) (y : ℕ) → (y == 32) ≡ false → is_all 32 (xs ++ y ∷ []) ≡ false
-not-all [] y e = rw e refl
-not-all (x ∷ xs) y e = rw (not-all xs y e) (by (x == 32))
-  where
-    by : (b : Bool) → (b && false) ≡ false
-    by true = refl
-    by false = refl
-
-trim-kept : (xs : List ℕ) (y : ℕ) → (y == 32) ≡ false → trimmed_end (xs ++ y ∷ []) ≡ xs ++ y ∷ []
-trim-kept [] y e = rw e refl
-trim-kept (x ∷ xs) y e = let all : is_all 32 (x ∷ (xs ++ y ∷ [])) ≡ false = not-all (x ∷ xs) y e in rw (all, trim-kept xs y e) refl
-
-last_at : (v : List ℕ) (n : ℕ) → 0 < n → n ≤ length v → take n v ≡ take (n - 1) v ++ get_or v (n - 1) 0 ∷ []
-last_at v n some inside =
-    let e : n ≡ suc (n - 1) = omega arith in
-    let lt : n - 1 < length v = omega arith in
-    ap (λ (k : ℕ). take k v) e ∙ take-suc v (n - 1) 0 lt
-
-pub trims : (v : List ℕ) (n : ℕ) → 0 < n → n ≤ length v → get_or v (n - 1) 0 ≡ 32 → trimmed_end (take n v) ≡ trimmed_end v → trimmed_end (take (n - 1) v) ≡ trimmed_end v
-trims v n some inside is same =
-    let e : take n v ≡ take (n - 1) v ++ 32 ∷ [] = last_at v n some inside ∙ ap (λ (x : ℕ). take (n - 1) v ++ x ∷ []) is in
-    sym (ap trimmed_end e ∙ trim-space (take (n - 1) v)) ∙ same
-
-pub kept_at : (v : List ℕ) (n : ℕ) → n ≤ length v → (n ≡ 0) ⊎ (get_or v (n - 1) 0 ≢ 32) → trimmed_end (take n v) ≡ trimmed_end v → take n v ≡ trimmed_end v
-kept_at v n inside (inl z) same = let P : ℕ → Type 0 = λ k. trimmed_end (take k v) ≡ trimmed_end v in let e : [] ≡ trimmed_end v = subst P z same in ap (λ (k : ℕ). take k v) z ∙ e
-kept_at v n inside (inr ne) same = by (nat_le 1 n) refl
-  where
-    by : (b : Bool) → nat_le 1 n ≡ b → take n v ≡ trimmed_end v
-    by true h =
-        let some : 0 < n = omega (arith, leb-true 1 n h) in
-        let e = last_at v n some inside in
-        let f : (get_or v (n - 1) 0 == 32) ≡ false = ne_eqb _ _ ne in
-        e ∙ sym (ap trimmed_end e ∙ trim-kept (take (n - 1) v) (get_or v (n - 1) 0) f) ∙ same
-    by false h =
-        let z : n ≡ 0 = omega (arith, leb-false 1 n h) in
-        let P : ℕ → Type 0 = λ k. trimmed_end (take k v) ≡ trimmed_end v in let e : [] ≡ trimmed_end v = subst P z same in ap (λ (k : ℕ). take k v) z ∙ e
 
 -- ---- a slot
 

@@ -4,6 +4,7 @@ use Rattle.std.specs.Prelude.{◌==◌}
 use Rattle.std.proofs.lemmas.Bool.{and_parts}
 use Rattle.std.proofs.lemmas.List.Elements.{All-get_or}
 use Rattle.myi_base.specs.Numbers.{low_num_bytes}
+use Rattle.myi_base.specs.Blanks.{without_blanks}
 use Rattle.myi_base.proofs.CallerLemmas.{length-low_num_bytes}
 use Rattle.myi_defs.specs.declared.types.RowFormat.TheVariants.{Dynamic}
 use Rattle.myi_defs.specs.declared.types.RowFormat.{RowFormat}
@@ -15,7 +16,7 @@ use Rattle.myi_defs.specs.Kinds.{has_flag}
 use Rattle.myi_defs.specs.Sound.{IsLengthOf, IsSound}
 use Rattle.myi_pack.specs.Flags.{flag_at, flag_count, flag_bytes, packed_bits}
 use Rattle.myi_pack.specs.Packed.{Values, PacksField}
-use Rattle.myi_pack.specs.Spelling.{is_all, is_shorter, skip_length, trimmed_end, trimmed_start, field_flag, field_bytes, skipped_bytes, flags_of, spelled_fields, spelled_row, spelling, fits_field, fits_fields, fits}
+use Rattle.myi_pack.specs.Spelling.{is_all, is_shorter, skip_length, trimmed_start, field_flag, field_bytes, skipped_bytes, flags_of, spelled_fields, spelled_row, spelling, fits_field, fits_fields, fits}
 use Rattle.myi_pack.specs.Winning.{Wins, WinsInRow, flag_number}
 use Rattle.myi_pack.proofs.FlagLemmas.{counted, few-flags, flag-packed, length-packed}
 use Rattle.myi_pack.proofs.SpellingLemmas.{fits-each}
@@ -36,7 +37,7 @@ blob-less n v p e long is = rw e (omega (arith, long, length-append p v, ap leng
 
 flagged-less : (kind : FieldKind) (n : ℕ) (v y : List ℕ) → IsLengthOf Dynamic kind n → field_flag kind n v ≡ true → PacksField kind n false v y → length (field_bytes kind n v) < length y
 flagged-less Normal n v y long flag plain = absurd cc
-flagged-less SkipEndspace n v y long flag plain = omega (arith, skipped-less n (trimmed_end v) v flag, plain.0, ap length plain.1)
+flagged-less SkipEndspace n v y long flag plain = omega (arith, skipped-less n (without_blanks v) v flag, plain.0, ap length plain.1)
 flagged-less SkipPrespace n v y long flag plain = omega (arith, skipped-less n (trimmed_start v) v flag, plain.0, ap length plain.1)
 flagged-less SkipZero n v y long flag plain = omega (arith, zero-less n v flag long, plain.0, ap length plain.1)
 flagged-less Blob n v y long flag plain = omega (arith, blob-less n v plain.0 flag long.1 plain.1.1, ap length plain.2)

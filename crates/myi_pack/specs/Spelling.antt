@@ -4,6 +4,7 @@
 use Rattle.std.specs.Prelude.{◌+◌, ◌-◌, ◌/◌, ◌%◌, ◌^◌, ℕ, Bool, true, false, not, ◌&&◌, ◌||◌, ◌==◌, nat_le, nat_lt, if◌then◌else◌, List, [], ◌∷◌, ◌++◌, length, replicate, slice_index, Option, Some, None}
 use Rattle.std.specs.List.{list_all}
 use Rattle.myi_base.specs.Numbers.{num_bytes, low_num_bytes}
+use Rattle.myi_base.specs.Blanks.{without_blanks}
 use Rattle.myi_defs.specs.declared.types.RowFormat.{RowFormat}
 use Rattle.myi_defs.specs.declared.types.RowFormat.TheVariants.{Static, Dynamic}
 use Rattle.myi_defs.specs.declared.types.FieldKind.{FieldKind}
@@ -17,11 +18,6 @@ use Rattle.myi_pack.specs.Packed.{Values}
 
 abbrev pub is_all : ℕ → List ℕ → Bool
 is_all byte v = list_all (λ b. b == byte) v
-
--- without its trailing spaces
-abbrev pub trimmed_end : List ℕ → List ℕ
-trimmed_end [] = []
-trimmed_end (x ∷ xs) = if is_all 32 (x ∷ xs) then [] else x ∷ trimmed_end xs
 
 -- without its leading spaces
 abbrev pub trimmed_start : List ℕ → List ℕ
@@ -47,7 +43,7 @@ varchar_length n k = if nat_le n 256 || nat_lt k 255 then k ∷ [] else 255 ∷ 
 -- the flag of a field in a dynamic row is set
 abbrev pub field_flag : FieldKind → ℕ → List ℕ → Bool
 field_flag Normal n v = false
-field_flag SkipEndspace n v = is_shorter n (length (trimmed_end v))
+field_flag SkipEndspace n v = is_shorter n (length (without_blanks v))
 field_flag SkipPrespace n v = is_shorter n (length (trimmed_start v))
 field_flag SkipZero n v = is_all 0 v
 field_flag Blob n v = length v == 0
@@ -56,7 +52,7 @@ field_flag Varchar n v = false
 -- the bytes of a field in a dynamic row
 abbrev pub field_bytes : FieldKind → ℕ → List ℕ → List ℕ
 field_bytes Normal n v = v
-field_bytes SkipEndspace n v = skipped_bytes n (trimmed_end v) v
+field_bytes SkipEndspace n v = skipped_bytes n (without_blanks v) v
 field_bytes SkipPrespace n v = skipped_bytes n (trimmed_start v) v
 field_bytes SkipZero n v = if is_all 0 v then [] else v
 field_bytes Blob n v = if length v == 0 then [] else low_num_bytes (n - 8) (length v) ++ v

@@ -10,7 +10,7 @@ ghost use Rattle.myi_base.specs.Numbers.{low_num_bytes};
 ghost use Rattle.myi_defs.specs.Sound.{IsSound, IsLengthOf};
 ghost use Rattle.myi_pack.specs.Lengths.{length_bytes};
 ghost use Rattle.myi_pack.specs.Flags.{flag_bytes, flag_count, packed_bits, with_flag, with_flags};
-ghost use Rattle.myi_pack.specs.Spelling.{trimmed_end, trimmed_start, is_all, skip_length};
+ghost use Rattle.myi_pack.specs.Spelling.{trimmed_start, is_all, skip_length};
 ghost use Rattle.myi_pack.specs.Spelling.{is_shorter, skipped_bytes, varchar_length, field_flag};
 ghost use Rattle.myi_pack.specs.Spelling.{field_bytes, slot_bytes, spelled_fields, flags_of};
 ghost use Rattle.myi_pack.specs.Spelling.{filled, spelling, fits_field, fits_fields, packed_length, fits};
@@ -18,7 +18,7 @@ ghost use Rattle.myi_pack.specs.Spelling.{filled, spelling, fits_field, fits_fie
 use crate::fields::{flag_count, length_bytes, next_flag};
 use crate::values::{Row, Value, push_repeated};
 use byteorder::{ByteOrder, LittleEndian};
-use myi_base::append_number;
+use myi_base::{append_number, without_blanks};
 use myi_defs::{Defs, Field, FieldKind, RowFormat};
 use std::alloc::{AllocError, Global};
 
@@ -114,7 +114,7 @@ fn field_len(field: &Field, value: &[u8]) -> usize
     let length = field.length as usize;
     match field.kind {
         FieldKind::Normal => value.len(),
-        FieldKind::SkipEndspace => skipped_len(length, value, trimmed_end(value)),
+        FieldKind::SkipEndspace => skipped_len(length, value, without_blanks(value)),
         FieldKind::SkipPrespace => skipped_len(length, value, trimmed_start(value)),
         FieldKind::SkipZero => { if is_zero(value) { 0 } else { value.len() } }
         FieldKind::Blob => blob_len(length - 8, value.len()),
@@ -286,7 +286,7 @@ pub(crate) fn push_field(out: &mut Vec<u8>, field: &Field, value: &[u8]) -> Resu
     let length = field.length as usize;
     match field.kind {
         FieldKind::Normal => {}
-        FieldKind::SkipEndspace => return push_skipped(out, length, value, trimmed_end(value)),
+        FieldKind::SkipEndspace => return push_skipped(out, length, value, without_blanks(value)),
         FieldKind::SkipPrespace => return push_skipped(out, length, value, trimmed_start(value)),
         FieldKind::SkipZero => {
             if is_zero(value) {
@@ -416,16 +416,6 @@ fn is_zero(value: &[u8]) -> bool
     ensures { result ≡ is_all 0 value.now }
 {
     value.iter().all(|byte| *byte == 0)
-}
-
-fn trimmed_end(value: &[u8]) -> &[u8]
-    ensures { result.now ≡ trimmed_end value.now }
-{
-    let mut len = value.len();
-    while len > 0 && value[len - 1] == b' ' {
-        len -= 1;
-    }
-    &value[..len]
 }
 
 fn trimmed_start(value: &[u8]) -> &[u8]

@@ -52,7 +52,7 @@ fn spell_slot(
         (spelled_fields RowFormat.Static defs.now.fields view.now)) }
 {
     spell_slots(out, scratch, defs.fields.as_slice(), view)?;
-    let rest = (defs.slot_length as usize).saturating_sub(out.len());
+    let rest = defs.slot_length as usize - out.len();
     push_repeated(out, 0, rest)
 }
 
@@ -71,7 +71,7 @@ fn spell_slots(
     let mut values = view.fields();
     for field in fields {
         let Some((length, shown)) = values.next_with_length() else {
-            return Ok(());
+            unreachable!();
         };
         value_into(scratch, length as usize, shown)?;
         push_slot(out, field, scratch)?;
@@ -120,7 +120,7 @@ fn spell_behind(
     let mut k = 0;
     for field in fields {
         let Some((length, shown)) = values.next_with_length() else {
-            return Ok(());
+            unreachable!();
         };
         value_into(scratch, length as usize, shown)?;
         let bit = push_field(out, field, scratch)?;

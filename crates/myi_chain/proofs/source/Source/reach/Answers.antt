@@ -1,6 +1,5 @@
 use Rattle.std.proofs.Common.{◌≤◌, ◌+◌, List, ℕ, length, ap, arith}
 use Rattle.std.specs.Prelude.{string_bytes}
-use Rattle.myi_chain.specs.Source.{SourceModel}
 use Rattle.myi_chain.proofs.SourceLemmas.{reads_on, reads_short, over_held, held_here}
 use Rattle.myi_chain.proofs.source.Source.reach.Goals as goal
 
