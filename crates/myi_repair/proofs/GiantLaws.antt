@@ -325,8 +325,8 @@ start_takes at size room to ss sizes b left m behind =
 -- the header, and how many bytes are unused
 pub record IsParted (f : FrameSpec) (b : List ℕ) (size : ℕ) (header : List ℕ) (start end count : ℕ) (at : ℕ) : Type 0 where
   pub is : header ≡ header_bytes f (length b) size
-  pub start : start ≡ at + length header
-  pub end : end ≡ start + length b
+  pub begins : start ≡ at + length header
+  pub follows : end ≡ start + length b
   pub unused : count ≡ size - (length header + length b)
 
 module _ (old : Option Holding) (name : List ℕ) (at : ℕ) (f : FrameSpec) (b : List ℕ) (size : ℕ) (header : List ℕ) (start end count : ℕ) (p : IsParted f b size header start end count at) where
@@ -343,14 +343,14 @@ module _ (old : Option Holding) (name : List ℕ) (at : ℕ) (f : FrameSpec) (b 
 
   header_goes : (mid : Option Holding) → Told old mid (Writes name at header) → Goes old mid name at (block_bytes f b size) start (b ++ replicate count 0)
   header_goes mid told =
-      subst (λ q. Goes old mid name at (block_bytes f b size) q (b ++ replicate count 0)) (sym p.start) (goes_on old old mid name at (block_bytes f b size) at header (b ++ replicate count 0) parts_first told)
+      subst (λ q. Goes old mid name at (block_bytes f b size) q (b ++ replicate count 0)) (sym p.begins) (goes_on old old mid name at (block_bytes f b size) at header (b ++ replicate count 0) parts_first told)
 
   pub bytes_part : (mid new : Option Holding) → Told old mid (Writes name at header) → Told mid new (WritesPart name start b) → Told old new (WritesPart name at (block_bytes f b size))
   bytes_part mid new first told = goes_part old mid new name at (block_bytes f b size) start b (replicate count 0) (header_goes mid first) told
 
   bytes_go : (mid next : Option Holding) → Told old mid (Writes name at header) → Told mid next (Writes name start b) → Goes old next name at (block_bytes f b size) end (replicate count 0)
   bytes_go mid next first told =
-      subst (λ q. Goes old next name at (block_bytes f b size) q (replicate count 0)) (sym p.end) (goes_on old mid next name at (block_bytes f b size) start b (replicate count 0) (header_goes mid first) told)
+      subst (λ q. Goes old next name at (block_bytes f b size) q (replicate count 0)) (sym p.follows) (goes_on old mid next name at (block_bytes f b size) start b (replicate count 0) (header_goes mid first) told)
 
   pub unused_part : (mid next new : Option Holding) → Told old mid (Writes name at header) → Told mid next (Writes name start b) → Told next new (WritesPart name end (replicate count 0)) → Told old new (WritesPart name at (block_bytes f b size))
   unused_part mid next new first second told = goes_end_part old next new name at (block_bytes f b size) end (replicate count 0) (bytes_go mid next first second) told

@@ -1,6 +1,6 @@
 -- How a call on the files of a table ends, whatever it does: what a refusal tells and leaves, which files stay as they are,
 -- and when a fault is told (the words are this project's own).
-use Rattle.std.specs.Prelude.{◌≡◌, ◌⊎◌, ◌≤◌, ◌+◌, ℕ, Option, Result, Ok, Err, IfErr}
+use Rattle.std.specs.Prelude.{◌≡◌, ◌⊎◌, ◌≤◌, ◌+◌, ℕ, List, Option, Result, Ok, Err, IfErr}
 use Rattle.myi_base.specs.Holding.{Holding, IfTold, Told, OthersStay}
 use Rattle.myi_base.specs.Causes.{HasCause}
 use Rattle.myi_io.specs.declared.files.FileErr.{FileErr}

@@ -52,11 +52,11 @@ impl<T: Drop> From<AllocFailed<T>> for RepairFault {
 }
 
 impl From<FileErr> for RepairFault {
-    ghost use Rattle.myi_base.specs.HandsOn.{HandsOn};
-    ghost use Rattle.myi_io.specs.declared.files.FileErr.TheVariants as file;
+    ghost use Rattle.std.specs.Prelude.{◌≡◌};
+    ghost use Rattle.myi_io.specs.Faults.{handed_on};
     ghost use Rattle.myi_repair.specs.declared.fault.RepairFault.TheVariants.{File, Memory};
 
-    ghost from_gives = { HandsOn (file.Failed, File) (file.Memory, Memory) };
+    ghost from_gives = { λ e f. f ≡ handed_on File Memory e };
 
     fn from(error: FileErr) -> Self {
         match error {
