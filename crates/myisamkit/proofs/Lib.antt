@@ -4,3 +4,4 @@ pub mod SinkLaws
 pub mod TurnLaws
 pub mod TableLaws
 pub mod AskedLaws
+pub mod OtherLaws

@@ -1,8 +1,9 @@
 -- What a run says, answers and does, by what the words ask for and what the files hold: its tables have their turns one
 -- after the other, each on the files that the one before left.
-use Rattle.std.specs.Prelude.{◌≡◌, ◌⊎◌, ℕ, List, [], ◌∷◌, ◌++◌, Option}
+use Rattle.std.specs.Prelude.{◌≡◌, ◌≢◌, ◌⊎◌, ℕ, List, [], ◌∷◌, ◌++◌, Option}
 use Rattle.myi_base.specs.Holding.{Holding, IfTold}
 use Rattle.myi_base.specs.Output.{Appends, AppendsPart}
+use Rattle.myi_repair.specs.Names.{FourNames, names_for}
 use Rattle.myisamkit.specs.declared.status.Status.{Status}
 use Rattle.myisamkit.specs.declared.status.Status.TheVariants as status
 use Rattle.myisamkit.specs.declared.status.Stop.{Stop}
@@ -74,3 +75,25 @@ Says text old new s = IfTold old (λ w. (IsFault s × AppendsPart text new w) �
 -- this status, or a fault
 abbrev pub IsOrFault : Status → Status → Type 0
 IsOrFault defined s = IsFault s ⊎ (s ≡ defined)
+
+-- ---- other files
+
+-- a name is none of a table's four
+pub record IsApart (q : List ℕ) (t : FourNames) : Type 0 where
+  pub rows : q ≢ t.rows
+  pub index : q ≢ t.index
+  pub new_rows : q ≢ t.new_rows
+  pub new_index : q ≢ t.new_index
+
+-- a name is no file of these tables
+abbrev pub IsNoFileOf : List ℕ → List (List ℕ) → Type 0
+IsNoFileOf q [] = Unit {0}
+IsNoFileOf q (name ∷ names) = IsApart q (names_for name) × IsNoFileOf q names
+
+abbrev pub tables_of : Request → List (List ℕ)
+tables_of usage = []
+tables_of (chk o names) = names
+
+-- files that are none of a request's tables hold what they held
+abbrev pub KeepsOthers : Request → Holding → Holding → Type 0
+KeepsOthers request m n = (q : List ℕ) → IsNoFileOf q (tables_of request) → n q ≡ m q

@@ -6,7 +6,7 @@ ghost use Rattle.myi_base.specs.Causes.{Rose, HasCause};
 ghost use Rattle.myisamkit.specs.Words.{request_of, usage};
 ghost use Rattle.myisamkit.specs.Stops.{status_of_stop};
 ghost use Rattle.myisamkit.specs.Statuses.{IsFault};
-ghost use Rattle.myisamkit.specs.Runs.{run_of, Leaves, Says, IsOrFault};
+ghost use Rattle.myisamkit.specs.Runs.{run_of, Leaves, KeepsOthers, Says, IsOrFault};
 ghost use Rattle.myisamkit.specs.Lines as spec;
 
 use crate::lines::usage_line;
@@ -48,6 +48,10 @@ pub fn kit<F: Files, O: Sink>(
     // recovered, the files of a table are the old ones or whole new ones, other files stay.
     ensures files { Told (F.holds files.old) (F.holds files.new)
         (Leaves (request_of words.now) now (F.faults files.old) (F.faults files.new) result) }
+
+    // At each status the files that are none of the tables' stay as they are.
+    ensures others { Told (F.holds files.old) (F.holds files.new)
+        (KeepsOthers (request_of words.now)) }
 
     // A fault has its cause.
     ensures file { result ≡ Status.FileFault → Rose (F.faults files.old) (F.faults files.new) }

@@ -1,0 +1,89 @@
+-- Files that are none of the tables of a run.
+use Rattle.std.proofs.Common.{◌≡◌, ◌≢◌, ℕ, Bool, true, false, List, [], ◌∷◌, Option, Some, None, Result, Ok, Err, refl, ap, ◌∙◌, inl, inr}
+use Rattle.std.specs.Prelude.{◌||◌, if◌then◌else◌}
+use Rattle.std.specs.Str.{bytes_eq}
+use Rattle.std.proofs.lemmas.Bool.{false_from_ne_true}
+use Rattle.std.proofs.lemmas.Slice.Eq.{bytes_eq-Decides}
+use Rattle.myi_base.specs.Holding.{Holding, Told}
+use Rattle.myi_pair.specs.RecoveredBytes.{new_data, new_index}
+use Rattle.myi_repair.specs.declared.fault.RepairFault.{RepairFault}
+use Rattle.myi_repair.specs.Names.{FourNames, names_for}
+use Rattle.myi_repair.specs.Opening.{Table, table_in}
+use Rattle.myisamkit.specs.declared.options.Mode.{Mode}
+use Rattle.myisamkit.specs.declared.options.Mode.TheVariants.{Check, Recover, Describe}
+use Rattle.myisamkit.specs.declared.options.Options.{Options}
+use Rattle.myisamkit.specs.declared.status.Status.{Status}
+use Rattle.myisamkit.specs.declared.status.Status.TheVariants as status
+use Rattle.myisamkit.specs.Words.{Request, usage, chk}
+use Rattle.myisamkit.specs.Turns.{replaced, repair_turn, turn, turn_by, CutsTurnOff, CutsTurnOffBy}
+use Rattle.myisamkit.specs.Runs.{TablesDone, CutsTablesOff, FailsInTables, TablesLeave, Leaves, IsApart, IsNoFileOf, KeepsOthers}
+
+other_name : (q name : List ℕ) → q ≢ name → bytes_eq q name ≡ false
+other_name q name apart = false_from_ne_true _ (λ same. apart ((bytes_eq-Decides q name).0 same))
+
+replaced_keeps : (t : FourNames) (d x : List ℕ) (m : Holding) (q : List ℕ) → IsApart q t → replaced t d x m q ≡ m q
+replaced_keeps t d x m q apart = by_names (bytes_eq q t.rows) (bytes_eq q t.index) (bytes_eq q t.new_rows) (bytes_eq q t.new_index) (other_name q t.rows apart.rows) (other_name q t.index apart.index) (other_name q t.new_rows apart.new_rows) (other_name q t.new_index apart.new_index)
+  where
+    by_names : (a b c e : Bool) → a ≡ false → b ≡ false → c ≡ false → e ≡ false → (if a then Some d else (if b then Some x else (if c || e then None else m q))) ≡ m q
+    by_names true b c e rows index work trees = absurd cc
+    by_names false true c e rows index work trees = absurd cc
+    by_names false false true e rows index work trees = absurd cc
+    by_names false false false true rows index work trees = absurd cc
+    by_names false false false false rows index work trees = refl
+
+repair_keeps : (o : Options) (now : ℕ) (name : List ℕ) (t : Result Table RepairFault) (m : Holding) (q : List ℕ) → IsApart q (names_for name) → (repair_turn o now name t m).files q ≡ m q
+repair_keeps o now name (Err f) m q apart = refl
+repair_keeps o now name (Ok t) m q apart = replaced_keeps (names_for name) (new_data t.0 o.extend t.1) (new_index t.0 o.extend t.1 now) m q apart
+
+turn_keeps : (o : Options) (now : ℕ) (name : List ℕ) (m : Holding) (q : List ℕ) → IsApart q (names_for name) → (turn o now name m).files q ≡ m q
+unfolding turn
+turn_keeps o now name m q apart = by_mode o.mode
+  where
+    by_mode : (mode : Mode) → (turn_by mode o now name m).files q ≡ m q
+    by_mode Recover = repair_keeps o now name (table_in (names_for name) m) m q apart
+    by_mode Check = refl
+    by_mode Describe = refl
+
+cut_keeps : (o : Options) (now told before after : ℕ) (name : List ℕ) (m n : Holding) (q : List ℕ) → IsApart q (names_for name) → CutsTurnOff o now told before after name m n → n q ≡ m q
+unfolding CutsTurnOff
+cut_keeps o now told before after name m n q apart cut = by_mode o.mode cut
+  where
+    by_mode : (mode : Mode) → CutsTurnOffBy mode o now told before after name m n → n q ≡ m q
+    by_mode Recover cut = cut.others q apart.rows apart.index apart.new_rows apart.new_index
+    by_mode Check cut = ap (λ (h : Holding). h q) cut
+    by_mode Describe cut = ap (λ (h : Holding). h q) cut
+
+done_keeps : (o : Options) (now : ℕ) (names : List (List ℕ)) (m n : Holding) (q : List ℕ) → IsNoFileOf q names → TablesDone o now names m n → n q ≡ m q
+done_keeps o now [] m n q apart done = ap (λ (h : Holding). h q) done
+done_keeps o now (name ∷ names) m n q apart done = done_keeps o now names (turn o now name m).files n q apart.1 done.1 ∙ turn_keeps o now name m q apart.0
+
+off_keeps : (o : Options) (now told before after : ℕ) (names : List (List ℕ)) (m n : Holding) (q : List ℕ) → IsNoFileOf q names → CutsTablesOff o now told before after names m n → n q ≡ m q
+off_keeps o now told before after [] m n q apart off = absurd off
+off_keeps o now told before after (name ∷ names) m n q apart (inl cut) = cut_keeps o now told before after name m n q apart.0 cut
+off_keeps o now told before after (name ∷ names) m n q apart (inr off) = off_keeps o now told before after names (turn o now name m).files n q apart.1 off.1 ∙ turn_keeps o now name m q apart.0
+
+fails_keeps : (o : Options) (now : ℕ) (names : List (List ℕ)) (m n : Holding) (q : List ℕ) → IsNoFileOf q names → FailsInTables o now names m n → n q ≡ m q
+fails_keeps o now [] m n q apart fails = absurd fails
+fails_keeps o now (name ∷ names) m n q apart (inl done) = ap (λ (h : Holding). h q) done.files ∙ turn_keeps o now name m q apart.0
+fails_keeps o now (name ∷ names) m n q apart (inr fails) = fails_keeps o now names (turn o now name m).files n q apart.1 fails.1 ∙ turn_keeps o now name m q apart.0
+
+tables_keep : (o : Options) (now before after : ℕ) (names : List (List ℕ)) (s : Status) (m n : Holding) (q : List ℕ) → IsNoFileOf q names → TablesLeave o now before after names s m n → n q ≡ m q
+tables_keep o now before after names status.FileFault m n q apart leaves = off_keeps o now 1 before after names m n q apart leaves
+tables_keep o now before after names status.Memory m n q apart leaves = off_keeps o now 0 before after names m n q apart leaves
+tables_keep o now before after names status.SinkFault m n q apart leaves = fails_keeps o now names m n q apart leaves
+tables_keep o now before after names status.Ok m n q apart leaves = done_keeps o now names m n q apart leaves
+tables_keep o now before after names status.Findings m n q apart leaves = done_keeps o now names m n q apart leaves
+tables_keep o now before after names status.Usage m n q apart leaves = done_keeps o now names m n q apart leaves
+tables_keep o now before after names status.Refused m n q apart leaves = done_keeps o now names m n q apart leaves
+tables_keep o now before after names status.Absent m n q apart leaves = done_keeps o now names m n q apart leaves
+
+run_keeps : (request : Request) (now before after : ℕ) (s : Status) (m n : Holding) → Leaves request now before after s m n → KeepsOthers request m n
+run_keeps usage now before after s m n leaves q apart = ap (λ (h : Holding). h q) leaves
+run_keeps (chk o names) now before after s m n leaves q apart = tables_keep o now before after names s m n q apart leaves
+
+-- whatever a run leaves, it leaves other files
+pub others_told : (request : Request) (now before after : ℕ) (s : Status) (old new : Option Holding) → Told old new (Leaves request now before after s) → Told old new (KeepsOthers request)
+others_told request now before after s old new leaves = record {
+  told = λ m told. let n = leaves.told m told in (n.0, n.1, run_keeps request now before after s m n.0 n.2);
+  untold = leaves.untold;
+}
