@@ -120,6 +120,13 @@ CutsOff (fault.Damaged at) = ⊥
 CutsOff fault.File = Unit {0}
 CutsOff fault.Memory = Unit {0}
 
+-- a call that makes no file longer is not refused for want of room
+abbrev pub IsNotFull : FreeFault → Type 0
+IsNotFull fault.Full = ⊥
+IsNotFull (fault.Damaged at) = Unit {0}
+IsNotFull fault.File = Unit {0}
+IsNotFull fault.Memory = Unit {0}
+
 -- where a place is damaged, this holds of it
 abbrev pub IfDamaged : FreeFault → (ℕ → Type 0) → Type 0
 IfDamaged fault.Full P = Unit {0}

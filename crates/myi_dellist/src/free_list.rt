@@ -56,7 +56,7 @@ impl FreeList {
     ghost use Rattle.myi_frames.specs.Block.{IsPlace};
     ghost use Rattle.myi_dellist.specs.declared.fault.FreeFault.TheVariants.{File};
     ghost use Rattle.myi_dellist.specs.Releasing.{most_size, half_size};
-    ghost use Rattle.myi_dellist.specs.Freeing.{IfDamaged};
+    ghost use Rattle.myi_dellist.specs.Freeing.{IfDamaged, IsNotFull};
     ghost use Rattle.myi_dellist.specs.FreeList.{next_by, Releases, IsLong, FindsAll, FindsBad};
 
     /// The deleted list of the file of a name, by the place of its first block and the file's length.
@@ -113,6 +113,7 @@ impl FreeList {
             (FindsBad self.old (record { at = at; size = size }) p))) }
         ensures unchanged { IfErr result (λ f. IfDamaged f (λ p.
             F.holds files.new ≡ F.holds files.old)) }
+        ensures room { IfErr result IsNotFull }
         ensures list { OnErr result (self.new ≡ self.old) }
         ensures cause { HasCause File (F.faults files.old) (F.faults files.new) result }
     {

@@ -6,7 +6,7 @@ ghost use Rattle.myi_frames.specs.Block.{IsPointer, IsPlace};
 ghost use Rattle.myi_dellist.specs.declared.fault.FreeFault.TheVariants.{File};
 ghost use Rattle.myi_dellist.specs.Releasing.{most_size, half_size};
 ghost use Rattle.myi_dellist.specs.Standing.{with_head};
-ghost use Rattle.myi_dellist.specs.Freeing.{IsLinkable, AreLinkable, CutsOff, IfDamaged, Becomes, ReleasesOne, ReleasesTwo, plan_in, before_bytes, behind_bytes, taken_off_bytes, put_first_bytes, place_at, joined_size, unlinked_bytes};
+ghost use Rattle.myi_dellist.specs.Freeing.{IsLinkable, AreLinkable, CutsOff, IsNotFull, IfDamaged, Becomes, ReleasesOne, ReleasesTwo, plan_in, before_bytes, behind_bytes, taken_off_bytes, put_first_bytes, place_at, joined_size, unlinked_bytes};
 
 use crate::fault::FreeFault;
 use crate::linked::{Linked, plan_release};
@@ -181,6 +181,7 @@ pub(crate) fn release_one<F: Files>(
         → plan_in (bytes_of name.now m) head at size ≡ Err p))) }
     ensures unchanged { IfErr result (λ f. IfDamaged f (λ p.
         F.holds files.new ≡ F.holds files.old)) }
+    ensures room { IfErr result IsNotFull }
     ensures cause { HasCause File (F.faults files.old) (F.faults files.new) result }
 {
     let plan = plan_release(files, name, end, head, at, size)?;
@@ -210,6 +211,7 @@ pub(crate) fn release_two<F: Files>(
         → plan_in (bytes_of name.now m) head (at + half_size) (size - half_size) ≡ Err p))) }
     ensures unchanged { IfErr result (λ f. IfDamaged f (λ p.
         F.holds files.new ≡ F.holds files.old)) }
+    ensures room { IfErr result IsNotFull }
     ensures cause { HasCause File (F.faults files.old) (F.faults files.new) result }
 {
     let back = at + HALF as u64;
