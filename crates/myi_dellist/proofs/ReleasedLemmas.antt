@@ -113,7 +113,7 @@ release-one-stands d a holes k inside far l = bytes_stand d a holes (hole_at (a.
 
 -- ---- as two
 
-part_apart : (a b : Area) (holes : List Area) → a.at ≤ b.at → b.at + b.size ≤ a.at + a.size → AllByRecursion (IsApart a) holes → AllByRecursion (IsApart b) holes
+pub part_apart : (a b : Area) (holes : List Area) → a.at ≤ b.at → b.at + b.size ≤ a.at + a.size → AllByRecursion (IsApart a) holes → AllByRecursion (IsApart b) holes
 part_apart a b [] lo hi far = tt
 part_apart a b (h ∷ holes) lo hi far = (by_side far.0, part_apart a b holes lo hi far.1)
   where

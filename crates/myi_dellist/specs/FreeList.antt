@@ -1,10 +1,10 @@
 -- What the calls on the deleted list of a file do to the list and to the file's bytes.
-use Rattle.std.specs.Prelude.{◌≡◌, ℕ, ◌+◌, Bool, true, false, List, length, Option, Some, None, Ok}
+use Rattle.std.specs.Prelude.{◌≡◌, ℕ, ◌+◌, Bool, true, false, List, length, Option, Some, None, Ok, Err, nat_le, if◌then◌else◌}
 use Rattle.std.specs.List.{AllByRecursion}
 use Rattle.myi_base.specs.Holding.{Holding, bytes_of}
 use Rattle.myi_dellist.specs.declared.linked.ReleasePlan.{ReleasePlan}
 use Rattle.myi_dellist.specs.Areas.{Area, IsApart}
-use Rattle.myi_dellist.specs.Releasing.{hole_at, release}
+use Rattle.myi_dellist.specs.Releasing.{most_size, hole_at, back_part, release}
 use Rattle.myi_dellist.specs.Standing.{HasList, KeepsBut, first_or, release_bytes}
 use Rattle.myi_dellist.specs.Freeing.{hole_in, plan_in}
 
@@ -45,6 +45,14 @@ Releases l k a m n = (holes : List Area) → HasHoles l holes (bytes_of l.name m
 abbrev pub IsLong : ListState → Holding → Type 0
 IsLong l m = length (bytes_of l.name m) ≡ l.end
 
+-- the area for which a release reads the list: of a longer one its back part
+abbrev pub read_part : Area → Area
+read_part a = if nat_le a.size most_size then a else back_part a
+
 -- each block that a release reads is what the list needs there
 abbrev pub FindsAll : ListState → Area → Holding → Type 0
-FindsAll l a m = (p : ReleasePlan) × (plan_in (bytes_of l.name m) l.head a.at a.size ≡ Ok p)
+FindsAll l a m = (p : ReleasePlan) × (plan_in (bytes_of l.name m) l.head (read_part a).at (read_part a).size ≡ Ok p)
+
+-- the first that is not stands at this place
+abbrev pub FindsBad : ListState → Area → ℕ → Holding → Type 0
+FindsBad l a at m = plan_in (bytes_of l.name m) l.head (read_part a).at (read_part a).size ≡ Err at

@@ -11,7 +11,7 @@ use Rattle.myi_dellist.specs.declared.fault.FreeFault.TheVariants as fault
 use Rattle.myi_dellist.specs.declared.linked.Linked.{Linked}
 use Rattle.myi_dellist.specs.declared.linked.ReleasePlan.{ReleasePlan}
 use Rattle.myi_dellist.specs.Areas.{Area}
-use Rattle.myi_dellist.specs.Releasing.{most_size}
+use Rattle.myi_dellist.specs.Releasing.{most_size, half_size}
 use Rattle.myi_dellist.specs.Standing.{with_head}
 
 abbrev pub is_deleted : FrameKind → Bool
@@ -119,6 +119,13 @@ CutsOff fault.Full = ⊥
 CutsOff (fault.Damaged at) = ⊥
 CutsOff fault.File = Unit {0}
 CutsOff fault.Memory = Unit {0}
+
+-- a call that makes no file longer is not refused for want of room
+abbrev pub IsNotFull : FreeFault → Type 0
+IsNotFull fault.Full = ⊥
+IsNotFull (fault.Damaged at) = Unit {0}
+IsNotFull fault.File = Unit {0}
+IsNotFull fault.Memory = Unit {0}
 
 -- where a place is damaged, this holds of it
 abbrev pub IfDamaged : FreeFault → (ℕ → Type 0) → Type 0
@@ -231,3 +238,19 @@ plan_bytes p at size d = put_first_bytes (record { at = at; size = joined_size s
 -- the file holds what a release of an area writes, by what it found
 abbrev pub ReleasesOne : List ℕ → ℕ → Option ℕ → ℕ → ℕ → Holding → Holding → Type 0
 ReleasesOne name end head at size m n = length (bytes_of name m) ≡ end → (p : ReleasePlan) × (plan_in (bytes_of name m) head at size ≡ Ok p) × Becomes name (plan_bytes p at size (bytes_of name m)) m n
+
+-- ---- a release of a longer area, as two
+
+-- a deleted block that names none before it
+abbrev pub first_head : Area → Option ℕ → Head
+first_head a next = record { kind = Deleted; at = a.at; size = a.size; rec_len = 0; next = next; prev = None }
+
+-- its back part is released by what was found, and then its front part becomes the head
+abbrev pub two_bytes : ReleasePlan → ℕ → ℕ → List ℕ → List ℕ
+two_bytes p at size d =
+    put_first_bytes (record { at = at; size = half_size })
+    (Some (first_head (record { at = at + half_size; size = joined_size (size - half_size) p.joined }) (place_at p.first)))
+    (plan_bytes p (at + half_size) (size - half_size) d)
+
+abbrev pub ReleasesTwo : List ℕ → ℕ → Option ℕ → ℕ → ℕ → Holding → Holding → Type 0
+ReleasesTwo name end head at size m n = length (bytes_of name m) ≡ end → (p : ReleasePlan) × (plan_in (bytes_of name m) head (at + half_size) (size - half_size) ≡ Ok p) × Becomes name (two_bytes p at size (bytes_of name m)) m n

@@ -2,7 +2,8 @@
 //!
 //! The links stand in the file; a `FreeList` keeps where the list begins and where the file ends.
 use crate::fault::FreeFault;
-use crate::links::release_one;
+use crate::links::{release_one, release_two};
+use myi_frames::MOST_SIZE;
 use myi_io::Files;
 use std::alloc::{AllocError, Global};
 use std::marker::Model;
@@ -54,9 +55,9 @@ impl FreeList {
     ghost use Rattle.myi_base.specs.Causes.{HasCause};
     ghost use Rattle.myi_frames.specs.Block.{IsPlace};
     ghost use Rattle.myi_dellist.specs.declared.fault.FreeFault.TheVariants.{File};
-    ghost use Rattle.myi_dellist.specs.Releasing.{most_size};
-    ghost use Rattle.myi_dellist.specs.Freeing.{plan_in, IfDamaged};
-    ghost use Rattle.myi_dellist.specs.FreeList.{next_by, Releases, IsLong, FindsAll};
+    ghost use Rattle.myi_dellist.specs.Releasing.{most_size, half_size};
+    ghost use Rattle.myi_dellist.specs.Freeing.{IfDamaged, IsNotFull};
+    ghost use Rattle.myi_dellist.specs.FreeList.{next_by, Releases, IsLong, FindsAll, FindsBad};
 
     /// The deleted list of the file of a name, by the place of its first block and the file's length.
     pub fn new(
@@ -92,13 +93,14 @@ impl FreeList {
         }
     }
 
-    /// Releases an area that a deleted block can be: it is joined with the deleted block directly behind it,
-    /// where both together are not too long, and becomes the head of the list. `Damaged` comes exactly
-    /// where a block that is read is not what the list needs there, and then nothing is changed.
+    /// Releases an area: it is joined with the deleted block directly behind it, where both together are
+    /// not too long, and becomes the head of the list. One that is longer than a deleted block can be is
+    /// released as two, the back part first. `Damaged` comes exactly where a block that is read is not
+    /// what the list needs there, and then nothing is changed.
     pub fn release<F: Files>(&mut self, files: &mut F, at: u64, size: u32) -> Result<(), FreeFault>
         requires writable { IsTrue F.writable }
         requires place { IsPlace at size self.old.end }
-        requires most { size ≤ most_size }
+        requires most { size ≤ half_size + most_size }
         requires long { IfTold (F.holds files.old) (IsLong self.old) }
         ensures ok { OnOk result (Told (F.holds files.old) (F.holds files.new)
             (Releases self.old self.new (record { at = at; size = size }))) }
@@ -107,14 +109,20 @@ impl FreeList {
         ensures finds { OnOk result (IfTold (F.holds files.old)
             (FindsAll self.old (record { at = at; size = size }))) }
         ensures head { OnOk result (self.new ≡ record self.old { head = Some at }) }
-        ensures damaged { IfErr result (λ f. IfDamaged f (λ p. IfTold (F.holds files.old) (λ m.
-            plan_in (bytes_of self.old.name m) self.old.head at size ≡ Err p))) }
+        ensures damaged { IfErr result (λ f. IfDamaged f (λ p. IfTold (F.holds files.old)
+            (FindsBad self.old (record { at = at; size = size }) p))) }
         ensures unchanged { IfErr result (λ f. IfDamaged f (λ p.
             F.holds files.new ≡ F.holds files.old)) }
+        ensures room { IfErr result IsNotFull }
         ensures list { OnErr result (self.new ≡ self.old) }
         ensures cause { HasCause File (F.faults files.old) (F.faults files.new) result }
     {
-        release_one(files, &self.name, self.end, self.head, at, size)?;
+        if size <= MOST_SIZE {
+            release_one(files, &self.name, self.end, self.head, at, size)?;
+            self.head = Some(at);
+            return Ok(());
+        }
+        release_two(files, &self.name, self.end, self.head, at, size)?;
         self.head = Some(at);
         Ok(())
     }

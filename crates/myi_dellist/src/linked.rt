@@ -1,11 +1,11 @@
 //! Deleted blocks as they stand in a file, and what a release needs of them. Nothing is written here.
-ghost use Rattle.std.specs.Prelude.{◌≡◌, ◌≤◌, ◌<◌, ◌+◌, ◌^◌, ℕ, List, None, length, IfOk, IfSome};
+ghost use Rattle.std.specs.Prelude.{◌≡◌, ◌≤◌, ◌<◌, ◌+◌, ◌^◌, ℕ, List, None, length, IfOk, IfErr, IfSome};
 ghost use Rattle.myi_base.specs.Holding.{IfTold, bytes_of};
 ghost use Rattle.myi_base.specs.Causes.{HasCause};
 ghost use Rattle.myi_io.specs.declared.files.FileErr.TheVariants.{Failed};
 ghost use Rattle.myi_frames.specs.Seeing.{IsPartAt};
 ghost use Rattle.myi_dellist.specs.declared.fault.FreeFault.TheVariants.{File};
-ghost use Rattle.myi_dellist.specs.Freeing.{is_deleted, hole_in, same_link, if_says, names_next, names_prev, block_before, block_named, Answers, IsHoleAt, IsHoleIn};
+ghost use Rattle.myi_dellist.specs.Freeing.{is_deleted, hole_in, same_link, if_says, names_next, names_prev, block_before, block_named, Answers, IsHoleAt, IsHoleIn, IsNotFull};
 ghost use Rattle.myi_dellist.specs.Freeing.{block_linked, hole_behind, first_without, without_prev, next_past, plan_in, AreHolesIn, IsPlanIn};
 ghost use Rattle.myi_dellist.specs.Releasing.{most_size};
 
@@ -102,6 +102,7 @@ fn hole_naming_next<F: Files>(
         → Answers result (if_says (names_next next) at (hole_in (bytes_of name.now m) at))) }
     ensures hole { IfOk result (IsHoleAt at end) }
     ensures holds { F.holds files.new ≡ F.holds files.old }
+    ensures room { IfErr result IsNotFull }
     ensures cause { HasCause File (F.faults files.old) (F.faults files.new) result }
 {
     let Some(hole) = hole_at(files, name, at, end)? else {
@@ -125,6 +126,7 @@ fn hole_naming_prev<F: Files>(
         → Answers result (if_says (names_prev prev) at (hole_in (bytes_of name.now m) at))) }
     ensures hole { IfOk result (IsHoleAt at end) }
     ensures holds { F.holds files.new ≡ F.holds files.old }
+    ensures room { IfErr result IsNotFull }
     ensures cause { HasCause File (F.faults files.old) (F.faults files.new) result }
 {
     let Some(hole) = hole_at(files, name, at, end)? else {
@@ -148,6 +150,7 @@ fn block_before<F: Files>(
         → Answers result (block_before (bytes_of name.now m) head hole.now)) }
     ensures hole { IfOk result (λ before. IfSome before (IsHoleIn end)) }
     ensures holds { F.holds files.new ≡ F.holds files.old }
+    ensures room { IfErr result IsNotFull }
     ensures cause { HasCause File (F.faults files.old) (F.faults files.new) result }
 {
     let Some(at) = hole.prev else {
@@ -172,6 +175,7 @@ fn block_named<F: Files>(
         → Answers result (block_named (bytes_of name.now m) prev link)) }
     ensures hole { IfOk result (λ named. IfSome named (IsHoleIn end)) }
     ensures holds { F.holds files.new ≡ F.holds files.old }
+    ensures room { IfErr result IsNotFull }
     ensures cause { HasCause File (F.faults files.old) (F.faults files.new) result }
 {
     let Some(at) = link else {
@@ -195,6 +199,7 @@ fn link<F: Files>(
     ensures holes { IfOk result (AreHolesIn end) }
     ensures same { IfOk result (λ l. l.hole ≡ hole) }
     ensures holds { F.holds files.new ≡ F.holds files.old }
+    ensures room { IfErr result IsNotFull }
     ensures cause { HasCause File (F.faults files.old) (F.faults files.new) result }
 {
     let before = block_before(files, name, end, head, &hole)?;
@@ -246,6 +251,7 @@ fn first_without<F: Files>(
         → Answers result (first_without (bytes_of name.now m) head linked.now)) }
     ensures hole { IfOk result (λ first. IfSome first (IsHoleIn end)) }
     ensures holds { F.holds files.new ≡ F.holds files.old }
+    ensures room { IfErr result IsNotFull }
     ensures cause { HasCause File (F.faults files.old) (F.faults files.new) result }
 {
     let Some(before) = linked.before else {
@@ -297,6 +303,7 @@ pub(crate) fn plan_release<F: Files>(
         → Answers result (plan_in (bytes_of name.now m) head at size)) }
     ensures holes { IfOk result (IsPlanIn end size) }
     ensures holds { F.holds files.new ≡ F.holds files.old }
+    ensures room { IfErr result IsNotFull }
     ensures cause { HasCause File (F.faults files.old) (F.faults files.new) result }
 {
     let Some(hole) = hole_behind(files, name, end, at, size)? else {

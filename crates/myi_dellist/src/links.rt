@@ -4,14 +4,17 @@ ghost use Rattle.myi_base.specs.Holding.{Told, IfTold, bytes_of};
 ghost use Rattle.myi_base.specs.Causes.{HasCause};
 ghost use Rattle.myi_frames.specs.Block.{IsPointer, IsPlace};
 ghost use Rattle.myi_dellist.specs.declared.fault.FreeFault.TheVariants.{File};
-ghost use Rattle.myi_dellist.specs.Releasing.{most_size};
+ghost use Rattle.myi_dellist.specs.Releasing.{most_size, half_size};
 ghost use Rattle.myi_dellist.specs.Standing.{with_head};
-ghost use Rattle.myi_dellist.specs.Freeing.{IsLinkable, AreLinkable, CutsOff, IfDamaged, Becomes, ReleasesOne, plan_in, before_bytes, behind_bytes, taken_off_bytes, put_first_bytes, place_at, joined_size, unlinked_bytes};
+ghost use Rattle.myi_dellist.specs.Freeing.{IsLinkable, AreLinkable, CutsOff, IsNotFull, IfDamaged, Becomes, ReleasesOne, ReleasesTwo, plan_in, before_bytes, behind_bytes, taken_off_bytes, put_first_bytes, place_at, joined_size, unlinked_bytes};
 
 use crate::fault::FreeFault;
 use crate::linked::{Linked, plan_release};
-use myi_frames::{Head, deleted_head};
+use myi_frames::{FrameKind, Head, deleted_head};
 use myi_io::Files;
+
+/// Where an area is parted that is longer than a deleted block can be.
+const HALF: u32 = 8_388_608;
 
 /// Writes the first 20 bytes of a deleted block.
 fn write_head<F: Files>(
@@ -178,10 +181,51 @@ pub(crate) fn release_one<F: Files>(
         → plan_in (bytes_of name.now m) head at size ≡ Err p))) }
     ensures unchanged { IfErr result (λ f. IfDamaged f (λ p.
         F.holds files.new ≡ F.holds files.old)) }
+    ensures room { IfErr result IsNotFull }
     ensures cause { HasCause File (F.faults files.old) (F.faults files.new) result }
 {
     let plan = plan_release(files, name, end, head, at, size)?;
     let whole = take_joined(files, name, size, plan.joined)?;
     put_first(files, name, at, whole, plan.first)?;
+    Ok(())
+}
+
+/// Releases a longer area as two: its back part, and then its front part, which is the head of the list
+/// then. Where a block is not what the list needs, nothing is written.
+pub(crate) fn release_two<F: Files>(
+    files: &mut F,
+    name: &str,
+    end: u64,
+    head: Option<u64>,
+    at: u64,
+    size: u32,
+) -> Result<(), FreeFault>
+    requires writable { IsTrue F.writable }
+    requires place { IsPlace at size end }
+    requires long { most_size < size }
+    requires most { size ≤ half_size + most_size }
+    ensures ok { OnOk result (Told (F.holds files.old) (F.holds files.new)
+        (ReleasesTwo name.now end head at size)) }
+    ensures damaged { IfErr result (λ f. IfDamaged f (λ p.
+        IfTold (F.holds files.old) (λ m. length (bytes_of name.now m) ≡ end
+        → plan_in (bytes_of name.now m) head (at + half_size) (size - half_size) ≡ Err p))) }
+    ensures unchanged { IfErr result (λ f. IfDamaged f (λ p.
+        F.holds files.new ≡ F.holds files.old)) }
+    ensures room { IfErr result IsNotFull }
+    ensures cause { HasCause File (F.faults files.old) (F.faults files.new) result }
+{
+    let back = at + HALF as u64;
+    let plan = plan_release(files, name, end, head, back, size - HALF)?;
+    let whole = take_joined(files, name, size - HALF, plan.joined)?;
+    put_first(files, name, back, whole, plan.first)?;
+    let second = Head {
+        kind: FrameKind::Deleted,
+        at: back,
+        size: whole,
+        rec_len: 0,
+        next: place_at(plan.first),
+        prev: None,
+    };
+    put_first(files, name, at, HALF, Some(second))?;
     Ok(())
 }
