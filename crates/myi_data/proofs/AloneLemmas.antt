@@ -4,7 +4,7 @@ use Rattle.std.proofs.lemmas.Bool.{lt-ltb}
 use Rattle.myi_defs.specs.declared.types.RowFormat.{RowFormat}
 use Rattle.myi_defs.specs.declared.types.RowFormat.TheVariants.{Static, Dynamic}
 use Rattle.myi_frames.specs.Sizes.{least_size}
-use Rattle.myi_data.specs.Stored.{Share, own_block, shares, shared_bytes, group_by, stored_by}
+use Rattle.myi_data.specs.Stored.{own_block, shares, shared_bytes, group_by, stored_by}
 
 -- the size of the one slot or block of n row bytes, and its bytes
 

@@ -22,7 +22,7 @@ use Rattle.myi_chain.specs.Laid.{AreGroups, group_rows}
 use Rattle.myi_chain.proofs.CallerLemmas.{groups_read}
 use Rattle.myi_data.specs.Slots.{Slot, slots_in}
 use Rattle.myi_data.specs.Readable.{packs, slot_row, slot_items, items_at, items_by, items_in, readable}
-use Rattle.myi_data.specs.Stored.{SizedRow, Share, group_by, stored_by, group, stored_size, stored, stored_from, stored_file, ranges_from, stored_rows, IsStorable}
+use Rattle.myi_data.specs.Stored.{SizedRow, Share, group_by, stored_by, group, stored_size, stored_from, stored_file, ranges_from, stored_rows, IsStorable}
 use Rattle.myi_data.proofs.ShareLemmas.{total_shares}
 use Rattle.myi_data.proofs.StandLemmas.{row_blocks, IsShaped, row_shaped, can_stand, stored_dynamic, group_dynamic, stored_static, group_static, size_static}
 use Rattle.myi_data.proofs.SlotLaws.{slots_none, slots_more}
