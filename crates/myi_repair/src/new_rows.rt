@@ -93,6 +93,8 @@ impl NewRows {
             return Err(RepairFault::Memory);
         }
         self.pointers.push(pointer(defs, self.end))?;
+        let came = self.pointers.len() as u64;
+        prove!(self.kept < came);
         self.kept += 1;
         self.split += blocks;
         self.end = end;

@@ -1,4 +1,5 @@
 use Rattle.std.proofs.Common.{◌+◌, ◌<◌, ◌++◌, ◌∷◌, [], ◌∙◌, ℕ, List, length, arith, refl, ap, sym, subst}
+use Rattle.std.proofs.lemmas.List.{length_push}
 use Rattle.myi_base.specs.Holding.{Writes}
 use Rattle.myi_base.proofs.CallerLemmas.{told_more}
 use Rattle.myi_defs.proofs.CallerLemmas.{sound}
@@ -17,6 +18,11 @@ put_packed-requires-clause-place g c κs lives = c.requires.written.2.came.short
 
 pub pointer-requires : goal.pointer-requires
 pointer-requires g c = sound c.args.defs.now c.requires.defs
+
+pub overflow_add-self : goal.overflow_add-self
+overflow_add-self g c =
+    let k = c.args.self.now in
+    omega (arith, c.requires.written.2.came.few, ap (λ (ps : List ℕ). length ps) c.in_ok-push.ensures.added, length_push k.pointers c.pointer.result, c.len-came.ensures)
 
 pub overflow_add-self-2 : goal.overflow_add-self-2
 overflow_add-self-2 g c =
