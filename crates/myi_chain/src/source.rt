@@ -247,9 +247,15 @@ impl Source {
         Ok(count == 1)
     }
 
-    // Whether a block ends where the file does or before. One that a window can hold, and a whole one, is in
-    // the window then.
-    fn hold<F: Files>(&mut self, files: &mut F, block: &Header) -> Result<bool, FileErr>
+    // Whether the file has a block as far as that matters. One that a window can hold, and a whole one, is in
+    // the window then. Of a longer start the chain reads what it needs; of any other block the end is looked
+    // for only if it `is_passed` by its size, so that no byte is read twice where each place is tried.
+    fn hold<F: Files>(
+        &mut self,
+        files: &mut F,
+        block: &Header,
+        is_passed: bool,
+    ) -> Result<bool, FileErr>
         requires block { IsHeader block.now.head.at self.old.end block.now }
         requires ready { IfTold (F.holds files.old) (IsReady self.old) }
         ensures held { IfOk result (λ is. is ≡ true → HoldsWhole block.now self.new.kept) }
@@ -274,19 +280,22 @@ impl Source {
                 let there = self.reach(files, block)?;
                 Ok(there)
             }
-            FrameKind::Deleted | FrameKind::Start | FrameKind::Middle | FrameKind::End => {
-                let there = self.ends_there(files, block)?;
+            FrameKind::Deleted | FrameKind::Middle | FrameKind::End => {
+                let there = !is_passed || self.ends_there(files, block)?;
                 Ok(there)
             }
+            FrameKind::Start => Ok(true),
         }
     }
 
     /// The header of the block at a place, to which the window goes, and None where no block is. If the
-    /// window can hold the block, or if it is a whole one, the window does.
+    /// window can hold the block, or if it is a whole one, the window does. Whether the file goes on to the
+    /// end of a longer block is asked where such a block `is_passed` by its size.
     pub(crate) fn slide_to<F: Files>(
         &mut self,
         files: &mut F,
         at: u64,
+        is_passed: bool,
     ) -> Result<Option<Header>, FileErr>
         requires order { at ≤ self.old.end }
         requires ready { IfTold (F.holds files.old) (IsReady self.old) }
@@ -309,7 +318,7 @@ impl Source {
         let Some(block) = header_at(self.window.bytes_from(at), at, self.end) else {
             return Ok(None);
         };
-        if !self.hold(files, &block)? {
+        if !self.hold(files, &block, is_passed)? {
             return Ok(None);
         }
         Ok(Some(block))

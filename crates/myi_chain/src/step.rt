@@ -273,7 +273,7 @@ fn step<A: Accepts, F: Files>(
         position.place = used_end.min(end);
         return Ok(None);
     }
-    let Some(block) = source.slide_to(files, at)? else {
+    let Some(block) = source.slide_to(files, at, !rules.extend)? else {
         position.place = at + STEP.min(source.end() - at);
         return Ok(None);
     };
