@@ -1,6 +1,6 @@
 -- The row bytes of the blocks of a chain, appended one block after the other.
-use Rattle.std.proofs.Common.{◌≡◌, ◌∙◌, ℕ, List, [], ◌∷◌, ◌++◌, length, Option, Some, None, refl, sym, ap, arith, append_assoc}
-use Rattle.std.proofs.lemmas.List.{append-nil}
+use Rattle.std.proofs.Common.{◌≡◌, ◌∙◌, ℕ, ◌+◌, ◌≤◌, List, [], ◌∷◌, ◌++◌, length, Option, Some, None, refl, sym, ap, arith, append_assoc}
+use Rattle.std.proofs.lemmas.List.{append-nil, length-append}
 use Rattle.myi_base.specs.Ranges.{Range}
 use Rattle.myi_frames.specs.declared.head.Header.{Header}
 use Rattle.myi_frames.specs.Block.{Block, block_of}
@@ -53,6 +53,20 @@ joins_here read first more now whole j none = step j.left j.places j.each
         let same : read first.0 ≡ Some b = ap (λ q. read q.0) place ∙ each.0 in
         let no : None ≡ Some b = sym none ∙ same in
         cc
+
+-- the next block of a chain is a part of the whole
+pub joins_room : (x : List ℕ) (read : Reading) (first : ℕ × ℕ) (more : List (ℕ × ℕ)) (now whole : List ℕ) (h : Header) → Joins read (first ∷ more) now whole → HeadsBlock x (Some h) (read first.0) → length now + h.data_len ≤ length whole
+joins_room x read first more now whole h j here = step j.left j.places j.each j.all
+  where
+    step : (bs : List Block) → first ∷ more ≡ placed bs → AreRead read bs → now ++ row_bytes bs ≡ whole → length now + h.data_len ≤ length whole
+    step [] e each all = absurd cc
+    step (b ∷ bs) e each all =
+        let place : first ≡ (b.at, b.size) = cc in
+        let same : read first.0 ≡ Some b = ap (λ q. read q.0) place ∙ each.0 in
+        let block : here.0 ≡ b = let s : Some here.0 ≡ Some b = sym here.1 ∙ same in cc in
+        let long : length b.bytes ≡ h.data_len = ap (λ (c : Block). length c.bytes) (sym block) ∙ here.2.long in
+        let sum : length (now ++ (b.bytes ++ row_bytes bs)) ≡ length whole = ap (λ (ys : List ℕ). length ys) all in
+        omega (arith, sum, long, length-append now (b.bytes ++ row_bytes bs), length-append b.bytes (row_bytes bs))
 
 pub none_left : (rest : List (ℕ × ℕ)) → length rest ≡ 0 → rest ≡ []
 none_left [] e = refl

@@ -260,16 +260,20 @@ pub(crate) fn follow<F: Files>(
     }
 }
 
-/// Appends the row bytes of blocks, each read at its place, and says whether all were there.
+/// Appends the row bytes of blocks, each read at its place, and says whether all were there and the buffer
+/// has at most `len` bytes then.
 pub(crate) fn join<F: Files>(
     files: &mut F,
     source: &Source,
     taken: &[(u64, u32)],
+    len: u32,
     joined: &mut Vec<u8>,
 ) -> Result<bool, ScanFault>
+    requires room { length joined.old.items ≤ len }
     requires ready { IfTold (F.holds files.old) (IsReady source.now) }
     ensures told { IfOk result (λ whole. IfTold (F.holds files.old) (λ m.
         (bs : List Block) → taken.now ≡ placed bs → AreRead (read_blocks source.now m) bs
+        → length (joined.old.items ++ row_bytes bs) ≤ len
         → (whole ≡ true) × (joined.new.items ≡ joined.old.items ++ row_bytes bs))) }
     ensures holds { F.holds files.new ≡ F.holds files.old }
     ensures cause { HasCause File (F.faults files.old) (F.faults files.new) result }
@@ -279,6 +283,10 @@ pub(crate) fn join<F: Files>(
         let Some(block) = source.header(files, first.0)? else {
             return Ok(false);
         };
+        // A file that tells nothing may have changed since the chain was followed.
+        if len as usize - joined.len() < block.data_len {
+            return Ok(false);
+        }
         if !source.append(files, &block, joined)? {
             return Ok(false);
         }

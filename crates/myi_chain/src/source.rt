@@ -5,7 +5,7 @@
 //! bytes. `header` answers it for any other place, and leaves the window where it is. The row bytes of other
 //! blocks are appended to a buffer by `append`. Where the file gives the window fewer bytes than its end
 //! says, it ends behind them from then on; the further blocks of a chain count as that end allows.
-ghost use Rattle.std.specs.Prelude.{◌≡◌, ◌≤◌, ◌+◌, ◌++◌, ℕ, true, length, take, drop, IfOk, IfErr, IfSome};
+ghost use Rattle.std.specs.Prelude.{◌≡◌, ◌≤◌, ◌<◌, ◌+◌, ◌^◌, ◌++◌, ℕ, true, length, take, drop, IfOk, IfErr, IfSome};
 ghost use Rattle.myi_base.specs.Holding.{IfTold, bytes_of};
 ghost use Rattle.myi_base.specs.Causes.{HasCause};
 ghost use Rattle.myi_io.specs.declared.files.FileErr.TheVariants.{Failed};
@@ -49,6 +49,9 @@ fn append_range<F: Files>(
     len: usize,
     joined: &mut Vec<u8>,
 ) -> Result<bool, ScanFault>
+    requires few { length joined.old.items + len < 2 ^ 32 }
+    ensures grown { IfOk result (λ whole.
+        length joined.new.items ≡ length joined.old.items + len) }
     ensures told { IfOk result (λ whole. IfTold (F.holds files.old) (λ m.
         at + len ≤ length (bytes_of name.now m) → (whole ≡ true)
         × (joined.new.items ≡ joined.old.items ++ take len (drop at (bytes_of name.now m))))) }
@@ -56,9 +59,6 @@ fn append_range<F: Files>(
     ensures cause { HasCause File (F.faults files.old) (F.faults files.new) result }
 {
     let start = joined.len();
-    if len > isize::MAX as usize - start {
-        return Err(ScanFault::Memory);
-    }
     joined.resize(start + len, 0)?;
     let count = fill(files, name, at, joined, start)?;
     Ok(count == len)
@@ -118,7 +118,7 @@ impl Model for Source {
 }
 
 impl Source {
-    ghost use Rattle.std.specs.Prelude.{◌≡◌, ◌≤◌, ◌<◌, ◌+◌, ◌++◌, ℕ, true, false, Some, length, take, drop, IfOk, IfErr, IfSome, OnOk};
+    ghost use Rattle.std.specs.Prelude.{◌≡◌, ◌≤◌, ◌<◌, ◌+◌, ◌^◌, ◌++◌, ℕ, true, false, Some, length, take, drop, IfOk, IfErr, IfSome, OnOk};
     ghost use Rattle.myi_base.specs.Holding.{IfTold, bytes_of};
     ghost use Rattle.myi_base.specs.Causes.{HasCause};
     ghost use Rattle.myi_io.specs.declared.files.FileErr.TheVariants.{Failed, Memory};
@@ -365,7 +365,10 @@ impl Source {
         joined: &mut Vec<u8>,
     ) -> Result<bool, ScanFault>
         requires block { IsHeader block.now.head.at self.now.end block.now }
+        requires few { length joined.old.items + block.now.data_len < 2 ^ 32 }
         requires ready { IfTold (F.holds files.old) (IsReady self.now) }
+        ensures grown { IfOk result (λ whole.
+            length joined.new.items ≡ length joined.old.items + block.now.data_len) }
         ensures told { IfOk result (λ whole. IfTold (F.holds files.old) (λ m.
             (b : Block) → Heads (read_bytes self.now m) block.now b
             → (whole ≡ true) × (joined.new.items ≡ joined.old.items ++ b.bytes))) }

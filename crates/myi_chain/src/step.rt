@@ -160,10 +160,10 @@ fn joins_row<A: Accepts, F: Files>(
     ensures cause { HasCause File (F.faults files.old) (F.faults files.new) result }
 {
     row.joined.clear();
-    if !join(files, source, row.chain.taken(), &mut row.joined)? {
+    row.joined.reserve_exact(len as usize)?;
+    if !join(files, source, row.chain.taken(), len, &mut row.joined)? {
         return Ok(false);
     }
-    // A file that tells nothing may have changed since the chain was followed.
     if row.joined.len() != len as usize {
         return Ok(false);
     }

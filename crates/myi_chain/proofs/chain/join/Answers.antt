@@ -4,13 +4,14 @@ use Rattle.myi_frames.specs.Block.{IsPlace}
 use Rattle.myi_frames.specs.Seeing.{HeadsBlock}
 use Rattle.myi_chain.specs.Chain.{row_bytes}
 use Rattle.myi_chain.specs.Source.{IsHeader, read_bytes, read_blocks}
-use Rattle.myi_chain.proofs.JoinLemmas.{Joins, joins_none, joins_more, joins_here, none_left}
+use Rattle.myi_chain.proofs.JoinLemmas.{Joins, joins_none, joins_more, joins_here, joins_room, none_left}
 use Rattle.myi_chain.proofs.chain.join.Goals as goal
 
 pub loop-first-init : goal.loop-first-init
 loop-first-init g c = record {
   holds = refl;
   faults = omega arith;
+  room = c.requires.room;
   so_far = λ m held bs places each. record { left = bs; places = places; each = each; all = refl };
 }
 
@@ -35,6 +36,7 @@ loop-first-preserved g c =
     record {
       holds = c.append.ensures.holds ∙ found.holds ∙ was.holds;
       faults = omega (arith, was.faults, found.cause.later, c.append.ensures.cause.later);
+      room = omega (arith, was.room, c.in_ok-append.ensures.grown, c.if-len-block.false);
       so_far = λ m held bs places each.
           let so = was.so_far m held bs places each in
           let here = subst (λ o. HeadsBlock (read_bytes s m) o (read_blocks s m first.0)) c.in-Some-2.is (found.told m (was.holds ∙ held)) in
@@ -44,13 +46,13 @@ loop-first-preserved g c =
     }
 
 pub returns-clause-told : goal.returns-clause-told
-returns-clause-told g c m held bs places each =
+returns-clause-told g c m held bs places each fits =
     let read = read_blocks c.args.source.now m in
     let so = c.loop-first.invariant.so_far m held bs places each in
     (refl, joins_none read c.loop-first.joined.items (c.args.joined.now.items ++ row_bytes bs) (subst (λ rest. Joins read rest c.loop-first.joined.items (c.args.joined.now.items ++ row_bytes bs)) (none_left c.loop-first.rest.now c.in_default.ensures.cases) so))
 
 pub returns-in_default-2-clause-told : goal.returns-in_default-2-clause-told
-returns-in_default-2-clause-told g c m held bs places each =
+returns-in_default-2-clause-told g c m held bs places each fits =
     let was = c.loop-first.invariant in
     let s = c.args.source.now in
     let first = c.in-Some.first.now in
@@ -60,7 +62,7 @@ returns-in_default-2-clause-told g c m held bs places each =
     absurd (joins_here (read_blocks s m) first c.in-Some.more.now c.loop-first.joined.items (c.args.joined.now.items ++ row_bytes bs) j here)
 
 pub returns-then-not-branch-clause-told : goal.returns-then-not-branch-clause-told
-returns-then-not-branch-clause-told g c m held bs places each =
+returns-then-not-branch-clause-told g c m held bs places each fits =
     let was = c.loop-first.invariant in
     let found = c.in_ok-block.ensures in
     let s = c.args.source.now in
@@ -69,3 +71,15 @@ returns-then-not-branch-clause-told g c m held bs places each =
     let whole = (c.in_ok-append.ensures.told m (found.holds ∙ was.holds ∙ held) here.0 here.2).0 in
     let no : true ≡ false = sym whole ∙ c.if-not-branch.true in
     absurd cc
+
+pub returns-then-len-block-clause-told : goal.returns-then-len-block-clause-told
+returns-then-len-block-clause-told g c m held bs places each fits =
+    let was = c.loop-first.invariant in
+    let s = c.args.source.now in
+    let first = c.in-Some.first.now in
+    let whole = c.args.joined.now.items ++ row_bytes bs in
+    let so = was.so_far m held bs places each in
+    let here = subst (λ o. HeadsBlock (read_bytes s m) o (read_blocks s m first.0)) c.in-Some-2.is (c.in_ok-block.ensures.told m (was.holds ∙ held)) in
+    let j = subst (λ rest. Joins (read_blocks s m) rest c.loop-first.joined.items whole) c.in-Some.ensures.cases.0 so in
+    let room = joins_room (read_bytes s m) (read_blocks s m) first c.in-Some.more.now c.loop-first.joined.items whole c.in-Some-2.block j here in
+    absurd (omega (arith, room, fits, was.room, c.if-len-block.true))

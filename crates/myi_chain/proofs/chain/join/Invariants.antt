@@ -11,6 +11,7 @@ abbrev pub invariant-loop-first : goal.invariant-loop-first
 invariant-loop-first g l = record {
   holds : g.F.Files.holds l.files ≡ g.F.Files.holds l.fn.files;
   faults : g.F.Files.faults l.fn.files ≤ g.F.Files.faults l.files;
+  room : length l.joined.items ≤ l.len;
   so_far : IfTold (g.F.Files.holds l.fn.files) (λ m. (bs : List Block) → l.taken ≡ placed bs → AreRead (read_blocks l.source m) bs
       → Joins (read_blocks l.source m) l.rest l.joined.items (l.fn.joined.items ++ row_bytes bs));
 }
