@@ -8,6 +8,10 @@ pub mod Options
 pub mod Asked
 -- the printed lines
 pub mod Lines
+-- the lines that describe a table
+pub mod Descriptions
+-- the definitions of a table
+pub mod Opening
 -- the statuses
 pub mod Statuses
 -- a table's turn in a run

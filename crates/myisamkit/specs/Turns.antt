@@ -21,6 +21,8 @@ use Rattle.myisamkit.specs.declared.options.Mode.{Mode}
 use Rattle.myisamkit.specs.declared.options.Mode.TheVariants.{Check, Recover, Describe}
 use Rattle.myisamkit.specs.declared.options.Options.{Options}
 use Rattle.myisamkit.specs.Lines.{recovered_line, refused_line, fault_line, not_built}
+use Rattle.myisamkit.specs.Descriptions.{description}
+use Rattle.myisamkit.specs.Opening.{defs_in}
 
 -- what a turn comes to that nothing cuts off: its lines, its status, and what the files hold then
 pub record Turn : Type 0 where
@@ -84,6 +86,20 @@ RepairStops o now before after name stop.File m n = RepairCutOff o now 1 before 
 RepairStops o now before after name stop.Memory m n = RepairCutOff o now 0 before after name m n
 RepairStops o now before after name stop.Sink m n = RepairDone o now name m n
 
+-- ---- description
+
+abbrev pub described_text : Options → List ℕ → Result Defs RepairFault → List ℕ
+described_text o name (Err f) = fault_line name f
+described_text o name (Ok defs) = unless_silent o.silent (description name defs)
+
+abbrev pub described_status : Result Defs RepairFault → Status
+described_status (Err f) = fault_status f
+described_status (Ok defs) = status.Ok
+
+-- a table that is described keeps its files
+abbrev pub describe_turn : Options → List ℕ → Holding → Turn
+describe_turn o name m = record { text = described_text o name (defs_in (names_for name) m); status = described_status (defs_in (names_for name) m); files = m }
+
 -- ---- a mode that is not built
 
 abbrev pub refused_turn : List ℕ → Holding → Turn
@@ -94,7 +110,7 @@ refused_turn name m = record { text = refused_line name not_built; status = stat
 abbrev pub turn_by : Mode → Options → ℕ → List ℕ → Holding → Turn
 turn_by Recover o now name m = recover_turn o now name m
 turn_by Check o now name m = refused_turn name m
-turn_by Describe o now name m = refused_turn name m
+turn_by Describe o now name m = describe_turn o name m
 
 -- the turn of the table of this name
 unfoldable pub turn : Options → ℕ → List ℕ → Holding → Turn

@@ -76,7 +76,7 @@ is_empty (word ∷ words) = false
 abbrev pub is_built : Mode → Bool
 is_built Recover = true
 is_built Check = false
-is_built Describe = false
+is_built Describe = true
 
 -- the words behind a command have a name, all are in form, the options go together, and the mode is built
 abbrev pub are_accepted : List (List ℕ) → Bool

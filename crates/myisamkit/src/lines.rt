@@ -12,8 +12,8 @@ pub(crate) fn usage_line() -> &'static str
     "usage: kit chk|create|shell|dump|make\n"
 }
 
-// The name of a file of a table.
-fn file_of(alloc: Global, name: &str, file: TableFile) -> Result<String, AllocError>
+/// The name of a file of a table.
+pub(crate) fn file_of(alloc: Global, name: &str, file: TableFile) -> Result<String, AllocError>
     ensures { IfOk result (λ text. string_bytes text ≡ spec.file_of file name.now) }
 {
     match file {

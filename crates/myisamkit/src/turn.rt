@@ -7,6 +7,7 @@ ghost use Rattle.myisamkit.specs.Statuses.{IsFault};
 ghost use Rattle.myisamkit.specs.Lines.{refused_line, not_built};
 ghost use Rattle.myisamkit.specs.Turns.{turn, TurnDone, TurnStops};
 
+use crate::describe::describe_table;
 use crate::lines::refused_line;
 use crate::options::{Mode, Options};
 use crate::recover::recover_table;
@@ -44,7 +45,8 @@ pub(crate) fn run_table<F: Files, O: Sink>(
 {
     match options.mode {
         Mode::Recover => recover_table(alloc, files, out, options, name, now),
-        Mode::Check | Mode::Describe => refuse_table(alloc, files, out, name),
+        Mode::Describe => describe_table(alloc, files, out, options, name),
+        Mode::Check => refuse_table(alloc, files, out, name),
     }
 }
 

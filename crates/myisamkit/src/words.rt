@@ -145,8 +145,8 @@ fn is_built(mode: Mode) -> bool
     ensures { result ≡ spec.is_built mode }
 {
     match mode {
-        Mode::Recover => true,
-        Mode::Check | Mode::Describe => false,
+        Mode::Recover | Mode::Describe => true,
+        Mode::Check => false,
     }
 }
 

@@ -9,3 +9,8 @@ pub returns-in-Recover-clause-part : goal.returns-in-Recover-clause-part
 unfolding turn
 returns-in-Recover-clause-part g c =
     subst (λ mode. OnErr c.recover_table.result (IfTold (g.F.Files.holds c.args.files.now) (λ m. IfTold (g.O.Sink.written c.args.out.now) (AppendsPart (turn_by mode c.args.options.now c.args.now c.args.name.now m).text (g.O.Sink.written c.recover_table.new.out))))) (sym c.in-Recover.is) c.recover_table.ensures.part
+
+pub returns-in-Describe-clause-part : goal.returns-in-Describe-clause-part
+unfolding turn
+returns-in-Describe-clause-part g c =
+    subst (λ mode. OnErr c.describe_table.result (IfTold (g.F.Files.holds c.args.files.now) (λ m. IfTold (g.O.Sink.written c.args.out.now) (AppendsPart (turn_by mode c.args.options.now c.args.now c.args.name.now m).text (g.O.Sink.written c.describe_table.new.out))))) (sym c.in-Describe.is) c.describe_table.ensures.part
