@@ -100,7 +100,11 @@ fn success_line(
 }
 
 /// What is said of a table that is not repaired.
-pub(crate) fn not_repaired(alloc: Global, name: &str, fault: RepairFault) -> Result<(Status, String), Stop>
+pub(crate) fn not_repaired(
+    alloc: Global,
+    name: &str,
+    fault: RepairFault,
+) -> Result<(Status, String), Stop>
     ensures said { IfOk result (λ r. string_bytes r.1 ≡ spec.fault_line name.now fault) }
     ensures status { IfOk result (λ r. r.0 ≡ fault_status fault) }
     ensures plain { IfOk result (λ r. IsFault r.0 → ⊥) }
