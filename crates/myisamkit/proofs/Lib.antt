@@ -6,3 +6,4 @@ pub mod TurnLaws
 pub mod TableLaws
 pub mod AskedLaws
 pub mod OtherLaws
+mod RecoverLaws

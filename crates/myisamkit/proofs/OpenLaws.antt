@@ -1,5 +1,5 @@
 -- What a look at a table's files finds, from what they were seen to be.
-use Rattle.std.proofs.Common.{arith, ◌≡◌, ◌≢◌, ◌⊎◌, ℕ, Bool, true, false, List, [], Option, Some, None, Ok, Err, unwrap_or, take, sym, subst, ap, ◌∙◌, inl, inr}
+use Rattle.std.proofs.Common.{arith, ◌≡◌, ◌≢◌, ◌⊎◌, ℕ, Bool, true, false, List, [], Option, Some, None, Err, unwrap_or, take, sym, subst, ap, ◌∙◌, inl, inr}
 use Rattle.std.specs.Prelude.{is_some, not}
 use Rattle.myi_base.specs.Holding.{Holding, Measures, bytes_of}
 use Rattle.myi_base.specs.Numbers.{AreBytes}

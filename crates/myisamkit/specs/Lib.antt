@@ -18,6 +18,8 @@ pub mod Statuses
 pub mod Turns
 -- what a run says and does: its tables one after the other
 pub mod Runs
+-- what a repair of one table comes to
+pub mod Recovers
 -- what serves private contracts
 
 -- what cuts a run off

@@ -7,6 +7,7 @@ ghost use Rattle.myisamkit.specs.Words.{request_of, usage};
 ghost use Rattle.myisamkit.specs.Stops.{status_of_stop};
 ghost use Rattle.myisamkit.specs.Statuses.{IsFault};
 ghost use Rattle.myisamkit.specs.Runs.{run_of, Leaves, KeepsOthers, Says, IsOrFault};
+ghost use Rattle.myisamkit.specs.Recovers.{Recovers};
 ghost use Rattle.myisamkit.specs.Lines as spec;
 
 use crate::lines::usage_line;
@@ -27,6 +28,10 @@ pub fn kit<F: Files, O: Sink>(
     now: u64,
 ) -> Status
     requires { IsTrue F.writable }
+
+    // A table that can be repaired is repaired, but where a file fault or want of memory is answered.
+    ensures headline { Told (F.holds files.old) (F.holds files.new)
+        (Recovers (request_of words.now) now result) }
 
     // What is written is the text that the words have on these files; a fault may cut it off.
     ensures text { IfTold (F.holds files.old) (λ m.

@@ -1,4 +1,9 @@
 use Rattle.myisamkit.proofs.OtherLaws.{others_told}
+use Rattle.std.proofs.Common.{sym, subst, inl, inr}
+use Rattle.myi_base.specs.Holding.{Told}
+use Rattle.myisamkit.specs.Words.{request_of}
+use Rattle.myisamkit.specs.Recovers.{Recovers}
+use Rattle.myisamkit.proofs.RecoverLaws.{recovers_told, stops_are_faults}
 use Rattle.myisamkit.proofs.top.kit.Goals as goal
 
 pub returns-in-Ok-clause-others : goal.returns-in-Ok-clause-others
@@ -6,3 +11,10 @@ returns-in-Ok-clause-others g c = others_told _ _ _ _ _ _ _ c.in-Ok.ensures.done
 
 pub returns-in-Err-clause-others : goal.returns-in-Err-clause-others
 returns-in-Err-clause-others g c = others_told _ _ _ _ _ _ _ c.in-Err.ensures.stops
+
+pub returns-in-Ok-clause-headline : goal.returns-in-Ok-clause-headline
+returns-in-Ok-clause-headline g c = recovers_told _ _ _ _ _ _ _ (λ m told. inr (c.in-Ok.ensures.status m told)) c.in-Ok.ensures.done
+
+pub returns-in-Err-clause-headline : goal.returns-in-Err-clause-headline
+returns-in-Err-clause-headline g c =
+    subst (λ s. Told (g.F.Files.holds c.args.files.now) (g.F.Files.holds c.run.new.files) (Recovers (request_of c.args.words.now) c.args.now s)) (sym c.into.ensures) (recovers_told _ _ _ _ _ _ _ (λ m told. inl (stops_are_faults c.in-Err.stop)) c.in-Err.ensures.stops)
