@@ -16,3 +16,4 @@ pub mod FreeLemmas
 pub mod MergeLemmas
 pub mod OrderLemmas
 pub mod RowLemmas
+pub mod TakenLemmas

@@ -3,11 +3,12 @@
 //! and stands for the crates above.
 ghost use Rattle.std.specs.Prelude.{◌≡◌, ◌⊎◌, ℕ, ◌+◌, ◌%◌, ◌^◌, ◌<◌, ◌≤◌, ◌++◌, List, [], ◌∷◌, length, Option, Some, None, Ok};
 ghost use Rattle.std.specs.List.{AllByRecursion};
+ghost use Rattle.myi_base.specs.Holding.{overwritten};
 ghost use Rattle.myi_frames.specs.Block.{Block, block_of};
 ghost use Rattle.myi_dellist.specs.Areas.{Area, below, bytes_below, Tile, IsApart, AreApart, AreInside, Holds, HaveBytes};
 ghost use Rattle.myi_dellist.specs.Releasing.{release, release_all, IsHole, IsFreeable};
 ghost use Rattle.myi_dellist.specs.Placing.{Space, areas_of, taken_by, place, update, place_at_end, specs_of, place_of, next_place, AreWritable};
-ghost use Rattle.myi_dellist.specs.Standing.{HasList, KeepsBut, LeavesList, first_or, without_block, release_one_bytes, release_bytes};
+ghost use Rattle.myi_dellist.specs.Standing.{HasList, KeepsBut, LeavesList, first_or, with_prev, without_block, release_one_bytes, release_bytes};
 ghost use Rattle.myi_dellist.specs.declared.linked.ReleasePlan.{ReleasePlan};
 ghost use Rattle.myi_dellist.specs.Freeing.{plan_in, plan_bytes};
 ghost use Rattle.myi_dellist.specs.FreeList.{MayRelease};
@@ -154,4 +155,15 @@ pub fn placed_rows_are_chains()
     ensures at_end { (s : Space) (row : List ℕ) → 0 < length row → s.end % 4 ≡ 0
         → HoldRow (place_of (place_at_end s (length row)).pieces) row
         (row_blocks (place_at_end s (length row)).pieces row) }
+{}
+
+/// The deleted list once its first blocks are taken: the next one is its head, and names none before it
+/// then. Bytes that are written apart from the list, also behind the file's end, leave it.
+pub fn taken_blocks_leave_their_list()
+    ensures taken { (d : List ℕ) (taken holes : List Area) → HasList d (taken ++ holes)
+        → LeavesList holes d (with_prev holes None None d) }
+    ensures elsewhere { (d bytes : List ℕ) (at : ℕ) (holes : List Area) → HasList d holes
+        → at + length bytes < 2 ^ 64
+        → AllByRecursion (IsApart (record { at = at; size = length bytes })) holes
+        → HasList (overwritten at bytes d) holes }
 {}
