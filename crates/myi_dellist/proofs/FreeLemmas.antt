@@ -97,7 +97,7 @@ pub record IsOf (l : ListState) (name : List ℕ) (end : ℕ) (head : Option ℕ
   pub end_is : end ≡ l.end
   pub head_is : head ≡ l.head
 
-moved : (P : List ℕ → ℕ → Option ℕ → Type 0) (l : ListState) (name : List ℕ) (end : ℕ) (head : Option ℕ) → IsOf l name end head → P name end head → P l.name l.end l.head
+pub moved : (P : List ℕ → ℕ → Option ℕ → Type 0) (l : ListState) (name : List ℕ) (end : ℕ) (head : Option ℕ) → IsOf l name end head → P name end head → P l.name l.end l.head
 moved P l name end head o t =
     subst (λ (x : List ℕ). P x l.end l.head) o.name_is (subst (λ (x : ℕ). P name x l.head) o.end_is (subst (λ (x : Option ℕ). P name end x) o.head_is t))
 

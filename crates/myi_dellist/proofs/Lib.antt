@@ -13,3 +13,7 @@ pub mod NeedLemmas
 pub mod CutLemmas
 pub mod PlanLemmas
 pub mod FreeLemmas
+pub mod MergeLemmas
+pub mod OrderLemmas
+pub mod RowLemmas
+pub mod TakenLemmas

@@ -33,7 +33,7 @@ pub head_stands : (d : List ℕ) (a : Area) (next prev : Option ℕ) → IsOn (l
 head_stands d a next prev o n p =
     deleted-overwritten a.size a.at next prev d (omega (arith, o.hole.most)) n p (record { aligned = o.hole.aligned; multiple = o.hole.multiple; least = o.hole.least; inside = o.inside })
 
-apart_test : (p q a b : ℕ) → (q ≤ a) ⊎ (b ≤ p) → are_apart (p, q) (a, b) ≡ true
+pub apart_test : (p q a b : ℕ) → (q ≤ a) ⊎ (b ≤ p) → are_apart (p, q) (a, b) ≡ true
 apart_test p q a b (inl le) = rw (le-leb q a le) refl
 apart_test p q a b (inr le) = rw (le-leb b p le) (or_true (nat_le q a))
   where
@@ -127,17 +127,17 @@ head_part d a x y prev next (b ∷ ys) o px py far h =
     other (inl e) = inr e
     other (inr e) = inl e
 
-prev_part : (d : List ℕ) (old prev next : Option ℕ) (ys : List Area) → AreOn (length d) ys → AreApart ys → IsPointer next → IsPointer prev → IsPart d old ys next → IsPart (with_prev ys prev next d) prev ys next
+pub prev_part : (d : List ℕ) (old prev next : Option ℕ) (ys : List Area) → AreOn (length d) ys → AreApart ys → IsPointer next → IsPointer prev → IsPart d old ys next → IsPart (with_prev ys prev next d) prev ys next
 prev_part d old prev next [] o s pn pp h = tt
 prev_part d old prev next (a ∷ ys) o s pn pp h =
     let f = first_pointer (length d) ys next pn o.1 in
     (head_stands d a (first_or ys next) prev o.0 f pp, head_part d a (first_or ys next) prev (Some a.at) next ys o.0 f pp s.0 h.1)
 
-prev_length : (d : List ℕ) (ys : List Area) (prev next : Option ℕ) → AreOn (length d) ys → IsPointer next → IsPointer prev → length (with_prev ys prev next d) ≡ length d
+pub prev_length : (d : List ℕ) (ys : List Area) (prev next : Option ℕ) → AreOn (length d) ys → IsPointer next → IsPointer prev → length (with_prev ys prev next d) ≡ length d
 prev_length d [] prev next o pn pp = refl
 prev_length d (a ∷ ys) prev next o pn pp = head_length d a (first_or ys next) prev o.0 (first_pointer (length d) ys next pn o.1) pp
 
-prev_keeps : (d : List ℕ) (ys : List Area) (prev next : Option ℕ) (p n : ℕ) → AreOn (length d) ys → IsPointer next → IsPointer prev → p + n ≤ length d → AllByRecursion (λ (a : Area). (p + n ≤ a.at) ⊎ (a.at + 20 ≤ p)) ys → take n (drop p (with_prev ys prev next d)) ≡ take n (drop p d)
+pub prev_keeps : (d : List ℕ) (ys : List Area) (prev next : Option ℕ) (p n : ℕ) → AreOn (length d) ys → IsPointer next → IsPointer prev → p + n ≤ length d → AllByRecursion (λ (a : Area). (p + n ≤ a.at) ⊎ (a.at + 20 ≤ p)) ys → take n (drop p (with_prev ys prev next d)) ≡ take n (drop p d)
 prev_keeps d [] prev next p n o pn pp le far = refl
 prev_keeps d (a ∷ ys) prev next p n o pn pp le far = head_keeps d a (first_or ys next) prev p n o.0 (first_pointer (length d) ys next pn o.1) pp far.0 le
 
@@ -272,7 +272,7 @@ list_on d holes l = by_list holes l.sizes l.inside
     by_list [] s i = tt
     by_list (a ∷ areas) s i = (record { hole = s.0; inside = i.0; short = l.short }, by_list areas s.1 i.1)
 
-on_list : (d : List ℕ) (holes : List Area) → length d < 2 ^ 64 → IsPart d None holes None → AreOn (length d) holes → AreApart holes → HasList d holes
+pub on_list : (d : List ℕ) (holes : List Area) → length d < 2 ^ 64 → IsPart d None holes None → AreOn (length d) holes → AreApart holes → HasList d holes
 on_list d holes short linked on apart = record { linked = linked; sizes = sizes holes on; inside = ends holes on; apart = apart; short = short }
   where
     sizes : (areas : List Area) → AreOn (length d) areas → AllByRecursion IsHole areas

@@ -97,10 +97,10 @@ before_is d (x ∷ xs) h ys part =
     ∙ given_ok l (if_says (names_next (Some h.at)) l.at (hole_in d l.at))
     (says_so (names_next (Some h.at)) l.at (hole_in d l.at) l (last_on d None x xs (Some h.at) part) (ap (λ (o : Option ℕ). same_link o (Some h.at)) (last_next None x xs (Some h.at)) ∙ link_same (Some h.at)))
 
-abbrev the_link : List Area → Area → List Area → Linked
+abbrev pub the_link : List Area → Area → List Area → Linked
 the_link xs h ys = record { before = last_of xs (Some h.at); hole = the_head h (first_or ys None) (last_or xs None); behind = first_of (Some h.at) ys }
 
-link_is : (d : List ℕ) (xs : List Area) (h : Area) (ys : List Area) → IsPart d None (xs ++ h ∷ ys) None → block_linked d (first_or (xs ++ h ∷ ys) None) (the_head h (first_or ys None) (last_or xs None)) ≡ Ok (the_link xs h ys)
+pub link_is : (d : List ℕ) (xs : List Area) (h : Area) (ys : List Area) → IsPart d None (xs ++ h ∷ ys) None → block_linked d (first_or (xs ++ h ∷ ys) None) (the_head h (first_or ys None) (last_or xs None)) ≡ Ok (the_link xs h ys)
 link_is d xs h ys list =
     let parts = part_split d None None xs (h ∷ ys) list in
     link_both d (first_or (xs ++ h ∷ ys) None) (the_head h (first_or ys None) (last_or xs None)) (last_of xs (Some h.at)) (first_of (Some h.at) ys) (before_is d xs h ys parts.0) (named_first d (Some h.at) ys parts.1.1)
@@ -109,7 +109,7 @@ behind_is : (prev : Option ℕ) (h : Area) (ys : List Area) (e : List ℕ) → b
 behind_is prev h [] e = refl
 behind_is prev h (y ∷ ys) e = refl
 
-off_is : (d : List ℕ) (xs : List Area) (h : Area) (ys : List Area) → taken_off_bytes (the_link xs h ys) d ≡ without_block xs ys d
+pub off_is : (d : List ℕ) (xs : List Area) (h : Area) (ys : List Area) → taken_off_bytes (the_link xs h ys) d ≡ without_block xs ys d
 off_is d [] h ys = behind_is None h ys d
 off_is d (x ∷ xs) h ys =
     behind_is (last_or (x ∷ xs) None) h ys _ ∙ ap (with_prev ys (last_or (x ∷ xs) None) None) (last_bytes d None x xs (Some h.at) (first_or ys None))
@@ -158,7 +158,7 @@ alone_plans d a holes none list = record {
   next = place_first holes;
 }
 
-split_behind : (d : List ℕ) (a h : Area) (next prev : Option ℕ) → h.at ≡ a.at + a.size → block_of d h.at ≡ Some (hole_block h next prev) → hole_behind d a.at a.size ≡ (if nat_le (a.size + h.size) most_size then Some (the_head h next prev) else None)
+pub split_behind : (d : List ℕ) (a h : Area) (next prev : Option ℕ) → h.at ≡ a.at + a.size → block_of d h.at ≡ Some (hole_block h next prev) → hole_behind d a.at a.size ≡ (if nat_le (a.size + h.size) most_size then Some (the_head h next prev) else None)
 unfolding hole_behind
 split_behind d a h next prev at here = ap (λ p. if_short a.size (hole_in d p)) (sym at) ∙ ap (if_short a.size) (hole_on d h next prev here)
 

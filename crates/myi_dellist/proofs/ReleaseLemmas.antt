@@ -6,7 +6,7 @@ use Rattle.std.proofs.lemmas.Bool.{leb-true, leb-false, eqb-true}
 use Rattle.myi_dellist.specs.Areas.{Area, below, bytes_below}
 use Rattle.myi_dellist.specs.Releasing.{most_size, hole_at, without, joined, release_one, front_part, back_part, release, release_all, IsHole, IsFreeable}
 
-taken_out : (n p : ℕ) (holes : List Area) (h : Area) → hole_at p holes ≡ Some h → (h.at ≡ p) × (bytes_below n holes ≡ below n h + bytes_below n (without p holes))
+pub taken_out : (n p : ℕ) (holes : List Area) (h : Area) → hole_at p holes ≡ Some h → (h.at ≡ p) × (bytes_below n holes ≡ below n h + bytes_below n (without p holes))
 taken_out n p [] h e = absurd cc
 taken_out n p (a ∷ holes) h e = by_test (a.at == p) refl e (taken_out n p holes h)
   where

@@ -6,3 +6,6 @@ pub mod Slots
 pub mod Standing
 pub mod Freeing
 pub mod FreeList
+pub mod Merging
+pub mod Order
+pub mod RowBlocks

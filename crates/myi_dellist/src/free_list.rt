@@ -2,7 +2,7 @@
 //!
 //! The links stand in the file; a `FreeList` keeps where the list begins and where the file ends.
 use crate::fault::FreeFault;
-use crate::links::{release_one, release_two};
+use crate::links::{merge_one, release_one, release_two};
 use myi_frames::MOST_SIZE;
 use myi_io::Files;
 use std::alloc::{AllocError, Global};
@@ -58,6 +58,7 @@ impl FreeList {
     ghost use Rattle.myi_dellist.specs.Releasing.{most_size, half_size};
     ghost use Rattle.myi_dellist.specs.Freeing.{IfDamaged, IsNotFull};
     ghost use Rattle.myi_dellist.specs.FreeList.{next_by, Releases, IsLong, FindsAll, FindsBad};
+    ghost use Rattle.myi_dellist.specs.Merging.{Merges, MergeFinds, MergeFindsBad};
 
     /// The deleted list of the file of a name, by the place of its first block and the file's length.
     pub fn new(
@@ -125,5 +126,40 @@ impl FreeList {
         release_two(files, &self.name, self.end, self.head, at, size)?;
         self.head = Some(at);
         Ok(())
+    }
+
+    /// Takes the deleted block directly behind a free area off the list, where both together are not too
+    /// long for one deleted block, and answers how long the area is then; else nothing is changed.
+    /// `Damaged` comes exactly where a block that is read is not what the list needs there, and then
+    /// nothing is changed.
+    pub fn merge_next<F: Files>(
+        &mut self,
+        files: &mut F,
+        at: u64,
+        size: u32,
+    ) -> Result<u32, FreeFault>
+        requires writable { IsTrue F.writable }
+        requires place { IsPlace at size self.old.end }
+        requires most { size ≤ most_size }
+        requires long { IfTold (F.holds files.old) (IsLong self.old) }
+        ensures ok { IfOk result (λ whole. Told (F.holds files.old) (F.holds files.new)
+            (Merges self.old self.new (record { at = at; size = size }) whole)) }
+        ensures others { OnOk result (Told (F.holds files.old) (F.holds files.new)
+            (OthersStay self.old.name)) }
+        ensures finds { OnOk result (IfTold (F.holds files.old)
+            (MergeFinds self.old (record { at = at; size = size }))) }
+        ensures most { IfOk result (λ whole. whole ≤ most_size) }
+        ensures state { self.new ≡ record self.old { head = self.new.head } }
+        ensures damaged { IfErr result (λ f. IfDamaged f (λ p. IfTold (F.holds files.old)
+            (MergeFindsBad self.old (record { at = at; size = size }) p))) }
+        ensures unchanged { IfErr result (λ f. IfDamaged f (λ p.
+            F.holds files.new ≡ F.holds files.old)) }
+        ensures room { IfErr result IsNotFull }
+        ensures list { OnErr result (self.new ≡ self.old) }
+        ensures cause { HasCause File (F.faults files.old) (F.faults files.new) result }
+    {
+        let merged = merge_one(files, &self.name, self.end, self.head, at, size)?;
+        self.head = merged.head;
+        Ok(merged.size)
     }
 }

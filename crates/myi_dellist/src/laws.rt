@@ -1,16 +1,22 @@
 //! Laws over the definitions of this crate: first on lists of areas and of slots alone, then on the bytes
 //! of a file. Each is the contract of a function that does nothing, so that it is proved with the crate
 //! and stands for the crates above.
-ghost use Rattle.std.specs.Prelude.{◌≡◌, ◌⊎◌, ℕ, ◌+◌, ◌%◌, ◌^◌, ◌<◌, ◌≤◌, ◌++◌, List, [], ◌∷◌, length, Some, None, Ok};
+ghost use Rattle.std.specs.Prelude.{◌≡◌, ◌⊎◌, ℕ, ◌+◌, ◌%◌, ◌^◌, ◌<◌, ◌≤◌, ◌++◌, List, [], ◌∷◌, length, Option, Some, None, Ok};
 ghost use Rattle.std.specs.List.{AllByRecursion};
+ghost use Rattle.myi_base.specs.Holding.{overwritten};
 ghost use Rattle.myi_frames.specs.Block.{Block, block_of};
 ghost use Rattle.myi_dellist.specs.Areas.{Area, below, bytes_below, Tile, IsApart, AreApart, AreInside, Holds, HaveBytes};
 ghost use Rattle.myi_dellist.specs.Releasing.{release, release_all, IsHole, IsFreeable};
-ghost use Rattle.myi_dellist.specs.Placing.{Space, areas_of, taken_by, place, update, specs_of, place_of, next_place, AreWritable};
-ghost use Rattle.myi_dellist.specs.Standing.{HasList, KeepsBut, LeavesList, first_or, without_block, release_one_bytes, release_bytes};
+ghost use Rattle.myi_dellist.specs.Placing.{Space, areas_of, taken_by, place, update, place_at_end, specs_of, place_of, next_place, AreWritable};
+ghost use Rattle.myi_dellist.specs.Standing.{HasList, KeepsBut, LeavesList, first_or, with_prev, without_block, release_one_bytes, release_bytes};
 ghost use Rattle.myi_dellist.specs.declared.linked.ReleasePlan.{ReleasePlan};
 ghost use Rattle.myi_dellist.specs.Freeing.{plan_in, plan_bytes};
 ghost use Rattle.myi_dellist.specs.FreeList.{MayRelease};
+ghost use Rattle.myi_dellist.specs.declared.linked.Linked.{Linked};
+ghost use Rattle.myi_dellist.specs.Freeing.{unlinked_bytes};
+ghost use Rattle.myi_dellist.specs.Merging.{merged_size, merged, merged_bytes, merge_in, head_past};
+ghost use Rattle.myi_dellist.specs.Order.{in_order, Follow};
+ghost use Rattle.myi_dellist.specs.RowBlocks.{row_blocks, HoldRow};
 ghost use Rattle.myi_dellist.specs.Slots.{Slots, take_slot, take_slot_at_end, release_slot, NameEach};
 
 /// Areas tile a file, by the count of bytes below each place, exactly where no byte belongs to two of
@@ -112,4 +118,52 @@ pub fn releases_find_their_list()
     ensures { (d : List ℕ) (a : Area) (holes : List Area) → HasList d holes → MayRelease a holes d
         → (p : ReleasePlan) × (plan_in d (first_or holes None) a.at a.size ≡ Ok p)
         × (plan_bytes p a.at a.size d ≡ release_one_bytes a holes d) }
+{}
+
+/// An area that takes in the deleted block behind it has that block's bytes then, and the list has them
+/// no more.
+pub fn merged_areas_take_bytes()
+    ensures { (p : ℕ) (a : Area) (holes : List Area)
+        → below p (record { at = a.at; size = merged_size a holes }) + bytes_below p (merged a holes)
+        ≡ below p a + bytes_below p holes }
+{}
+
+/// In a file that has a list, each block that is read for taking in the deleted block behind an area is
+/// what the list needs there, and what is written leaves the list without that block.
+pub fn merges_find_their_list()
+    ensures { (d : List ℕ) (a : Area) (holes : List Area) → HasList d holes → MayRelease a holes d
+        → (j : Option Linked) × (merge_in d (first_or holes None) a.at a.size ≡ Ok j)
+        × (head_past (first_or holes None) j ≡ first_or (merged a holes) None)
+        × (unlinked_bytes j d ≡ merged_bytes a holes d)
+        × LeavesList (merged a holes) d (merged_bytes a holes d) }
+{}
+
+/// Areas tile a file exactly where they follow one another, once they are in order of place.
+pub fn tiling_is_following()
+    ensures follow { (end : ℕ) (areas : List Area) → HaveBytes areas → Tile end areas
+        → Follow end 0 (in_order areas) }
+    ensures tile { (end : ℕ) (areas : List Area) → Follow end 0 (in_order areas) → Tile end areas }
+{}
+
+/// The blocks of a placed row are one chain from the row's place: each names the next, each holds a byte
+/// of the row, and together they hold the row in order.
+pub fn placed_rows_are_chains()
+    ensures placed { (s : Space) (own : List Area) (row : List ℕ) → 0 < length row
+        → s.end % 4 ≡ 0 → AllByRecursion IsFreeable own → AllByRecursion IsHole s.holes
+        → HoldRow (place_of (update s own (length row)).pieces) row
+        (row_blocks (update s own (length row)).pieces row) }
+    ensures at_end { (s : Space) (row : List ℕ) → 0 < length row → s.end % 4 ≡ 0
+        → HoldRow (place_of (place_at_end s (length row)).pieces) row
+        (row_blocks (place_at_end s (length row)).pieces row) }
+{}
+
+/// The deleted list once its first blocks are taken: the next one is its head, and names none before it
+/// then. Bytes that are written apart from the list, also behind the file's end, leave it.
+pub fn taken_blocks_leave_their_list()
+    ensures taken { (d : List ℕ) (taken holes : List Area) → HasList d (taken ++ holes)
+        → LeavesList holes d (with_prev holes None None d) }
+    ensures elsewhere { (d bytes : List ℕ) (at : ℕ) (holes : List Area) → HasList d holes
+        → at + length bytes < 2 ^ 64
+        → AllByRecursion (IsApart (record { at = at; size = length bytes })) holes
+        → HasList (overwritten at bytes d) holes }
 {}

@@ -12,11 +12,14 @@
 //! What holds of these is said by counting: below each place rows and deleted blocks have together as
 //! many bytes as stand there (`Tile` in `specs/Areas`), before and after each change. `specs/Standing`
 //! says when a file's bytes have a list, and which bytes a release writes; `specs/Freeing` what a release
-//! needs of the blocks that stand in the file. The laws are the contracts of the functions in `laws`.
+//! needs of the blocks that stand in the file, and `specs/Merging` the same of taking in the block behind
+//! an area. `specs/RowBlocks` says which blocks a placed row is. The laws are the contracts of the
+//! functions in `laws`.
 //!
 //! `FreeList` is the list of one file, by its head and the file's end. `place` says where the next row
-//! goes, `release` gives an area to the list. All that a release reads is read before it writes, so that a
-//! block that is not what the list needs leaves all as it was. Rows are not written yet.
+//! goes, `release` gives an area to the list, `merge_next` takes the deleted block behind a free area off
+//! it. All that a call reads is read before it writes, so that a block that is not what the list needs
+//! leaves all as it was. Rows are not written yet.
 #![tactic(auto)]
 
 mod fault;
@@ -28,7 +31,8 @@ mod links;
 pub use fault::FreeFault;
 pub use free_list::{FreeList, Limits};
 pub use laws::{
-    lists_stand_in_files, placed_blocks_can_be_written, placed_rows_tile,
+    lists_stand_in_files, merged_areas_take_bytes, merges_find_their_list,
+    placed_blocks_can_be_written, placed_rows_are_chains, placed_rows_tile,
     released_areas_are_deleted, releases_find_their_list, rows_have_their_places,
-    slots_are_named_once, tiling_is_counting,
+    slots_are_named_once, taken_blocks_leave_their_list, tiling_is_counting, tiling_is_following,
 };

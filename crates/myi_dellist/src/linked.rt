@@ -8,6 +8,7 @@ ghost use Rattle.myi_dellist.specs.declared.fault.FreeFault.TheVariants.{File};
 ghost use Rattle.myi_dellist.specs.Freeing.{is_deleted, hole_in, same_link, if_says, names_next, names_prev, block_before, block_named, Answers, IsHoleAt, IsHoleIn, IsNotFull};
 ghost use Rattle.myi_dellist.specs.Freeing.{block_linked, hole_behind, first_without, without_prev, next_past, plan_in, AreHolesIn, IsPlanIn};
 ghost use Rattle.myi_dellist.specs.Releasing.{most_size};
+ghost use Rattle.myi_dellist.specs.Merging.{merge_in};
 
 use crate::fault::FreeFault;
 use myi_base::slices_are_bytes;
@@ -319,4 +320,30 @@ pub(crate) fn plan_release<F: Files>(
         joined: Some(linked),
         first,
     })
+}
+
+/// The deleted block that an area takes in, with those beside it. Nothing is written.
+pub(crate) fn plan_merge<F: Files>(
+    files: &mut F,
+    name: &str,
+    end: u64,
+    head: Option<u64>,
+    at: u64,
+    size: u32,
+) -> Result<Option<Linked>, FreeFault>
+    requires inside { at + size ≤ end }
+    requires most { size < 2 ^ 24 }
+    ensures told { IfTold (F.holds files.old) (λ m. length (bytes_of name.now m) ≡ end
+        → Answers result (merge_in (bytes_of name.now m) head at size)) }
+    ensures holes { IfOk result (λ joined. IfSome joined (AreHolesIn end)) }
+    ensures short { IfOk result (λ joined. IfSome joined (λ l. size + l.hole.size ≤ most_size)) }
+    ensures holds { F.holds files.new ≡ F.holds files.old }
+    ensures room { IfErr result IsNotFull }
+    ensures cause { HasCause File (F.faults files.old) (F.faults files.new) result }
+{
+    let Some(hole) = hole_behind(files, name, end, at, size)? else {
+        return Ok(None);
+    };
+    let linked = link(files, name, end, head, hole)?;
+    Ok(Some(linked))
 }

@@ -7,11 +7,20 @@ ghost use Rattle.myi_dellist.specs.declared.fault.FreeFault.TheVariants.{File};
 ghost use Rattle.myi_dellist.specs.Releasing.{most_size, half_size};
 ghost use Rattle.myi_dellist.specs.Standing.{with_head};
 ghost use Rattle.myi_dellist.specs.Freeing.{IsLinkable, AreLinkable, CutsOff, IsNotFull, IfDamaged, Becomes, ReleasesOne, ReleasesTwo, plan_in, before_bytes, behind_bytes, taken_off_bytes, put_first_bytes, place_at, joined_size, unlinked_bytes};
+ghost use Rattle.myi_dellist.specs.Merging.{head_past, merge_in, MergesOne};
 
 use crate::fault::FreeFault;
-use crate::linked::{Linked, plan_release};
+use crate::linked::{Linked, plan_merge, plan_release};
 use myi_frames::{FrameKind, Head, deleted_head};
 use myi_io::Files;
+
+/// An area that took in the deleted block behind it, if any: how long it is then, and where the list
+/// begins then.
+#[derive(Clone, Copy)]
+pub(crate) struct Merged {
+    pub size: u32,
+    pub head: Option<u64>,
+}
 
 /// Where an area is parted that is longer than a deleted block can be.
 const HALF: u32 = 8_388_608;
@@ -228,4 +237,49 @@ pub(crate) fn release_two<F: Files>(
     };
     put_first(files, name, at, HALF, Some(second))?;
     Ok(())
+}
+
+/// Where the list begins once a block is taken off it.
+fn head_past(head: Option<u64>, joined: Option<Linked>) -> Option<u64>
+    ensures { result ≡ head_past head joined }
+{
+    let Some(linked) = joined else {
+        return head;
+    };
+    match linked.before {
+        None => linked.hole.next,
+        Some(_) => head,
+    }
+}
+
+/// Takes the deleted block behind an area off the list, where both together are not too long. Where a
+/// block is not what the list needs, nothing is written.
+pub(crate) fn merge_one<F: Files>(
+    files: &mut F,
+    name: &str,
+    end: u64,
+    head: Option<u64>,
+    at: u64,
+    size: u32,
+) -> Result<Merged, FreeFault>
+    requires writable { IsTrue F.writable }
+    requires place { IsPlace at size end }
+    requires most { size ≤ most_size }
+    ensures ok { IfOk result (λ merged. Told (F.holds files.old) (F.holds files.new)
+        (MergesOne name.now end head at size merged)) }
+    ensures most { IfOk result (λ merged. merged.size ≤ most_size) }
+    ensures damaged { IfErr result (λ f. IfDamaged f (λ p.
+        IfTold (F.holds files.old) (λ m. length (bytes_of name.now m) ≡ end
+        → merge_in (bytes_of name.now m) head at size ≡ Err p))) }
+    ensures unchanged { IfErr result (λ f. IfDamaged f (λ p.
+        F.holds files.new ≡ F.holds files.old)) }
+    ensures room { IfErr result IsNotFull }
+    ensures cause { HasCause File (F.faults files.old) (F.faults files.new) result }
+{
+    let joined = plan_merge(files, name, end, head, at, size)?;
+    let whole = take_joined(files, name, size, joined)?;
+    Ok(Merged {
+        size: whole,
+        head: head_past(head, joined),
+    })
 }
