@@ -26,7 +26,7 @@ const REPAIRED: u8 = 40;
 /// file, `NAME.TMI`, makes that file `index_length` bytes long, and gives first the working data file and
 /// then the working index file the name of the old one. `now` is the moment, in seconds since 1970. Where
 /// that is cut off, the working files are taken away, if there was memory for their names. Where `NAME.TMD`
-/// is not there `NAME.MYD` stays, and the index file is replaced all the same.
+/// is not there `NAME.MYD` stays, and the index file is the old one or the new one.
 pub fn finish<F: Files>(
     files: &mut F,
     name: &str,

@@ -10,8 +10,8 @@
 //! gives both working files the names of the old ones.
 //!
 //! ```
-//! match recover(alloc, files, name, extend, now) {
-//!     Ok(report) => Ok((Status::Ok, recovered_line(alloc, name, report)?)),
+//! match recover(alloc, files, name, options.extend, now) {
+//!     Ok(report) => Ok((Status::Ok, success_line(alloc, options, name, report)?)),
 //!     Err(fault) => not_repaired(alloc, name, fault),
 //! }
 //! ```
