@@ -19,6 +19,10 @@ CountsMet old new before after = (n : ℕ) × (length after ≡ length before + 
 abbrev pub ReadsMet : ℕ → ℕ → List ℕ → List ℕ → Type 0
 ReadsMet before after old new = after + length old ≤ before + length new
 
+-- or one more than that
+abbrev pub ReadsOneMore : ℕ → ℕ → List ℕ → List ℕ → Type 0
+ReadsOneMore before after old new = after + length old ≤ before + length new + 1
+
 -- the pairs and children of an open page that are still to come
 abbrev pub node_left : OpenPage → Node
 node_left page = node_with (into_iter_items page.pairs) (into_iter_items page.children)

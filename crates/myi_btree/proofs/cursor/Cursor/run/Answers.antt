@@ -3,11 +3,12 @@ use Rattle.myi_keylist.specs.declared.pair.Pair.{Pair}
 use Rattle.myi_btree.specs.declared.event.Event as declared
 use Rattle.myi_btree.specs.declared.place.TreeSetup.{TreeSetup}
 use Rattle.myi_btree.specs.Events.{Event, page, pair, first_bad, pairs_in, pages_in}
-use Rattle.myi_btree.specs.Serving.{View, nodes_at, GoesOn}
+use Rattle.myi_btree.specs.Serving.{View, nodes_at, GoesOn, ReadsAsked}
 use Rattle.myi_btree.specs.Cursors.{event_of, events_of, CanGo, Moves, RunsInto}
 use Rattle.myi_btree.proofs.WalkLaws.{same_place}
 use Rattle.myi_btree.proofs.EventLaws.{pairs-append}
 use Rattle.myi_btree.proofs.ServeLaws.{reads_on, reads_more, counts_on, kept_on}
+use Rattle.myi_btree.proofs.Inserted.{asked_on}
 use Rattle.myi_btree.proofs.CursorLaws.{none_of, goes_on, runs, runs_into}
 use Rattle.myi_btree.proofs.cursor.Cursor.run.Goals as goal
 use Rattle.myi_btree.proofs.cursor.Cursor.run.Goals.{in-Page, in-Pair+in_ok-push-in-Pair}
@@ -78,7 +79,7 @@ loop-preserved g c =
             kept = kept_on c.loop.cache c.next.new.cache x.cache.unwritten i.kept;
             faults = omega (arith, i.faults, x.cause.later);
             reads = omega (arith, i.reads, x.reads);
-            once = reads_more _ _ _ c.args.self.now.visited.places.keys c.loop.self.visited.places.keys c.next.new.self.visited.places.keys i.once x.once;
+            once = reads_more _ _ _ c.args.self.now.visited.places.keys c.loop.self.visited.places.keys c.next.new.self.visited.places.keys i.once (c.in_ok-event.ensures.once (ap first_bad is));
             counted = counts_on c.args.cache.now c.loop.cache c.next.new.cache c.args.self.now.visited.places.keys c.loop.self.visited.places.keys c.next.new.self.visited.places.keys i.counted (c.in_ok-event.ensures.counted (ap first_bad is));
             goes = λ v k.
                 let q = i.goes v k in
@@ -95,7 +96,7 @@ loop-preserved g c =
             kept = kept_on c.loop.cache c.next.new.cache x.cache.unwritten i.kept;
             faults = omega (arith, i.faults, x.cause.later);
             reads = omega (arith, i.reads, x.reads);
-            once = reads_more _ _ _ c.args.self.now.visited.places.keys c.loop.self.visited.places.keys c.next.new.self.visited.places.keys i.once x.once;
+            once = reads_more _ _ _ c.args.self.now.visited.places.keys c.loop.self.visited.places.keys c.next.new.self.visited.places.keys i.once (c.in_ok-event.ensures.once (ap first_bad is));
             counted = counts_on c.args.cache.now c.loop.cache c.next.new.cache c.args.self.now.visited.places.keys c.loop.self.visited.places.keys c.next.new.self.visited.places.keys i.counted (c.in_ok-event.ensures.counted (ap first_bad is));
             goes = λ v k.
                 let q = i.goes v k in
@@ -105,3 +106,27 @@ loop-preserved g c =
                 (λ h. pairs-append q.events (pair w.in-Pair.pair w.in-Pair.at ∷ []) ∙ ap (λ (t : List (Pair × ℕ)). t ++ (w.in-Pair.pair, w.in-Pair.at) ∷ []) h ∙ sym w.in_ok-push-in-Pair.ensures.items ∙ ap (λ t. t.items) (sym w.pairs-is));
           }
     ]
+
+pub returns-in_err-event-clause-asked : goal.returns-in_err-event-clause-asked
+returns-in_err-event-clause-asked g c = λ v k.
+    let q = c.loop.invariant.goes v k in
+    asked_on c.args.self.now.setup.place v _ c.next.new.cache (g.F.Files.reads c.args.files.now) (g.F.Files.reads c.loop.files) (g.F.Files.reads c.next.new.files) c.args.self.now.visited.places.keys c.loop.self.visited.places.keys c.loop.invariant.once
+    ((subst (λ (s : TreeSetup). (v : View) (seen : List ℕ) → CanGo s.place v (g.F.Files.holds c.loop.files) c.loop.cache seen c.loop.self → ReadsAsked s.place v (g.F.Files.holds c.next.new.files) c.next.new.cache (g.F.Files.reads c.loop.files) (g.F.Files.reads c.next.new.files) c.loop.self.visited.places.keys) c.loop.invariant.setup c.next.ensures.asked) v (pages_in q.events) q.can)
+
+pub returns-in_default-clause-asked : goal.returns-in_default-clause-asked
+returns-in_default-clause-asked g c = λ v k.
+    let q = c.loop.invariant.goes v k in
+    asked_on c.args.self.now.setup.place v _ c.next.new.cache (g.F.Files.reads c.args.files.now) (g.F.Files.reads c.loop.files) (g.F.Files.reads c.next.new.files) c.args.self.now.visited.places.keys c.loop.self.visited.places.keys c.loop.invariant.once
+    ((subst (λ (s : TreeSetup). (v : View) (seen : List ℕ) → CanGo s.place v (g.F.Files.holds c.loop.files) c.loop.cache seen c.loop.self → ReadsAsked s.place v (g.F.Files.holds c.next.new.files) c.next.new.cache (g.F.Files.reads c.loop.files) (g.F.Files.reads c.next.new.files) c.loop.self.visited.places.keys) c.loop.invariant.setup c.next.ensures.asked) v (pages_in q.events) q.can)
+
+pub returns-in_err-push-in-Pair-clause-asked : goal.returns-in_err-push-in-Pair-clause-asked
+returns-in_err-push-in-Pair-clause-asked g c = λ v k.
+    let q = c.loop.invariant.goes v k in
+    asked_on c.args.self.now.setup.place v _ c.next.new.cache (g.F.Files.reads c.args.files.now) (g.F.Files.reads c.loop.files) (g.F.Files.reads c.next.new.files) c.args.self.now.visited.places.keys c.loop.self.visited.places.keys c.loop.invariant.once
+    ((subst (λ (s : TreeSetup). (v : View) (seen : List ℕ) → CanGo s.place v (g.F.Files.holds c.loop.files) c.loop.cache seen c.loop.self → ReadsAsked s.place v (g.F.Files.holds c.next.new.files) c.next.new.cache (g.F.Files.reads c.loop.files) (g.F.Files.reads c.next.new.files) c.loop.self.visited.places.keys) c.loop.invariant.setup c.next.ensures.asked) v (pages_in q.events) q.can)
+
+pub returns-in-Bad-clause-asked : goal.returns-in-Bad-clause-asked
+returns-in-Bad-clause-asked g c = λ v k.
+    let q = c.loop.invariant.goes v k in
+    asked_on c.args.self.now.setup.place v _ c.next.new.cache (g.F.Files.reads c.args.files.now) (g.F.Files.reads c.loop.files) (g.F.Files.reads c.next.new.files) c.args.self.now.visited.places.keys c.loop.self.visited.places.keys c.loop.invariant.once
+    ((subst (λ (s : TreeSetup). (v : View) (seen : List ℕ) → CanGo s.place v (g.F.Files.holds c.loop.files) c.loop.cache seen c.loop.self → ReadsAsked s.place v (g.F.Files.holds c.next.new.files) c.next.new.cache (g.F.Files.reads c.loop.files) (g.F.Files.reads c.next.new.files) c.loop.self.visited.places.keys) c.loop.invariant.setup c.next.ensures.asked) v (pages_in q.events) q.can)

@@ -1,4 +1,4 @@
-use Rattle.std.proofs.Common.{ℕ, List, subst}
+use Rattle.std.proofs.Common.{ℕ, List, [], OnErr, subst}
 use Rattle.std.specs.Prelude.{IfOk}
 use Rattle.myi_btree.specs.Serving.{View, nodes_at, IsServed}
 use Rattle.myi_btree.specs.Walking.{Walking, MayGo, Goes}
@@ -12,3 +12,7 @@ returns-clause-goes g c = subst (λ (w : Walking). IfOk c.next.result (λ event.
 pub returns-clause-served : goal.returns-clause-served
 returns-clause-served g c = subst (λ (w : Walking). (v : View) (seen : List ℕ) → MayGo w.place v (g.F.Files.holds c.args.files.now) c.args.cache.now seen w
     → IsServed w.place v (g.F.Files.holds c.next.new.files) c.next.new.cache c.next.new.self.visited.places.keys) c.self.view_is c.next.ensures.served
+
+pub returns-clause-same : goal.returns-clause-same
+returns-clause-same g c = subst (λ (w : Walking). OnErr c.next.result ((v : View) (seen : List ℕ) → MayGo w.place v (g.F.Files.holds c.args.files.now) c.args.cache.now seen w
+    → Goes w.place.block_length (nodes_at w.place v) v.asked seen w (walking_of c.next.new.self) [])) c.self.view_is c.next.ensures.same
