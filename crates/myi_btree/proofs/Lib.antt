@@ -36,6 +36,7 @@ pub mod FewBytes
 pub mod DepthLaws
 pub mod CursorLaws
 pub mod LastPage
+pub mod StepLaws
 pub mod TreeWalks
 pub mod CanLaws
 pub mod ClearLaws

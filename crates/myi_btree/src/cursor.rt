@@ -3,7 +3,7 @@
 //! It goes down the first children to the first leaf, which says how deep the leaves are. Behind a leaf, and
 //! behind all that stands below a child, the page that is open gives its next pair, and the next child is gone
 //! into. Only the pages on the way from the root are open.
-ghost use Rattle.std.specs.Prelude.{◌≡◌, ◌<◌, ◌≤◌, ◌++◌, ◌∷◌, ℕ, List, [], None, Some, length, map, IfOk, IfErr, OnOk, OnErr};
+ghost use Rattle.std.specs.Prelude.{◌≡◌, ◌+◌, ◌<◌, ◌≤◌, ◌++◌, ◌∷◌, ℕ, List, [], None, Some, length, map, IfOk, IfErr, OnOk, OnErr};
 ghost use Rattle.std.specs.Vec.{vec_len, vec_capacity};
 ghost use Rattle.std.specs.Vec.Iter.{into_iter_items};
 ghost use Rattle.myi_base.specs.Causes.{HasCause};
@@ -17,7 +17,8 @@ ghost use Rattle.myi_btree.specs.Visit.{entered};
 ghost use Rattle.myi_btree.specs.Events.{Event, pairs_in, first_bad};
 ghost use Rattle.myi_btree.specs.Visited.{CountsMet, ReadsMet, ReadsOneMore, node_left};
 ghost use Rattle.myi_btree.specs.Serving.{View, nodes_at, GoesOn, ReadsAsked};
-ghost use Rattle.myi_btree.specs.Cursors.{events_of, event_of, Leaves, FitsIn, AsksFor, CanGo, Moves, IsDone, Runs, RunsInto, may_stand, height_with, HasNoPage, Opens, Rises};
+ghost use Rattle.myi_btree.specs.Cursors.{events_of, event_of, Leaves, FitsIn, AsksFor, CanGo, Moves, IsDone, Runs, RunsInto, may_stand, height_with, walking_of, HasNoPage, Opens, Rises};
+ghost use Rattle.myi_btree.specs.Walking.{at_hand, steps_left};
 
 use crate::event::Event;
 use crate::fault::TreeFault;
@@ -118,6 +119,8 @@ impl Cursor {
         requires down { self.old.down ≡ Some page.at }
         requires room { vec_len self.old.path < vec_capacity self.old.path }
         ensures opens { Opens self.old self.new page (event_of result) }
+        ensures hand { at_hand (walking_of self.new) < at_hand (walking_of self.old)
+            + (length (node_left page).pairs + length (node_left page).children) }
         ensures visited { self.new.visited ≡ self.old.visited }
         ensures setup { self.new.setup ≡ self.old.setup }
     {
@@ -139,6 +142,8 @@ impl Cursor {
     fn rise(&mut self) -> Option<Event>
         ensures rises { Rises self.old self.new (events_of result) }
         ensures pair { HasNoPage (events_of result) }
+        ensures hand { at_hand (walking_of self.new) + length (events_of result)
+            ≤ at_hand (walking_of self.old) }
         ensures done { result ≡ None → self.new.down ≡ None → self.new.path.items ≡ [] }
         ensures visited { self.new.visited ≡ self.old.visited }
         ensures setup { self.new.setup ≡ self.old.setup }
@@ -180,6 +185,8 @@ impl Cursor {
             → GoesOn self.old.setup.place v (F.holds files.new) cache.new self.new.visited }
         ensures setup { self.new.setup ≡ self.old.setup }
         ensures cache { ReadsOnly (F.holds files.old) (F.holds files.new) cache.old cache.new }
+        ensures fewer { IfOk result (λ event. steps_left (walking_of self.new)
+            + length (event_of event ∷ []) ≤ steps_left (walking_of self.old)) }
         ensures same { OnErr result ((v : View) (seen : List ℕ)
             → CanGo self.old.setup.place v (F.holds files.old) cache.old seen self.old
             → Moves self.old.setup.place.block_length (nodes_at self.old.setup.place v) v.asked seen
@@ -227,6 +234,8 @@ impl Cursor {
             → GoesOn self.old.setup.place v (F.holds files.new) cache.new self.new.visited }
         ensures setup { self.new.setup ≡ self.old.setup }
         ensures cache { ReadsOnly (F.holds files.old) (F.holds files.new) cache.old cache.new }
+        ensures fewer { IfOk result (λ event. steps_left (walking_of self.new)
+            + length (events_of event) ≤ steps_left (walking_of self.old)) }
         ensures same { OnErr result ((v : View) (seen : List ℕ)
             → CanGo self.old.setup.place v (F.holds files.old) cache.old seen self.old
             → Moves self.old.setup.place.block_length (nodes_at self.old.setup.place v) v.asked seen
@@ -286,17 +295,13 @@ impl Cursor {
             self.old.visited.places.keys self.new.visited.places.keys) }
     {
         let mut pairs = Vec::new(self.setup.alloc);
-        for _ in 0..u64::MAX {
-            let Some(event) = self.next(files, cache)? else {
-                return Ok(pairs);
-            };
+        while let Some(event) = self.next(files, cache)? {
             match event {
                 Event::Page { at: _ } => {}
                 Event::Pair { pair, at } => pairs.push((pair, at))?,
                 Event::Bad { at } => return Err(TreeFault::Damaged { at }),
             }
         }
-        // There are not so many places.
-        Err(TreeFault::Memory)
+        Ok(pairs)
     }
 }

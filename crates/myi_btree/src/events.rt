@@ -1,5 +1,5 @@
 //! `Events`: what a walk of a tree meets, one after the other.
-ghost use Rattle.std.specs.Prelude.{◌≡◌, ◌≤◌, ℕ, List, [], None, IfOk, IfErr, OnErr, IsTrue};
+ghost use Rattle.std.specs.Prelude.{◌≡◌, ◌+◌, ◌≤◌, ℕ, List, [], length, None, IfOk, IfErr, OnErr, IsTrue};
 ghost use Rattle.myi_base.specs.Causes.{HasCause};
 ghost use Rattle.myi_btree.specs.declared.fault.TreeFault.TheVariants.{File};
 ghost use Rattle.myi_btree.specs.Sizes.{IsPlaced};
@@ -8,7 +8,7 @@ ghost use Rattle.myi_btree.specs.CachedTrees.{MayGet, ReadsOnly};
 ghost use Rattle.myi_btree.specs.Events.{first_bad};
 ghost use Rattle.myi_btree.specs.Visited.{CountsMet, ReadsMet, ReadsOneMore};
 ghost use Rattle.myi_btree.specs.Serving.{View, nodes_at, IsServed};
-ghost use Rattle.myi_btree.specs.Walking.{walk_at, IsOver, MayGo, Goes};
+ghost use Rattle.myi_btree.specs.Walking.{walk_at, steps_left, IsOver, MayGo, Goes};
 ghost use Rattle.myi_btree.specs.Cursors.{events_of};
 
 use crate::cursor::Cursor;
@@ -64,6 +64,10 @@ impl Events {
             → Goes self.old.place.block_length (nodes_at self.old.place v) v.asked seen
             self.old self.new (events_of event)) }
         ensures over { IfOk result (λ event. event ≡ None → IsOver self.new) }
+
+        // Each event makes the steps that are left fewer, so that a loop over events ends.
+        ensures fewer { IfOk result (λ event. steps_left self.new + length (events_of event)
+            ≤ steps_left self.old) }
 
         // After an error the same is left: the next call tries the same place again.
         ensures same { OnErr result ((v : View) (seen : List ℕ)

@@ -1,5 +1,5 @@
 //! Going into one page of a tree.
-ghost use Rattle.std.specs.Prelude.{◌≡◌, ◌+◌, ◌≤◌, ◌++◌, ◌∷◌, ℕ, List, [], None, Some, IfOk, IfErr, OnOk, OnErr};
+ghost use Rattle.std.specs.Prelude.{◌≡◌, ◌+◌, ◌^◌, ◌<◌, ◌≤◌, length, ◌++◌, ◌∷◌, ℕ, List, [], None, Some, IfOk, IfErr, OnOk, OnErr};
 ghost use Rattle.myi_base.specs.Holding.{Told};
 ghost use Rattle.myi_base.specs.Causes.{HasCause};
 ghost use Rattle.myi_keycache.specs.Kept.{AddsOnly};
@@ -11,7 +11,7 @@ ghost use Rattle.myi_btree.specs.Faults.{DamagedAt};
 ghost use Rattle.myi_btree.specs.CachedTrees.{MayGet, ReadsOnly, RoseBy};
 ghost use Rattle.myi_btree.specs.Serving.{View, nodes_at, GoesOn, CanAsk, CanEnter, ReadsAsked};
 ghost use Rattle.myi_btree.specs.Visit.{entered};
-ghost use Rattle.myi_btree.specs.Visited.{HasPlaces, CountsMet, ReadsMet, ReadsOneMore, node_left};
+ghost use Rattle.myi_btree.specs.Visited.{HasPlaces, CountsMet, IsCounted, ReadsMet, ReadsOneMore, node_left};
 
 use crate::fault::TreeFault;
 use crate::node::{NodeData, read_node};
@@ -66,6 +66,8 @@ pub(crate) fn enter<F: Files>(
     requires placed { IsPlaced setup.place }
     requires kept { MayGet F.writable cache.old }
     ensures at { IfOk result (λ page. page.at ≡ at) }
+    ensures few { IfOk result (λ page. IsCounted (node_left page)) }
+    ensures small { length visited.old.places.keys < 2 ^ 63 }
     ensures node { IfOk result (λ page. (v : View) (seen : List ℕ)
         → CanEnter setup.place v (F.holds files.old) cache.old at seen visited.old
         → entered setup.place.block_length (nodes_at setup.place v) at seen ≡ Some (node_left page)) }
@@ -92,6 +94,7 @@ pub(crate) fn enter<F: Files>(
     ensures counted { OnOk result (CountsMet cache.old cache.new
         visited.old.places.keys visited.new.places.keys) }
 {
+    prove!(visited.places.len() < usize::MAX);
     if !is_apart(&visited.places, at, setup.place.block_length) {
         return Err(TreeFault::Damaged { at });
     }

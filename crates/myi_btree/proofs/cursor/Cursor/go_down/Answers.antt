@@ -1,12 +1,15 @@
-use Rattle.std.proofs.Common.{◌∙◌, ◌∷◌, ◌++◌, ℕ, List, [], ap, sym, subst, refl, arith}
+use Rattle.std.proofs.Common.{◌∙◌, ◌∷◌, ◌++◌, ℕ, List, [], ◌≡◌, suc, length, ap, sym, subst, refl, arith}
+use Rattle.std.proofs.lemmas.List.{length-append}
 use Rattle.myi_btree.specs.Walk.{Places}
 use Rattle.myi_btree.specs.Visit.{entered}
 use Rattle.myi_btree.specs.Visited.{HasPlaces, node_left}
 use Rattle.myi_btree.specs.Serving.{View, nodes_at}
-use Rattle.myi_btree.specs.Cursors.{event_of, CanGo, Moves}
+use Rattle.myi_btree.specs.Cursors.{event_of, walking_of, CanGo, Moves}
 use Rattle.myi_btree.proofs.Named.{children_asked}
 use Rattle.myi_btree.proofs.ServeLaws.{goes_same}
 use Rattle.myi_btree.proofs.Inserted.{asks_none}
+use Rattle.myi_btree.specs.Walking.{at_hand}
+use Rattle.myi_btree.proofs.StepLaws.{done_hand, some_hand, same_hand, steps_page, steps_same}
 use Rattle.myi_btree.proofs.CursorLaws.{can_enter, moves_into, moves_none, moves_same, on_err}
 use Rattle.myi_btree.proofs.cursor.Cursor.go_down.Goals as goal
 
@@ -72,3 +75,13 @@ returns-in-Err-Memory-clause-asked g c = λ v seen k. c.enter.ensures.asked v se
 
 pub returns-in-Err-Memory-clause-same : goal.returns-in-Err-Memory-clause-same
 returns-in-Err-Memory-clause-same g c = λ v seen k. moves_same c.args.self.now.setup.place.block_length (nodes_at c.args.self.now.setup.place v) v.asked seen c.args.self.now (record c.args.self.now { path = c.reserve.new.self; visited = c.enter.new.visited }) refl refl c.reserve.ensures.items c.in-Err-Memory.ensures.same k.has k.fits k.asks
+
+pub returns-in-Ok-clause-fewer : goal.returns-in-Ok-clause-fewer
+returns-in-Ok-clause-fewer g c =
+    let met : HasPlaces c.enter.new.visited.places.keys (c.args.self.now.visited.places.keys ++ c.args.at ∷ []) = c.in-Ok.ensures.met c.args.self.now.visited.places.keys (λ test. refl, refl) in
+    let long : length c.open_page.new.self.visited.places.keys ≡ suc (length c.args.self.now.visited.places.keys) = omega (arith, met.1, length-append c.args.self.now.visited.places.keys (c.args.at ∷ []), ap (λ t. length t.places.keys) c.open_page.ensures.visited) in
+    let hand : at_hand (walking_of (record c.args.self.now { path = c.reserve.new.self; visited = c.enter.new.visited })) ≡ at_hand (walking_of c.args.self.now) = same_hand c.args.self.now (record c.args.self.now { path = c.reserve.new.self; visited = c.enter.new.visited }) refl c.reserve.ensures.items in
+    steps_page c.args.self.now c.open_page.new.self (node_left c.in-Ok.page) _ long c.enter.ensures.small c.in-Ok.ensures.few hand c.open_page.ensures.hand
+
+pub returns-in-Err-Damaged-clause-fewer : goal.returns-in-Err-Damaged-clause-fewer
+returns-in-Err-Damaged-clause-fewer g c = steps_same c.args.self.now c.stop.new.self 1 (ap (λ t. t.places.keys) c.stop.ensures.visited ∙ c.in-Err-Damaged.ensures.same) (omega (arith, done_hand c.stop.new.self c.stop.ensures.done, some_hand c.args.self.now c.args.at c.requires.down))

@@ -1,9 +1,10 @@
-use Rattle.std.proofs.Common.{◌∷◌, ℕ, Option, List, [], ap, subst, refl, arith}
+use Rattle.std.proofs.Common.{◌∷◌, ℕ, Option, List, [], length, ap, subst, refl, arith}
 use Rattle.myi_btree.specs.declared.event.Event as declared
 use Rattle.myi_btree.specs.declared.place.TreeSetup.{TreeSetup}
 use Rattle.myi_btree.specs.Serving.{View, nodes_at, GoesOn, ReadsAsked}
 use Rattle.myi_btree.specs.Cursors.{event_of, events_of, CanGo, Moves, Rises, HasNoPage}
 use Rattle.myi_btree.proofs.Inserted.{asks_none}
+use Rattle.myi_btree.proofs.StepLaws.{steps_same}
 use Rattle.myi_btree.proofs.CursorLaws.{moves_up, moves_on, risen_can, none_of, on_err}
 use Rattle.myi_btree.proofs.cursor.Cursor.next.Goals as goal
 
@@ -76,3 +77,12 @@ returns-in-None-clause-moves g c = λ v seen k.
 
 pub returns-in-None-clause-asked : goal.returns-in-None-clause-asked
 returns-in-None-clause-asked g c = λ v seen k. asks_none c.args.self.now.setup.place v _ c.args.cache.now c.args.self.now.visited.places.keys _ _ k.goes (omega arith)
+
+pub returns-in-Some-clause-fewer : goal.returns-in-Some-clause-fewer
+returns-in-Some-clause-fewer g c = steps_same c.args.self.now c.rise.new.self 1 (ap (λ t. t.places.keys) c.rise.ensures.visited) (omega (arith, c.rise.ensures.hand, ap (λ (o : Option declared.Event). length (events_of o)) c.in-Some.is))
+
+pub returns-in_ok-go_down-in-Some-down-clause-fewer : goal.returns-in_ok-go_down-in-Some-down-clause-fewer
+returns-in_ok-go_down-in-Some-down-clause-fewer g c = omega (arith, c.in_ok-go_down-in-Some-down.ensures.fewer, steps_same c.args.self.now c.rise.new.self 0 (ap (λ t. t.places.keys) c.rise.ensures.visited) (omega (arith, c.rise.ensures.hand)))
+
+pub returns-in-None-clause-fewer : goal.returns-in-None-clause-fewer
+returns-in-None-clause-fewer g c = steps_same c.args.self.now c.rise.new.self 0 (ap (λ t. t.places.keys) c.rise.ensures.visited) (omega (arith, c.rise.ensures.hand))
