@@ -1,5 +1,5 @@
 -- Pages that a walk met are different, so that they are no more than the places that they are among.
-use Rattle.std.proofs.Common.{◌≡◌, ℕ, suc, ◌+◌, ◌<◌, ◌≤◌, nat_cmp, eqb, cond, ◌||◌, Bool, true, false, Option, Some, List, [], ◌∷◌, length, refl, ap, subst, arith, inl, inr}
+use Rattle.std.proofs.Common.{◌≡◌, ℕ, suc, ◌<◌, ◌≤◌, nat_cmp, eqb, cond, ◌||◌, Bool, true, false, Option, Some, List, [], ◌∷◌, length, refl, ap, subst, arith, inl, inr}
 use Rattle.std.specs.List.{list_all, AllByRecursion}
 use Rattle.std.specs.List.Sorted.{IsStrictlySortedBy}
 use Rattle.std.specs.declared.cmp.Ordering.TheVariants.{Less}

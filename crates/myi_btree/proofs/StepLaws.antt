@@ -1,5 +1,5 @@
 -- How much a walk has at hand, and how much is left of it.
-use Rattle.std.proofs.Common.{◌≡◌, ℕ, suc, ◌+◌, ◌-◌, ◌*◌, ◌^◌, ◌<◌, ◌≤◌, Option, Some, None, List, [], ◌∷◌, ◌++◌, length, map, sum_by, refl, sym, ap, ◌∙◌, arith}
+use Rattle.std.proofs.Common.{◌≡◌, ℕ, suc, ◌+◌, ◌^◌, ◌<◌, ◌≤◌, Option, Some, None, List, [], ◌∷◌, ◌++◌, length, map, sum_by, ap, ◌∙◌, arith}
 use Rattle.std.specs.Option.{option_to_list}
 use Rattle.std.proofs.lemmas.List.{map-append}
 use Rattle.std.proofs.lemmas.List.Sums.{sum_by_push}
@@ -8,7 +8,7 @@ use Rattle.myi_keylist.specs.declared.pair.Pair.{Pair}
 use Rattle.myi_btree.specs.declared.visited.OpenPage.{OpenPage}
 use Rattle.myi_btree.specs.declared.cursor.Cursor.{Cursor}
 use Rattle.myi_btree.specs.Walk.{Node}
-use Rattle.myi_btree.specs.Visited.{Takes, node_left, IsCounted}
+use Rattle.myi_btree.specs.Visited.{Takes, IsCounted}
 use Rattle.myi_btree.specs.Walking.{at_hand, steps_left}
 use Rattle.myi_btree.specs.Cursors.{opened, IsDone, walking_of}
 use Rattle.myi_btree.proofs.CursorLaws.{Steps}

@@ -1,4 +1,4 @@
-use Rattle.std.proofs.Common.{◌≡◌, ℕ, Option, List, [], length, sym, ap, subst, arith}
+use Rattle.std.proofs.Common.{◌≡◌, ℕ, Option, [], sym, subst}
 use Rattle.myi_base.specs.Holding.{Holding, IfTold}
 use Rattle.myi_keycache.specs.Caching.{Caching, IsCurrent}
 use Rattle.myi_btree.specs.declared.place.Place.{Place}
