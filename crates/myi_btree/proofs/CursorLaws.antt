@@ -1,5 +1,5 @@
 -- What a call of a cursor does to what is left.
-use Rattle.std.proofs.Common.{◌≡◌, ℕ, suc, ◌+◌, ◌<◌, ◌≤◌, eqb, ltb, Bool, true, false, Option, Some, None, List, [], ◌∷◌, ◌++◌, length, map, refl, sym, ap, subst, ◌∙◌, append-nil, append_assoc, arith, inl, inr, ◌⊎◌}
+use Rattle.std.proofs.Common.{◌≡◌, ℕ, suc, ◌+◌, ◌<◌, ◌≤◌, eqb, ltb, Bool, true, false, Option, Some, None, is_some, Result, Ok, Err, OnErr, List, [], ◌∷◌, ◌++◌, length, map, refl, sym, ap, subst, ◌∙◌, append-nil, append_assoc, arith, inl, inr, ◌⊎◌}
 use Rattle.std.specs.List.{list_all, AllByRecursion}
 use Rattle.std.specs.Option.{option_to_list}
 use Rattle.std.specs.Vec.Iter.{into_iter_items}
@@ -344,10 +344,10 @@ one_done : (new : Cursor) (event : Event) (at p : ℕ) → (event ≡ page at) �
 one_done new event at p (inl is) e = let k : ◌≡◌ {A = Option ℕ} None (Some p) = ap (λ (t : Event). first_bad (t ∷ [])) (sym is) ∙ e in absurd cc
 one_done new event at p (inr (is, done)) e = done
 
-pub moves_into : (block : ℕ) (read : Places) (asked : ℕ → Bool) (seen : List ℕ) (old mid new : Cursor) (opening : OpenPage) (event : Event) → mid.height ≡ old.height → mid.down ≡ old.down → mid.path ≡ old.path → FitsIn old → AsksFor asked old → list_all asked (node_left opening).children ≡ true
+pub moves_into : (block : ℕ) (read : Places) (asked : ℕ → Bool) (seen : List ℕ) (old mid new : Cursor) (opening : OpenPage) (event : Event) → mid.height ≡ old.height → mid.down ≡ old.down → mid.path.items ≡ old.path.items → FitsIn old → AsksFor asked old → list_all asked (node_left opening).children ≡ true
     → entered block read opening.at seen ≡ Some (node_left opening) → HasPlaces new.visited.places.keys (seen ++ opening.at ∷ []) → Opens mid new opening event → Moves block read asked seen old new (event ∷ [])
 moves_into block read asked seen old mid new opening event height down path fits asks all e has o =
-    let p : path_of mid ≡ path_of old = ap (λ t. map opened t.items) path in
+    let p : path_of mid ≡ path_of old = ap (map opened) path in
     let fits2 : FitsIn mid = subst (λ (t : List (ℕ × Node)). Fits mid.height mid.down t) (sym p) (subst (λ (d : Option ℕ). Fits mid.height d (path_of old)) (sym down) (subst (λ (h : Option ℕ). Fits h old.down (path_of old)) (sym height) fits)) in
     let asks2 : AsksFor asked mid = record { down = ap (λ (d : Option ℕ). list_all asked (option_to_list d)) down ∙ asks.down; path = subst (λ (t : List (ℕ × Node)). Asked asked t) (sym p) asks.path } in
     let k = o.1 block read asked seen fits2 asks2 all e in
@@ -379,12 +379,12 @@ moves_none block read asked seen old new at event fits down e done is =
 
 -- ---- one call after the other
 
-pub moves_up : (block : ℕ) (read : Places) (asked : ℕ → Bool) (seen : List ℕ) (old new : Cursor) (given : List Event) → new.visited ≡ old.visited → HasPlaces old.visited.places.keys seen → FitsIn old → AsksFor asked old → HasNoPage given → Rises old new given → Moves block read asked seen old new given
+pub moves_up : (block : ℕ) (read : Places) (asked : ℕ → Bool) (seen : List ℕ) (old new : Cursor) (given : List Event) → new.visited.places.keys ≡ old.visited.places.keys → HasPlaces old.visited.places.keys seen → FitsIn old → AsksFor asked old → HasNoPage given → Rises old new given → Moves block read asked seen old new given
 moves_up block read asked seen old new given same has fits asks none r =
     let k = r block read asked seen fits asks in
     record {
       after = seen;
-      has = subst (λ t. HasPlaces t.places.keys seen) (sym same) has;
+      has = subst (λ (t : List ℕ). HasPlaces t seen) (sym same) has;
       grows = λ f. sym (append-nil seen) ∙ ap (λ (t : List ℕ). seen ++ t) (sym none.0);
       done = λ p e. let f : ◌≡◌ {A = Option ℕ} None (Some p) = sym none.1 ∙ e in absurd cc;
       asks = k.0;
@@ -397,6 +397,11 @@ moves_on block read asked seen a b c given has fits asks r m =
     let k = r block read asked seen fits asks in
     let n = m k.0 k.1 in
     record { after = n.after; has = n.has; grows = n.grows; done = n.done; asks = n.asks; fits = n.fits; back = λ es l. k.2 (given ++ es) (n.back es l) }
+
+-- a call that failed left the same
+pub moves_same : (block : ℕ) (read : Places) (asked : ℕ → Bool) (seen : List ℕ) (old new : Cursor) → new.height ≡ old.height → new.down ≡ old.down → new.path.items ≡ old.path.items → new.visited.places.keys ≡ old.visited.places.keys → HasPlaces old.visited.places.keys seen → FitsIn old → AsksFor asked old
+    → Moves block read asked seen old new []
+moves_same block read asked seen old new height down path same has fits asks = moves_up block read asked seen old new [] same has fits asks (refl, refl) (rises_items old old new (rises_same old) height down path)
 
 -- a cursor that went up may go on
 pub risen_can : (place : Place) (v : View) (told : Option Holding) (cache : Caching) (seen : List ℕ) (old new : Cursor) → new.visited ≡ old.visited → CanGo place v told cache seen old → Rises old new [] → CanGo place v told cache seen new
@@ -412,6 +417,18 @@ risen_can place v told cache seen old new same k r =
 pub none_of : {A : Type 0} (o : Option A) → ((x : A) → o ≡ Some x → ⊥) → o ≡ None
 none_of None f = refl
 none_of (Some x) f = absurd (f x refl)
+
+pub some_of : {A : Type 0} (o : Option A) → is_some o ≡ true → (x : A) × (o ≡ Some x)
+some_of None e = absurd cc
+some_of (Some x) e = (x, refl)
+
+pub not_some : {A : Type 0} (o : Option A) → is_some o ≡ false → o ≡ None
+not_some None e = refl
+not_some (Some x) e = absurd cc
+
+pub on_err : {T E : Type 0} (r : Result T E) (P : Type 0) → P → OnErr r P
+on_err (Ok x) P p = tt
+on_err (Err x) P p = p
 
 -- ---- a run
 

@@ -1,13 +1,13 @@
 -- The steps that are counted down the first children lead to the first leaf: pages that are gone into have no byte in
 -- common, so there are no more of them than bytes.
-use Rattle.std.proofs.Common.{◌≡◌, ℕ, zero, suc, ◌+◌, ◌-◌, ◌≤◌, ◌<◌, min, Bool, true, false, ◌⊎◌, Option, Some, None, List, [], ◌∷◌, ◌++◌, length, map, refl, sym, ap, subst, ◌∙◌, arith, length-append}
+use Rattle.std.proofs.Common.{◌≡◌, ℕ, zero, suc, ◌+◌, ◌≤◌, ◌<◌, true, Option, Some, None, List, [], ◌∷◌, ◌++◌, length, map, refl, sym, ap, subst, ◌∙◌, arith, length-append}
 use Rattle.std.specs.List.{AllByRecursion}
 use Rattle.std.proofs.lemmas.Bool.{and_parts}
 use Rattle.std.proofs.lemmas.Option.{same_Some}
-use Rattle.myi_base.specs.Ranges.{Range, are_apart, is_apart, AreDisjoint}
+use Rattle.myi_base.specs.Ranges.{are_apart, is_apart, AreDisjoint}
 use Rattle.myi_btree.specs.Walk.{Node, Places}
 use Rattle.myi_btree.specs.Visit.{page_range, is_new, entered, HasFirst, IsDepth}
-use Rattle.myi_btree.specs.Events.{Event, Meets, MeetsTree}
+use Rattle.myi_btree.specs.Events.{Meets, MeetsTree}
 use Rattle.myi_btree.specs.TreeEvents.{below_first, below_page, first_depth, events_from, tree_events, AreWithin}
 use Rattle.myi_btree.proofs.EventLaws.{entered_is}
 use Rattle.myi_btree.proofs.EventWalks.{apart_from, apart_both}

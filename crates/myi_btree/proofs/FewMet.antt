@@ -1,5 +1,5 @@
 -- Pages that a walk met are different, so that they are no more than the places that they are among.
-use Rattle.std.proofs.Common.{◌≡◌, ℕ, suc, ◌+◌, ◌<◌, ◌≤◌, nat_cmp, eqb, cond, ◌||◌, Bool, true, false, Option, Some, List, [], ◌∷◌, length, refl, ap, subst, arith, inl, inr}
+use Rattle.std.proofs.Common.{◌≡◌, ℕ, suc, ◌<◌, ◌≤◌, nat_cmp, eqb, cond, ◌||◌, Bool, true, false, Option, Some, List, [], ◌∷◌, length, refl, ap, subst, arith, inl, inr}
 use Rattle.std.specs.List.{list_all, AllByRecursion}
 use Rattle.std.specs.List.Sorted.{IsStrictlySortedBy}
 use Rattle.std.specs.declared.cmp.Ordering.TheVariants.{Less}
@@ -7,12 +7,11 @@ use Rattle.std.proofs.lemmas.Bool.{and_parts, and_from, ne_eqb, eqb-true, cases_
 use Rattle.myi_base.specs.Holding.{Holding, IfTold}
 use Rattle.myi_keycache.specs.Caching.{Caching, IsCurrent}
 use Rattle.myi_btree.specs.declared.place.Place.{Place}
-use Rattle.myi_btree.specs.declared.visited.Visited.{Visited}
 use Rattle.myi_btree.specs.Walk.{Walked}
 use Rattle.myi_btree.specs.Visit.{HasWalk}
 use Rattle.myi_btree.specs.Visited.{CountsMet}
 use Rattle.myi_btree.specs.CachedTrees.{node_lent, IsRootNamed, HasPages, CanWalk, is_among, ReadsOnce, RoseBy, CountsPages}
-use Rattle.myi_btree.specs.Serving.{view, GoesOn}
+use Rattle.myi_btree.specs.Serving.{view, ReadsAsked}
 use Rattle.myi_btree.proofs.Among.{all_weaker}
 use Rattle.myi_btree.proofs.WalkLaws.{less_is}
 use Rattle.myi_btree.proofs.StartLaws.{Begins, begins_in}
@@ -59,12 +58,12 @@ few (x ∷ xs) ys sorted all =
 
 -- ---- what a walk says
 
-pub reads_told : (writable : Bool) (place : Place) (told next : Option Holding) (old new : Caching) (met : Visited) (root before after : ℕ) → CanWalk writable told place old → place.root ≡ Some root → after ≤ before + length met.places.keys
-    → ((m : Holding) (b : Begins place told old m root) → GoesOn place (view old m b.asked) next new met) → IfTold told (λ m. IsCurrent old m → ReadsOnce place old m before after)
-reads_told writable place told next old new met root before after may is long goes = λ m held current places at closed.
+pub reads_told : (writable : Bool) (place : Place) (told next : Option Holding) (old new : Caching) (none : List ℕ) (root before after : ℕ) → CanWalk writable told place old → place.root ≡ Some root → none ≡ []
+    → ((m : Holding) (b : Begins place told old m root) → ReadsAsked place (view old m b.asked) next new before after none) → IfTold told (λ m. IsCurrent old m → ReadsOnce place old m before after)
+reads_told writable place told next old new none root before after may is empty reads = λ m held current places at closed.
     let b = begins_in writable place told old m root (is_among places) may held current is (subst (λ (r : Option ℕ). IsRootNamed r (is_among places)) is at) closed in
-    let g = goes m b.begins in
-    omega (arith, long, few met.places.keys places g.ascends (all_weaker b.begins.asked (is_among places) b.within met.places.keys g.named))
+    let r = reads m b.begins in
+    omega (arith, r.few, ap length empty, few r.tried places r.served.ascends (all_weaker b.begins.asked (is_among places) b.within r.tried r.served.named))
 
 pub counts_told : (place : Place) (old new : Caching) (m : Holding) (root : ℕ) (none keys : List ℕ) → none ≡ [] → CountsMet old new none keys → place.root ≡ Some root → ((w : Walked) → HasWalk place.block_length (node_lent place old m) root w → length keys ≡ length w.pages)
     → CountsPages place old m new

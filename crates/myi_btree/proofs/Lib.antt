@@ -14,6 +14,7 @@ pub mod LayingLaws
 pub mod LevelsLaws
 pub mod LaidRead
 pub mod WalkLaws
+pub mod Inserted
 pub mod ServeLaws
 pub mod Named
 pub mod Among
@@ -34,6 +35,8 @@ pub mod UsedLaws
 pub mod FewBytes
 pub mod DepthLaws
 pub mod CursorLaws
+pub mod LastPage
+pub mod StepLaws
 pub mod TreeWalks
 pub mod CanLaws
 pub mod ClearLaws

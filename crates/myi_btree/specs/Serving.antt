@@ -1,5 +1,5 @@
 -- How the cache serves a walk: the places that it goes into show what they showed when it began.
-use Rattle.std.specs.Prelude.{◌≡◌, ◌⊎◌, ℕ, Bool, true, List, Option, Some}
+use Rattle.std.specs.Prelude.{◌≡◌, ◌⊎◌, ℕ, ◌+◌, ◌≤◌, Bool, true, List, length, Option, Some}
 use Rattle.std.specs.List.{list_all}
 use Rattle.std.specs.List.Sorted.{IsStrictlySortedBy}
 use Rattle.std.specs.Ordering.{nat_cmp}
@@ -54,6 +54,13 @@ pub record IsServed (place : Place) (v : View) (told : Option Holding) (cache : 
 
 abbrev pub GoesOn : Place → View → Option Holding → Caching → Visited → Type 0
 GoesOn place v told cache visited = IsServed place v told cache visited.places.keys
+
+-- No more pages were read than stand at different places that the walk may ask for: those that were met, and of a page
+-- that could not be gone into the place that was tried.
+pub record ReadsAsked (place : Place) (v : View) (told : Option Holding) (cache : Caching) (before after : ℕ) (met : List ℕ) : Type 0 where
+  pub tried : List ℕ
+  pub served : IsServed place v told cache tried
+  pub few : after + length met ≤ before + length tried
 
 -- a walk that went into these pages may go into the page at a place
 pub record CanEnter (place : Place) (v : View) (told : Option Holding) (cache : Caching) (at : ℕ) (seen : List ℕ) (visited : Visited) : Type 0 where

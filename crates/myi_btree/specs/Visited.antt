@@ -1,5 +1,5 @@
 -- What the code of a walk has met so far, and the pages that it has open.
-use Rattle.std.specs.Prelude.{◌≡◌, ℕ, ◌+◌, ◌≤◌, ◌∷◌, Bool, true, false, List, [], length, Option, Some, None}
+use Rattle.std.specs.Prelude.{◌≡◌, ℕ, ◌+◌, ◌^◌, ◌<◌, ◌≤◌, ◌∷◌, Bool, true, false, List, [], length, Option, Some, None}
 use Rattle.std.specs.List.{list_all}
 use Rattle.std.specs.Vec.Iter.{into_iter_items}
 use Rattle.myi_keycache.specs.Caching.{Caching}
@@ -19,9 +19,17 @@ CountsMet old new before after = (n : ℕ) × (length after ≡ length before + 
 abbrev pub ReadsMet : ℕ → ℕ → List ℕ → List ℕ → Type 0
 ReadsMet before after old new = after + length old ≤ before + length new
 
+-- or one more than that
+abbrev pub ReadsOneMore : ℕ → ℕ → List ℕ → List ℕ → Type 0
+ReadsOneMore before after old new = after + length old ≤ before + length new + 1
+
 -- the pairs and children of an open page that are still to come
 abbrev pub node_left : OpenPage → Node
 node_left page = node_with (into_iter_items page.pairs) (into_iter_items page.children)
+
+-- a page has fewer than 2^64 pairs, and fewer than 2^64 children
+abbrev pub IsCounted : Node → Type 0
+IsCounted node = (length node.pairs < 2 ^ 64) × (length node.children < 2 ^ 64)
 
 -- none is to come
 abbrev pub is_none_left : List ℕ → Bool

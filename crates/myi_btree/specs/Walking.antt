@@ -1,5 +1,5 @@
 -- A walk that is under way: where it stands, what it still meets, and what a call does to it.
-use Rattle.std.specs.Prelude.{◌≡◌, ℕ, Bool, true, List, [], ◌++◌, Option, Some, None}
+use Rattle.std.specs.Prelude.{◌≡◌, ℕ, ◌+◌, ◌-◌, ◌*◌, ◌^◌, Bool, true, List, [], ◌++◌, length, sum_by, Option, Some, None}
 use Rattle.std.specs.List.{list_all, AllByRecursion}
 use Rattle.std.specs.Option.{option_to_list}
 use Rattle.myi_base.specs.Holding.{Holding}
@@ -28,6 +28,15 @@ walk_at place = record { place = place; height = None; down = place.root; path =
 -- nothing is left
 abbrev pub IsOver : Walking → Type 0
 IsOver w = (w.down ≡ None) × (w.path ≡ [])
+
+-- what a walk has at hand: the page that is gone into next, and what its open pages have left
+abbrev pub at_hand : Walking → ℕ
+at_hand w = length (option_to_list w.down) + sum_by (λ (p : ℕ × Node). length p.1.pairs + length p.1.children) w.path
+
+-- A number that each event makes smaller: no more than 2^64 pages are met, and a page has fewer than 2^64 pairs and as
+-- many children.
+abbrev pub steps_left : Walking → ℕ
+steps_left w = (2 ^ 64 - length w.met) * 2 ^ 65 + at_hand w
 
 -- these events are still met, where these pages were met
 abbrev pub IsStillMet : ℕ → Places → List ℕ → Walking → List Event → Type 0

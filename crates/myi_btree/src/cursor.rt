@@ -3,7 +3,8 @@
 //! It goes down the first children to the first leaf, which says how deep the leaves are. Behind a leaf, and
 //! behind all that stands below a child, the page that is open gives its next pair, and the next child is gone
 //! into. Only the pages on the way from the root are open.
-ghost use Rattle.std.specs.Prelude.{◌≡◌, ◌≤◌, ◌++◌, ◌∷◌, ℕ, List, [], None, Some, length, map, IfOk, IfErr, OnOk};
+ghost use Rattle.std.specs.Prelude.{◌≡◌, ◌+◌, ◌<◌, ◌≤◌, ◌++◌, ◌∷◌, ℕ, List, [], None, Some, length, map, IfOk, IfErr, OnOk, OnErr};
+ghost use Rattle.std.specs.Vec.{vec_len, vec_capacity};
 ghost use Rattle.std.specs.Vec.Iter.{into_iter_items};
 ghost use Rattle.myi_base.specs.Causes.{HasCause};
 ghost use Rattle.myi_btree.specs.declared.fault.TreeFault.TheVariants.{File};
@@ -14,9 +15,10 @@ ghost use Rattle.myi_btree.specs.CachedTrees.{MayGet, ReadsOnly};
 ghost use Rattle.myi_btree.specs.Walk.{Places};
 ghost use Rattle.myi_btree.specs.Visit.{entered};
 ghost use Rattle.myi_btree.specs.Events.{Event, pairs_in, first_bad};
-ghost use Rattle.myi_btree.specs.Visited.{CountsMet, ReadsMet, node_left};
-ghost use Rattle.myi_btree.specs.Serving.{View, nodes_at, GoesOn};
-ghost use Rattle.myi_btree.specs.Cursors.{events_of, event_of, Leaves, FitsIn, AsksFor, CanGo, Moves, IsDone, Runs, RunsInto, may_stand, height_with, HasNoPage, Opens, Rises};
+ghost use Rattle.myi_btree.specs.Visited.{CountsMet, ReadsMet, ReadsOneMore, node_left};
+ghost use Rattle.myi_btree.specs.Serving.{View, nodes_at, GoesOn, ReadsAsked};
+ghost use Rattle.myi_btree.specs.Cursors.{events_of, event_of, Leaves, FitsIn, AsksFor, CanGo, Moves, IsDone, Runs, RunsInto, may_stand, height_with, walking_of, HasNoPage, Opens, Rises};
+ghost use Rattle.myi_btree.specs.Walking.{at_hand, steps_left};
 
 use crate::event::Event;
 use crate::fault::TreeFault;
@@ -26,7 +28,7 @@ use crate::walk::enter;
 use myi_io::Files;
 use myi_keycache::KeyCache;
 use myi_keylist::Pair;
-use std::alloc::{AllocError, Global};
+use std::alloc::Global;
 
 /// A walk of a tree, as far as it went.
 pub(crate) struct Cursor {
@@ -113,53 +115,55 @@ impl Cursor {
     }
 
     // Opens the page that was gone into.
-    fn open_page(&mut self, page: OpenPage) -> Result<Event, AllocError>
-        requires { self.old.down ≡ Some page.at }
-        ensures opens { IfOk result (λ event. Opens self.old self.new page (event_of event)) }
+    fn open_page(&mut self, page: OpenPage) -> Event
+        requires down { self.old.down ≡ Some page.at }
+        requires room { vec_len self.old.path < vec_capacity self.old.path }
+        ensures opens { Opens self.old self.new page (event_of result) }
+        ensures hand { at_hand (walking_of self.new) < at_hand (walking_of self.old)
+            + (length (node_left page).pairs + length (node_left page).children) }
         ensures visited { self.new.visited ≡ self.old.visited }
         ensures setup { self.new.setup ≡ self.old.setup }
     {
         let at = page.at;
         if !self.may_stand(page.is_leaf()) {
-            return Ok(self.stop(at));
+            return self.stop(at);
         }
         let mut page = page;
         self.height = self.height_with(page.is_leaf());
         self.down = page.next_child();
-        self.path.push(page)?;
-        Ok(Event::Page { at })
+        match self.path.push(page) {
+            Ok(()) => Event::Page { at },
+            Err(_) => unreachable!(),
+        }
     }
 
     // Goes up to the next pair, or to the next child where that stands before it, where no page is to be gone
     // into.
-    fn rise(&mut self) -> Result<Option<Event>, AllocError>
-        ensures rises { IfOk result (λ event. Rises self.old self.new (events_of event)) }
-        ensures pair { IfOk result (λ event. HasNoPage (events_of event)) }
-        ensures done { IfOk result (λ event. event ≡ None → self.new.down ≡ None
-            → self.new.path.items ≡ []) }
+    fn rise(&mut self) -> Option<Event>
+        ensures rises { Rises self.old self.new (events_of result) }
+        ensures pair { HasNoPage (events_of result) }
+        ensures hand { at_hand (walking_of self.new) + length (events_of result)
+            ≤ at_hand (walking_of self.old) }
+        ensures done { result ≡ None → self.new.down ≡ None → self.new.path.items ≡ [] }
         ensures visited { self.new.visited ≡ self.old.visited }
         ensures setup { self.new.setup ≡ self.old.setup }
     {
         if self.down.is_some() {
-            return Ok(None);
+            return None;
         }
-        while let Some(mut page) = self.path.pop() {
+        while let Some(page) = self.path.last_mut() {
             let at = page.at;
             let pair = page.next_pair();
             self.down = page.next_child();
-            match (pair, self.down) {
-                (Some(pair), _) => {
-                    self.path.push(page)?;
-                    return Ok(Some(Event::Pair { pair, at }));
-                }
-                (None, Some(_)) => {
-                    self.path.push(page)?;
-                    return Ok(None);
-                }
-                (None, None) => {}
+            if let Some(pair) = pair {
+                return Some(Event::Pair { pair, at });
             }
+            if self.down.is_some() {
+                return None;
+            }
+            self.path.pop();
         }
-        Ok(None)
+        None
     }
 
     // Goes into the next page.
@@ -181,24 +185,38 @@ impl Cursor {
             → GoesOn self.old.setup.place v (F.holds files.new) cache.new self.new.visited }
         ensures setup { self.new.setup ≡ self.old.setup }
         ensures cache { ReadsOnly (F.holds files.old) (F.holds files.new) cache.old cache.new }
+        ensures fewer { IfOk result (λ event. steps_left (walking_of self.new)
+            + length (event_of event ∷ []) ≤ steps_left (walking_of self.old)) }
+        ensures same { OnErr result ((v : View) (seen : List ℕ)
+            → CanGo self.old.setup.place v (F.holds files.old) cache.old seen self.old
+            → Moves self.old.setup.place.block_length (nodes_at self.old.setup.place v) v.asked seen
+            self.old self.new []) }
+        ensures asked { (v : View) (seen : List ℕ)
+            → CanGo self.old.setup.place v (F.holds files.old) cache.old seen self.old
+            → ReadsAsked self.old.setup.place v (F.holds files.new) cache.new
+            (F.reads files.old) (F.reads files.new) self.old.visited.places.keys }
         ensures faults { IfErr result IsFileOrMemory }
         ensures cause { HasCause File (F.faults files.old) (F.faults files.new) result }
         ensures reads { F.reads files.old ≤ F.reads files.new }
-        ensures once { ReadsMet (F.reads files.old) (F.reads files.new)
+        ensures once { IfOk result (λ event. first_bad (event_of event ∷ []) ≡ None
+            → ReadsMet (F.reads files.old) (F.reads files.new)
+            self.old.visited.places.keys self.new.visited.places.keys) }
+        ensures most { ReadsOneMore (F.reads files.old) (F.reads files.new)
             self.old.visited.places.keys self.new.visited.places.keys }
         ensures counted { IfOk result (λ event. first_bad (event_of event ∷ []) ≡ None
             → CountsMet cache.old cache.new
             self.old.visited.places.keys self.new.visited.places.keys) }
     {
+        self.path.reserve(1)?;
         match enter(self.setup, files, cache, at, &mut self.visited) {
-            Ok(page) => Ok(self.open_page(page)?),
+            Ok(page) => Ok(self.open_page(page)),
             Err(TreeFault::Damaged { .. }) => Ok(self.stop(at)),
             Err(TreeFault::File) => Err(TreeFault::File),
             Err(TreeFault::Memory) => Err(TreeFault::Memory),
         }
     }
 
-    /// Meets the next event: None where it met all.
+    /// Meets the next event: None where it met all. After an error it meets the same event by the next call.
     pub(crate) fn next<F: Files>(
         &mut self,
         files: &mut F,
@@ -216,16 +234,29 @@ impl Cursor {
             → GoesOn self.old.setup.place v (F.holds files.new) cache.new self.new.visited }
         ensures setup { self.new.setup ≡ self.old.setup }
         ensures cache { ReadsOnly (F.holds files.old) (F.holds files.new) cache.old cache.new }
+        ensures fewer { IfOk result (λ event. steps_left (walking_of self.new)
+            + length (events_of event) ≤ steps_left (walking_of self.old)) }
+        ensures same { OnErr result ((v : View) (seen : List ℕ)
+            → CanGo self.old.setup.place v (F.holds files.old) cache.old seen self.old
+            → Moves self.old.setup.place.block_length (nodes_at self.old.setup.place v) v.asked seen
+            self.old self.new []) }
+        ensures asked { (v : View) (seen : List ℕ)
+            → CanGo self.old.setup.place v (F.holds files.old) cache.old seen self.old
+            → ReadsAsked self.old.setup.place v (F.holds files.new) cache.new
+            (F.reads files.old) (F.reads files.new) self.old.visited.places.keys }
         ensures faults { IfErr result IsFileOrMemory }
         ensures cause { HasCause File (F.faults files.old) (F.faults files.new) result }
         ensures reads { F.reads files.old ≤ F.reads files.new }
-        ensures once { ReadsMet (F.reads files.old) (F.reads files.new)
+        ensures once { IfOk result (λ event. first_bad (events_of event) ≡ None
+            → ReadsMet (F.reads files.old) (F.reads files.new)
+            self.old.visited.places.keys self.new.visited.places.keys) }
+        ensures most { ReadsOneMore (F.reads files.old) (F.reads files.new)
             self.old.visited.places.keys self.new.visited.places.keys }
         ensures counted { IfOk result (λ event. first_bad (events_of event) ≡ None
             → CountsMet cache.old cache.new
             self.old.visited.places.keys self.new.visited.places.keys) }
     {
-        if let Some(event) = self.rise()? {
+        if let Some(event) = self.rise() {
             return Ok(Some(event));
         }
         match self.down {
@@ -256,23 +287,21 @@ impl Cursor {
         ensures cache { ReadsOnly (F.holds files.old) (F.holds files.new) cache.old cache.new }
         ensures cause { HasCause File (F.faults files.old) (F.faults files.new) result }
         ensures reads { F.reads files.old ≤ F.reads files.new }
-        ensures once { ReadsMet (F.reads files.old) (F.reads files.new)
-            self.old.visited.places.keys self.new.visited.places.keys }
+        ensures asked { (v : View)
+            → CanGo self.old.setup.place v (F.holds files.old) cache.old [] self.old
+            → ReadsAsked self.old.setup.place v (F.holds files.new) cache.new
+            (F.reads files.old) (F.reads files.new) self.old.visited.places.keys }
         ensures counted { OnOk result (CountsMet cache.old cache.new
             self.old.visited.places.keys self.new.visited.places.keys) }
     {
         let mut pairs = Vec::new(self.setup.alloc);
-        for _ in 0..u64::MAX {
-            let Some(event) = self.next(files, cache)? else {
-                return Ok(pairs);
-            };
+        while let Some(event) = self.next(files, cache)? {
             match event {
                 Event::Page { at: _ } => {}
                 Event::Pair { pair, at } => pairs.push((pair, at))?,
                 Event::Bad { at } => return Err(TreeFault::Damaged { at }),
             }
         }
-        // There are not so many places.
-        Err(TreeFault::Memory)
+        Ok(pairs)
     }
 }

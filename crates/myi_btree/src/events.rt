@@ -1,14 +1,14 @@
 //! `Events`: what a walk of a tree meets, one after the other.
-ghost use Rattle.std.specs.Prelude.{◌≡◌, ◌≤◌, ℕ, List, [], None, IfOk, IfErr, IsTrue};
+ghost use Rattle.std.specs.Prelude.{◌≡◌, ◌+◌, ◌≤◌, ℕ, List, [], length, None, IfOk, IfErr, OnErr, IsTrue};
 ghost use Rattle.myi_base.specs.Causes.{HasCause};
 ghost use Rattle.myi_btree.specs.declared.fault.TreeFault.TheVariants.{File};
 ghost use Rattle.myi_btree.specs.Sizes.{IsPlaced};
 ghost use Rattle.myi_btree.specs.Faults.{IsFileOrMemory};
 ghost use Rattle.myi_btree.specs.CachedTrees.{MayGet, ReadsOnly};
 ghost use Rattle.myi_btree.specs.Events.{first_bad};
-ghost use Rattle.myi_btree.specs.Visited.{CountsMet, ReadsMet};
+ghost use Rattle.myi_btree.specs.Visited.{CountsMet, ReadsMet, ReadsOneMore};
 ghost use Rattle.myi_btree.specs.Serving.{View, nodes_at, IsServed};
-ghost use Rattle.myi_btree.specs.Walking.{walk_at, IsOver, MayGo, Goes};
+ghost use Rattle.myi_btree.specs.Walking.{walk_at, steps_left, IsOver, MayGo, Goes};
 ghost use Rattle.myi_btree.specs.Cursors.{events_of};
 
 use crate::cursor::Cursor;
@@ -65,6 +65,16 @@ impl Events {
             self.old self.new (events_of event)) }
         ensures over { IfOk result (λ event. event ≡ None → IsOver self.new) }
 
+        // Each event makes the steps that are left fewer, so that a loop over events ends.
+        ensures fewer { IfOk result (λ event. steps_left self.new + length (events_of event)
+            ≤ steps_left self.old) }
+
+        // After an error the same is left: the next call tries the same place again.
+        ensures same { OnErr result ((v : View) (seen : List ℕ)
+            → MayGo self.old.place v (F.holds files.old) cache.old seen self.old
+            → Goes self.old.place.block_length (nodes_at self.old.place v) v.asked seen
+            self.old self.new []) }
+
         // The cache goes on serving the walk, at each answer.
         ensures served { (v : View) (seen : List ℕ)
             → MayGo self.old.place v (F.holds files.old) cache.old seen self.old
@@ -75,8 +85,12 @@ impl Events {
         ensures cause { HasCause File (F.faults files.old) (F.faults files.new) result }
         ensures reads { F.reads files.old ≤ F.reads files.new }
 
-        // No more is read than pages are met, and each page that is met is a read request.
-        ensures once { ReadsMet (F.reads files.old) (F.reads files.new) self.old.met self.new.met }
+        // No more is read than pages are met, and each page that is met is a read request. At an error and
+        // at a bad place one more may have been read, which was not met.
+        ensures once { IfOk result (λ event. first_bad (events_of event) ≡ None
+            → ReadsMet (F.reads files.old) (F.reads files.new) self.old.met self.new.met) }
+        ensures most { ReadsOneMore (F.reads files.old) (F.reads files.new)
+            self.old.met self.new.met }
         ensures counted { IfOk result (λ event. first_bad (events_of event) ≡ None
             → CountsMet cache.old cache.new self.old.met self.new.met) }
     {

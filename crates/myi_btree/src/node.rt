@@ -4,7 +4,7 @@
 ghost use Rattle.std.specs.Prelude.{◌≡◌, ◌≤◌, ◌++◌, take, IfOk, OnOk, option_map};
 ghost use Rattle.std.specs.Option.{option_to_list};
 ghost use Rattle.myi_btree.specs.Nodes.{node_view, key_in, node_in};
-ghost use Rattle.myi_btree.specs.Visited.{node_left};
+ghost use Rattle.myi_btree.specs.Visited.{IsCounted, node_left};
 
 use crate::visited::OpenPage;
 use myi_keylist::Pair;
@@ -32,6 +32,7 @@ impl NodeData {
     pub(crate) fn open(self, at: u64) -> OpenPage
         ensures at { result.at ≡ at }
         ensures left { node_left result ≡ node_view self }
+        ensures counted { IsCounted (node_left result) }
     {
         let NodeData { pairs, children } = self;
         OpenPage {

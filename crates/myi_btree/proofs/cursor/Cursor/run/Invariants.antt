@@ -3,11 +3,12 @@ use Rattle.myi_btree.specs.CachedTrees.{ReadsOnly, MayGet}
 use Rattle.myi_btree.specs.Events.{pairs_in}
 use Rattle.myi_btree.specs.Serving.{View}
 use Rattle.myi_btree.specs.Visited.{CountsMet, ReadsMet}
-use Rattle.myi_btree.specs.Cursors.{CanGo, RunsOn}
+use Rattle.myi_btree.specs.Walking.{steps_left}
+use Rattle.myi_btree.specs.Cursors.{CanGo, RunsOn, walking_of}
 use Rattle.myi_btree.proofs.cursor.Cursor.run.Given as goal
 
-abbrev pub invariant-loop : goal.invariant-loop
-invariant-loop g l = record {
+abbrev pub invariant-loop-pairs : goal.invariant-loop-pairs
+invariant-loop-pairs g l = record {
   setup : l.self.setup ≡ l.fn.self.setup;
   cache : ReadsOnly (g.F.Files.holds l.fn.files) (g.F.Files.holds l.files) l.fn.cache l.cache;
   kept : MayGet g.F.Files.writable l.cache;
@@ -18,3 +19,6 @@ invariant-loop g l = record {
   goes : (v : View) → CanGo l.fn.self.setup.place v (g.F.Files.holds l.fn.files) l.fn.cache [] l.fn.self
       → RunsOn l.fn.self.setup.place v (g.F.Files.holds l.files) l.cache l.fn.self l.self (λ es. pairs_in es ≡ l.pairs.items);
 }
+
+abbrev pub decreases-loop-pairs : goal.decreases-loop-pairs
+decreases-loop-pairs g l = steps_left (walking_of l.self)

@@ -1,11 +1,11 @@
-use Rattle.std.proofs.Common.{◌≡◌, ℕ, Option, List, [], length, sym, ap, subst, arith}
+use Rattle.std.proofs.Common.{◌≡◌, ℕ, Option, [], sym, subst}
 use Rattle.myi_base.specs.Holding.{Holding, IfTold}
 use Rattle.myi_keycache.specs.Caching.{Caching, IsCurrent}
 use Rattle.myi_btree.specs.declared.place.Place.{Place}
 use Rattle.myi_btree.specs.declared.place.TreeSetup.{TreeSetup}
 use Rattle.myi_btree.specs.Events.{FindsPairs, FindsBad, pairs_in}
 use Rattle.myi_btree.specs.CachedTrees.{node_lent, CanWalk, AddsNamed, ReadsOnce, CountsPages}
-use Rattle.myi_btree.specs.Serving.{View, view, nodes_at, GoesOn}
+use Rattle.myi_btree.specs.Serving.{View, view, nodes_at, GoesOn, ReadsAsked}
 use Rattle.myi_btree.specs.Cursors.{CanGo, Runs, RunsInto}
 use Rattle.myi_btree.proofs.NodeShape.{lent_shape}
 use Rattle.myi_btree.proofs.FewMet.{reads_told, counts_told}
@@ -75,9 +75,8 @@ returns-clause-once g c =
     let first : IsFirst c.new-2.result root = record { height = c.new-2.ensures.height; down = c.new-2.ensures.down; path = c.new-2.ensures.path; none = c.new-2.ensures.visited } in
     let may : CanWalk g.F.Files.writable told place cache = subst (λ (p : Place). CanWalk g.F.Files.writable told p cache) (sym c.self.view_is) c.requires.kept in
     subst (λ (p : Place). IfTold told (λ m. IsCurrent cache m → ReadsOnce p cache m (g.F.Files.reads c.args.files.now) (g.F.Files.reads c.run.new.files))) c.self.view_is
-    (reads_told g.F.Files.writable place told (g.F.Files.holds c.run.new.files) cache c.run.new.cache c.run.new.self.visited root (g.F.Files.reads c.args.files.now) (g.F.Files.reads c.run.new.files) may c.in-Some.is
-    (omega (arith, c.run.ensures.once, ap (λ (t : List ℕ). length t) c.new-2.ensures.visited))
-    (λ m b. (subst (λ (s : TreeSetup). (v : View) → CanGo s.place v (g.F.Files.holds c.args.files.now) c.args.cache.now [] c.new-2.result → GoesOn s.place v (g.F.Files.holds c.run.new.files) c.run.new.cache c.run.new.self.visited) c.new-2.ensures.setup c.run.ensures.served) (view cache m b.asked) (first_can place (view cache m b.asked) told cache root c.new-2.result b.serves b.at first)))
+    (reads_told g.F.Files.writable place told (g.F.Files.holds c.run.new.files) cache c.run.new.cache c.new-2.result.visited.places.keys root (g.F.Files.reads c.args.files.now) (g.F.Files.reads c.run.new.files) may c.in-Some.is c.new-2.ensures.visited
+    (λ m b. (subst (λ (s : TreeSetup). (v : View) → CanGo s.place v (g.F.Files.holds c.args.files.now) c.args.cache.now [] c.new-2.result → ReadsAsked s.place v (g.F.Files.holds c.run.new.files) c.run.new.cache (g.F.Files.reads c.args.files.now) (g.F.Files.reads c.run.new.files) c.new-2.result.visited.places.keys) c.new-2.ensures.setup c.run.ensures.asked) (view cache m b.asked) (first_can place (view cache m b.asked) told cache root c.new-2.result b.serves b.at first)))
 
 pub returns-clause-counted : goal.returns-clause-counted
 returns-clause-counted g c =
