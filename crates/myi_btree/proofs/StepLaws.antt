@@ -29,8 +29,14 @@ hand_of c path last is = ap (λ (t : List OpenPage). length (option_to_list c.do
 -- the last open page gave a pair and a child, where it had them
 pub steps_hand : (old new : Cursor) (path : List OpenPage) (last after : OpenPage) (given : Option Pair) → Steps old path last after given new → new.path.items ≡ path ++ after ∷ [] → at_hand (walking_of new) + length (option_to_list given) ≡ at_hand (walking_of old)
 steps_hand old new path last after given s items =
-    omega (arith, hand_of old path last s.items, hand_of new path after items, ap (λ (d : Option ℕ). length (option_to_list d)) s.down,
-    takes_one given (into_iter_items last.pairs) (into_iter_items after.pairs) s.pair, takes_one new.down (into_iter_items last.children) (into_iter_items after.children) s.child)
+    omega (
+      arith,
+      hand_of old path last s.items,
+      hand_of new path after items,
+      ap (λ (d : Option ℕ). length (option_to_list d)) s.down,
+      takes_one given (into_iter_items last.pairs) (into_iter_items after.pairs) s.pair,
+      takes_one new.down (into_iter_items last.children) (into_iter_items after.children) s.child,
+    )
 
 -- it had none, and was left
 pub steps_gone : (old new : Cursor) (path : List OpenPage) (last after : OpenPage) → Steps old path last after None new → new.down ≡ None → new.path.items ≡ path → at_hand (walking_of new) ≤ at_hand (walking_of old)
