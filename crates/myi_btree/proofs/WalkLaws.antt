@@ -21,7 +21,7 @@ use Rattle.myi_keycache.specs.declared.setup.CacheFault.TheVariants as cache
 use Rattle.myi_btree.specs.declared.fault.TreeFault.{TreeFault}
 use Rattle.myi_btree.specs.declared.fault.TreeFault.TheVariants.{Damaged}
 use Rattle.myi_btree.specs.declared.place.Place.{Place}
-use Rattle.myi_btree.specs.Faults.{fault_of}
+use Rattle.myi_btree.specs.Faults.{IsToldAs}
 use Rattle.myi_btree.specs.Walk.{Node, Places}
 use Rattle.myi_btree.specs.Nodes.{node_in}
 use Rattle.myi_btree.specs.CachedTrees.{node_lent}
@@ -49,10 +49,10 @@ unfolding node_lent
 lent_is place cache m at bytes found whole e f = rw (eq-eqb (at % 1024) 0 whole, e) (sym f)
 
 -- a fault of the cache that is a damage says that the file ends before
-pub short_only : (f : CacheFault) (x : TreeFault) (p : ℕ) → x ≡ fault_of f → x ≡ Damaged p → f ≡ cache.Short p
-short_only (cache.Short at) x p e d = let k : Damaged at ≡ Damaged p = sym e ∙ d in let q : at ≡ p = cc in ap cache.Short q
-short_only cache.File x p e d = absurd cc
-short_only cache.Memory x p e d = absurd cc
+pub short_only : (f : CacheFault) (x : TreeFault) (p : ℕ) → IsToldAs f x → x ≡ Damaged p → f ≡ cache.Short p
+short_only f x p (inl (inl file)) d = let k = sym d ∙ file.1 in absurd cc
+short_only f x p (inl (inr memory)) d = let k = sym d ∙ memory.1 in absurd cc
+short_only f x p (inr (at, e, t)) d = let k : Damaged at ≡ Damaged p = sym t ∙ d in let q : at ≡ p = cc in e ∙ ap cache.Short q
 
 pub if_err : {T : Type 0} (r : Result T TreeFault) (x : TreeFault) (P : TreeFault → Type 0) → r ≡ Err x → P x → IfErr r P
 if_err r x P e h = rw e h

@@ -17,10 +17,9 @@ pub enum TreeFault {
 }
 
 impl From<CacheFault> for TreeFault {
-    ghost use Rattle.std.specs.Prelude.{◌≡◌};
-    ghost use Rattle.myi_btree.specs.Faults.{fault_of};
+    ghost use Rattle.myi_btree.specs.Faults.{IsToldAs};
 
-    ghost from_gives = { λ e f. f ≡ fault_of e };
+    ghost from_gives = { IsToldAs };
 
     fn from(fault: CacheFault) -> Self {
         match fault {

@@ -10,7 +10,6 @@ pub mod LinkLemmas
 pub mod ReleasedLemmas
 pub mod HoleLemmas
 pub mod NeedLemmas
-pub mod CutLemmas
 pub mod PlanLemmas
 pub mod FreeLemmas
 pub mod MergeLemmas

@@ -20,11 +20,11 @@ pub enum FreeFault {
 }
 
 impl From<FileErr> for FreeFault {
-    ghost use Rattle.std.specs.Prelude.{◌≡◌};
-    ghost use Rattle.myi_io.specs.Faults.{handed_on};
+    ghost use Rattle.myi_base.specs.HandsOn.{HandsOn};
+    ghost use Rattle.myi_io.specs.declared.files.FileErr.TheVariants as file;
     ghost use Rattle.myi_dellist.specs.declared.fault.FreeFault.TheVariants.{File, Memory};
 
-    ghost from_gives = { λ e f. f ≡ handed_on File Memory e };
+    ghost from_gives = { HandsOn (file.Failed, File) (file.Memory, Memory) };
 
     fn from(error: FileErr) -> Self {
         match error {

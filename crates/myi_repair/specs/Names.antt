@@ -4,11 +4,8 @@ use Rattle.std.specs.Prelude.{◌≡◌, ◌≢◌, ◌⊎◌, ◌≤◌, ◌+�
 use Rattle.myi_base.specs.Holding.{Holding}
 use Rattle.myi_repair.specs.declared.names.TableFiles.{TableFiles}
 
-abbrev pub rows_file : List ℕ → List ℕ
-rows_file name = name ++ codes ".MYD"
-
-abbrev pub index_file : List ℕ → List ℕ
-index_file name = name ++ codes ".MYI"
+-- the data file and the index file
+pub use Rattle.myi_opening.specs.Names.{rows_file, index_file}
 
 -- the new data file and the new index file, until they are whole
 abbrev pub new_rows_file : List ℕ → List ℕ

@@ -5,15 +5,9 @@ ghost use Rattle.myi_repair.specs.declared.fault.RepairFault.TheVariants.{Memory
 use myi_chain::ScanFault;
 use myi_defs::DefFault;
 use myi_io::FileErr;
+use myi_opening::{TableFault, TableFile};
 use std::alloc::{AllocError, AllocFailed};
 use thiserror::Error;
-
-/// One of the two files of a table.
-#[derive(Clone, Copy, Debug, PartialEq, Eq)]
-pub enum TableFile {
-    Index,
-    Data,
-}
 
 /// Why a table is not repaired. `Absent`, `Def` and `TooLong` are said in this order, before anything is
 /// changed.
@@ -51,12 +45,28 @@ impl<T: Drop> From<AllocFailed<T>> for RepairFault {
     }
 }
 
-impl From<FileErr> for RepairFault {
+impl From<TableFault> for RepairFault {
     ghost use Rattle.std.specs.Prelude.{◌≡◌};
-    ghost use Rattle.myi_io.specs.Faults.{handed_on};
+    ghost use Rattle.myi_repair.specs.Faults.{repair_fault};
+
+    ghost from_gives = { λ e f. f ≡ repair_fault e };
+
+    fn from(fault: TableFault) -> Self {
+        match fault {
+            TableFault::Absent(file) => RepairFault::Absent(file),
+            TableFault::Def(fault) => RepairFault::Def(fault),
+            TableFault::File => RepairFault::File,
+            TableFault::Memory => RepairFault::Memory,
+        }
+    }
+}
+
+impl From<FileErr> for RepairFault {
+    ghost use Rattle.myi_base.specs.HandsOn.{HandsOn};
+    ghost use Rattle.myi_io.specs.declared.files.FileErr.TheVariants as file;
     ghost use Rattle.myi_repair.specs.declared.fault.RepairFault.TheVariants.{File, Memory};
 
-    ghost from_gives = { λ e f. f ≡ handed_on File Memory e };
+    ghost from_gives = { HandsOn (file.Failed, File) (file.Memory, Memory) };
 
     fn from(error: FileErr) -> Self {
         match error {

@@ -23,7 +23,7 @@ use crate::fault::RepairFault;
 use crate::names::TableFiles;
 use crate::new_rows::NewRows;
 use crate::next_row::NextRow;
-use crate::opening::{OpenedTable, open_table};
+use crate::opening::open_reached;
 use crate::report::Report;
 use myi_base::Sequence;
 use myi_data::{DataFile, DataScan};
@@ -107,7 +107,7 @@ pub(crate) fn gather_table<F: Files>(
     ensures ends { Ends (names_of table.now) (F.holds files.old) (F.holds files.new)
         (F.faults files.old) (F.faults files.new) result }
 {
-    let opened = open_table(alloc, files, table)?;
+    let opened = open_reached(alloc, files, table)?;
     match gather_opened(alloc, files, table, opened, extend) {
         Ok(gathered) => Ok(gathered),
         Err(fault) => {

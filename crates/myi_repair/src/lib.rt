@@ -34,7 +34,7 @@ mod report;
 mod trees;
 mod writing;
 
-pub use fault::{RepairFault, TableFile};
+pub use fault::RepairFault;
 pub use finishing::finish;
 pub use gathering::{Gathered, gather};
 pub use laws::laid_trees_are_finished;

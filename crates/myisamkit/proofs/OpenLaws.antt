@@ -7,7 +7,7 @@ use Rattle.myi_defs.specs.declared.types.DefFault.{DefFault}
 use Rattle.myi_defs.specs.declared.types.DefFault.TheVariants as fault
 use Rattle.myi_defs.specs.ReadDefs.{read_defs}
 use Rattle.myi_defs.proofs.CallerLemmas.{read_defs-take}
-use Rattle.myi_repair.specs.declared.fault.TableFile.TheVariants.{Index, Data}
+use Rattle.myi_opening.specs.declared.fault.TableFile.TheVariants.{Index, Data}
 use Rattle.myi_repair.specs.declared.fault.RepairFault.{RepairFault}
 use Rattle.myi_repair.specs.declared.fault.RepairFault.TheVariants.{Absent, Def, Memory}
 use Rattle.myi_repair.specs.Names.{FourNames}

@@ -3,8 +3,8 @@ use Rattle.std.specs.Prelude.{ℕ, List, [], ◌++◌, codes, decimal}
 use Rattle.myi_defs.specs.declared.types.DefFault.{DefFault}
 use Rattle.myi_defs.specs.declared.types.DefFault.TheVariants as fault
 use Rattle.myi_repair.specs.declared.report.Report.{Report}
-use Rattle.myi_repair.specs.declared.fault.TableFile.{TableFile}
-use Rattle.myi_repair.specs.declared.fault.TableFile.TheVariants as file
+use Rattle.myi_opening.specs.declared.fault.TableFile.{TableFile}
+use Rattle.myi_opening.specs.declared.fault.TableFile.TheVariants as file
 use Rattle.myi_repair.specs.declared.fault.RepairFault.{RepairFault}
 use Rattle.myi_repair.specs.declared.fault.RepairFault.TheVariants as repair
 use Rattle.myi_repair.specs.Names.{rows_file, index_file}

@@ -4,7 +4,7 @@ use Rattle.myi_base.specs.Holding.{Holding}
 use Rattle.myi_defs.specs.declared.types.Defs.{Defs}
 use Rattle.myi_defs.specs.declared.types.DefFault.{DefFault}
 use Rattle.myi_defs.specs.ReadDefs.{read_defs}
-use Rattle.myi_repair.specs.declared.fault.TableFile.TheVariants.{Index, Data}
+use Rattle.myi_opening.specs.declared.fault.TableFile.TheVariants.{Index, Data}
 use Rattle.myi_repair.specs.declared.fault.RepairFault.{RepairFault}
 use Rattle.myi_repair.specs.declared.fault.RepairFault.TheVariants.{Absent, Def}
 use Rattle.myi_repair.specs.Names.{FourNames}

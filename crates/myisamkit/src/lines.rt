@@ -3,7 +3,8 @@ ghost use Rattle.std.specs.Prelude.{◌≡◌, string_bytes, IfOk};
 ghost use Rattle.myisamkit.specs.Lines as spec;
 
 use myi_defs::DefFault;
-use myi_repair::{Report, TableFile};
+use myi_opening::TableFile;
+use myi_repair::Report;
 use std::alloc::{AllocError, Global};
 
 pub(crate) fn usage_line() -> &'static str

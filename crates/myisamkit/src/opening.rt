@@ -10,7 +10,8 @@ ghost use Rattle.myisamkit.specs.Opening.{defs_or, HasDefs, LacksDefs};
 use crate::lines::file_of;
 use myi_defs::{DefFault, Defs, read_defs};
 use myi_io::{Files, read_front};
-use myi_repair::{RepairFault, TableFile};
+use myi_opening::TableFile;
+use myi_repair::RepairFault;
 use std::alloc::Global;
 
 /// No header is longer, in bytes.

@@ -71,10 +71,11 @@ impl From<AllocError> for Stop {
 }
 
 impl From<SinkErr> for Stop {
-    ghost use Rattle.std.specs.Prelude.{◌≡◌};
-    ghost use Rattle.myisamkit.specs.Stops.{stop_of_sink};
+    ghost use Rattle.myi_base.specs.HandsOn.{HandsOn};
+    ghost use Rattle.myi_io.specs.declared.sink.SinkErr.TheVariants as sink;
+    ghost use Rattle.myisamkit.specs.declared.status.Stop.TheVariants.{Sink, Memory};
 
-    ghost from_gives = { λ e stop. stop ≡ stop_of_sink e };
+    ghost from_gives = { HandsOn (sink.Failed, Sink) (sink.Memory, Memory) };
 
     fn from(error: SinkErr) -> Self {
         match error {

@@ -1,0 +1,8 @@
+//! Checking a table: what is wrong with its two files, of each section the first failing thing.
+//!
+//! What is found is `findings` of `Rattle.myi_pair.specs.Findings`, over the bytes of the two files.
+#![tactic(auto)]
+
+mod check;
+
+pub use check::check;

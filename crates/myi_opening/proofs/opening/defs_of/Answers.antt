@@ -1,0 +1,1 @@
+use Rattle.myi_opening.proofs.opening.defs_of.Goals as goal

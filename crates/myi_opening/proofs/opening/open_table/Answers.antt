@@ -1,0 +1,1 @@
+use Rattle.myi_opening.proofs.opening.open_table.Goals as goal
