@@ -3,12 +3,12 @@ use Rattle.std.proofs.Common.{◌≡◌, ◌⊎◌, Bool, true, false, List, [],
 use Rattle.std.specs.Prelude.{◌&&◌, not, if◌then◌else◌, codes, is_some}
 use Rattle.std.specs.List.{list_all}
 use Rattle.std.specs.Str.{bytes_eq}
-use Rattle.std.proofs.lemmas.Bool.{cases_Bool}
+use Rattle.std.proofs.lemmas.Bool.{cases_Bool, false_from_ne_true}
 use Rattle.std.proofs.lemmas.Slice.Eq.{bytes_eq-Decides}
 use Rattle.myisamkit.specs.declared.options.Options.{Options}
-use Rattle.myisamkit.specs.Words.{usage, chk, plan, plan_chk, are_accepted, is_empty, is_name, is_built, names_in, flags_in, table_name}
+use Rattle.myisamkit.specs.Words.{usage, chk, plan, plan_chk, are_accepted, is_empty, is_name, names_in, flags_in, table_name}
 use Rattle.myisamkit.specs.Options.{is_mode, is_extend, is_force, at_most_one, go_together, options_in}
-use Rattle.myisamkit.specs.Asked.{AreChk, AreRefused, no_command, no_name, bad_name, unknown_option, two_modes, extend_twice, force_twice, not_built}
+use Rattle.myisamkit.specs.Asked.{AreChk, AreRefused, no_command, no_name, bad_name, unknown_option, two_modes, extend_twice, force_twice}
 
 first_holds : (a b : Bool) → (a && b) ≡ true → a ≡ true
 first_holds true b e = refl
@@ -38,18 +38,19 @@ accepted others o tables is = by_case (cases_Bool (are_accepted others))
     of_parts : are_accepted others ≡ true → options_in (flags_in others) ≡ o → map table_name (names_in others) ≡ tables → AreChk (codes "chk" ∷ others) o tables
     of_parts all options names =
         let first = first_holds (not (is_empty (names_in others)) && list_all is_name (names_in others)) _ all in
-        let second = second_holds (not (is_empty (names_in others)) && list_all is_name (names_in others)) _ all in
-        let together = first_holds (go_together (flags_in others)) _ second in
+        let second = second_holds (not (is_empty (names_in others)) && list_all is_name (names_in others)) (go_together (flags_in others)) all in
+        let rest = second_holds (at_most_one is_mode (flags_in others)) _ (second_holds (list_all is_some (flags_in others)) _ second) in
         subst (λ t. AreChk (codes "chk" ∷ others) o t) names (subst (λ p. AreChk (codes "chk" ∷ others) p (map table_name (names_in others))) options record {
           others = others;
           command = refl;
           named = not_true _ (first_holds (not (is_empty (names_in others))) _ first);
           in_form = second_holds (not (is_empty (names_in others))) _ first;
           tables_are = refl;
-          known = first_holds (list_all is_some (flags_in others)) _ together;
-          one_mode = first_holds (at_most_one is_mode (flags_in others)) _ (second_holds (list_all is_some (flags_in others)) _ together);
+          known = first_holds (list_all is_some (flags_in others)) _ second;
+          one_mode = first_holds (at_most_one is_mode (flags_in others)) _ (second_holds (list_all is_some (flags_in others)) _ second);
+          extend_once = first_holds (at_most_one is_extend (flags_in others)) _ rest;
+          force_once = second_holds (at_most_one is_extend (flags_in others)) _ rest;
           mode = refl;
-          built = second_holds (go_together (flags_in others)) _ second;
           extend = refl;
           force = refl;
           silent = refl;
@@ -91,17 +92,13 @@ why command others none = by_parts (one_fails (not (is_empty (names_in others)) 
     by_flags (inl unknown) = unknown_option command others refl unknown
     by_flags (inr rest) = by_mode (one_fails (at_most_one is_mode (flags_in others)) _ rest)
 
-    by_options : (go_together (flags_in others) ≡ false) ⊎ (is_built (options_in (flags_in others)).mode ≡ false) → AreRefused (command ∷ others)
-    by_options (inl together) = by_flags (one_fails (list_all is_some (flags_in others)) _ together)
-    by_options (inr built) = not_built command others refl built
-
     by_names : (not (is_empty (names_in others)) ≡ false) ⊎ (list_all is_name (names_in others) ≡ false) → AreRefused (command ∷ others)
     by_names (inl empty) = no_name command others refl (not_false _ empty)
     by_names (inr form) = bad_name command others refl form
 
-    by_parts : ((not (is_empty (names_in others)) && list_all is_name (names_in others)) ≡ false) ⊎ ((go_together (flags_in others) && is_built (options_in (flags_in others)).mode) ≡ false) → AreRefused (command ∷ others)
+    by_parts : ((not (is_empty (names_in others)) && list_all is_name (names_in others)) ≡ false) ⊎ (go_together (flags_in others) ≡ false) → AreRefused (command ∷ others)
     by_parts (inl names) = by_names (one_fails (not (is_empty (names_in others))) _ names)
-    by_parts (inr options) = by_options (one_fails (go_together (flags_in others)) _ options)
+    by_parts (inr options) = by_flags (one_fails (list_all is_some (flags_in others)) _ options)
 
 pub words_refused : (words : List (List ℕ)) → plan words ≡ usage → AreRefused words
 words_refused [] is = no_command (λ others e. cc)
@@ -114,3 +111,45 @@ words_refused (command ∷ others) is = by_command (cases_Bool (bytes_eq command
     by_command : (bytes_eq command (codes "chk") ≡ true) ⊎ (bytes_eq command (codes "chk") ≡ false) → AreRefused (command ∷ others)
     by_command (inl same) = why command others (not_refused (are_accepted others) (sym (ap (λ b. if b then plan_chk others else usage) same) ∙ is))
     by_command (inr other) = no_command (λ rest e. let same : command ≡ codes "chk" = cc in let both = (bytes_eq-Decides command (codes "chk")).1 same in let clash : true ≡ false = sym both ∙ other in cc)
+
+-- ---- words with a reason are refused
+
+left_fails : (a b : Bool) → a ≡ false → (a && b) ≡ false
+left_fails true b e = absurd cc
+left_fails false b e = refl
+
+right_fails : (a b : Bool) → b ≡ false → (a && b) ≡ false
+right_fails true b e = e
+right_fails false b e = refl
+
+not_accepted : (words : List (List ℕ)) (command : List ℕ) (others : List (List ℕ)) → words ≡ command ∷ others → are_accepted others ≡ false → plan words ≡ usage
+not_accepted words command others is none = ap plan is ∙ by (bytes_eq command (codes "chk"))
+  where
+    refused : plan_chk others ≡ usage
+    refused = ap (λ b. if b then chk (options_in (flags_in others)) (map table_name (names_in others)) else usage) none
+
+    by : (b : Bool) → (if b then plan_chk others else usage) ≡ usage
+    by true = refused
+    by false = refl
+
+flags_fail : (others : List (List ℕ)) → go_together (flags_in others) ≡ false → are_accepted others ≡ false
+flags_fail others none = right_fails (not (is_empty (names_in others)) && list_all is_name (names_in others)) _ none
+
+rest_fails : (others : List (List ℕ)) → (at_most_one is_mode (flags_in others) && (at_most_one is_extend (flags_in others) && at_most_one is_force (flags_in others))) ≡ false → are_accepted others ≡ false
+rest_fails others none = flags_fail others (right_fails (list_all is_some (flags_in others)) _ none)
+
+twice_fails : (others : List (List ℕ)) → (at_most_one is_extend (flags_in others) && at_most_one is_force (flags_in others)) ≡ false → are_accepted others ≡ false
+twice_fails others none = rest_fails others (right_fails (at_most_one is_mode (flags_in others)) _ none)
+
+pub reasons_refuse : (words : List (List ℕ)) → AreRefused words → plan words ≡ usage
+reasons_refuse words (no_command none) = by words none
+  where
+    by : (words : List (List ℕ)) → ((others : List (List ℕ)) → words ≡ codes "chk" ∷ others → ⊥) → plan words ≡ usage
+    by [] none = refl
+    by (command ∷ others) none = ap (λ b. if b then plan_chk others else usage) (false_from_ne_true _ (λ same. none others (ap (λ c. c ∷ others) ((bytes_eq-Decides command (codes "chk")).0 same))))
+reasons_refuse words (no_name command others is none) = not_accepted words command others is (left_fails _ (go_together (flags_in others)) (left_fails _ (list_all is_name (names_in others)) (ap not none)))
+reasons_refuse words (bad_name command others is bad) = not_accepted words command others is (left_fails _ (go_together (flags_in others)) (right_fails (not (is_empty (names_in others))) _ bad))
+reasons_refuse words (unknown_option command others is unknown) = not_accepted words command others is (flags_fail others (left_fails _ (at_most_one is_mode (flags_in others) && (at_most_one is_extend (flags_in others) && at_most_one is_force (flags_in others))) unknown))
+reasons_refuse words (two_modes command others is two) = not_accepted words command others is (rest_fails others (left_fails _ (at_most_one is_extend (flags_in others) && at_most_one is_force (flags_in others)) two))
+reasons_refuse words (extend_twice command others is twice) = not_accepted words command others is (twice_fails others (left_fails _ (at_most_one is_force (flags_in others)) twice))
+reasons_refuse words (force_twice command others is twice) = not_accepted words command others is (twice_fails others (right_fails (at_most_one is_extend (flags_in others)) _ twice))

@@ -1,8 +1,8 @@
 pub mod OptionLaws
 pub mod WordLaws
 pub mod SinkLaws
-pub mod OpenLaws
 pub mod TurnLaws
+pub mod CheckLaws
 pub mod TableLaws
 pub mod AskedLaws
 pub mod OtherLaws

@@ -15,10 +15,10 @@ use Rattle.myisamkit.specs.declared.options.Options.{Options}
 use Rattle.myisamkit.specs.declared.status.Status.{Status}
 use Rattle.myisamkit.specs.declared.status.Status.TheVariants as status
 use Rattle.myisamkit.specs.Words.{Request, usage, chk}
-use Rattle.myisamkit.specs.Turns.{replaced, repair_turn, turn, turn_by, CutsTurnOff, CutsTurnOffBy}
+use Rattle.myisamkit.specs.Turns.{replaced, repair_turn, without_extend, goes_on, check_turn_by, turn, turn_by, CheckCutOff, CutsTurnOff, CutsTurnOffBy, TurnDone, FailsInTurn, FailsInTurnBy}
 use Rattle.myisamkit.specs.Runs.{TablesDone, CutsTablesOff, FailsInTables, TablesLeave, Leaves, IsApart, IsNoFileOf, KeepsOthers}
 
-other_name : (q name : List ℕ) → q ≢ name → bytes_eq q name ≡ false
+pub other_name : (q name : List ℕ) → q ≢ name → bytes_eq q name ≡ false
 other_name q name apart = false_from_ne_true _ (λ same. apart ((bytes_eq-Decides q name).0 same))
 
 replaced_keeps : (t : FourNames) (d x : List ℕ) (m : Holding) (q : List ℕ) → IsApart q t → replaced t d x m q ≡ m q
@@ -39,19 +39,40 @@ turn_keeps : (o : Options) (now : ℕ) (name : List ℕ) (m : Holding) (q : List
 unfolding turn
 turn_keeps o now name m q apart = by_mode o.mode
   where
+    by_check : (b : Bool) → (check_turn_by b o now name m).files q ≡ m q
+    by_check false = refl
+    by_check true = repair_keeps (without_extend o) now name (table_in (names_for name) m) m q apart
+
     by_mode : (mode : Mode) → (turn_by mode o now name m).files q ≡ m q
     by_mode Recover = repair_keeps o now name (table_in (names_for name) m) m q apart
-    by_mode Check = refl
+    by_mode Check = by_check (goes_on o name m)
     by_mode Describe = refl
 
 cut_keeps : (o : Options) (now told before after : ℕ) (name : List ℕ) (m n : Holding) (q : List ℕ) → IsApart q (names_for name) → CutsTurnOff o now told before after name m n → n q ≡ m q
 unfolding CutsTurnOff
 cut_keeps o now told before after name m n q apart cut = by_mode o.mode cut
   where
+    by_check : (b : Bool) → CheckCutOff b o now told before after name m n → n q ≡ m q
+    by_check false same = ap (λ (h : Holding). h q) same
+    by_check true cut = cut.others q apart.rows apart.index apart.new_rows apart.new_index
+
     by_mode : (mode : Mode) → CutsTurnOffBy mode o now told before after name m n → n q ≡ m q
     by_mode Recover cut = cut.others q apart.rows apart.index apart.new_rows apart.new_index
-    by_mode Check cut = ap (λ (h : Holding). h q) cut
+    by_mode Check cut = by_check (goes_on o name m) cut
     by_mode Describe cut = ap (λ (h : Holding). h q) cut
+
+fail_keeps : (o : Options) (now : ℕ) (name : List ℕ) (m n : Holding) (q : List ℕ) → IsApart q (names_for name) → FailsInTurn o now name m n → n q ≡ m q
+unfolding FailsInTurn
+fail_keeps o now name m n q apart fails = by_mode o.mode fails
+  where
+    by_done : TurnDone o now name m n → n q ≡ m q
+    by_done done = ap (λ (h : Holding). h q) done.files ∙ turn_keeps o now name m q apart
+
+    by_mode : (mode : Mode) → FailsInTurnBy mode o now name m n → n q ≡ m q
+    by_mode Recover done = by_done done
+    by_mode Check (inl same) = ap (λ (h : Holding). h q) same
+    by_mode Check (inr done) = by_done done
+    by_mode Describe same = ap (λ (h : Holding). h q) same
 
 done_keeps : (o : Options) (now : ℕ) (names : List (List ℕ)) (m n : Holding) (q : List ℕ) → IsNoFileOf q names → TablesDone o now names m n → n q ≡ m q
 done_keeps o now [] m n q apart done = ap (λ (h : Holding). h q) done
@@ -64,7 +85,7 @@ off_keeps o now told before after (name ∷ names) m n q apart (inr off) = off_k
 
 fails_keeps : (o : Options) (now : ℕ) (names : List (List ℕ)) (m n : Holding) (q : List ℕ) → IsNoFileOf q names → FailsInTables o now names m n → n q ≡ m q
 fails_keeps o now [] m n q apart fails = absurd fails
-fails_keeps o now (name ∷ names) m n q apart (inl done) = ap (λ (h : Holding). h q) done.files ∙ turn_keeps o now name m q apart.0
+fails_keeps o now (name ∷ names) m n q apart (inl fails) = fail_keeps o now name m n q apart.0 fails
 fails_keeps o now (name ∷ names) m n q apart (inr fails) = fails_keeps o now names (turn o now name m).files n q apart.1 fails.1 ∙ turn_keeps o now name m q apart.0
 
 tables_keep : (o : Options) (now before after : ℕ) (names : List (List ℕ)) (s : Status) (m n : Holding) (q : List ℕ) → IsNoFileOf q names → TablesLeave o now before after names s m n → n q ≡ m q

@@ -1,8 +1,20 @@
 -- What the status and the files of a run make of a table that can be repaired.
-use Rattle.std.proofs.Common.{◌≡◌, ◌⊎◌, ℕ, List, [], ◌∷◌, Option, refl, subst, ap, ◌∙◌, inl, inr}
+use Rattle.std.proofs.Common.{◌≡◌, ◌≢◌, ◌⊎◌, ◌++◌, get_or, arith, ℕ, Bool, true, false, List, [], ◌∷◌, take, Option, Some, None, Ok, refl, sym, subst, ap, ◌∙◌, inl, inr}
+use Rattle.std.specs.Prelude.{codes, ◌||◌, if◌then◌else◌}
+use Rattle.std.specs.Str.{bytes_eq}
+use Rattle.std.proofs.lemmas.Slice.Eq.{bytes_eq-Decides}
+use Rattle.std.proofs.lemmas.List.{append_cancel_left}
+use Rattle.myi_base.specs.Numbers.{num_at}
 use Rattle.myi_base.specs.Holding.{Holding, IfTold, Told}
 use Rattle.myi_defs.specs.declared.types.Defs.{Defs}
-use Rattle.myi_repair.specs.Names.{names_for}
+use Rattle.myi_opening.specs.Names.{rows_file, index_file}
+use Rattle.myi_opening.proofs.CallerLemmas.{table_opened}
+use Rattle.myi_pair.specs.RecoveredBytes.{new_data, new_index}
+use Rattle.myi_pair.specs.Recovered.{Recovered}
+use Rattle.myi_pair.proofs.CallerLemmas.{none_where_clean}
+use Rattle.myi_check.specs.Checking.{findings_by, findings_in, Finds}
+use Rattle.myi_repair.specs.Names.{names_for, new_rows_file, new_index_file}
+use Rattle.myisamkit.proofs.OtherLaws.{other_name}
 use Rattle.myi_repair.specs.Opening.{IsTable}
 use Rattle.myisamkit.specs.declared.status.Status.{Status}
 use Rattle.myisamkit.specs.declared.status.Status.TheVariants as status
@@ -13,29 +25,66 @@ use Rattle.myisamkit.specs.declared.options.Options.{Options}
 use Rattle.myisamkit.specs.Words.{Request, chk}
 use Rattle.myisamkit.specs.Statuses.{IsFault, worse}
 use Rattle.myisamkit.specs.Stops.{status_of_stop}
-use Rattle.myisamkit.specs.Turns.{turn, turn_by, repair_turn, TurnRecovers, TurnRecoversBy}
+use Rattle.myisamkit.specs.Turns.{replaced, turn, turn_by, repair_turn, TurnRecovers, TurnRecoversBy, TurnDone, FailsInTurn, FailsInTurnBy}
 use Rattle.myisamkit.specs.Runs.{run_of, IsOrFault, Leaves}
 use Rattle.myisamkit.specs.Recovers.{IsRepaired, Recovers}
+
+-- what files hold that took a table's place
+placed_rows : (name d x : List ℕ) (m : Holding) → replaced (names_for name) d x m (rows_file name) ≡ Some d
+placed_rows name d x m = rw ((bytes_eq-Decides (rows_file name) (rows_file name)).1 refl) refl
+
+differ : (name a b : List ℕ) → get_or a 3 0 ≡ 73 → get_or b 3 0 ≡ 68 → name ++ a ≢ name ++ b
+differ name a b i d same = let other = ap (λ xs. get_or xs 3 0) (append_cancel_left name a b same) in omega (arith, i, d, other)
+
+placed_index : (name d x : List ℕ) (m : Holding) → replaced (names_for name) d x m (index_file name) ≡ Some x
+placed_index name d x m = by (bytes_eq (index_file name) (rows_file name)) (bytes_eq (index_file name) (index_file name)) (other_name (index_file name) (rows_file name) (differ name (codes ".MYI") (codes ".MYD") refl refl)) ((bytes_eq-Decides (index_file name) (index_file name)).1 refl)
+  where
+    by : (a b : Bool) → a ≡ false → b ≡ true → (if a then Some d else (if b then Some x else (if bytes_eq (index_file name) (new_rows_file name) || bytes_eq (index_file name) (new_index_file name) then None else m (index_file name)))) ≡ Some x
+    by true b other same = absurd cc
+    by false false other same = absurd cc
+    by false true other same = refl
+
+-- nothing is wrong with a table that a repair left
+sound_after : (name : List ℕ) (defs : Defs) (extend : Bool) (d : List ℕ) (now : ℕ) (m n : Holding) (e y : List ℕ) → n ≡ replaced (names_for name) e y m → Recovered defs extend d now e y → Finds name [] n
+unfolding findings_in
+sound_after name defs extend d now m n e y files made =
+    let again = record defs { raw = take (num_at 6 2 defs.raw) y } in
+    let data = ap (λ (h : Holding). h (rows_file name)) files ∙ placed_rows name e y m in
+    let keys = ap (λ (h : Holding). h (index_file name)) files ∙ placed_index name e y m in
+    ap findings_by (table_opened (index_file name) (rows_file name) y e again n keys data made.rebuilt.definitions)
+    ∙ ap Ok (none_where_clean again e y made.rebuilt.definitions made.rebuilt.clean)
 
 -- the table had its turn
 repaired : (o : Options) (now : ℕ) (name : List ℕ) (defs : Defs) (d : List ℕ) (m n : Holding) → o.mode ≡ Recover → IsTable (names_for name) defs d m → n ≡ (turn o now name m).files → TurnRecovers o now name m → IsRepaired o now name defs d m n
 unfolding turn TurnRecovers
 repaired o now name defs d m n mode table files recovers = record {
-  files = subst (λ t. n ≡ (repair_turn o now name t m).files) table (subst (λ k. n ≡ (turn_by k o now name m).files) mode files);
-  recovered = subst (λ k. TurnRecoversBy k o now name m) mode recovers defs d table;
+  files = placed;
+  recovered = made;
+  sound = sound_after name defs o.extend d now m n (new_data defs o.extend d) (new_index defs o.extend d now) placed made;
 }
+  where
+    placed : n ≡ replaced (names_for name) (new_data defs o.extend d) (new_index defs o.extend d now) m
+    placed = subst (λ t. n ≡ (repair_turn o now name t m).files) table (subst (λ k. n ≡ (turn_by k o now name m).files) mode files)
+
+    made : Recovered defs o.extend d now (new_data defs o.extend d) (new_index defs o.extend d now)
+    made = subst (λ k. TurnRecoversBy k o now name m) mode recovers defs d table
 
 -- its status, where nothing cuts the run off
 status_of : (o : Options) (now : ℕ) (name : List ℕ) (defs : Defs) (d : List ℕ) (m : Holding) → o.mode ≡ Recover → IsTable (names_for name) defs d m → (turn o now name m).status ≡ status.Ok
 unfolding turn
 status_of o now name defs d m mode table = ap (λ k. (turn_by k o now name m).status) mode ∙ ap (λ t. (repair_turn o now name t m).status) table
 
+-- and so it had where the output failed in it
+failed : (o : Options) (now : ℕ) (name : List ℕ) (m n : Holding) → o.mode ≡ Recover → FailsInTurn o now name m n → TurnDone o now name m n
+unfolding FailsInTurn
+failed o now name m n mode fails = subst (λ k. FailsInTurnBy k o now name m n) mode fails
+
 ends : (o : Options) (now before after : ℕ) (name : List ℕ) (defs : Defs) (d : List ℕ) (s : Status) (m n : Holding) → o.mode ≡ Recover → IsTable (names_for name) defs d m
     → IsFault s ⊎ (s ≡ status.Ok) → Leaves (chk o (name ∷ [])) now before after s m n
     → (s ≡ status.FileFault) ⊎ ((s ≡ status.Memory) ⊎ (((s ≡ status.Ok) ⊎ (s ≡ status.SinkFault)) × IsRepaired o now name defs d m n))
 ends o now before after name defs d status.FileFault m n mode table is left = inl refl
 ends o now before after name defs d status.Memory m n mode table is left = inr (inl refl)
-ends o now before after name defs d status.SinkFault m n mode table is (inl done) = inr (inr (inr refl, repaired o now name defs d m n mode table done.files done.recovers))
+ends o now before after name defs d status.SinkFault m n mode table is (inl fails) = let done = failed o now name m n mode fails in inr (inr (inr refl, repaired o now name defs d m n mode table done.files done.recovers))
 ends o now before after name defs d status.SinkFault m n mode table is (inr none) = absurd none.1
 ends o now before after name defs d status.Ok m n mode table is left = inr (inr (inl refl, repaired o now name defs d m n mode table left.1 left.0))
 ends o now before after name defs d status.Findings m n mode table (inl f) left = absurd f

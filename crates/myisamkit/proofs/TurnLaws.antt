@@ -15,7 +15,7 @@ use Rattle.myi_repair.specs.Repaired.{LeavesRepaired, OldOrNew}
 use Rattle.myisamkit.specs.declared.options.Mode.{Mode}
 use Rattle.myisamkit.specs.declared.options.Mode.TheVariants.{Check, Recover, Describe}
 use Rattle.myisamkit.specs.declared.options.Options.{Options}
-use Rattle.myisamkit.specs.Turns.{replaced, repair_turn, RepairDone, RepairCutOff, CutsTurnOff, CutsTurnOffBy}
+use Rattle.myisamkit.specs.Turns.{replaced, repair_turn, without_extend, goes_on, RepairDone, RepairCutOff, CheckCutOff, CutsTurnOff, CutsTurnOffBy}
 
 -- what a name has that is none of these
 not_named : (q name : List ℕ) → bytes_eq q name ≡ false → q ≢ name
@@ -49,9 +49,16 @@ pub cut_earlier : (o : Options) (now told before at after : ℕ) (name : List �
 unfolding CutsTurnOff
 cut_earlier o now told before at after name m n later cut = by_mode o.mode cut
   where
+    by_repair : (p : Options) → RepairCutOff p now told at after name m n → RepairCutOff p now told before after name m n
+    by_repair p cut = record { whole = cut.whole; others = cut.others; cleared = λ more rose. cut.cleared more (omega (arith, rose.0, later), rose.1) }
+
+    by_check : (b : Bool) → CheckCutOff b o now told at after name m n → CheckCutOff b o now told before after name m n
+    by_check false same = same
+    by_check true cut = by_repair (without_extend o) cut
+
     by_mode : (mode : Mode) → CutsTurnOffBy mode o now told at after name m n → CutsTurnOffBy mode o now told before after name m n
-    by_mode Recover cut = record { whole = cut.whole; others = cut.others; cleared = λ more rose. cut.cleared more (omega (arith, rose.0, later), rose.1) }
-    by_mode Check cut = cut
+    by_mode Recover cut = by_repair o cut
+    by_mode Check cut = by_check (goes_on o name m) cut
     by_mode Describe cut = cut
 
 some_same : {A : Type 0} (x y : A) (o : Option A) → o ≡ Some x → o ≡ Some y → x ≡ y

@@ -6,7 +6,7 @@ use Rattle.myisamkit.specs.declared.options.Flag.{Flag}
 use Rattle.myisamkit.specs.declared.options.Options.{Options}
 use Rattle.myisamkit.specs.declared.options.Seen.{Seen}
 use Rattle.myisamkit.specs.declared.words.Read.{Read}
-use Rattle.myisamkit.specs.Words.{is_end, is_option, is_name, is_empty, is_built, flags_of, flags_in, names_in, before_end, after_end, are_accepted}
+use Rattle.myisamkit.specs.Words.{is_end, is_option, is_name, is_empty, flags_of, flags_in, names_in, before_end, after_end, are_accepted}
 use Rattle.myisamkit.specs.Options.{go_together, options_in}
 use Rattle.myisamkit.specs.Reading.{seen_after, options_seen, read_words, read_word, read_name, read_flags, options_read, chk_options}
 use Rattle.myisamkit.proofs.OptionLaws.{seen_of, seen-append, options_met}
@@ -14,13 +14,9 @@ use Rattle.myisamkit.proofs.OptionLaws.{seen_of, seen-append, options_met}
 abbrev pub read_of : Seen → Bool → Bool → Read
 read_of seen ended named = record { seen = seen; ended = ended; named = named }
 
--- the options that were met, where the mode is built
-abbrev pub built : Seen → Option Options
-built seen = if is_built (options_seen seen).mode then Some (options_seen seen) else None
-
 -- what is read of names and options, where a name came before or not
 abbrev pub read_of_lists : Bool → Seen → List (List ℕ) → List (Option Flag) → Option Options
-read_of_lists named seen names flags = if (named || not (is_empty names)) && list_all is_name names then option_and_then built (seen_after seen flags) else None
+read_of_lists named seen names flags = if (named || not (is_empty names)) && list_all is_name names then option_map options_seen (seen_after seen flags) else None
 
 abbrev pub read_rest : Read → List (List ℕ) → Option Options
 read_rest read words = option_and_then options_read (read_words read words)
@@ -36,7 +32,7 @@ named_next : (seen : Seen) (ended named : Bool) (word : List ℕ) (words names :
     → option_and_then (λ next. read_rest next words) (read_name (read_of seen ended named) word) ≡ read_of_lists named seen (word ∷ names) flags
 named_next seen ended named word words names flags rest = by_case named (is_name word)
   where
-    by_case : (named b : Bool) → option_and_then (λ next. read_rest next words) (if b then Some (read_of seen ended true) else None) ≡ (if (named || true) && (b && list_all is_name names) then option_and_then built (seen_after seen flags) else None)
+    by_case : (named b : Bool) → option_and_then (λ next. read_rest next words) (if b then Some (read_of seen ended true) else None) ≡ (if (named || true) && (b && list_all is_name names) then option_map options_seen (seen_after seen flags) else None)
     by_case true true = rest
     by_case false true = rest
     by_case true false = refl
@@ -60,13 +56,13 @@ options_next : (seen : Seen) (named : Bool) (words names : List (List ℕ)) (fir
     → ((next : Seen) → read_rest (read_of next false named) words ≡ read_of_lists named next names flags)
     → option_and_then (λ next. read_rest next words) (option_map (λ s. read_of s false named) (seen_after seen first)) ≡ read_of_lists named seen names (first ++ flags)
 options_next seen named words names first flags rest =
-    by_options (seen_after seen first) ∙ ap (λ o. if (named || not (is_empty names)) && list_all is_name names then option_and_then built o else None) (sym (seen-append first flags seen))
+    by_options (seen_after seen first) ∙ ap (λ o. if (named || not (is_empty names)) && list_all is_name names then option_map options_seen o else None) (sym (seen-append first flags seen))
   where
     refused : (b : Bool) (o : Option Options) → o ≡ (if b then o else o)
     refused true o = refl
     refused false o = refl
 
-    by_options : (o : Option Seen) → option_and_then (λ next. read_rest next words) (option_map (λ s. read_of s false named) o) ≡ (if (named || not (is_empty names)) && list_all is_name names then option_and_then built (option_and_then (λ next. seen_after next flags) o) else None)
+    by_options : (o : Option Seen) → option_and_then (λ next. read_rest next words) (option_map (λ s. read_of s false named) o) ≡ (if (named || not (is_empty names)) && list_all is_name names then option_map options_seen (option_and_then (λ next. seen_after next flags) o) else None)
     by_options None = refused ((named || not (is_empty names)) && list_all is_name names) None
     by_options (Some next) = rest next
 
@@ -99,22 +95,10 @@ pub all_words : (words : List (List ℕ)) (seen : Seen) (named : Bool) → read_
 all_words [] seen named = none_left seen false named
 all_words (word ∷ words) seen named = one_more (read_of seen false named) word words ∙ word_next seen named word words (λ next named. all_words words next named) (is_end word)
 
--- options whose mode is built
-abbrev pub then_built : Option Options → Option Options
-then_built o = option_and_then (λ options. if is_built options.mode then Some options else None) o
-
 -- the options of words that are accepted
 pub options_of_words : (words : List (List ℕ)) → chk_options words ≡ (if are_accepted words then Some (options_in (flags_in words)) else None)
 options_of_words words = all_words words (seen_of None false false false) false ∙ by_names (not (is_empty (names_in words)) && list_all is_name (names_in words))
   where
-    by_seen : (o : Option Seen) → option_and_then built o ≡ then_built (option_map options_seen o)
-    by_seen None = refl
-    by_seen (Some seen) = refl
-
-    by_flags : (together : Bool) → then_built (if together then Some (options_in (flags_in words)) else None) ≡ (if together && is_built (options_in (flags_in words)).mode then Some (options_in (flags_in words)) else None)
-    by_flags true = refl
-    by_flags false = refl
-
-    by_names : (b : Bool) → (if b then option_and_then built (seen_after (seen_of None false false false) (flags_in words)) else None) ≡ (if b && (go_together (flags_in words) && is_built (options_in (flags_in words)).mode) then Some (options_in (flags_in words)) else None)
-    by_names true = by_seen (seen_after (seen_of None false false false) (flags_in words)) ∙ (ap then_built (options_met (flags_in words)) ∙ by_flags (go_together (flags_in words)))
+    by_names : (b : Bool) → (if b then option_map options_seen (seen_after (seen_of None false false false) (flags_in words)) else None) ≡ (if b && go_together (flags_in words) then Some (options_in (flags_in words)) else None)
+    by_names true = options_met (flags_in words)
     by_names false = refl

@@ -3,7 +3,7 @@ use Rattle.std.specs.Prelude.{◌≡◌, ◌≢◌, false, true, List, ◌∷◌
 use Rattle.std.specs.List.{list_all, list_any}
 use Rattle.myisamkit.specs.declared.options.Options.{Options}
 use Rattle.myisamkit.specs.declared.options.Mode.TheVariants.{Check}
-use Rattle.myisamkit.specs.Words.{is_empty, is_name, is_built, names_in, flags_in, table_name}
+use Rattle.myisamkit.specs.Words.{is_empty, is_name, names_in, flags_in, table_name}
 use Rattle.myisamkit.specs.Options.{is_mode, is_extend, is_force, is_silent, at_most_one, mode_or}
 
 -- these words are `chk` with these options and tables
@@ -15,8 +15,9 @@ pub record AreChk (words : List (List ℕ)) (o : Options) (tables : List (List �
   pub tables_are : tables ≡ map table_name (names_in others)
   pub known : list_all is_some (flags_in others) ≡ true
   pub one_mode : at_most_one is_mode (flags_in others) ≡ true
+  pub extend_once : at_most_one is_extend (flags_in others) ≡ true
+  pub force_once : at_most_one is_force (flags_in others) ≡ true
   pub mode : o.mode ≡ mode_or Check (flags_in others)
-  pub built : is_built o.mode ≡ true
   pub extend : o.extend ≡ list_any is_extend (flags_in others)
   pub force : o.force ≡ list_any is_force (flags_in others)
   pub silent : o.silent ≡ list_any is_silent (flags_in others)
@@ -30,4 +31,3 @@ pub data AreRefused (words : List (List ℕ)) : Type 0 where
   two_modes : (command : List ℕ) (others : List (List ℕ)) → words ≡ command ∷ others → at_most_one is_mode (flags_in others) ≡ false → AreRefused words
   extend_twice : (command : List ℕ) (others : List (List ℕ)) → words ≡ command ∷ others → at_most_one is_extend (flags_in others) ≡ false → AreRefused words
   force_twice : (command : List ℕ) (others : List (List ℕ)) → words ≡ command ∷ others → at_most_one is_force (flags_in others) ≡ false → AreRefused words
-  not_built : (command : List ℕ) (others : List (List ℕ)) → words ≡ command ∷ others → is_built (mode_or Check (flags_in others)) ≡ false → AreRefused words

@@ -10,8 +10,6 @@ pub mod Asked
 pub mod Lines
 -- the lines that describe a table
 pub mod Descriptions
--- the definitions of a table
-pub mod Opening
 -- the statuses
 pub mod Statuses
 -- a table's turn in a run

@@ -1,13 +1,16 @@
 -- The lines that a command prints (the texts are this project's own).
 use Rattle.std.specs.Prelude.{ℕ, List, [], ◌++◌, codes, decimal}
+use Rattle.std.specs.List.{flat_map}
 use Rattle.myi_defs.specs.declared.types.DefFault.{DefFault}
 use Rattle.myi_defs.specs.declared.types.DefFault.TheVariants as fault
+use Rattle.myi_pair.specs.declared.finding.HeaderItem.{HeaderItem}
+use Rattle.myi_pair.specs.declared.finding.HeaderItem.TheVariants as item
+use Rattle.myi_pair.specs.declared.finding.Finding.{Finding}
+use Rattle.myi_pair.specs.declared.finding.Finding.TheVariants as finding
 use Rattle.myi_repair.specs.declared.report.Report.{Report}
-use Rattle.myi_opening.specs.declared.fault.TableFile.{TableFile}
-use Rattle.myi_opening.specs.declared.fault.TableFile.TheVariants as file
 use Rattle.myi_repair.specs.declared.fault.RepairFault.{RepairFault}
 use Rattle.myi_repair.specs.declared.fault.RepairFault.TheVariants as repair
-use Rattle.myi_repair.specs.Names.{rows_file, index_file}
+use Rattle.myi_opening.specs.Names.{file_of}
 
 abbrev pub usage_line : List ℕ
 usage_line = codes "usage: kit chk|create|shell|dump|make\n"
@@ -40,23 +43,42 @@ reason_of fault.Memory = codes "17 Memory"
 abbrev pub too_long : List ℕ
 too_long = codes "too long"
 
-abbrev pub not_built : List ℕ
-not_built = codes "not built"
-
 -- a table was repaired: how many rows are kept, how many repeat others, and the data file's lengths before and after
 abbrev pub recovered_line : List ℕ → Report → List ℕ
 recovered_line name r =
     name ++ (codes ": recovered " ++ (decimal r.kept ++ (codes " rows, dropped " ++ (decimal r.repeats ++ (codes " repeats, data " ++ (decimal r.old_length ++ (codes " to " ++ (decimal r.new_length ++ codes " bytes\n"))))))))
 
--- the file of a table that is not there
-abbrev pub file_of : TableFile → List ℕ → List ℕ
-file_of file.Index name = index_file name
-file_of file.Data name = rows_file name
-
--- why a table is not repaired; the faults that cut a repair off have no line
+-- why no work is done on a table; the faults that cut work off have no line
 abbrev pub fault_line : List ℕ → RepairFault → List ℕ
 fault_line name (repair.Absent f) = absent_line (file_of f name)
 fault_line name (repair.Def f) = refused_line name (reason_of f)
 fault_line name repair.TooLong = refused_line name too_long
 fault_line name repair.File = []
 fault_line name repair.Memory = []
+
+-- nothing was found wrong with a table
+abbrev pub ok_line : List ℕ → List ℕ
+ok_line name = name ++ codes ": ok\n"
+
+abbrev pub item_word : HeaderItem → List ℕ
+item_word item.Mark = codes "mark"
+item_word item.Records = codes "records"
+item_word item.Del = codes "del"
+item_word item.Split = codes "split"
+item_word item.KeyFileLength = codes "key_file_length"
+item_word item.DataFileLength = codes "data_file_length"
+item_word item.Empty = codes "empty"
+item_word item.KeyEmpty = codes "key_empty"
+
+abbrev pub finding_text : Finding → List ℕ
+finding_text (finding.Header i) = codes "header " ++ item_word i
+finding_text (finding.Deleted at) = codes "deleted at " ++ decimal at
+finding_text (finding.Key key at) = codes "key " ++ (decimal key ++ (codes " at " ++ decimal at))
+finding_text (finding.Rows at) = codes "data at " ++ decimal at
+
+-- something is wrong with a table
+abbrev pub finding_line : List ℕ → Finding → List ℕ
+finding_line name f = name ++ (codes ": error: " ++ (finding_text f ++ codes "\n"))
+
+abbrev pub finding_lines : List ℕ → List Finding → List ℕ
+finding_lines name found = flat_map (finding_line name) found

@@ -1,5 +1,5 @@
 -- How words are read, one after the other, and the request that a plan is.
-use Rattle.std.specs.Prelude.{ℕ, true, false, ◌&&◌, List, [], ◌∷◌, Option, None, Some, option_and_then, option_map, if◌then◌else◌}
+use Rattle.std.specs.Prelude.{ℕ, true, false, List, [], ◌∷◌, Option, None, Some, option_and_then, option_map, if◌then◌else◌}
 use Rattle.myisamkit.specs.declared.options.Mode.{Mode}
 use Rattle.myisamkit.specs.declared.options.Mode.TheVariants.{Check}
 use Rattle.myisamkit.specs.declared.options.Flag.{Flag}
@@ -7,7 +7,7 @@ use Rattle.myisamkit.specs.declared.options.Flag.TheVariants as flag
 use Rattle.myisamkit.specs.declared.options.Options.{Options}
 use Rattle.myisamkit.specs.declared.options.Seen.{Seen}
 use Rattle.myisamkit.specs.declared.words.Read.{Read}
-use Rattle.myisamkit.specs.Words.{is_end, is_option, is_name, flags_of, is_built}
+use Rattle.myisamkit.specs.Words.{is_end, is_option, is_name, flags_of}
 
 abbrev pub seen_with_mode : Seen → Option Mode → Mode → Option Seen
 seen_with_mode seen None mode = Some (record seen { mode = Some mode })
@@ -57,9 +57,9 @@ read_words read (word ∷ words) = option_and_then (λ next. read_words next wor
 abbrev pub read_none : Read
 read_none = record { seen = record { mode = None; extend = false; force = false; silent = false }; ended = false; named = false }
 
--- the options of what was read, where there was a name and the mode is built
+-- the options of what was read, where there was a name
 abbrev pub options_read : Read → Option Options
-options_read read = if read.named && is_built (options_seen read.seen).mode then Some (options_seen read.seen) else None
+options_read read = if read.named then Some (options_seen read.seen) else None
 
 -- the options among the words behind `chk`, where they are accepted
 abbrev pub chk_options : List (List ℕ) → Option Options

@@ -12,21 +12,22 @@ use Rattle.myisamkit.specs.declared.options.Options.{Options}
 use Rattle.myisamkit.specs.Words.{Request, usage, chk}
 use Rattle.myisamkit.specs.Statuses.{IsFault, worse}
 use Rattle.myisamkit.specs.Lines.{usage_line}
-use Rattle.myisamkit.specs.Turns.{Turn, turn, TurnRecovers, CutsTurnOff, FailsInTurn}
-
--- a turn and what comes after it
-abbrev pub then_run : Turn → Turn → Turn
-then_run first others = record { text = first.text ++ others.text; status = others.status; files = others.files }
+use Rattle.myisamkit.specs.Turns.{Turn, then_turn, turn, MayFind, TurnRecovers, CutsTurnOff, FailsInTurn}
 
 -- the tables of these names, behind tables of this status: all lines, the greatest status, the files at the end
 abbrev pub tables_run : Status → Options → ℕ → List (List ℕ) → Holding → Turn
 tables_run s o now [] m = record { text = []; status = s; files = m }
-tables_run s o now (name ∷ names) m = then_run (turn o now name m) (tables_run (worse s (turn o now name m).status) o now names (turn o now name m).files)
+tables_run s o now (name ∷ names) m = then_turn (turn o now name m) (tables_run (worse s (turn o now name m).status) o now names (turn o now name m).files)
 
 -- what a run comes to that nothing cuts off
 abbrev pub run_of : Request → ℕ → Holding → Turn
 run_of usage now m = record { text = usage_line; status = status.Usage; files = m }
 run_of (chk o names) now m = tables_run status.Ok o now names m
+
+-- the answer may be that something was found
+abbrev pub MayFindAny : Request → Type 0
+MayFindAny usage = ⊥
+MayFindAny (chk o names) = MayFind o
 
 -- ---- the files
 

@@ -1,15 +1,20 @@
 -- A table's turn in a run: what is said, answered and done, by the options and by what the files hold. Each mode has a case
 -- in each definition.
-use Rattle.std.specs.Prelude.{◌≡◌, ◌+◌, ◌||◌, ℕ, Bool, List, [], if◌then◌else◌, Some, None, Result, Ok, Err}
+use Rattle.std.specs.Prelude.{◌≡◌, ◌⊎◌, ◌+◌, ◌||◌, ◌&&◌, ℕ, Bool, true, false, List, [], ◌∷◌, ◌++◌, if◌then◌else◌, Some, None, Result, Ok, Err}
 use Rattle.std.specs.Str.{bytes_eq}
 use Rattle.myi_base.specs.Holding.{Holding}
 use Rattle.myi_defs.specs.declared.types.Defs.{Defs}
+use Rattle.myi_opening.specs.declared.fault.TableFault.{TableFault}
+use Rattle.myi_opening.specs.Names.{rows_file, index_file}
+use Rattle.myi_opening.specs.Opening as opening
+use Rattle.myi_pair.specs.declared.finding.Finding.{Finding}
 use Rattle.myi_pair.specs.RecoveredBytes.{new_data, new_index}
 use Rattle.myi_pair.specs.Recovered.{Recovered}
+use Rattle.myi_check.specs.Checking.{findings_in}
 use Rattle.myi_repair.specs.declared.fault.RepairFault.{RepairFault}
 use Rattle.myi_repair.specs.declared.fault.RepairFault.TheVariants as repair
 use Rattle.myi_repair.specs.Names.{FourNames, names_for, KeepsBut, Clears}
-use Rattle.myi_repair.specs.Faults.{RoseAtMost}
+use Rattle.myi_repair.specs.Faults.{repair_fault, RoseAtMost}
 use Rattle.myi_repair.specs.Opening.{Table, table_in, IsTable}
 use Rattle.myi_repair.specs.Gathering.{report_of}
 use Rattle.myi_repair.specs.Repaired.{OldOrNew}
@@ -20,15 +25,18 @@ use Rattle.myisamkit.specs.declared.status.Stop.TheVariants as stop
 use Rattle.myisamkit.specs.declared.options.Mode.{Mode}
 use Rattle.myisamkit.specs.declared.options.Mode.TheVariants.{Check, Recover, Describe}
 use Rattle.myisamkit.specs.declared.options.Options.{Options}
-use Rattle.myisamkit.specs.Lines.{recovered_line, refused_line, fault_line, not_built}
+use Rattle.myisamkit.specs.Lines.{recovered_line, fault_line, ok_line, finding_lines}
 use Rattle.myisamkit.specs.Descriptions.{description}
-use Rattle.myisamkit.specs.Opening.{defs_in}
 
 -- what a turn comes to that nothing cuts off: its lines, its status, and what the files hold then
 pub record Turn : Type 0 where
   pub text : List ℕ
   pub status : Status
   pub files : Holding
+
+-- a turn and what comes after it
+abbrev pub then_turn : Turn → Turn → Turn
+then_turn first others = record { text = first.text ++ others.text; status = others.status; files = others.files }
 
 -- ---- recover
 
@@ -86,30 +94,88 @@ RepairStops o now before after name stop.File m n = RepairCutOff o now 1 before 
 RepairStops o now before after name stop.Memory m n = RepairCutOff o now 0 before after name m n
 RepairStops o now before after name stop.Sink m n = RepairDone o now name m n
 
+-- ---- check
+
+-- what is said of a table that is checked
+abbrev pub checked_text : Options → List ℕ → Result (List Finding) TableFault → List ℕ
+checked_text o name (Err f) = fault_line name (repair_fault f)
+checked_text o name (Ok []) = unless_silent o.silent (ok_line name)
+checked_text o name (Ok (f ∷ fs)) = finding_lines name (f ∷ fs)
+
+abbrev pub checked_status : Result (List Finding) TableFault → Status
+checked_status (Err f) = fault_status (repair_fault f)
+checked_status (Ok []) = status.Ok
+checked_status (Ok (f ∷ fs)) = status.Findings
+
+-- something was found
+abbrev pub has_findings : Result (List Finding) TableFault → Bool
+has_findings (Err f) = false
+has_findings (Ok []) = false
+has_findings (Ok (f ∷ fs)) = true
+
+-- a table that is checked keeps its files
+abbrev pub checked_turn : Options → List ℕ → Holding → Turn
+checked_turn o name m = record { text = checked_text o name (findings_in name m); status = checked_status (findings_in name m); files = m }
+
+-- the check is followed by a repair: something was found, and a repair is forced
+abbrev pub goes_on : Options → List ℕ → Holding → Bool
+goes_on o name m = o.force && has_findings (findings_in name m)
+
+-- the same options, with which not every position is tried
+abbrev pub without_extend : Options → Options
+without_extend o = record o { extend = false }
+
+-- by whether a repair follows
+abbrev pub check_turn_by : Bool → Options → ℕ → List ℕ → Holding → Turn
+check_turn_by false o now name m = checked_turn o name m
+check_turn_by true o now name m = then_turn (checked_turn o name m) (recover_turn (without_extend o) now name m)
+
+abbrev pub check_turn : Options → ℕ → List ℕ → Holding → Turn
+check_turn o now name m = check_turn_by (goes_on o name m) o now name m
+
+abbrev pub CheckRecovers : Bool → Options → ℕ → List ℕ → Holding → Type 0
+CheckRecovers false o now name m = Unit {0}
+CheckRecovers true o now name m = IsRecovered (without_extend o) now name m
+
+-- a table was checked, and repaired where a repair follows
+pub record CheckDone (o : Options) (now : ℕ) (name : List ℕ) (m n : Holding) : Type 0 where
+  pub files : n ≡ (check_turn o now name m).files
+  pub recovers : CheckRecovers (goes_on o name m) o now name m
+
+-- it was cut off: where no repair follows nothing was changed
+abbrev pub CheckCutOff : Bool → Options → ℕ → ℕ → ℕ → ℕ → List ℕ → Holding → Holding → Type 0
+CheckCutOff false o now told before after name m n = n ≡ m
+CheckCutOff true o now told before after name m n = RepairCutOff (without_extend o) now told before after name m n
+
+-- what a stop leaves of the turn of a table that is checked: the lines on what was found are written before a repair begins
+abbrev pub CheckStops : Options → ℕ → ℕ → ℕ → List ℕ → Stop → Holding → Holding → Type 0
+CheckStops o now before after name stop.File m n = CheckCutOff (goes_on o name m) o now 1 before after name m n
+CheckStops o now before after name stop.Memory m n = CheckCutOff (goes_on o name m) o now 0 before after name m n
+CheckStops o now before after name stop.Sink m n = (n ≡ m) ⊎ CheckDone o now name m n
+
+-- a check with these options may answer that something was found
+abbrev pub MayFind : Options → Type 0
+MayFind o = (o.mode ≡ Check) × (o.force ≡ false)
+
 -- ---- description
 
-abbrev pub described_text : Options → List ℕ → Result Defs RepairFault → List ℕ
-described_text o name (Err f) = fault_line name f
-described_text o name (Ok defs) = unless_silent o.silent (description name defs)
+abbrev pub described_text : Options → List ℕ → Result opening.Table TableFault → List ℕ
+described_text o name (Err f) = fault_line name (repair_fault f)
+described_text o name (Ok t) = unless_silent o.silent (description name t.defs)
 
-abbrev pub described_status : Result Defs RepairFault → Status
-described_status (Err f) = fault_status f
-described_status (Ok defs) = status.Ok
+abbrev pub described_status : Result opening.Table TableFault → Status
+described_status (Err f) = fault_status (repair_fault f)
+described_status (Ok t) = status.Ok
 
 -- a table that is described keeps its files
 abbrev pub describe_turn : Options → List ℕ → Holding → Turn
-describe_turn o name m = record { text = described_text o name (defs_in (names_for name) m); status = described_status (defs_in (names_for name) m); files = m }
-
--- ---- a mode that is not built
-
-abbrev pub refused_turn : List ℕ → Holding → Turn
-refused_turn name m = record { text = refused_line name not_built; status = status.Refused; files = m }
+describe_turn o name m = record { text = described_text o name (opening.table_in (index_file name) (rows_file name) m); status = described_status (opening.table_in (index_file name) (rows_file name) m); files = m }
 
 -- ---- all modes
 
 abbrev pub turn_by : Mode → Options → ℕ → List ℕ → Holding → Turn
 turn_by Recover o now name m = recover_turn o now name m
-turn_by Check o now name m = refused_turn name m
+turn_by Check o now name m = check_turn o now name m
 turn_by Describe o now name m = describe_turn o name m
 
 -- the turn of the table of this name
@@ -118,7 +184,7 @@ turn o now name m = turn_by o.mode o now name m
 
 abbrev pub TurnRecoversBy : Mode → Options → ℕ → List ℕ → Holding → Type 0
 TurnRecoversBy Recover o now name m = IsRecovered o now name m
-TurnRecoversBy Check o now name m = Unit {0}
+TurnRecoversBy Check o now name m = CheckRecovers (goes_on o name m) o now name m
 TurnRecoversBy Describe o now name m = Unit {0}
 
 -- what is repaired in a turn is recovered
@@ -127,7 +193,7 @@ TurnRecovers o now name m = TurnRecoversBy o.mode o now name m
 
 abbrev pub CutsTurnOffBy : Mode → Options → ℕ → ℕ → ℕ → ℕ → List ℕ → Holding → Holding → Type 0
 CutsTurnOffBy Recover o now told before after name m n = RepairCutOff o now told before after name m n
-CutsTurnOffBy Check o now told before after name m n = n ≡ m
+CutsTurnOffBy Check o now told before after name m n = CheckCutOff (goes_on o name m) o now told before after name m n
 CutsTurnOffBy Describe o now told before after name m n = n ≡ m
 
 -- a file fault or want of memory cut the turn off
@@ -139,9 +205,15 @@ pub record TurnDone (o : Options) (now : ℕ) (name : List ℕ) (m n : Holding) 
   pub files : n ≡ (turn o now name m).files
   pub recovers : TurnRecovers o now name m
 
--- the output failed in the turn: what is to be done is done before lines are written
-abbrev pub FailsInTurn : Options → ℕ → List ℕ → Holding → Holding → Type 0
-FailsInTurn o now name m n = TurnDone o now name m n
+-- the output failed in a turn: a repair is done before its line is written, but the lines on what a check found are written
+-- before a repair begins
+abbrev pub FailsInTurnBy : Mode → Options → ℕ → List ℕ → Holding → Holding → Type 0
+FailsInTurnBy Recover o now name m n = TurnDone o now name m n
+FailsInTurnBy Check o now name m n = (n ≡ m) ⊎ TurnDone o now name m n
+FailsInTurnBy Describe o now name m n = n ≡ m
+
+unfoldable pub FailsInTurn : Options → ℕ → List ℕ → Holding → Holding → Type 0
+FailsInTurn o now name m n = FailsInTurnBy o.mode o now name m n
 
 -- what a stop leaves of a turn
 abbrev pub TurnStops : Options → ℕ → ℕ → ℕ → List ℕ → Stop → Holding → Holding → Type 0

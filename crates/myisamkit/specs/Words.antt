@@ -5,8 +5,6 @@ use Rattle.std.specs.List.{list_all, flat_map}
 use Rattle.std.specs.Str.{bytes_eq}
 use Rattle.std.specs.declared.alloc.Global.{Global}
 use Rattle.myisamkit.specs.declared.options.Flag.{Flag}
-use Rattle.myisamkit.specs.declared.options.Mode.{Mode}
-use Rattle.myisamkit.specs.declared.options.Mode.TheVariants.{Check, Recover, Describe}
 use Rattle.myisamkit.specs.declared.options.Options.{Options}
 use Rattle.myisamkit.specs.Options.{letter_flag, long_flag, go_together, options_in}
 
@@ -72,15 +70,9 @@ abbrev pub is_empty : List (List ℕ) → Bool
 is_empty [] = true
 is_empty (word ∷ words) = false
 
--- the modes that are built
-abbrev pub is_built : Mode → Bool
-is_built Recover = true
-is_built Check = false
-is_built Describe = true
-
--- the words behind a command have a name, all are in form, the options go together, and the mode is built
+-- the words behind a command have a name, all names are in form, and the options go together
 abbrev pub are_accepted : List (List ℕ) → Bool
-are_accepted words = (not (is_empty (names_in words)) && list_all is_name (names_in words)) && (go_together (flags_in words) && is_built (options_in (flags_in words)).mode)
+are_accepted words = (not (is_empty (names_in words)) && list_all is_name (names_in words)) && go_together (flags_in words)
 
 -- what the words behind the command ask for
 abbrev pub plan_chk : List (List ℕ) → Request

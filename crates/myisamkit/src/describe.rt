@@ -8,13 +8,13 @@ ghost use Rattle.myisamkit.specs.Descriptions as spec;
 ghost use Rattle.myisamkit.specs.Turns.{describe_turn, unless_silent};
 
 use crate::description::description;
-use crate::opening::table_defs;
 use crate::options::Options;
-use crate::recover::not_repaired;
+use crate::recover::not_worked_on;
 use crate::say::say;
 use crate::status::{Status, Stop};
 use myi_defs::Defs;
 use myi_io::{Files, Sink};
+use myi_opening::{TableFile, open_table};
 use std::alloc::{AllocError, Global};
 
 /// Describes a table, if its definitions are taken. The files stay as they are.
@@ -61,9 +61,14 @@ fn describe<F: Files>(
     ensures sink { IfErr result (λ stop. stop ≢ Stop.Sink) }
     ensures cause { HasCause Stop.File (F.faults files.old) (F.faults files.new) result }
 {
-    match table_defs(alloc, files, name) {
-        Ok(defs) => Ok((Status::Ok, wanted_description(alloc, options, name, &defs)?)),
-        Err(fault) => not_repaired(alloc, name, fault),
+    let index = TableFile::Index.of(alloc, name)?;
+    let rows = TableFile::Data.of(alloc, name)?;
+    match open_table(alloc, files, index.as_str(), rows.as_str()) {
+        Ok(opened) => {
+            let text = wanted_description(alloc, options, name, &opened.defs)?;
+            Ok((Status::Ok, text))
+        }
+        Err(fault) => not_worked_on(alloc, name, fault.into()),
     }
 }
 

@@ -11,8 +11,9 @@ pub fn accepted_words_are_a_command()
         → plan words ≡ chk o tables → AreChk words o tables }
 {}
 
-/// Words that are refused have one of these reasons: no command that is known; no name, or one out of
-/// form; an option that is not known; two modes; another option twice; a mode that is not built.
+/// Words are refused exactly where they have one of these reasons: no command that is known; no name, or one
+/// out of form; an option that is not known; two modes; another option twice, but the silent one.
 pub fn refused_words_have_a_reason()
-    ensures { (words : List (List ℕ)) → plan words ≡ usage → AreRefused words }
+    ensures reason { (words : List (List ℕ)) → plan words ≡ usage → AreRefused words }
+    ensures refused { (words : List (List ℕ)) → AreRefused words → plan words ≡ usage }
 {}

@@ -5,7 +5,8 @@
 //! name. Each table has its turn (`turn.rt`), one after the other (`tables.rt`). What a turn and a whole
 //! run say, answer and do is defined over what the files hold before (`Turns`, `Runs`), and the files
 //! that a repair leaves over the bytes of the two files before it (`Rattle.myi_pair.specs`,
-//! `RecoveredBytes` and `Recovered`). Of the modes of `chk` recover and description are built.
+//! `RecoveredBytes` and `Recovered`), what a check finds over the same bytes (`Findings`). Of the commands
+//! `chk` is built.
 //!
 //! ```
 //! let mut words = Vec::new(alloc);
@@ -19,11 +20,11 @@
 //! `crates/myi_tests/src/failing_calls.rt` runs it, over `MemFiles`.
 #![tactic(auto)]
 
+mod check;
 mod describe;
 mod description;
 mod laws;
 mod lines;
-mod opening;
 mod options;
 mod recover;
 mod say;

@@ -1,9 +1,11 @@
 //! The lines that a run prints.
-ghost use Rattle.std.specs.Prelude.{◌≡◌, string_bytes, IfOk};
+ghost use Rattle.std.specs.Prelude.{◌≡◌, ◌++◌, string_bytes, IfOk};
+ghost use Rattle.myi_opening.specs.Names.{file_of};
 ghost use Rattle.myisamkit.specs.Lines as spec;
 
 use myi_defs::DefFault;
 use myi_opening::TableFile;
+use myi_pair::{Finding, HeaderItem};
 use myi_repair::Report;
 use std::alloc::{AllocError, Global};
 
@@ -13,21 +15,11 @@ pub(crate) fn usage_line() -> &'static str
     "usage: kit chk|create|shell|dump|make\n"
 }
 
-/// The name of a file of a table.
-pub(crate) fn file_of(alloc: Global, name: &str, file: TableFile) -> Result<String, AllocError>
-    ensures { IfOk result (λ text. string_bytes text ≡ spec.file_of file name.now) }
-{
-    match file {
-        TableFile::Index => format!(in alloc; "{name}.MYI"),
-        TableFile::Data => format!(in alloc; "{name}.MYD"),
-    }
-}
-
 pub(crate) fn absent_line(alloc: Global, name: &str, file: TableFile) -> Result<String, AllocError>
     ensures { IfOk result (λ line.
-        string_bytes line ≡ spec.absent_line (spec.file_of file name.now)) }
+        string_bytes line ≡ spec.absent_line (file_of file name.now)) }
 {
-    let file = file_of(alloc, name, file)?;
+    let file = file.of(alloc, name)?;
     format!(in alloc; "{file}: absent\n")
 }
 
@@ -77,4 +69,55 @@ pub(crate) fn recovered_line(
     format!(in alloc;
         "{name}: recovered {kept} rows, dropped {repeats} repeats, data {old_length} to {new_length} bytes\n"
     )
+}
+
+pub(crate) fn ok_line(alloc: Global, name: &str) -> Result<String, AllocError>
+    ensures { IfOk result (λ line. string_bytes line ≡ spec.ok_line name.now) }
+{
+    format!(in alloc; "{name}: ok\n")
+}
+
+/// A line for each thing that was found.
+pub(crate) fn finding_lines(
+    alloc: Global,
+    name: &str,
+    found: &[Finding],
+) -> Result<String, AllocError>
+    ensures { IfOk result (λ text. string_bytes text ≡ spec.finding_lines name.now found.now) }
+{
+    let mut text = String::new(alloc);
+    for finding in found {
+        push_finding(&mut text, name, *finding)?;
+    }
+    Ok(text)
+}
+
+fn push_finding(text: &mut String, name: &str, finding: Finding) -> Result<(), AllocError>
+    ensures { IfOk result (λ _. string_bytes text.new
+        ≡ string_bytes text.old ++ spec.finding_line name.now finding) }
+{
+    match finding {
+        Finding::Header(item) => {
+            let word = item_word(item);
+            write!(text, "{name}: error: header {word}\n")
+        }
+        Finding::Deleted { at } => write!(text, "{name}: error: deleted at {at}\n"),
+        Finding::Key { key, at } => write!(text, "{name}: error: key {key} at {at}\n"),
+        Finding::Rows { at } => write!(text, "{name}: error: data at {at}\n"),
+    }
+}
+
+fn item_word(item: HeaderItem) -> &'static str
+    ensures { result.now ≡ spec.item_word item }
+{
+    match item {
+        HeaderItem::Mark => "mark",
+        HeaderItem::Records => "records",
+        HeaderItem::Del => "del",
+        HeaderItem::Split => "split",
+        HeaderItem::KeyFileLength => "key_file_length",
+        HeaderItem::DataFileLength => "data_file_length",
+        HeaderItem::Empty => "empty",
+        HeaderItem::KeyEmpty => "key_empty",
+    }
 }

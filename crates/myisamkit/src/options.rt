@@ -3,6 +3,7 @@
 ghost use Rattle.std.specs.Prelude.{◌≡◌};
 ghost use Rattle.myisamkit.specs.Options as spec;
 ghost use Rattle.myisamkit.specs.Reading.{seen_with, options_seen};
+ghost use Rattle.myisamkit.specs.Turns.{without_extend};
 
 /// What is done with a table.
 #[derive(Clone, Copy, Debug, PartialEq, Eq)]
@@ -31,6 +32,18 @@ pub(crate) struct Options {
     pub(crate) force: bool,
     /// Lines of success are left out.
     pub(crate) silent: bool,
+}
+
+impl Options {
+    /// The same options, with which not every position is tried.
+    pub(crate) fn without_extend(self) -> Options
+        ensures { result ≡ without_extend self }
+    {
+        Options {
+            extend: false,
+            ..self
+        }
+    }
 }
 
 /// The options that were met.

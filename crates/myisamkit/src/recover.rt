@@ -78,7 +78,7 @@ fn repair<F: Files>(
 {
     match recover(alloc, files, name, options.extend, now) {
         Ok(report) => Ok((Status::Ok, success_line(alloc, options, name, report)?)),
-        Err(fault) => not_repaired(alloc, name, fault),
+        Err(fault) => not_worked_on(alloc, name, fault),
     }
 }
 
@@ -99,8 +99,8 @@ fn success_line(
     }
 }
 
-/// What is said of a table that is not repaired.
-pub(crate) fn not_repaired(
+/// What is said of a table on which no work is done.
+pub(crate) fn not_worked_on(
     alloc: Global,
     name: &str,
     fault: RepairFault,

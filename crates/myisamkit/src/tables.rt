@@ -5,6 +5,7 @@ ghost use Rattle.myi_base.specs.Output.{Appends, AppendsPart};
 ghost use Rattle.myi_base.specs.Causes.{HasCause};
 ghost use Rattle.myisamkit.specs.Words.{names_in, table_name};
 ghost use Rattle.myisamkit.specs.Statuses.{IsFault};
+ghost use Rattle.myisamkit.specs.Turns.{MayFind};
 ghost use Rattle.myisamkit.specs.Runs.{tables_run, TablesDone, TablesStop};
 
 use crate::options::Options;
@@ -43,7 +44,7 @@ pub(crate) fn run_tables<F: Files, O: Sink>(
         (map table_name (names_in (map (λ w. string_bytes w) words.now))) stop)) }
     ensures plain { IfOk result (λ s. IsFault s → ⊥) }
     ensures usage { IfOk result (λ s. s ≢ Status.Usage) }
-    ensures findings { IfOk result (λ s. s ≢ Status.Findings) }
+    ensures findings { IfOk result (λ s. s ≡ Status.Findings → MayFind options.now) }
     ensures file { HasCause Stop.File (F.faults files.old) (F.faults files.new) result }
     ensures sink { HasCause Stop.Sink (O.faults out.old) (O.faults out.new) result }
 {

@@ -6,7 +6,7 @@ ghost use Rattle.myi_base.specs.Causes.{Rose, HasCause};
 ghost use Rattle.myisamkit.specs.Words.{request_of, usage};
 ghost use Rattle.myisamkit.specs.Stops.{status_of_stop};
 ghost use Rattle.myisamkit.specs.Statuses.{IsFault};
-ghost use Rattle.myisamkit.specs.Runs.{run_of, Leaves, KeepsOthers, Says, IsOrFault};
+ghost use Rattle.myisamkit.specs.Runs.{run_of, MayFindAny, Leaves, KeepsOthers, Says, IsOrFault};
 ghost use Rattle.myisamkit.specs.Recovers.{Recovers};
 ghost use Rattle.myisamkit.specs.Lines as spec;
 
@@ -47,7 +47,9 @@ pub fn kit<F: Files, O: Sink>(
     ensures status { IfTold (F.holds files.old) (λ m.
         IsOrFault (run_of (request_of words.now) now m).status result) }
     ensures usage { IsFault result ⊎ ((request_of words.now ≡ usage) ↔ (result ≡ Status.Usage)) }
-    ensures findings { result ≢ Status.Findings }
+
+    // That something was found is answered by a check without force alone.
+    ensures findings { result ≡ Status.Findings → MayFindAny (request_of words.now) }
 
     // The tables are done, or done up to the one in whose turn a fault came; what is repaired is
     // recovered, the files of a table are the old ones or whole new ones, other files stay.
@@ -88,7 +90,7 @@ fn run<F: Files, O: Sink>(
         s ≡ (run_of (request_of words.now) now m).status)) }
     ensures plain { IfOk result (λ s. IsFault s → ⊥) }
     ensures usage { IfOk result (λ s. (request_of words.now ≡ usage) ↔ (s ≡ Status.Usage)) }
-    ensures findings { IfOk result (λ s. s ≢ Status.Findings) }
+    ensures findings { IfOk result (λ s. s ≡ Status.Findings → MayFindAny (request_of words.now)) }
     ensures done { IfOk result (λ s. Told (F.holds files.old) (F.holds files.new)
         (Leaves (request_of words.now) now (F.faults files.old) (F.faults files.new) s)) }
     ensures stops { IfErr result (λ stop. Told (F.holds files.old) (F.holds files.new)

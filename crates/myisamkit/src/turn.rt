@@ -4,20 +4,18 @@ ghost use Rattle.myi_base.specs.Holding.{IfTold, Told};
 ghost use Rattle.myi_base.specs.Output.{Appends, AppendsPart};
 ghost use Rattle.myi_base.specs.Causes.{HasCause};
 ghost use Rattle.myisamkit.specs.Statuses.{IsFault};
-ghost use Rattle.myisamkit.specs.Lines.{refused_line, not_built};
-ghost use Rattle.myisamkit.specs.Turns.{turn, TurnDone, TurnStops};
+ghost use Rattle.myisamkit.specs.Turns.{turn, MayFind, TurnDone, TurnStops};
 
+use crate::check::check_table;
 use crate::describe::describe_table;
-use crate::lines::refused_line;
 use crate::options::{Mode, Options};
 use crate::recover::recover_table;
-use crate::say::say;
 use crate::status::{Status, Stop};
 use myi_io::{Files, Sink};
 use std::alloc::Global;
 
 /// Gives a table its turn.
-#[tactic(auto, unfolding(crate::specs::Turns::turn, crate::specs::Turns::TurnRecovers, crate::specs::Turns::CutsTurnOff))]
+#[tactic(auto, unfolding(crate::specs::Turns::turn, crate::specs::Turns::TurnRecovers, crate::specs::Turns::CutsTurnOff, crate::specs::Turns::FailsInTurn))]
 pub(crate) fn run_table<F: Files, O: Sink>(
     alloc: Global,
     files: &mut F,
@@ -39,35 +37,13 @@ pub(crate) fn run_table<F: Files, O: Sink>(
         (TurnStops options.now now (F.faults files.old) (F.faults files.new) name.now stop)) }
     ensures plain { IfOk result (λ s. IsFault s → ⊥) }
     ensures usage { IfOk result (λ s. s ≢ Status.Usage) }
-    ensures findings { IfOk result (λ s. s ≢ Status.Findings) }
+    ensures findings { IfOk result (λ s. s ≡ Status.Findings → MayFind options.now) }
     ensures file { HasCause Stop.File (F.faults files.old) (F.faults files.new) result }
     ensures sink { HasCause Stop.Sink (O.faults out.old) (O.faults out.new) result }
 {
     match options.mode {
         Mode::Recover => recover_table(alloc, files, out, options, name, now),
         Mode::Describe => describe_table(alloc, files, out, options, name),
-        Mode::Check => refuse_table(alloc, files, out, name),
+        Mode::Check => check_table(alloc, files, out, options, name, now),
     }
-}
-
-// The turn in a mode that is not built.
-fn refuse_table<F: Files, O: Sink>(
-    alloc: Global,
-    files: &mut F,
-    out: &mut O,
-    name: &str,
-) -> Result<Status, Stop>
-    ensures status { IfOk result (λ s. s ≡ Status.Refused) }
-    ensures said { OnOk result (IfTold (O.written out.old)
-        (Appends (refused_line name.now not_built) (O.written out.new))) }
-    ensures part { OnErr result (IfTold (O.written out.old)
-        (AppendsPart (refused_line name.now not_built) (O.written out.new))) }
-    ensures files { F.holds files.new ≡ F.holds files.old }
-    ensures faults { F.faults files.new ≡ F.faults files.old }
-    ensures file { IfErr result (λ stop. stop ≢ Stop.File) }
-    ensures sink { HasCause Stop.Sink (O.faults out.old) (O.faults out.new) result }
-{
-    let line = refused_line(alloc, name, "not built")?;
-    say(out, line.as_str())?;
-    Ok(Status::Refused)
 }

@@ -6,7 +6,7 @@ ghost use Rattle.myisamkit.specs.Options.{letter_flag};
 ghost use Rattle.myisamkit.specs.Reading as reading;
 ghost use Rattle.myisamkit.specs.Plans.{asked};
 
-use crate::options::{Mode, Options, Seen, letter_flag, long_flag};
+use crate::options::{Options, Seen, letter_flag, long_flag};
 
 /// What the words ask for.
 #[derive(Clone, Copy)]
@@ -54,9 +54,8 @@ fn chk_options(words: &[String]) -> Option<Options>
     ensures { result ≡ reading.chk_options (map (λ w. string_bytes w) words.now) }
 {
     let read = read_all(words)?;
-    let options = read.seen.options();
-    if read.named && is_built(options.mode) {
-        Some(options)
+    if read.named {
+        Some(read.seen.options())
     } else {
         None
     }
@@ -139,15 +138,6 @@ fn seen_letters(seen: Seen, letters: &[u8]) -> Option<Seen>
         seen = seen.with(letter_flag(*letter)?)?;
     }
     Some(seen)
-}
-
-fn is_built(mode: Mode) -> bool
-    ensures { result ≡ spec.is_built mode }
-{
-    match mode {
-        Mode::Recover | Mode::Describe => true,
-        Mode::Check => false,
-    }
 }
 
 /// All words behind this one are names.

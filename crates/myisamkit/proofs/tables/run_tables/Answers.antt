@@ -7,6 +7,7 @@ use Rattle.myisamkit.specs.declared.status.Status.TheVariants as status
 use Rattle.myisamkit.specs.Words.{names_table}
 use Rattle.myisamkit.specs.Statuses.{IsFault}
 use Rattle.myisamkit.specs.Runs.{tables_run, TablesStop}
+use Rattle.myisamkit.specs.Turns.{MayFind}
 use Rattle.myisamkit.proofs.TableLaws.{names_from, Reached, reached_next, worse_keeps, left_here, stops_told, part_told}
 use Rattle.myisamkit.proofs.tables.run_tables.Goals as goal
 
@@ -40,7 +41,7 @@ loop-word-preserved g c =
     record {
       plain = subst (λ s. IsFault s → ⊥) (sym c.worse-status.ensures) (worse_keeps (λ s. IsFault s → ⊥) _ _ c.loop-word.invariant.plain c.in_ok-table.ensures.plain);
       usage = subst (λ s. s ≢ status.Usage) (sym c.worse-status.ensures) (worse_keeps (λ s. s ≢ status.Usage) _ _ c.loop-word.invariant.usage c.in_ok-table.ensures.usage);
-      findings = subst (λ s. s ≢ status.Findings) (sym c.worse-status.ensures) (worse_keeps (λ s. s ≢ status.Findings) _ _ c.loop-word.invariant.findings c.in_ok-table.ensures.findings);
+      findings = subst (λ s. s ≡ status.Findings → MayFind c.args.options.now) (sym c.worse-status.ensures) (worse_keeps (λ s. s ≡ status.Findings → MayFind c.args.options.now) _ _ c.loop-word.invariant.findings c.in_ok-table.ensures.findings);
       later = omega (arith, c.loop-word.invariant.later, c.in_ok-table.ensures.file.later);
       sink_later = omega (arith, c.loop-word.invariant.sink_later, c.in_ok-table.ensures.sink.later);
       untold = λ e. c.in_ok-table.ensures.done.untold (c.loop-word.invariant.untold e);

@@ -2,6 +2,7 @@ use Rattle.std.proofs.Common.{◌≡◌, ◌≢◌, ◌≤◌, false, None, Some
 use Rattle.myi_base.specs.Holding.{Holding, IfTold}
 use Rattle.myisamkit.specs.declared.status.Status.TheVariants as status
 use Rattle.myisamkit.specs.Statuses.{IsFault}
+use Rattle.myisamkit.specs.Turns.{MayFind}
 use Rattle.myisamkit.proofs.TableLaws.{names_from, Reached}
 use Rattle.myisamkit.proofs.tables.run_tables.Given as goal
 
@@ -9,7 +10,7 @@ abbrev pub invariant-loop-word : goal.invariant-loop-word
 invariant-loop-word g l = record {
   plain : IsFault l.status → ⊥;
   usage : l.status ≢ status.Usage;
-  findings : l.status ≢ status.Findings;
+  findings : l.status ≡ status.Findings → MayFind l.fn.options;
   later : g.F.Files.faults l.fn.files ≤ g.F.Files.faults l.files;
   sink_later : g.O.Sink.faults l.fn.out ≤ g.O.Sink.faults l.out;
   untold : g.F.Files.holds l.fn.files ≡ None → g.F.Files.holds l.files ≡ None;
