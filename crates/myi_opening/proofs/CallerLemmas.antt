@@ -46,4 +46,4 @@ table_read index rows t m is = (files_of index rows t m is).read
 
 pub table_opened : (index rows x d : List ℕ) (defs : Defs) (m : Holding) → m index ≡ Some x → m rows ≡ Some d → read_defs x ≡ Ok defs → table_in index rows m ≡ Ok (table defs d x)
 unfolding table_in
-table_opened index rows x d defs m there data read = ap (λ o. table_of o (m rows)) there ∙ ap (table_of (Some x)) data ∙ ap (λ r. table_by r d x) read
+table_opened index rows x d defs m there held read = ap (λ o. table_of o (m rows)) there ∙ ap (table_of (Some x)) held ∙ ap (λ r. table_by r d x) read

@@ -23,7 +23,7 @@ no_rows index rows x m there none = ap (λ o. table_of o (m rows)) there ∙ ap 
 
 pub both_there : (index rows x d : List ℕ) (m : Holding) → m index ≡ Some x → m rows ≡ Some d → table_in index rows m ≡ table_by (read_defs x) d x
 unfolding table_in
-both_there index rows x d m there data = ap (λ o. table_of o (m rows)) there ∙ ap (table_of (Some x)) data
+both_there index rows x d m there held = ap (λ o. table_of o (m rows)) there ∙ ap (table_of (Some x)) held
 
 -- a file that has a length is there
 pub is_there : (o : Option (List ℕ)) (size : Option ℕ) (n : ℕ) → size ≡ Some n → Measures o size → (bytes : List ℕ) × (o ≡ Some bytes) × (n ≡ length bytes)

@@ -22,16 +22,16 @@ module _ (t : FourNames) (index rows : List ℕ) (index_is : index ≡ t.index) 
   pub opened_reached : (defs : Defs) (size : ℕ) (m : Holding) → is_addressable defs size ≡ true → opening.HasTable index rows defs size m → HasTable t defs size m
   unfolding table_in
   opened_reached defs size m reached has =
-      let reaches : is_addressable defs (length has.data) ≡ true = ap (is_addressable defs) (sym has.long) ∙ reached in
-      let by : table_by (Ok (opening.table defs has.data has.keys)) ≡ Ok (defs, has.data) = rw reaches refl in
-      (has.data, ap table_by (sym (opened_here m) ∙ has.is) ∙ by, has.long)
+      let reaches : is_addressable defs (length has.data_file) ≡ true = ap (is_addressable defs) (sym has.long) ∙ reached in
+      let by : table_by (Ok (opening.table defs has.data_file has.index_file)) ≡ Ok (defs, has.data_file) = rw reaches refl in
+      (has.data_file, ap table_by (sym (opened_here m) ∙ has.is) ∙ by, has.long)
 
   -- and one whose data file they do not reach
   pub opened_past : (defs : Defs) (size : ℕ) (m : Holding) → is_addressable defs size ≡ false → opening.HasTable index rows defs size m → Refuses t TooLong m
   unfolding table_in
   opened_past defs size m reached has =
-      let reaches : is_addressable defs (length has.data) ≡ false = ap (is_addressable defs) (sym has.long) ∙ reached in
-      let by : table_by (Ok (opening.table defs has.data has.keys)) ≡ Err TooLong = rw reaches refl in
+      let reaches : is_addressable defs (length has.data_file) ≡ false = ap (is_addressable defs) (sym has.long) ∙ reached in
+      let by : table_by (Ok (opening.table defs has.data_file has.index_file)) ≡ Err TooLong = rw reaches refl in
       ap table_by (sym (opened_here m) ∙ has.is) ∙ by
 
   -- a table that was not opened
