@@ -5,10 +5,6 @@ use Rattle.std.proofs.lemmas.Result.{IfErr-weaker}
 use Rattle.myi_base.specs.Holding.{Holding, Told}
 use Rattle.myi_base.specs.Causes.{Rose, HasCause}
 use Rattle.myi_base.proofs.CallerLemmas.{told_more, told_then}
-use Rattle.myi_io.specs.declared.files.FileErr.{FileErr}
-use Rattle.myi_io.specs.declared.files.FileErr.TheVariants.{Failed}
-use Rattle.myi_io.specs.declared.files.FileErr.TheVariants as file
-use Rattle.myi_io.specs.Faults.{handed_on}
 use Rattle.myi_repair.specs.declared.fault.RepairFault.{RepairFault}
 use Rattle.myi_repair.specs.declared.fault.RepairFault.TheVariants.{File, Memory}
 use Rattle.myi_repair.specs.Faults.{faults_told, RoseAtMost}
@@ -61,13 +57,3 @@ ends_again t old new before now f result is ends = subst (λ r. EndsCutOff t old
   others = ends.others;
   cause = record { later = ends.cause.later; cause = λ failed. ends.cause.cause (ap Err (ap fault_of failed)) };
 })
-
--- the fault of a file call
-
-pub handed_cut : (e : FileErr) → CutsOff (handed_on File Memory e)
-handed_cut Failed = inl refl
-handed_cut file.Memory = inr refl
-
-pub handed_rose : {X : Type 0} (e : FileErr) (before between : ℕ) → HasCause {T = X} Failed before between (Err e) → handed_on File Memory e ≡ File → Rose before between
-handed_rose Failed before between has is = has.cause refl
-handed_rose file.Memory before between has is = absurd cc

@@ -1,6 +1,6 @@
 -- How changes of the files of a table compose, over plain holdings.
-use Rattle.std.proofs.Common.{◌≡◌, ◌≢◌, ◌⊎◌, ℕ, ◌+◌, ◌-◌, ◌≤◌, List, [], ◌++◌, length, get_or, Option, Some, unwrap_or, refl, sym, ap, subst, ◌∙◌, arith, inl, inr}
-use Rattle.std.specs.Prelude.{codes}
+use Rattle.std.proofs.Common.{◌≡◌, ◌≢◌, ◌⊎◌, ℕ, ◌+◌, ◌-◌, ◌≤◌, List, [], ◌++◌, length, get_or, Option, Some, Ok, Err, unwrap_or, refl, sym, ap, subst, ◌∙◌, arith, inl, inr}
+use Rattle.std.specs.Prelude.{codes, Result, IfOk}
 use Rattle.std.proofs.lemmas.List.{append_cancel_left, append-nil, take_all, drop_all}
 use Rattle.myi_base.specs.Holding.{Holding, Told, resized, overwritten, OthersStay}
 use Rattle.myi_repair.specs.Names.{FourNames, names_for, AreApart, KeepsBoth}
@@ -42,6 +42,11 @@ told_and old new P Q one other = record {
       (x.0, x.1, (x.2, subst (Q m) (same_holding new y.0 x.0 y.1 x.1) y.2));
   untold = one.untold;
 }
+
+-- two facts of what an Ok holds
+pub both_ok : {T E : Type 0} (r : Result T E) (P Q : T → Type 0) → IfOk r P → IfOk r Q → IfOk r (λ x. P x × Q x)
+both_ok (Ok x) P Q one other = (one, other)
+both_ok (Err e) P Q one other = tt
 
 -- the files before a step that left them as they were
 pub told_from : (old mid new : Option Holding) (P : Holding → Holding → Type 0) → mid ≡ old → Told mid new P → Told old new P

@@ -358,6 +358,12 @@ module _ (old : Option Holding) (name : List ℕ) (at : ℕ) (f : FrameSpec) (b 
   pub parts_whole : (mid next new : Option Holding) → Told old mid (Writes name at header) → Told mid next (Writes name start b) → Told next new (Writes name end (replicate count 0)) → Told old new (Writes name at (block_bytes f b size))
   parts_whole mid next new first second told = goes_whole old next new name at (block_bytes f b size) end (replicate count 0) (bytes_go mid next first second) told
 
+  -- where the row bytes fill the block nothing is left to write
+  pub parts_filled : (mid next : Option Holding) → count ≡ 0 → Told old mid (Writes name at header) → Told mid next (Writes name start b) → Told old next (Writes name at (block_bytes f b size))
+  parts_filled mid next none first second =
+      let bare : b ++ replicate count 0 ≡ b = ap (λ n. b ++ replicate n 0) none ∙ append-nil b in
+      goes_whole old mid next name at (block_bytes f b size) start b (subst (Goes old mid name at (block_bytes f b size) start) bare (header_goes mid first)) second
+
 -- so few bytes of a block are unused
 pub end_unused : (n size : ℕ) → IsWritable end_spec n size → size ≤ n + 260
 end_unused n size w = by (nat_le n 65535) w.kind.0.few

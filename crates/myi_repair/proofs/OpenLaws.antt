@@ -6,37 +6,40 @@ use Rattle.myi_defs.specs.declared.types.Defs.{Defs}
 use Rattle.myi_defs.specs.Addressable.{is_addressable}
 use Rattle.myi_defs.specs.ReadDefs.{read_defs}
 use Rattle.myi_opening.specs.declared.fault.TableFault.{TableFault}
-use Rattle.myi_opening.specs.declared.fault.TableFault.TheVariants as fault
 use Rattle.myi_opening.specs.Opening as opening
 use Rattle.myi_opening.proofs.CallerLemmas.{table_index, table_rows, table_read}
 use Rattle.myi_repair.specs.declared.fault.RepairFault.{RepairFault}
-use Rattle.myi_repair.specs.declared.fault.RepairFault.TheVariants.{TooLong, File, Memory}
+use Rattle.myi_repair.specs.declared.fault.RepairFault.TheVariants.{TooLong}
 use Rattle.myi_repair.specs.Faults.{repair_fault}
 use Rattle.myi_repair.specs.Names.{FourNames}
 use Rattle.myi_repair.specs.Opening.{Table, CutsOff, HasTable, Refuses, table_in, table_by}
 
--- a table that was opened, whose data file row pointers reach
-pub opened_reached : (t : FourNames) (defs : Defs) (size : ℕ) (m : Holding) → is_addressable defs size ≡ true → opening.HasTable t.index t.rows defs size m → HasTable t defs size m
-unfolding table_in
-opened_reached t defs size m reached has =
-    let reaches : is_addressable defs (length has.data_file) ≡ true = ap (is_addressable defs) (sym has.long) ∙ reached in
-    let by : table_by (Ok (opening.table defs has.data_file has.index_file)) ≡ Ok (defs, has.data_file) = rw reaches refl in
-    (has.data_file, ap table_by has.is ∙ by, has.long)
+module _ (t : FourNames) (index rows : List ℕ) (index_is : index ≡ t.index) (rows_is : rows ≡ t.rows) where
+  opened_here : (m : Holding) → opening.table_in index rows m ≡ opening.table_in t.index t.rows m
+  opened_here m = ap (λ i. opening.table_in i rows m) index_is ∙ ap (λ r. opening.table_in t.index r m) rows_is
 
--- and one whose data file they do not reach
-pub opened_past : (t : FourNames) (defs : Defs) (size : ℕ) (m : Holding) → is_addressable defs size ≡ false → opening.HasTable t.index t.rows defs size m → Refuses t TooLong m
-unfolding table_in
-opened_past t defs size m reached has =
-    let reaches : is_addressable defs (length has.data_file) ≡ false = ap (is_addressable defs) (sym has.long) ∙ reached in
-    let by : table_by (Ok (opening.table defs has.data_file has.index_file)) ≡ Err TooLong = rw reaches refl in
-    ap table_by has.is ∙ by
+  -- a table that was opened, whose data file row pointers reach
+  pub opened_reached : (defs : Defs) (size : ℕ) (m : Holding) → is_addressable defs size ≡ true → opening.HasTable index rows defs size m → HasTable t defs size m
+  unfolding table_in
+  opened_reached defs size m reached has =
+      let reaches : is_addressable defs (length has.data_file) ≡ true = ap (is_addressable defs) (sym has.long) ∙ reached in
+      let by : table_by (Ok (opening.table defs has.data_file has.index_file)) ≡ Ok (defs, has.data_file) = rw reaches refl in
+      (has.data_file, ap table_by (sym (opened_here m) ∙ has.is) ∙ by, has.long)
 
--- a table that was not opened
-pub not_opened : (t : FourNames) (old : Option Holding) (e : TableFault) (f : RepairFault) → f ≡ repair_fault e → opening.IsCutOff e ⊎ IfTold old (opening.HasNoTable t.index t.rows e) → CutsOff f ⊎ IfTold old (Refuses t f)
-unfolding table_in
-not_opened t old e f is (inl (inl file)) = inl (inl (is ∙ ap repair_fault file))
-not_opened t old e f is (inl (inr memory)) = inl (inr (is ∙ ap repair_fault memory))
-not_opened t old e f is (inr none) = inr (λ m told. ap table_by (none m told) ∙ ap (λ (x : RepairFault). Err x) (sym is))
+  -- and one whose data file they do not reach
+  pub opened_past : (defs : Defs) (size : ℕ) (m : Holding) → is_addressable defs size ≡ false → opening.HasTable index rows defs size m → Refuses t TooLong m
+  unfolding table_in
+  opened_past defs size m reached has =
+      let reaches : is_addressable defs (length has.data_file) ≡ false = ap (is_addressable defs) (sym has.long) ∙ reached in
+      let by : table_by (Ok (opening.table defs has.data_file has.index_file)) ≡ Err TooLong = rw reaches refl in
+      ap table_by (sym (opened_here m) ∙ has.is) ∙ by
+
+  -- a table that was not opened
+  pub not_opened : (old : Option Holding) (e : TableFault) (f : RepairFault) → f ≡ repair_fault e → opening.IsCutOff e ⊎ IfTold old (opening.HasNoTable index rows e) → CutsOff f ⊎ IfTold old (Refuses t f)
+  unfolding table_in
+  not_opened old e f is (inl (inl file)) = inl (inl (is ∙ ap repair_fault file))
+  not_opened old e f is (inl (inr memory)) = inl (inr (is ∙ ap repair_fault memory))
+  not_opened old e f is (inr none) = inr (λ m told. ap table_by (sym (opened_here m) ∙ none m told) ∙ ap (λ (x : RepairFault). Err x) (sym is))
 
 -- ---- what holds of a table that can be repaired
 

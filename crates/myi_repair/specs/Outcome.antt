@@ -1,12 +1,10 @@
 -- How a call on the files of a table ends, whatever it does: what a refusal tells and leaves, which files stay as they are,
 -- and when a fault is told (the words are this project's own).
-use Rattle.std.specs.Prelude.{◌≡◌, ◌⊎◌, ◌≤◌, ◌+◌, ℕ, List, Option, Result, Ok, Err, IfErr}
+use Rattle.std.specs.Prelude.{◌≡◌, ◌⊎◌, ◌≤◌, ◌+◌, ℕ, List, Option, Result, IfErr}
 use Rattle.myi_base.specs.Holding.{Holding, IfTold, Told, OthersStay}
 use Rattle.myi_base.specs.Causes.{HasCause}
-use Rattle.myi_io.specs.declared.files.FileErr.{FileErr}
-use Rattle.myi_io.specs.Faults.{handed_on}
 use Rattle.myi_repair.specs.declared.fault.RepairFault.{RepairFault}
-use Rattle.myi_repair.specs.declared.fault.RepairFault.TheVariants.{File, Memory}
+use Rattle.myi_repair.specs.declared.fault.RepairFault.TheVariants.{File}
 use Rattle.myi_repair.specs.Faults.{faults_told, RoseAtMost}
 use Rattle.myi_repair.specs.Names.{FourNames, KeepsBut, Clears, working_left}
 use Rattle.myi_repair.specs.Opening.{CutsOff, Refuses}
@@ -16,12 +14,16 @@ pub record IsRefused (t : FourNames) (fault : RepairFault) (old new : Option Hol
   pub reason : IfTold old (Refuses t fault)
   pub same : new ≡ old
 
--- A call on the file of this name, in which the files' count of faults rose from the one number to the other, ends so: an
--- error is that it was cut off, files of other names stay, and a fault of a file is told only where one was counted.
-pub record EndsIn {X : Type 0} (file : List ℕ) (old new : Option Holding) (before now : ℕ) (result : Result X RepairFault) : Type 0 where
+-- A call in which the files' count of faults rose from the one number to the other ends so: an error is that it was cut off,
+-- this is what stays of the files, and a fault of a file is told only where one was counted.
+pub record EndsWith {X : Type 0} (stays : Type 0) (before now : ℕ) (result : Result X RepairFault) : Type 0 where
   pub cut : IfErr result CutsOff
-  pub others : Told old new (OthersStay file)
+  pub others : stays
   pub cause : HasCause File before now result
+
+-- a call on the file of this name: files of other names stay
+abbrev pub EndsIn : {X : Type 0} → List ℕ → Option Holding → Option Holding → ℕ → ℕ → Result X RepairFault → Type 0
+EndsIn file old new before now result = EndsWith (Told old new (OthersStay file)) before now result
 
 -- A call on the files of these names, in which their count of faults rose from the one number to the other, ends so: an error
 -- has one of these reasons, and where no more calls failed besides the one that it tells of, it leaves what is allowed to
@@ -42,8 +44,3 @@ Ends t old new before now result = EndsBy (λ f. CutsOff f ⊎ IsRefused t f old
 -- it was cut off, and each working file is gone, but for one for each call that failed besides
 abbrev pub EndsCutOff : {X : Type 0} → FourNames → Option Holding → Option Holding → ℕ → ℕ → Result X RepairFault → Type 0
 EndsCutOff t old new before now result = EndsBy CutsOff (λ more m n. working_left t n ≤ more) t old new before now result
-
--- an answer with the fault of a file call in its place
-abbrev pub as_repair : {X : Type 0} → Result X FileErr → Result X RepairFault
-as_repair (Ok x) = Ok x
-as_repair (Err e) = Err (handed_on File Memory e)

@@ -1,22 +1,21 @@
 //! The end of a repair: the header of the new index file, and the new files in the place of the old.
-ghost use Rattle.std.specs.Prelude.{◌≡◌, ◌≤◌, ◌+◌, ◌-◌, ◌*◌, ◌^◌, ◌++◌, All, length, take, drop, replicate, IfOk, IfErr, OnOk, IsTrue};
-ghost use Rattle.myi_base.specs.Holding.{Told, Sets, bytes_of, resized, overwritten, OthersStay};
-ghost use Rattle.myi_base.specs.Causes.{HasCause};
-ghost use Rattle.myi_io.specs.declared.files.FileErr.TheVariants.{Failed};
+ghost use Rattle.std.specs.Prelude.{◌≡◌, ◌≤◌, ◌+◌, ◌-◌, ◌*◌, ◌^◌, ◌++◌, All, length, take, drop, replicate, IfOk, OnOk, IsTrue};
+ghost use Rattle.myi_base.specs.Holding.{Told, Sets, bytes_of, resized, overwritten};
 ghost use Rattle.myi_defs.specs.ReadDefs.{AreDefs};
 ghost use Rattle.myi_defs.specs.Sound.{IsSound};
 ghost use Rattle.myi_header.specs.StateOf.{IsPlace, rest_length};
 ghost use Rattle.myi_header.specs.HeaderOf.{header_of};
 ghost use Rattle.myi_repair.specs.Names.{names_of, names_for, AreApart, KeepsBut};
-ghost use Rattle.myi_repair.specs.Outcome.{Ends, EndsCutOff, as_repair};
+ghost use Rattle.myi_repair.specs.Outcome.{Ends, EndsCutOff, EndsIn, EndsWith};
 ghost use Rattle.myi_repair.specs.Finishing.{state_set, Finishes, FinishesPart, FinishesAlone};
 
+use crate::fault::RepairFault;
 use crate::gathering::Gathered;
 use crate::names::TableFiles;
 use myi_base::{Sequence, u8_at};
 use myi_defs::Defs;
 use myi_header::{State, print_state, stored_state};
-use myi_io::{FileErr, Files};
+use myi_io::Files;
 use std::alloc::{AllocError, Global};
 
 /// What the state says of a table after a repair: not analyzed, and pages not sorted.
@@ -34,7 +33,7 @@ pub fn finish<F: Files>(
     roots: &[Option<u64>],
     index_length: u64,
     now: u64,
-) -> Result<(), FileErr>
+) -> Result<(), RepairFault>
     requires writable { IsTrue F.writable }
     requires defs { AreDefs gathered.now.defs }
     requires roots { length roots.now ≡ length gathered.now.defs.keys }
@@ -46,7 +45,7 @@ pub fn finish<F: Files>(
     ensures alone { Told (F.holds files.old) (F.holds files.new)
         (FinishesAlone (names_for name.now) gathered.now roots.now index_length now) }
     ensures ends { Ends (names_for name.now) (F.holds files.old) (F.holds files.new)
-        (F.faults files.old) (F.faults files.new) (as_repair result) }
+        (F.faults files.old) (F.faults files.new) result }
 {
     let table = TableFiles::of(gathered.defs.raw.allocator(), name)?;
     finish_table(files, &table, gathered, roots, index_length, now)
@@ -60,7 +59,7 @@ pub(crate) fn finish_table<F: Files>(
     roots: &[Option<u64>],
     index_length: u64,
     now: u64,
-) -> Result<(), FileErr>
+) -> Result<(), RepairFault>
     requires writable { IsTrue F.writable }
     requires apart { AreApart (names_of table.now) }
     requires sound { IsSound gathered.now.defs }
@@ -73,13 +72,13 @@ pub(crate) fn finish_table<F: Files>(
     ensures alone { Told (F.holds files.old) (F.holds files.new)
         (FinishesAlone (names_of table.now) gathered.now roots.now index_length now) }
     ensures ends { EndsCutOff (names_of table.now) (F.holds files.old) (F.holds files.new)
-        (F.faults files.old) (F.faults files.new) (as_repair result) }
+        (F.faults files.old) (F.faults files.new) result }
 {
     match replace(files, table, gathered, roots, index_length, now) {
         Ok(()) => Ok(()),
-        Err(error) => {
+        Err(fault) => {
             table.clear(files);
-            Err(error)
+            Err(fault)
         }
     }
 }
@@ -91,7 +90,7 @@ fn replace<F: Files>(
     roots: &[Option<u64>],
     index_length: u64,
     now: u64,
-) -> Result<(), FileErr>
+) -> Result<(), RepairFault>
     requires writable { IsTrue F.writable }
     requires apart { AreApart (names_of table.now) }
     requires sound { IsSound gathered.now.defs }
@@ -103,8 +102,9 @@ fn replace<F: Files>(
         (FinishesPart (names_of table.now) gathered.now roots.now index_length now) }
     ensures alone { Told (F.holds files.old) (F.holds files.new)
         (FinishesAlone (names_of table.now) gathered.now roots.now index_length now) }
-    ensures others { Told (F.holds files.old) (F.holds files.new) (KeepsBut (names_of table.now)) }
-    ensures cause { HasCause Failed (F.faults files.old) (F.faults files.new) result }
+    ensures ends { EndsWith
+        (Told (F.holds files.old) (F.holds files.new) (KeepsBut (names_of table.now)))
+        (F.faults files.old) (F.faults files.new) result }
 {
     let header = new_header(
         gathered.defs.raw.allocator(),
@@ -125,12 +125,12 @@ fn put_header<F: Files>(
     file: &str,
     header: &[u8],
     file_length: u64,
-) -> Result<(), FileErr>
+) -> Result<(), RepairFault>
     requires { IsTrue F.writable }
     ensures done { OnOk result (Told (F.holds files.old) (F.holds files.new) (λ m n.
         Sets file.now (resized file_length (overwritten 0 header.now (bytes_of file.now m))) m n)) }
-    ensures others { Told (F.holds files.old) (F.holds files.new) (OthersStay file.now) }
-    ensures cause { HasCause Failed (F.faults files.old) (F.faults files.new) result }
+    ensures ends { EndsIn file.now (F.holds files.old) (F.holds files.new)
+        (F.faults files.old) (F.faults files.new) result }
 {
     files.write_at(file, 0, header)?;
     files.cut(file, file_length)?;

@@ -31,6 +31,7 @@ use myi_defs::Defs;
 use myi_header::{State, stored_state};
 use myi_io::Files;
 use myi_keylist::PairList;
+use myi_opening::OpenedTable;
 use myi_pack::view_packed;
 use myi_rowkeys::RowKeys;
 use std::alloc::{AllocError, Global};

@@ -263,6 +263,9 @@ fn put_block<F: Files>(
     let behind = at + size as u64;
     files.write_at(file, at, &header[..header_length])?;
     files.write_at(file, start, bytes)?;
+    if end == behind {
+        return Ok(behind);
+    }
     put_unused(files, file, end, (behind - end) as usize)?;
     Ok(behind)
 }

@@ -29,13 +29,12 @@ impl Drop for NextRow {
 }
 
 impl NextRow {
-    ghost use Rattle.std.specs.Prelude.{◌≡◌, IfOk, IfErr, OnOk};
+    ghost use Rattle.std.specs.Prelude.{◌≡◌, IfOk, OnOk};
     ghost use Rattle.myi_base.specs.Holding.{IfTold};
-    ghost use Rattle.myi_base.specs.Causes.{HasCause};
     ghost use Rattle.myi_defs.specs.ReadDefs.{AreDefs};
     ghost use Rattle.myi_chain.specs.ScanModel.{IsSameScan};
     ghost use Rattle.myi_data.specs.Scanning.{IsAsKnown};
-    ghost use Rattle.myi_repair.specs.Opening.{CutsOff};
+    ghost use Rattle.myi_repair.specs.Outcome.{EndsWith};
     ghost use Rattle.myi_repair.specs.Gathering.{ReadsIf};
 
     /// No row yet.
@@ -61,9 +60,8 @@ impl NextRow {
             ReadsIf more defs.now (F.holds files.old) scan.old scan.new self.new) }
         ensures same { OnOk result (IsSameScan scan.old scan.new) }
         ensures current { OnOk result (IfTold (F.holds files.old) (IsAsKnown scan.new)) }
-        ensures holds { F.holds files.new ≡ F.holds files.old }
-        ensures cut { IfErr result CutsOff }
-        ensures cause { HasCause RepairFault.File (F.faults files.old) (F.faults files.new) result }
+        ensures ends { EndsWith (F.holds files.new ≡ F.holds files.old)
+            (F.faults files.old) (F.faults files.new) result }
     {
         let Some((_, piece)) = scan.next_row(files)? else {
             return Ok(false);

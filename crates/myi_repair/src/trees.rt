@@ -1,7 +1,6 @@
 //! The trees of the new index file.
-ghost use Rattle.std.specs.Prelude.{◌≡◌, ◌⊎◌, ◌↔◌, ◌+◌, ◌*◌, ◌%◌, ◌≤◌, ◌<◌, length, All, IfOk, IfErr, OnOk, IsTrue};
+ghost use Rattle.std.specs.Prelude.{◌≡◌, ◌⊎◌, ◌↔◌, ◌+◌, ◌*◌, ◌%◌, ◌≤◌, ◌<◌, length, All, IfOk, OnOk, IsTrue};
 ghost use Rattle.myi_base.specs.Holding.{Told, OthersStay};
-ghost use Rattle.myi_base.specs.Causes.{HasCause};
 ghost use Rattle.myi_defs.specs.ReadDefs.{AreDefs};
 ghost use Rattle.myi_defs.specs.Sound.{IsSound};
 ghost use Rattle.myi_header.specs.StateOf.{IsPlace};
@@ -13,7 +12,7 @@ ghost use Rattle.myi_btree.specs.Building.{CanLay, Lays};
 ghost use Rattle.myi_keylist.specs.PairOrder.{sorted};
 ghost use Rattle.myi_pair.specs.Trees.{place_of};
 ghost use Rattle.myi_repair.specs.Opening.{CutsOff};
-ghost use Rattle.myi_repair.specs.Outcome.{EndsIn};
+ghost use Rattle.myi_repair.specs.Outcome.{EndsIn, EndsWith};
 ghost use Rattle.myi_repair.specs.Sized.{AreSizedPairs};
 ghost use Rattle.myi_repair.specs.Building.{AreTrees, Builds, LaysTrees};
 
@@ -105,10 +104,9 @@ fn lay_trees<F: Files>(
     ensures trees { IfOk result (AreTrees defs.now pairs.items) }
     ensures places { IfOk result (λ trees. All IsPlace trees.roots.items) }
     ensures name { cache.new.name ≡ cache.old.name }
-    ensures cut { IfErr result CutsOff }
-    ensures others { Told (F.holds files.old) (F.holds files.new)
-        (λ m n. CanLay cache.old m (first_page_of defs.now) → OthersStay cache.old.name m n) }
-    ensures cause { HasCause RepairFault.File (F.faults files.old) (F.faults files.new) result }
+    ensures ends { EndsWith (Told (F.holds files.old) (F.holds files.new)
+        (λ m n. CanLay cache.old m (first_page_of defs.now) → OthersStay cache.old.name m n))
+        (F.faults files.old) (F.faults files.new) result }
 {
     let mut room = Room {
         end: first_page(defs),
@@ -161,10 +159,9 @@ fn build_tree<F: Files>(
     ensures end { OnOk result (room.new.end ≡ room.old.end + place.block_length
         * length (laid (fits_in place) place.block_length room.old.end (sorted pairs))) }
     ensures name { cache.new.name ≡ cache.old.name }
-    ensures cut { IfErr result CutsOff }
-    ensures others { Told (F.holds files.old) (F.holds files.new)
-        (λ m n. CanLay cache.old m room.old.end → OthersStay cache.old.name m n) }
-    ensures cause { HasCause RepairFault.File (F.faults files.old) (F.faults files.new) result }
+    ensures ends { EndsWith (Told (F.holds files.old) (F.holds files.new)
+        (λ m n. CanLay cache.old m room.old.end → OthersStay cache.old.name m n))
+        (F.faults files.old) (F.faults files.new) result }
 {
     pairs.sort();
     match Tree::build(alloc, files, cache, place, room, &pairs) {

@@ -44,14 +44,14 @@ loop-rows-preserved g c =
     let next = c.read.new.scan in
     let read = subst (λ more. ReadsIf more d mid c.loop-rows.scan next c.read.new.self) c.if-branch.true c.in_ok-read.ensures.read in
     let took = c.in_ok-put_chosen.ensures in
-    let others = told_from mid _ after _ c.read.ensures.holds took.ends.others in
-    let writes = told_from mid _ after _ c.read.ensures.holds took.written in
+    let others = told_from mid _ after _ c.read.ensures.ends.others took.ends.others in
+    let writes = told_from mid _ after _ c.read.ensures.ends.others took.written in
     let same = same_then start c.loop-rows.scan next was.same c.in_ok-read.ensures.same in
     let number = written_long d (is_chosen c.args.flags.now) was.came c.loop-rows.rows was.so_far.written in
     record {
       same = same;
       current = stays_known file mid mid after next next refl (λ e. c.requires.apart (sym same.name ∙ e)) (record { name = refl; test = refl; extend = refl; end = omega arith }) c.in_ok-read.ensures.current others;
-      later = omega (arith, was.later, c.read.ensures.cause.later, took.ends.cause.later);
+      later = omega (arith, was.later, c.read.ensures.ends.cause.later, took.ends.cause.later);
       others = told_then _ _ _ _ _ _ was.others others (λ m k n before kept q differs. kept q differs ∙ before q differs);
       came = was.came ++ read.row ∷ [];
       so_far = taking_more d start c.loop-rows.scan next file (is_chosen c.args.flags.now) (is_chosen c.args.flags.now (length c.loop-rows.rows.pointers)) was.came c.loop-rows.rows c.put_chosen.new.self c.read.new.self _ mid after (λ e. c.requires.apart (sym same.name ∙ e)) same.end was.so_far read (ap (is_chosen c.args.flags.now) (sym number)) took.added writes others;
@@ -68,5 +68,5 @@ returns-clause-took g c =
     let mid = g.F.Files.holds c.loop-rows.files in
     let was = c.loop-rows.invariant in
     let none = subst (λ more. ReadsIf more d mid c.loop-rows.scan c.read.new.scan c.read.new.self) c.if-branch.false c.in_ok-read.ensures.read in
-    subst (λ h. TakesChosen d c.args.scan.now c.args.file.now (is_chosen c.args.flags.now) c.loop-rows.rows (g.F.Files.holds c.args.files.now) h) (sym c.read.ensures.holds)
+    subst (λ h. TakesChosen d c.args.scan.now c.args.file.now (is_chosen c.args.flags.now) c.loop-rows.rows (g.F.Files.holds c.args.files.now) h) (sym c.read.ensures.ends.others)
     (was.came, taken_all d c.args.scan.now c.loop-rows.scan c.args.file.now (is_chosen c.args.flags.now) was.came c.loop-rows.rows _ mid was.so_far none)

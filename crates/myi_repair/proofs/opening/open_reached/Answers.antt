@@ -1,5 +1,18 @@
-use Rattle.std.proofs.Common.{sym, ◌∙◌}
+use Rattle.std.proofs.Common.{◌∙◌, sym, inr}
 use Rattle.std.proofs.lemmas.Result.{err_from_is_err_and}
 use Rattle.myi_repair.specs.Names.{names_of}
 use Rattle.myi_repair.proofs.OpenLaws.{opened_reached, opened_past, not_opened}
 use Rattle.myi_repair.proofs.opening.open_reached.Goals as goal
+
+pub returns-clause-table : goal.returns-clause-table
+returns-clause-table g c m told =
+    opened_reached (names_of c.args.table.now) _ _ c.as_str.ensures.value c.as_str-2.ensures.value _ _ m (sym c.addressable.ensures ∙ c.if-not-addressable.false) (c.in_ok-opened.ensures.table m told)
+
+pub returns-then-not-addressable-clause-refused : goal.returns-then-not-addressable-clause-refused
+returns-then-not-addressable-clause-refused g c = inr (λ m told.
+    opened_past (names_of c.args.table.now) _ _ c.as_str.ensures.value c.as_str-2.ensures.value _ _ m (sym c.addressable.ensures ∙ c.if-not-addressable.true) (c.in_ok-opened.ensures.table m told))
+
+pub returns-in_err-opened-clause-refused : goal.returns-in_err-opened-clause-refused
+returns-in_err-opened-clause-refused g c =
+    let e = err_from_is_err_and c.from_residual.result c.from_residual.ensures.1 in
+    not_opened (names_of c.args.table.now) _ _ c.as_str.ensures.value c.as_str-2.ensures.value _ _ _ _ c.in_err-opened.ensures.refused

@@ -2,8 +2,7 @@ use Rattle.std.proofs.Common.{arith}
 use Rattle.std.proofs.lemmas.Result.{IfOk-weaker}
 use Rattle.myi_base.proofs.CallerLemmas.{told_then}
 use Rattle.myi_repair.specs.Names.{names_of}
-use Rattle.myi_repair.proofs.FilesLaws.{apart_of}
-use Rattle.myi_repair.proofs.OpenLaws.{both_ok}
+use Rattle.myi_repair.proofs.FilesLaws.{apart_of, both_ok}
 use Rattle.myi_repair.proofs.RepairLaws.{repaired}
 use Rattle.myi_repair.proofs.EndLaws.{cut_off_ends, cut_off_later}
 use Rattle.myi_repair.proofs.repair.recover.Goals as goal

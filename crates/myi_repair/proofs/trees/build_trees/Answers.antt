@@ -17,7 +17,7 @@ returns-in_err-trees-clause-ends g c =
     let made = c.in_ok-cache.ensures in
     record {
       cut = search rules;
-      others = told_then _ _ _ _ _ _ c.in_ok-cut.ensures.ok c.lay_trees.ensures.others (λ m k n cut laid. others_laid c.in_ok-cache.cache c.args.file.now (first_page_of c.args.defs.now) m k n made.pages made.name (made.current k) cut laid);
+      others = told_then _ _ _ _ _ _ c.in_ok-cut.ensures.ok c.lay_trees.ensures.ends.others (λ m k n cut laid. others_laid c.in_ok-cache.cache c.args.file.now (first_page_of c.args.defs.now) m k n made.pages made.name (made.current k) cut laid);
       cause = search rules;
     }
 
@@ -25,7 +25,7 @@ pub returns-in-Ok-clause-ends : goal.returns-in-Ok-clause-ends
 returns-in-Ok-clause-ends g c =
     let made = c.in_ok-cache.ensures in
     let named = c.lay_trees.ensures.name ∙ made.name in
-    let laid = told_then _ _ _ _ _ (OthersStay c.args.file.now) c.in_ok-cut.ensures.ok c.lay_trees.ensures.others (λ m k n cut laid. others_laid c.in_ok-cache.cache c.args.file.now (first_page_of c.args.defs.now) m k n made.pages made.name (made.current k) cut laid) in
+    let laid = told_then _ _ _ _ _ (OthersStay c.args.file.now) c.in_ok-cut.ensures.ok c.lay_trees.ensures.ends.others (λ m k n cut laid. others_laid c.in_ok-cache.cache c.args.file.now (first_page_of c.args.defs.now) m k n made.pages made.name (made.current k) cut laid) in
     record {
       cut = search rules;
       others = told_then _ _ _ _ _ _ laid c.flush.ensures.others (λ m k n before flushed q differs. flushed q (λ same. differs (same ∙ named)) ∙ before q differs);
@@ -36,7 +36,7 @@ pub returns-clause-ends : goal.returns-clause-ends
 returns-clause-ends g c =
     let made = c.in_ok-cache.ensures in
     let named = c.lay_trees.ensures.name ∙ made.name in
-    let laid = told_then _ _ _ _ _ (OthersStay c.args.file.now) c.in_ok-cut.ensures.ok c.lay_trees.ensures.others (λ m k n cut laid. others_laid c.in_ok-cache.cache c.args.file.now (first_page_of c.args.defs.now) m k n made.pages made.name (made.current k) cut laid) in
+    let laid = told_then _ _ _ _ _ (OthersStay c.args.file.now) c.in_ok-cut.ensures.ok c.lay_trees.ensures.ends.others (λ m k n cut laid. others_laid c.in_ok-cache.cache c.args.file.now (first_page_of c.args.defs.now) m k n made.pages made.name (made.current k) cut laid) in
     record {
       cut = search rules;
       others = told_then _ _ _ _ _ _ laid c.flush.ensures.others (λ m k n before flushed q differs. flushed q (λ same. differs (same ∙ named)) ∙ before q differs);

@@ -64,7 +64,7 @@ loop-pairs-preserved g c =
           subst (λ count. LaysTo d lists count c.build_tree.new.room.end c.args.cache.now c.build_tree.new.cache m n) (sym more)
           (lays_next d lists i end ps turn.0 c.requires.pairs.all turn.1 c.build_tree.new.room.end c.args.cache.now c.loop-pairs.cache c.build_tree.new.cache m k n can ended was.name (rw place at laid) before));
       name = one.name ∙ was.name;
-      later = omega (arith, was.later, one.cause.later);
+      later = omega (arith, was.later, one.ends.cause.later);
     }
 
 pub returns-clause-laid : goal.returns-clause-laid
