@@ -3,6 +3,6 @@
 //! What is found is `findings` of `Rattle.myi_pair.specs.Findings`, over the bytes of the two files.
 #![tactic(auto)]
 
-mod check;
+mod checking;
 
-pub use check::check;
+pub use checking::check;
