@@ -14,7 +14,10 @@ pub struct RowTexts {
 
 impl Drop for RowTexts {
     fn drop(self) {
-        let RowTexts { number: _, value: _ } = self;
+        let RowTexts {
+            number: _,
+            value: _,
+        } = self;
     }
 }
 
@@ -31,12 +34,7 @@ impl RowTexts {
     }
 
     /// Appends the text of the row at a place. Where memory runs out, a part of it may have been appended.
-    pub fn push(
-        &mut self,
-        out: &mut Vec<u8>,
-        at: u64,
-        row: &RowView<'_>,
-    ) -> Result<(), AllocError>
+    pub fn push(&mut self, out: &mut Vec<u8>, at: u64, row: &RowView<'_>) -> Result<(), AllocError>
         ensures { OnOk result (out.new.items ≡ out.old.items ++ row_text at row.now) }
     {
         self.number.clear();
@@ -47,11 +45,7 @@ impl RowTexts {
 }
 
 // Appends the values of a row.
-fn push_values(
-    out: &mut Vec<u8>,
-    value: &mut Vec<u8>,
-    row: &RowView<'_>,
-) -> Result<(), AllocError>
+fn push_values(out: &mut Vec<u8>, value: &mut Vec<u8>, row: &RowView<'_>) -> Result<(), AllocError>
     ensures { OnOk result (out.new.items ≡ out.old.items ++ values_text row.now) }
 {
     let mut fields = row.fields();
@@ -68,9 +62,11 @@ fn push_value(out: &mut Vec<u8>, value: &[u8]) -> Result<(), AllocError>
     ensures { OnOk result (out.new.items ≡ out.old.items ++ value_text value.now) }
 {
     if value.is_empty() {
-        return out.push(b'-');
+        out.push(b'-')?;
+    } else {
+        push_digits(out, value)?;
     }
-    push_digits(out, value)
+    Ok(())
 }
 
 fn push_digits(out: &mut Vec<u8>, value: &[u8]) -> Result<(), AllocError>

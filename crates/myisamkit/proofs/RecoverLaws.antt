@@ -49,9 +49,9 @@ sound_after : (name : List ℕ) (defs : Defs) (extend : Bool) (d : List ℕ) (no
 unfolding findings_in
 sound_after name defs extend d now m n e y files made =
     let again = record defs { raw = take (num_at 6 2 defs.raw) y } in
-    let data = ap (λ (h : Holding). h (rows_file name)) files ∙ placed_rows name e y m in
+    let held = ap (λ (h : Holding). h (rows_file name)) files ∙ placed_rows name e y m in
     let keys = ap (λ (h : Holding). h (index_file name)) files ∙ placed_index name e y m in
-    ap findings_by (table_opened (index_file name) (rows_file name) y e again n keys data made.rebuilt.definitions)
+    ap findings_by (table_opened (index_file name) (rows_file name) y e again n keys held made.rebuilt.definitions)
     ∙ ap Ok (none_where_clean again e y made.rebuilt.definitions made.rebuilt.clean)
 
 -- the table had its turn

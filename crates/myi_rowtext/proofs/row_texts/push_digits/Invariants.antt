@@ -1,0 +1,7 @@
+use Rattle.std.proofs.Common.{◌≡◌, ◌++◌, drop}
+use Rattle.std.specs.List.{flat_map}
+use Rattle.myi_rowtext.specs.RowText.{byte_text}
+use Rattle.myi_rowtext.proofs.row_texts.push_digits.Given as goal
+
+abbrev pub invariant-loop-byte : goal.invariant-loop-byte
+invariant-loop-byte l = l.out.items ++ flat_map byte_text (drop l.byte-index l.value) ≡ l.fn.out.items ++ flat_map byte_text l.fn.value
