@@ -9,8 +9,8 @@ use Rattle.myi_btree.specs.Nodes.{page_of_node}
 use Rattle.myi_btree.specs.Sizes.{IsPlaced, AreSized, fits_in}
 use Rattle.myi_btree.specs.LaidPages.{moved, root_of}
 use Rattle.myi_btree.specs.Building.{page_for, pages_bytes, AreKeys, laid_at, built_at}
-use Rattle.myi_btree.specs.Moving.{AreMovable, CanMoveRoot}
-use Rattle.myi_btree.proofs.CallerLemmas.{laid_moves, laid_movable, same_pages}
+use Rattle.myi_btree.specs.Moving.{StoredPage, laid_page, stored_pages, AreMovable, CanMoveRoot}
+use Rattle.myi_btree.proofs.CallerLemmas.{laid_moves, laid_movable, laid_stored}
 
 page_least : (place : Place) (node : Node) → place.block_length ≤ length (page_for place node)
 unfolding page_for
@@ -26,7 +26,7 @@ small : (place : Place) (first : ℕ) (pairs : List Pair) (bytes : List ℕ) →
 small place first pairs bytes e lt = omega (arith, lt, ap length e, pages_least place (laid_at place 0 pairs))
 
 pub movable : (place now : Place) (first : ℕ) (pairs : List Pair) (bytes : List ℕ) → IsPlaced place → first % 1024 ≡ 0 → AreSized place pairs → AreKeys pairs → bytes ≡ pages_bytes place (laid_at place 0 pairs) → first + length bytes < 2 ^ 64 → now ≡ built_at place 0 pairs
-    → (nodes : List Node) × AreMovable now first nodes × (bytes ≡ pages_bytes now nodes)
+    → (stored : List StoredPage) × AreMovable now first stored × (bytes ≡ stored_pages now stored)
 movable place now first pairs bytes placed whole sized keys e lt is =
     let zero_is : 0 + first ≡ first = omega arith in
     let nodes : List Node = laid_at place 0 pairs in
@@ -34,8 +34,9 @@ movable place now first pairs bytes placed whole sized keys e lt is =
     let total : length (laid_at place first pairs) ≡ length nodes = ap length same ∙ length-map nodes (moved first) in
     let k = small place first pairs bytes e lt in
     let room : first + place.block_length * length (laid_at place first pairs) < 2 ^ 64 = omega (arith, k, ap (λ (n : ℕ). place.block_length * n) total) in
-    let moves : AreMovable place first nodes = laid_movable place first pairs placed whole sized keys room in
-    (nodes, subst (λ (p : Place). AreMovable p first nodes) (sym is) moves, e ∙ sym (same_pages place (built_at place 0 pairs).root nodes) ∙ ap (λ (p : Place). pages_bytes p nodes) (sym is))
+    let stored : List StoredPage = map (laid_page place) nodes in
+    let moves : AreMovable place first stored = laid_movable place first pairs placed whole sized keys room in
+    (stored, subst (λ (p : Place). AreMovable p first stored) (sym is) moves, e ∙ sym (laid_stored place (built_at place 0 pairs).root nodes) ∙ ap (λ (p : Place). stored_pages p stored) (sym is))
 
 pub root_moves : (place now : Place) (first : ℕ) (pairs : List Pair) (bytes : List ℕ) → bytes ≡ pages_bytes place (laid_at place 0 pairs) → first + length bytes < 2 ^ 64 → now ≡ built_at place 0 pairs → CanMoveRoot first now.root
 root_moves place now first pairs bytes e lt is = subst (λ (p : Place). CanMoveRoot first p.root) (sym is) (of_nodes (laid_at place 0 pairs) (small place first pairs bytes e lt))

@@ -10,6 +10,8 @@ pub use Rattle.myi_btree.proofs.BuildClear.{root_some}
 -- pages_are_nodes, trees_are_shallow
 pub use Rattle.myi_btree.proofs.NodeShape.{node_shape}
 pub use Rattle.myi_btree.proofs.Shallow.{depth_bound}
+-- index_pages_are_nodes
+pub use Rattle.myi_btree.proofs.NodesAt.{at_shape}
 -- levels_are_laid
 pub use Rattle.myi_btree.proofs.LaidRead.{good_count}
 pub use Rattle.myi_btree.proofs.LaidWalks.{count_pos, level_lt, length-places_from}
@@ -17,7 +19,7 @@ pub use Rattle.myi_btree.proofs.LevelsLaws.{level_count, multiple}
 pub use Rattle.myi_btree.proofs.PutLaws.{ends}
 -- laid_pages_move, laid_pages_are_movable
 pub use Rattle.myi_btree.proofs.LaidMoves.{laid_moves}
-pub use Rattle.myi_btree.proofs.MoveLaws.{laid_movable, same_pages}
+pub use Rattle.myi_btree.proofs.MoveLaws.{laid_movable, laid_moved, laid_stored}
 -- laid_pages_are_written
 pub use Rattle.myi_btree.proofs.LaidRead.{laid_written, written_read}
 -- laid_pages_stand_behind

@@ -10,10 +10,9 @@ use Rattle.myi_keylist.specs.declared.pair.Pair.{Pair}
 use Rattle.myi_btree.specs.declared.place.Place.{Place}
 use Rattle.myi_btree.specs.Walk.{Node}
 use Rattle.myi_btree.specs.Nodes.{page_of_node}
-use Rattle.myi_btree.specs.Building.{page_for, laid_over}
-use Rattle.myi_btree.specs.Building.{IsWritten}
+use Rattle.myi_btree.specs.Building.{IsWritten, laid_at, page_for, laid_over}
 use Rattle.myi_btree.proofs.LaidRead.{laid_written}
-use Rattle.myi_btree.specs.TreePages.{tree_nodes, tree_pages, tree_end, with_tree, CanBeLaid, HasBehind}
+use Rattle.myi_btree.specs.TreePages.{tree_pages, tree_end, with_tree, CanBeLaid, HasBehind}
 
 -- pages have the length of a page
 
@@ -89,9 +88,9 @@ nodes_behind place base end bytes file (node ∷ nodes) written is =
 
 pub tree_long : (place : Place) (first : ℕ) (pairs : List Pair) → CanBeLaid place first pairs → first + length (tree_pages place first pairs) ≡ tree_end place first pairs
 tree_long place first pairs can =
-    omega (arith, pages_long place (tree_nodes place first pairs) (laid_written place first pairs can.placed can.at can.sized can.keys can.room))
+    omega (arith, pages_long place (laid_at place first pairs) (laid_written place first pairs can.placed can.at can.sized can.keys can.room))
 
 pub tree_behind : (place : Place) (first : ℕ) (pairs : List Pair) → CanBeLaid place first pairs → (base : ℕ) (bytes file : List ℕ) → HasBehind base first bytes file
     → HasBehind base (tree_end place first pairs) (bytes ++ tree_pages place first pairs) (with_tree place first pairs file)
 tree_behind place first pairs can base bytes file is =
-    nodes_behind place base first bytes file (tree_nodes place first pairs) (laid_written place first pairs can.placed can.at can.sized can.keys can.room) is
+    nodes_behind place base first bytes file (laid_at place first pairs) (laid_written place first pairs can.placed can.at can.sized can.keys can.room) is

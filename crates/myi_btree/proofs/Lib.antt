@@ -20,6 +20,7 @@ pub mod Named
 pub mod Among
 pub mod ViewShape
 pub mod NodeShape
+pub mod NodesAt
 pub mod LaidOnce
 pub mod LaidRanges
 pub mod BuildClear

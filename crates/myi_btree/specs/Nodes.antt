@@ -1,16 +1,17 @@
 -- The node that bytes are: a page each of whose keys is the code of a key.
-use Rattle.std.specs.Prelude.{ℕ, List, Option, Some, None, Result, Ok, Err}
+use Rattle.std.specs.Prelude.{ℕ, ◌%◌, ◌==◌, List, Option, Some, None, Result, Ok, Err, if◌then◌else◌}
 use Rattle.myi_keypage.specs.declared.entry.Entry.{Entry}
 use Rattle.myi_keypage.specs.Page.{Page, page_with}
 use Rattle.myi_keypage.specs.Views.{page_in}
 use Rattle.myi_keys.specs.declared.values.KeySeg.{KeySeg}
 use Rattle.myi_keys.specs.declared.codes.KeyFault.{KeyFault}
 use Rattle.myi_keys.specs.Decoding.{key_at}
+use Rattle.myi_keycache.specs.Lent.{bytes_at}
 use Rattle.myi_keylist.specs.declared.pair.Pair.{Pair}
 use Rattle.myi_keylist.specs.PairOrder.{pair_with}
 pub use Rattle.myi_keylist.specs.PairEntries.{entry_of, entries_of}
 use Rattle.myi_btree.specs.declared.node.NodeData.{NodeData}
-use Rattle.myi_btree.specs.Walk.{◌>>=◌, each, Node, node_with}
+use Rattle.myi_btree.specs.Walk.{◌>>=◌, each, Node, node_with, Places}
 
 -- what a node of the code is
 abbrev pub node_view : NodeData → Node
@@ -34,3 +35,7 @@ pair_in e = key_in e.key >>= λ key. Some (pair_with key e.row)
 -- the node that bytes are, and none where they are no page or a key of it is no key's code
 unfoldable pub node_in : ℕ → List ℕ → Option Node
 node_in rec_ref bytes = page_in rec_ref bytes >>= λ page. each pair_in page.entries >>= λ pairs. Some (node_with pairs page.children)
+
+-- the nodes of an index file, on pages of so many bytes
+unfoldable pub node_at : ℕ → ℕ → List ℕ → Places
+node_at rec_ref block x at = if at % 1024 == 0 then bytes_at x at block >>= node_in rec_ref else None

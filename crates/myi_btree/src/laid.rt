@@ -1,10 +1,8 @@
 //! The pages of a tree in memory, laid from place 0.
-ghost use Rattle.std.specs.Prelude.{◌≡◌, ◌+◌, ◌*◌, ◌++◌, List, length, map, IfOk, OnOk};
+ghost use Rattle.std.specs.Prelude.{◌≡◌, ◌*◌, ◌++◌, List, length, map, IfOk, OnOk};
 ghost use Rattle.myi_btree.specs.Sizes.{IsPlaced, AreSized};
-ghost use Rattle.myi_btree.specs.Walk.{Node};
-ghost use Rattle.myi_btree.specs.LaidPages.{moved};
 ghost use Rattle.myi_btree.specs.Building.{laid_at, built_at, pages_bytes};
-ghost use Rattle.myi_btree.specs.Moving.{AreMovable, moved_root, CanMoveRoot};
+ghost use Rattle.myi_btree.specs.Moving.{StoredPage, stored_pages, AreMovable, moved_page, moved_root, CanMoveRoot};
 
 use crate::fault::TreeFault;
 use crate::laying::Laying;
@@ -70,10 +68,11 @@ pub fn lay(alloc: Global, place: &Place, pairs: &PairList) -> Result<Laid, Alloc
 // Adds so many bytes to the children on pages, one after the other.
 fn shift_pages(pages: &mut [u8], place: Place, by: u64)
     requires placed { IsPlaced place }
-    requires pages { (nodes : List Node) × AreMovable place by nodes
-        × (pages.old ≡ pages_bytes place nodes) }
-    ensures { (nodes : List Node) → AreMovable place by nodes → pages.old ≡ pages_bytes place nodes
-        → pages.new ≡ pages_bytes place (map (moved by) nodes) }
+    requires pages { (stored : List StoredPage) × AreMovable place by stored
+        × (pages.old ≡ stored_pages place stored) }
+    ensures { (stored : List StoredPage) → AreMovable place by stored
+        → pages.old ≡ stored_pages place stored
+        → pages.new ≡ stored_pages place (map (moved_page by) stored) }
 {
     let block = place.block_length as usize;
     let mut at = 0;
@@ -85,16 +84,18 @@ fn shift_pages(pages: &mut [u8], place: Place, by: u64)
 
 impl Laid {
     /// Moves the pages so that the first one stands at `first`: adds that to the root and to each child,
-    /// and changes nothing else. It takes no memory. What `lay` answered becomes the pages of the same tree
-    /// laid from there on (`laid_pages_move`, `laid_pages_are_movable`).
+    /// and changes nothing else. It takes no memory. What stands behind the used bytes of a page does not
+    /// matter. What `lay` answered becomes the pages of the same tree laid from there on
+    /// (`laid_pages_are_movable`).
     pub fn shift(&mut self, first: u64)
         requires placed { IsPlaced self.old.place }
-        requires pages { (nodes : List Node) × AreMovable self.old.place first nodes
-            × (self.old.pages.items ≡ pages_bytes self.old.place nodes) }
+        requires pages { (stored : List StoredPage) × AreMovable self.old.place first stored
+            × (self.old.pages.items ≡ stored_pages self.old.place stored) }
         requires root { CanMoveRoot first self.old.place.root }
-        ensures pages { (nodes : List Node) → AreMovable self.old.place first nodes
-            → self.old.pages.items ≡ pages_bytes self.old.place nodes
-            → self.new.pages.items ≡ pages_bytes self.old.place (map (moved first) nodes) }
+        ensures pages { (stored : List StoredPage) → AreMovable self.old.place first stored
+            → self.old.pages.items ≡ stored_pages self.old.place stored
+            → self.new.pages.items
+            ≡ stored_pages self.old.place (map (moved_page first) stored) }
         ensures root { self.new.place.root ≡ moved_root first self.old.place.root }
         ensures sizes { (self.new.place.block_length ≡ self.old.place.block_length)
             × (self.new.place.rec_ref ≡ self.old.place.rec_ref) }

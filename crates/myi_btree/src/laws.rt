@@ -12,16 +12,16 @@ ghost use Rattle.myi_btree.specs.Used.{up_to_used, apart_from};
 ghost use Rattle.myi_btree.specs.TreeEvents.{tree_events, AreWithin};
 ghost use Rattle.myi_btree.specs.Serving.{View};
 ghost use Rattle.myi_btree.specs.Walking.{Walking, walk_at, IsOver, IsStillMet, MayGo};
-ghost use Rattle.std.specs.List.{flat_map, AllByRecursion};
+ghost use Rattle.std.specs.List.{AllByRecursion};
 ghost use Rattle.myi_base.specs.Holding.{Holding};
 ghost use Rattle.myi_keycache.specs.Caching.{Caching, IsCurrent, Stays};
 ghost use Rattle.myi_btree.specs.declared.place.Place.{Place};
 ghost use Rattle.myi_btree.specs.CachedTrees.{node_lent, CanWalk, HasPages, IsClear, AddsNamed, AddsItsOwn, ReadsOnce, AreApart};
-ghost use Rattle.myi_btree.specs.Nodes.{node_in};
+ghost use Rattle.myi_btree.specs.Nodes.{node_in, node_at};
 ghost use Rattle.myi_btree.specs.Sizes.{IsPlaced, AreSized, IsCount, fits_in};
-ghost use Rattle.myi_btree.specs.Building.{laid_at, built_at, AddsLaid, AreKeys, EndBefore, CanLay, IsWritten, Lays, LaysOnly, Spares, page_for};
+ghost use Rattle.myi_btree.specs.Building.{laid_at, built_at, AddsLaid, AreKeys, EndBefore, CanLay, IsWritten, Lays, LaysOnly, Spares, page_for, pages_bytes};
 ghost use Rattle.myi_btree.specs.TreePages.{tree_pages, tree_end, with_tree, CanBeLaid, HasBehind};
-ghost use Rattle.myi_btree.specs.Moving.{AreMovable};
+ghost use Rattle.myi_btree.specs.Moving.{laid_page, stored_pages, AreMovable, moved_page};
 ghost use Rattle.myi_keycache.specs.Kept.{Page};
 
 /// A walk depends on its own pages alone: where two readings give the same at each of them, the walk is
@@ -54,6 +54,15 @@ pub fn trees_are_shallow()
         → AreNodes read → walk_of read height place ≡ Some w → 2 ^ suc height ≤ length w.pairs + 1 }
     ensures lent { (place : Place) (cache : Caching) (m : Holding) (height at : ℕ) (w : Walked)
         → walk_of (node_lent place cache m) height at ≡ Some w
+        → 2 ^ suc height ≤ length w.pairs + 1 }
+{}
+
+/// What an index file has at a place is a node: it has a pair, and no children or one more than pairs. So
+/// what `trees_are_shallow` says of the pairs of a tree holds of each walk in a file's bytes.
+pub fn index_pages_are_nodes()
+    ensures nodes { (rec_ref block : ℕ) (x : List ℕ) → AreNodes (node_at rec_ref block x) }
+    ensures shallow { (rec_ref block : ℕ) (x : List ℕ) (height place : ℕ) (w : Walked)
+        → walk_of (node_at rec_ref block x) height place ≡ Some w
         → 2 ^ suc height ≤ length w.pairs + 1 }
 {}
 
@@ -167,12 +176,22 @@ pub fn laid_pages_move()
         → laid fits block (at + by) pairs ≡ map (moved by) (laid fits block at pairs) }
 {}
 
-/// The pages of a tree that are laid from place 0 may be moved to each place from which they could be laid.
+/// The pages of a tree that are laid from place 0 may be moved to each place from which they could be laid,
+/// and are then those that are laid from there. Their bytes are those of their nodes, with zeros behind the
+/// used ones, and do not depend on the root.
 pub fn laid_pages_are_movable()
-    ensures { (place : Place) (first : ℕ) (pairs : List Pair) → IsPlaced place
+    ensures movable { (place : Place) (first : ℕ) (pairs : List Pair) → IsPlaced place
         → first % 1024 ≡ 0 → AreSized place pairs → AreKeys pairs
         → first + place.block_length * length (laid_at place first pairs) < 2 ^ 64
-        → AreMovable place first (laid_at place 0 pairs) }
+        → AreMovable place first (map (laid_page place) (laid_at place 0 pairs)) }
+    ensures moved { (place : Place) (first : ℕ) (pairs : List Pair) → IsPlaced place
+        → first % 1024 ≡ 0 → AreSized place pairs → AreKeys pairs
+        → first + place.block_length * length (laid_at place first pairs) < 2 ^ 64
+        → stored_pages place (map (moved_page first) (map (laid_page place) (laid_at place 0 pairs)))
+        ≡ pages_bytes place (laid_at place first pairs) }
+    ensures bytes { (place : Place) (root : Option ℕ) (nodes : List Node)
+        → stored_pages (record place { root = root }) (map (laid_page place) nodes)
+        ≡ pages_bytes place nodes }
 {}
 
 /// The pages that are laid can be written, and the bytes of a page that can be written are read as it.
@@ -240,7 +259,7 @@ pub fn laid_pages_stand_behind()
     ensures page { (place : Place) (node : Node) → IsWritten place node
         → length (page_for place node) ≡ place.block_length }
     ensures pages { (place : Place) (nodes : List Node) → AllByRecursion (IsWritten place) nodes
-        → length (flat_map (page_for place) nodes) ≡ place.block_length * length nodes }
+        → length (pages_bytes place nodes) ≡ place.block_length * length nodes }
     ensures long { (place : Place) (first : ℕ) (pairs : List Pair) → CanBeLaid place first pairs
         → first + length (tree_pages place first pairs) ≡ tree_end place first pairs }
     ensures behind { (place : Place) (first : ℕ) (pairs : List Pair) → CanBeLaid place first pairs
@@ -252,5 +271,5 @@ pub fn laid_pages_stand_behind()
 /// A tree has no more pages than pairs.
 pub fn trees_have_few_pages()
     ensures { (place : Place) (first : ℕ) (pairs : List Pair) → AreSized place pairs
-        → length (laid (fits_in place) place.block_length first pairs) ≤ length pairs }
+        → length (laid_at place first pairs) ≤ length pairs }
 {}

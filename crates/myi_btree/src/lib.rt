@@ -45,11 +45,11 @@ pub use events::Events;
 pub use fault::TreeFault;
 pub use laid::{Laid, lay};
 pub use laws::{
-    builds_leave_trees_clear, built_trees_walk, events_are_walks, laid_pages_are_met_once,
-    laid_pages_are_movable, laid_pages_are_written, laid_pages_move, laid_pages_stand_behind,
-    laid_pages_walk, levels_are_laid, pages_are_nodes, trees_are_shallow, trees_have_events,
-    trees_have_few_pages, used_pages_end_walks, walks_add_their_own, walks_depend_on_their_pages,
-    walks_exist_once, walks_leave_trees_clear,
+    builds_leave_trees_clear, built_trees_walk, events_are_walks, index_pages_are_nodes,
+    laid_pages_are_met_once, laid_pages_are_movable, laid_pages_are_written, laid_pages_move,
+    laid_pages_stand_behind, laid_pages_walk, levels_are_laid, pages_are_nodes, trees_are_shallow,
+    trees_have_events, trees_have_few_pages, used_pages_end_walks, walks_add_their_own,
+    walks_begin, walks_depend_on_their_pages, walks_exist_once, walks_leave_trees_clear,
 };
 pub use myi_keylist::Pair;
 pub use place::{Place, Room};

@@ -37,6 +37,7 @@ use Rattle.myi_btree.specs.Nodes.{node_in}
 use Rattle.myi_btree.specs.Visit.{page_range}
 use Rattle.myi_btree.specs.Events.{Event, first_bad, pairs_in, pages_in, walked_in}
 use Rattle.myi_btree.specs.TreeEvents.{AreWithin}
+use Rattle.myi_btree.proofs.CallerLemmas.{at_shape}
 use Rattle.myi_pair.specs.declared.finding.Finding.TheVariants as finding
 use Rattle.myi_pair.specs.FirstRows.{numbers_from, key_numbers, is_unique, repeats, AreDistinct}
 use Rattle.myi_pair.specs.KeyList.{PlacedRow, pairs_of, key_list}
@@ -47,7 +48,6 @@ use Rattle.myi_pair.specs.Findings.{met_in, walk_pages, KeyWalk, key_walks, all_
 use Rattle.myi_pair.proofs.FirstBadLaws.{all_passed, passed_all, none_gap, gap_none, Runs, list_none, none_list, Fresh, without_pages, IsMet, walk_none, none_walk}
 use Rattle.myi_pair.proofs.DistinctLaws.{fresh_none, none_fresh, plain_fresh, apart_none, Among, all_at, all_from, Distinct, distinct_apart, apart_distinct}
 use Rattle.myi_pair.proofs.MetLaws.{met_walk, walk_met}
-use Rattle.myi_pair.proofs.NodesAt.{at_shape}
 use Rattle.myi_pair.proofs.SizedLaws.{placed}
 use Rattle.myi_pair.specs.RecoveredBytes.{new_data, new_index}
 use Rattle.myi_pair.specs.Recovered.{IsRepairable}

@@ -5,7 +5,6 @@ pub mod KeptLaws
 pub mod SizedLaws
 pub mod ShorterLaws
 pub mod PageRanges
-pub mod NodesAt
 pub mod TreesLaws
 pub mod HeaderLaws
 pub mod ShortTrees

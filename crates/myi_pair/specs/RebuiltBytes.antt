@@ -2,7 +2,6 @@
 -- file the header with the state of a table of these rows, zeros up to the first page place, and the laid pages of each
 -- key, in the order of the keys (the words are this project's own).
 use Rattle.std.specs.Prelude.{◌+◌, ◌-◌, ◌*◌, ◌^◌, ℕ, List, [], ◌∷◌, ◌++◌, length, map, take, drop, replicate, Option, None}
-use Rattle.std.specs.List.{flat_map}
 use Rattle.myi_defs.specs.declared.types.Defs.{Defs}
 use Rattle.myi_header.specs.declared.state.State.{State}
 use Rattle.myi_header.specs.Layout.{page_sizes, first_page_of}
@@ -11,9 +10,8 @@ use Rattle.myi_header.specs.HeaderOf.{header_of}
 use Rattle.myi_data.specs.Stored.{SizedRow, stored_size, stored_file, block_count}
 use Rattle.myi_keylist.specs.declared.pair.Pair.{Pair}
 use Rattle.myi_btree.specs.Walk.{Node}
-use Rattle.myi_btree.specs.Sizes.{fits_in}
-use Rattle.myi_btree.specs.LaidPages.{laid, root_of}
-use Rattle.myi_btree.specs.Building.{page_for}
+use Rattle.myi_btree.specs.LaidPages.{root_of}
+use Rattle.myi_btree.specs.Building.{laid_at, pages_bytes}
 use Rattle.myi_pair.specs.FirstRows.{key_numbers}
 use Rattle.myi_pair.specs.KeyList.{PlacedRow, key_list}
 use Rattle.myi_pair.specs.Trees.{place_of, block_of_key}
@@ -34,7 +32,7 @@ no_trees first = record { bytes = []; roots = []; end = first }
 
 abbrev pub pages_then : Defs → ℕ → ℕ → List Node → LaidTrees → LaidTrees
 pages_then d k first nodes others = record {
-  bytes = flat_map (page_for (place_of d k)) nodes ++ others.bytes;
+  bytes = pages_bytes (place_of d k) nodes ++ others.bytes;
   roots = root_of (block_of_key d k) first nodes ∷ others.roots;
   end = others.end;
 }
@@ -44,7 +42,7 @@ abbrev pub laid_trees : Defs → ℕ → List ℕ → List (List Pair) → LaidT
 laid_trees d first [] lists = no_trees first
 laid_trees d first (k ∷ ks) [] = no_trees first
 laid_trees d first (k ∷ ks) (pairs ∷ lists) =
-    let nodes = laid (fits_in (place_of d k)) (block_of_key d k) first pairs in
+    let nodes = laid_at (place_of d k) first pairs in
     pages_then d k first nodes (laid_trees d (first + block_of_key d k * length nodes) ks lists)
 
 -- for each key its key list

@@ -1,15 +1,14 @@
 -- The trees of an index file: the tree of each key, from its root, with what its pages may not meet.
-use Rattle.std.specs.Prelude.{◌≡◌, ◌-◌, ◌%◌, ◌==◌, ℕ, true, List, [], ◌∷◌, ◌++◌, map, sum_by, Option, Some, None, if◌then◌else◌}
+use Rattle.std.specs.Prelude.{◌≡◌, ◌-◌, ℕ, true, List, [], ◌∷◌, ◌++◌, map, sum_by, Option, Some, None}
 use Rattle.std.specs.List.{AllByRecursion}
 use Rattle.std.specs.Option.{option_map_or}
 use Rattle.myi_base.specs.Ranges.{Range, is_apart}
 use Rattle.myi_defs.specs.declared.types.Defs.{Defs}
 use Rattle.myi_data.specs.Keys.{key_at}
-use Rattle.myi_keycache.specs.Lent.{bytes_at}
 use Rattle.myi_keylist.specs.declared.pair.Pair.{Pair}
 use Rattle.myi_btree.specs.declared.place.Place.{Place}
-use Rattle.myi_btree.specs.Walk.{◌>>=◌, Places, Walked, content}
-use Rattle.myi_btree.specs.Nodes.{node_in}
+use Rattle.myi_btree.specs.Walk.{Walked, content}
+unfoldable pub use Rattle.myi_btree.specs.Nodes.{node_at}
 use Rattle.myi_btree.specs.Visit.{page_range, HasWalk}
 use Rattle.myi_pair.specs.KeyList.{PlacedRow, key_list}
 
@@ -20,10 +19,6 @@ block_of_key d k = option_map_or (λ key. key.block_length) (key_at d.keys k) 0
 -- how the pages of a key are made, with no root yet
 abbrev pub place_of : Defs → ℕ → Place
 place_of d k = record { block_length = block_of_key d k; rec_ref = d.rec_ref; root = None }
-
--- the nodes of an index file, on pages of so many bytes
-unfoldable pub node_at : ℕ → ℕ → List ℕ → Places
-node_at rec_ref block x at = if at % 1024 == 0 then bytes_at x at block >>= node_in rec_ref else None
 
 -- the pages of a walk have no byte of these ranges
 abbrev pub AreFree : List Range → List Range → Type 0

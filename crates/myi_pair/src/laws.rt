@@ -1,6 +1,6 @@
 //! Laws over pairs of files. Each is the contract of a function that does nothing, so that it is proved
 //! with the crate and stands for the crates above.
-ghost use Rattle.std.specs.Prelude.{◌≡◌, ◌+◌, ◌^◌, ◌<◌, ◌≤◌, ℕ, suc, Bool, true, false, List, [], ◌∷◌, ◌++◌, length, map, Some, Ok, IsPermutation};
+ghost use Rattle.std.specs.Prelude.{◌≡◌, ◌+◌, ◌^◌, ◌<◌, ◌≤◌, ℕ, Bool, true, false, List, [], ◌∷◌, ◌++◌, length, map, Some, Ok, IsPermutation};
 ghost use Rattle.std.specs.List.{AllByRecursion};
 ghost use Rattle.myi_base.specs.Numbers.{AreBytes};
 ghost use Rattle.myi_base.specs.Ranges.{Range};
@@ -19,13 +19,12 @@ ghost use Rattle.myi_keylist.specs.FirstBy.{first_by, repeats_in};
 ghost use Rattle.myi_data.specs.Readable.{readable};
 ghost use Rattle.myi_data.specs.Keys.{IsKeyNumber, key_of};
 ghost use Rattle.myi_data.specs.Stored.{SizedRow, values_in, IsStorable, stored_size, stored_file, stored_rows};
-ghost use Rattle.myi_btree.specs.Walk.{Walked, walk_of, AreNodes};
 ghost use Rattle.myi_btree.specs.Nodes.{entry_of};
 ghost use Rattle.myi_btree.specs.Sizes.{IsPlaced, IsSized, AreSized};
 ghost use Rattle.myi_rowkeys.specs.TableKeys.{unique_keys};
 ghost use Rattle.myi_pair.specs.FirstRows.{key_numbers, first_rows, AreDistinct};
 ghost use Rattle.myi_pair.specs.KeyList.{PlacedRow, pointer, pair_of, pairs_of, key_list};
-ghost use Rattle.myi_pair.specs.Trees.{place_of, node_at, HaveTrees, total};
+ghost use Rattle.myi_pair.specs.Trees.{place_of, HaveTrees, total};
 ghost use Rattle.myi_pair.specs.Clean.{values_of, sized_row, IsClean};
 ghost use Rattle.myi_pair.specs.Findings.{findings};
 ghost use Rattle.myi_pair.specs.RebuiltBytes.{without_free_pages, placed_from, new_trees, rebuilt_index, rebuilt};
@@ -128,15 +127,6 @@ pub fn rebuilt_files_are_no_longer()
         → length (new_data d extend x) ≤ length x }
     ensures less { (d : Defs) (longer shorter : ℕ) → IsSound d → shorter ≤ longer
         → is_addressable d longer ≡ true → is_addressable d shorter ≡ true }
-{}
-
-/// What an index file has at a place is a node: it has a pair, and no children or one more than pairs. So
-/// what `trees_are_shallow` says of the pairs of a tree holds of each walk in a file's bytes.
-pub fn index_pages_are_nodes()
-    ensures nodes { (rec_ref block : ℕ) (x : List ℕ) → AreNodes (node_at rec_ref block x) }
-    ensures shallow { (rec_ref block : ℕ) (x : List ℕ) (height place : ℕ) (w : Walked)
-        → walk_of (node_at rec_ref block x) height place ≡ Some w
-        → 2 ^ suc height ≤ length w.pairs + 1 }
 {}
 
 /// In the index file of a table of given rows each key has the tree of its key list, and the pages of all

@@ -29,7 +29,7 @@ mod laws;
 pub use finding::{Finding, HeaderItem};
 pub use laws::{
     clean_tables_keep_all, findings_are_none_where_clean, first_rows_are_distinct,
-    index_pages_are_nodes, kept_rows_make_a_table, new_trees_stand, pairs_are_sized,
-    rebuilt_files_are_a_table, rebuilt_files_are_no_longer, recovered_bytes_recover,
-    repairs_of_rebuilt_files_settle, written_parts_are_measured,
+    kept_rows_make_a_table, new_trees_stand, pairs_are_sized, rebuilt_files_are_a_table,
+    rebuilt_files_are_no_longer, recovered_bytes_recover, repairs_of_rebuilt_files_settle,
+    written_parts_are_measured,
 };

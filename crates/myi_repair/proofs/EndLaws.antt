@@ -1,9 +1,9 @@
 -- How a call ends, by how its last part ends.
-use Rattle.std.proofs.Common.{◌≡◌, ◌≤◌, ◌+◌, ◌∙◌, ℕ, Option, Ok, Err, inl, inr, refl, sym, ap, subst, arith}
+use Rattle.std.proofs.Common.{◌≡◌, ◌≤◌, ◌+◌, ◌∙◌, ℕ, Option, Ok, Err, inl, inr, sym, ap, subst, arith}
 use Rattle.std.specs.Prelude.{Result}
 use Rattle.std.proofs.lemmas.Result.{IfErr-weaker}
 use Rattle.myi_base.specs.Holding.{Holding, Told}
-use Rattle.myi_base.specs.Causes.{Rose, HasCause}
+use Rattle.myi_base.specs.Causes.{Rose}
 use Rattle.myi_base.proofs.CallerLemmas.{told_more, told_then}
 use Rattle.myi_repair.specs.declared.fault.RepairFault.{RepairFault}
 use Rattle.myi_repair.specs.declared.fault.RepairFault.TheVariants.{File, Memory}

@@ -1,5 +1,5 @@
 -- What an opening finds, from what the table below it is.
-use Rattle.std.proofs.Common.{◌≡◌, ◌⊎◌, ℕ, Bool, true, false, List, length, Some, Err, Ok, refl, sym, ap, subst, ◌∙◌, inl, inr}
+use Rattle.std.proofs.Common.{◌≡◌, ◌⊎◌, ℕ, Bool, true, false, List, length, Some, Err, Ok, refl, sym, ap, ◌∙◌, inl, inr}
 use Rattle.std.specs.Prelude.{Option, Result, if◌then◌else◌}
 use Rattle.myi_base.specs.Holding.{Holding, IfTold}
 use Rattle.myi_defs.specs.declared.types.Defs.{Defs}
@@ -70,6 +70,7 @@ is_opened t defs d m is = by (opening.table_in t.index t.rows m) refl is
           read = table_read t.index t.rows o m was ∙ ap Ok first;
           reached = ap (λ x. is_addressable x (length d)) (sym first) ∙ ap (λ x. is_addressable o.defs (length x)) (sym second) ∙ reached;
         }
+
     by : (r : Result opening.Table TableFault) → opening.table_in t.index t.rows m ≡ r → table_by r ≡ Ok (defs, d) → IsOpened t defs d m
     by (Err f) was same = absurd cc
     by (Ok o) was same = by_reach o (is_addressable o.defs (length o.rows)) was refl same

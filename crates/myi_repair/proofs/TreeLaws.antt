@@ -20,14 +20,13 @@ use Rattle.myi_btree.specs.declared.place.Place.{Place}
 use Rattle.myi_btree.specs.Walk.{Node}
 use Rattle.myi_btree.specs.Sizes.{IsPlaced, AreSized}
 use Rattle.myi_btree.specs.LaidPages.{root_of}
-use Rattle.myi_btree.specs.Building.{CanLay, EndBefore, Lays}
-use Rattle.myi_btree.proofs.CallerLemmas.{multiple}
-use Rattle.myi_btree.proofs.CallerLemmas.{ends}
+use Rattle.myi_btree.specs.Building.{laid_at, CanLay, EndBefore, Lays}
+use Rattle.myi_btree.proofs.CallerLemmas.{multiple, ends}
 use Rattle.myi_pair.specs.FirstRows.{key_numbers, numbers_from}
 use Rattle.myi_keylist.specs.PairOrder.{sorted}
 use Rattle.myi_pair.specs.Trees.{place_of, block_of_key}
 use Rattle.myi_pair.specs.RebuiltBytes.{LaidTrees, laid_trees, pages_then}
-use Rattle.myi_btree.specs.TreePages.{tree_nodes, tree_pages, tree_end, with_tree, CanBeLaid, HasBehind}
+use Rattle.myi_btree.specs.TreePages.{tree_pages, tree_end, with_tree, CanBeLaid, HasBehind}
 use Rattle.myi_btree.proofs.CallerLemmas.{tree_behind}
 use Rattle.myi_keylist.proofs.CallerLemmas.{sorted_permutes}
 use Rattle.myi_repair.specs.Building.{trees_of, LaysTrees}
@@ -85,17 +84,17 @@ module _ (d : Defs) (lists : List (List Pair)) (i end : ℕ) (ps : List Pair) (i
       drop-cons (map sorted lists) i (sorted ps) (omega (arith, length-map lists sorted)) ∙ ap (λ p. p ∷ drop (suc i) (map sorted lists)) (get_or-map sorted lists i ps ∙ ap sorted (sym is)) ∙ ap (λ j. sorted ps ∷ drop j (map sorted lists)) next
 
   -- the next tree and those behind it
-  rest_here : rest_of d lists i end ≡ pages_then d (i + 1) end (tree_nodes (place_of d (i + 1)) end (sorted ps)) (rest_of d lists (i + 1) (tree_end (place_of d (i + 1)) end (sorted ps)))
+  rest_here : rest_of d lists i end ≡ pages_then d (i + 1) end (laid_at (place_of d (i + 1)) end (sorted ps)) (rest_of d lists (i + 1) (tree_end (place_of d (i + 1)) end (sorted ps)))
   rest_here = ap (λ ks. laid_trees d end ks (drop i (map sorted lists))) number_here ∙ ap (λ ls. laid_trees d end ((i + 1) ∷ drop (i + 1) (key_numbers d)) ls) list_here
 
-  pub laid_next : (next : ℕ) (root : Option ℕ) (roots : List (Option ℕ)) → IsPlaced (place_of d (i + 1)) → next ≡ tree_end (place_of d (i + 1)) end (sorted ps) → next < 2 ^ 64 → root ≡ root_of (block_of_key d (i + 1)) end (tree_nodes (place_of d (i + 1)) end (sorted ps))
+  pub laid_next : (next : ℕ) (root : Option ℕ) (roots : List (Option ℕ)) → IsPlaced (place_of d (i + 1)) → next ≡ tree_end (place_of d (i + 1)) end (sorted ps) → next < 2 ^ 64 → root ≡ root_of (block_of_key d (i + 1)) end (laid_at (place_of d (i + 1)) end (sorted ps))
       → AreLaidTo d lists i end roots → AreLaidTo d lists (i + 1) next (roots ++ root ∷ [])
   laid_next next root roots placed ended short rooted was = record {
     all_roots = append_assoc roots (root ∷ []) (rest_of d lists (i + 1) next).roots ∙ ap (λ r. roots ++ r ∷ (rest_of d lists (i + 1) next).roots) rooted
-        ∙ ap (λ e. roots ++ root_of (block_of_key d (i + 1)) end (tree_nodes (place_of d (i + 1)) end (sorted ps)) ∷ (rest_of d lists (i + 1) e).roots) ended ∙ ap (λ t. roots ++ t.roots) (sym rest_here) ∙ was.all_roots;
+        ∙ ap (λ e. roots ++ root_of (block_of_key d (i + 1)) end (laid_at (place_of d (i + 1)) end (sorted ps)) ∷ (rest_of d lists (i + 1) e).roots) ended ∙ ap (λ t. roots ++ t.roots) (sym rest_here) ∙ was.all_roots;
     last = ap (λ e. (rest_of d lists (i + 1) e).end) ended ∙ ap (λ t. t.end) (sym rest_here) ∙ was.last;
-    whole = ap (λ e. e % 1024) ended ∙ multiple (block_of_key d (i + 1)) (length (tree_nodes (place_of d (i + 1)) end (sorted ps))) end was.whole placed.whole;
-    places = All-push IsPlace roots root was.places (subst IsPlace (sym rooted) (root_place (block_of_key d (i + 1)) end (tree_nodes (place_of d (i + 1)) end (sorted ps)) placed.least (omega (arith, short, ended))));
+    whole = ap (λ e. e % 1024) ended ∙ multiple (block_of_key d (i + 1)) (length (laid_at (place_of d (i + 1)) end (sorted ps))) end was.whole placed.whole;
+    places = All-push IsPlace roots root was.places (subst IsPlace (sym rooted) (root_place (block_of_key d (i + 1)) end (laid_at (place_of d (i + 1)) end (sorted ps)) placed.least (omega (arith, short, ended))));
   }
     where
       root_place : (block first : ℕ) (nodes : List Node) → 1024 ≤ block → first + block * length nodes < 2 ^ 64 → IsPlace (root_of block first nodes)
@@ -105,12 +104,12 @@ module _ (d : Defs) (lists : List (List Pair)) (i end : ℕ) (ps : List Pair) (i
           far : (p : ℕ) → p + 1024 < 2 ^ 64 → ◌≡◌ {A = Option ℕ} (Some p) (Some (2 ^ 64 - 1)) → ⊥
           far p low same = let e : p ≡ 2 ^ 64 - 1 = ap (λ o. unwrap_or o 0) same in omega arith
 
-  pub lays_next : (next : ℕ) (old now new : Caching) (m n o : Holding) → CanBeLaid (place_of d (i + 1)) end (sorted ps) → next ≡ tree_end (place_of d (i + 1)) end (sorted ps) → now.name ≡ old.name → (CanLay now n end → Lays (place_of d (i + 1)) end (tree_nodes (place_of d (i + 1)) end (sorted ps)) now new n o)
+  pub lays_next : (next : ℕ) (old now new : Caching) (m n o : Holding) → CanBeLaid (place_of d (i + 1)) end (sorted ps) → next ≡ tree_end (place_of d (i + 1)) end (sorted ps) → now.name ≡ old.name → (CanLay now n end → Lays (place_of d (i + 1)) end (laid_at (place_of d (i + 1)) end (sorted ps)) now new n o)
       → LaysTo d lists i end old now m n → LaysTo d lists (i + 1) next old new m o
   lays_next next old now new m n o can ended named lays was begin =
       let before = was begin in
       let laid = lays before.0 in
-      let nodes = tree_nodes (place_of d (i + 1)) end (sorted ps) in (
+      let nodes = laid_at (place_of d (i + 1)) end (sorted ps) in (
         record {
           current = laid.spares.current;
           before = subst (EndBefore (pages_of new)) (sym ended) (ends (place_of d (i + 1)) end (length nodes) (pages_of now) (pages_of new) before.0.before laid.kept);

@@ -3,7 +3,6 @@
 use Rattle.std.specs.Prelude.{◌≡◌, ◌≢◌, ◌⊎◌, ◌≤◌, ◌+◌, ℕ, List, ◌++◌, codes, Option, Some, None, string_bytes}
 use Rattle.myi_base.specs.Holding.{Holding}
 use Rattle.myi_repair.specs.declared.names.TableFiles.{TableFiles}
-
 -- the data file and the index file
 pub use Rattle.myi_opening.specs.Names.{rows_file, index_file}
 

@@ -1,14 +1,15 @@
 //! The trees of the new index file.
-ghost use Rattle.std.specs.Prelude.{◌≡◌, ◌⊎◌, ◌↔◌, ◌+◌, ◌*◌, ◌%◌, ◌≤◌, ◌<◌, length, All, IfOk, OnOk, IsTrue};
+ghost use Rattle.std.specs.Prelude.{◌≡◌, ◌⊎◌, ◌↔◌, ◌%◌, All, IfOk, OnOk, IsTrue};
 ghost use Rattle.myi_base.specs.Holding.{Told, OthersStay};
 ghost use Rattle.myi_defs.specs.ReadDefs.{AreDefs};
 ghost use Rattle.myi_defs.specs.Sound.{IsSound};
 ghost use Rattle.myi_header.specs.StateOf.{IsPlace};
 ghost use Rattle.myi_header.specs.Layout.{first_page_of};
 ghost use Rattle.myi_data.specs.Keys.{IsKeyNumber};
-ghost use Rattle.myi_btree.specs.Sizes.{IsPlaced, AreSized, fits_in};
-ghost use Rattle.myi_btree.specs.LaidPages.{laid, root_of};
-ghost use Rattle.myi_btree.specs.Building.{CanLay, Lays};
+ghost use Rattle.myi_btree.specs.Sizes.{IsPlaced, AreSized};
+ghost use Rattle.myi_btree.specs.LaidPages.{root_of};
+ghost use Rattle.myi_btree.specs.Building.{laid_at, CanLay, Lays};
+ghost use Rattle.myi_btree.specs.TreePages.{tree_end};
 ghost use Rattle.myi_keylist.specs.PairOrder.{sorted};
 ghost use Rattle.myi_pair.specs.Trees.{place_of};
 ghost use Rattle.myi_repair.specs.Opening.{CutsOff};
@@ -151,13 +152,11 @@ fn build_tree<F: Files>(
     requires sized { AreSized place pairs }
     ensures laid { OnOk result (Told (F.holds files.old) (F.holds files.new) (λ m n.
         CanLay cache.old m room.old.end
-        → Lays place room.old.end
-        (laid (fits_in place) place.block_length room.old.end (sorted pairs))
+        → Lays place room.old.end (laid_at place room.old.end (sorted pairs))
         cache.old cache.new m n)) }
     ensures root { IfOk result (λ root. root ≡ root_of place.block_length room.old.end
-        (laid (fits_in place) place.block_length room.old.end (sorted pairs))) }
-    ensures end { OnOk result (room.new.end ≡ room.old.end + place.block_length
-        * length (laid (fits_in place) place.block_length room.old.end (sorted pairs))) }
+        (laid_at place room.old.end (sorted pairs))) }
+    ensures end { OnOk result (room.new.end ≡ tree_end place room.old.end (sorted pairs)) }
     ensures name { cache.new.name ≡ cache.old.name }
     ensures ends { EndsWith (Told (F.holds files.old) (F.holds files.new)
         (λ m n. CanLay cache.old m room.old.end → OthersStay cache.old.name m n))

@@ -19,8 +19,8 @@ shift_page-requires-clause-page c =
 
 pub pages-preserved : goal.pages-preserved
 pages-preserved c = record {
-  left = λ nodes movable is.
-      let p = page_at c.args.place c.args.by c.pages.pages c.pages.at nodes (c.pages.invariant.left nodes movable is) c.pages-test.true in
+  left = λ stored movable is.
+      let p = page_at c.args.place c.args.by c.pages.pages c.pages.at stored (c.pages.invariant.left stored movable is) c.pages-test.true in
       let size : c.pages.at + c.args.place.block_length - c.pages.at ≡ c.args.place.block_length = omega arith in
       let long : length c.shift_page.new.page ≡ c.args.place.block_length =
       c.shift_page.ensures.long ∙ ap (λ (n : ℕ). length (take n (drop c.pages.at c.pages.pages))) size ∙ omega (arith, length-take c.args.place.block_length (drop c.pages.at c.pages.pages), length-drop c.pages.at c.pages.pages, p.room) in
@@ -29,4 +29,4 @@ pages-preserved c = record {
 }
 
 pub returns : goal.returns
-returns c = λ nodes movable is. all_moved c.args.place c.args.by c.pages.pages c.pages.at nodes c.requires.placed.least (c.pages.invariant.left nodes movable is) (omega (arith, c.pages-test.false))
+returns c = λ stored movable is. all_moved c.args.place c.args.by c.pages.pages c.pages.at stored c.requires.placed.least (c.pages.invariant.left stored movable is) (omega (arith, c.pages-test.false))

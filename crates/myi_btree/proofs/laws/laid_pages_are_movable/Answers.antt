@@ -1,5 +1,5 @@
-use Rattle.myi_btree.proofs.MoveLaws.{laid_movable}
+use Rattle.myi_btree.proofs.MoveLaws.{laid_movable, laid_moved, laid_stored}
 use Rattle.myi_btree.proofs.laws.laid_pages_are_movable.Goals as goal
 
 pub returns : goal.returns
-returns c = laid_movable
+returns c = record { movable = laid_movable; moved = laid_moved; bytes = laid_stored }

@@ -1,4 +1,4 @@
-use Rattle.std.proofs.Common.{◌∙◌, Result, Ok, Err, length, arith, ap}
+use Rattle.std.proofs.Common.{◌∙◌, Result, Ok, Err, length, ap}
 use Rattle.std.specs.Prelude.{is_some, OnOk}
 use Rattle.myi_defs.proofs.CallerLemmas.{sound}
 use Rattle.myi_pack.specs.Unpacking.{row_of}

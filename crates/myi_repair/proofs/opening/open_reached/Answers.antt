@@ -1,6 +1,9 @@
-use Rattle.std.proofs.Common.{◌∙◌, sym, inr}
+use Rattle.std.proofs.Common.{◌⊎◌, ◌∙◌, sym, subst, inr}
+use Rattle.std.specs.Prelude.{IfErr}
 use Rattle.std.proofs.lemmas.Result.{err_from_is_err_and}
+use Rattle.myi_base.specs.Holding.{IfTold}
 use Rattle.myi_repair.specs.Names.{names_of}
+use Rattle.myi_repair.specs.Opening.{CutsOff, Refuses}
 use Rattle.myi_repair.proofs.OpenLaws.{opened_reached, opened_past, not_opened}
 use Rattle.myi_repair.proofs.opening.open_reached.Goals as goal
 
@@ -15,4 +18,5 @@ returns-then-not-addressable-clause-refused g c = inr (λ m told.
 pub returns-in_err-opened-clause-refused : goal.returns-in_err-opened-clause-refused
 returns-in_err-opened-clause-refused g c =
     let e = err_from_is_err_and c.from_residual.result c.from_residual.ensures.1 in
-    not_opened (names_of c.args.table.now) _ _ c.as_str.ensures.value c.as_str-2.ensures.value _ _ _ _ c.in_err-opened.ensures.refused
+    subst (λ r. IfErr r (λ f. CutsOff f ⊎ IfTold (g.F.Files.holds c.args.files.now) (Refuses (names_of c.args.table.now) f))) (sym e.1)
+    (not_opened (names_of c.args.table.now) _ _ c.as_str.ensures.value c.as_str-2.ensures.value _ _ e.0 e.2 c.in_err-opened.ensures.refused)

@@ -2,9 +2,9 @@
 use Rattle.std.proofs.Common.{◌≡◌, ℕ, ◌%◌, Bool, true, false, cond, eqb, Some, None, List}
 use Rattle.myi_keycache.specs.Lent.{bytes_at}
 use Rattle.myi_btree.specs.Walk.{◌>>=◌, Node, IsNode, AreNodes}
-use Rattle.myi_btree.specs.Nodes.{node_in}
-use Rattle.myi_btree.proofs.CallerLemmas.{bind_some, node_shape}
-use Rattle.myi_pair.specs.Trees.{node_at}
+use Rattle.myi_btree.specs.Nodes.{node_in, node_at}
+use Rattle.myi_btree.proofs.Frames.{bind_some}
+use Rattle.myi_btree.proofs.NodeShape.{node_shape}
 
 pub at_shape : (rec_ref block : ℕ) (x : List ℕ) → AreNodes (node_at rec_ref block x)
 unfolding node_at
