@@ -1,5 +1,5 @@
 -- What the crates above cite: the clauses of the law on tables that are opened.
-use Rattle.std.proofs.Common.{◌≡◌, ◌×◌, ℕ, List, Option, Some, None, Ok, Err, refl, sym, ap, ◌∙◌}
+use Rattle.std.proofs.Common.{◌≡◌, ℕ, List, Option, Some, None, Ok, Err, refl, sym, ap, ◌∙◌}
 use Rattle.std.specs.Prelude.{Result}
 use Rattle.myi_base.specs.Holding.{Holding}
 use Rattle.myi_defs.specs.declared.types.Defs.{Defs}
@@ -43,3 +43,7 @@ table_rows index rows t m is = (files_of index rows t m is).rows
 
 pub table_read : (index rows : List ℕ) (t : Table) (m : Holding) → table_in index rows m ≡ Ok t → read_defs t.index ≡ Ok t.defs
 table_read index rows t m is = (files_of index rows t m is).read
+
+pub table_opened : (index rows x d : List ℕ) (defs : Defs) (m : Holding) → m index ≡ Some x → m rows ≡ Some d → read_defs x ≡ Ok defs → table_in index rows m ≡ Ok (table defs d x)
+unfolding table_in
+table_opened index rows x d defs m there held read = ap (λ o. table_of o (m rows)) there ∙ ap (table_of (Some x)) held ∙ ap (λ r. table_by r d x) read

@@ -1,9 +1,10 @@
 -- What an opening finds, from what the files were seen to be.
-use Rattle.std.proofs.Common.{◌≡◌, ◌≢◌, ◌⊎◌, ◌×◌, ℕ, Bool, true, false, List, length, take, Option, Some, None, Err, Ok, unwrap_or, refl, sym, ap, subst, ◌∙◌, inl, inr, arith}
-use Rattle.std.specs.Prelude.{is_some, not, Result}
+use Rattle.std.proofs.Common.{◌≡◌, ◌≢◌, ◌⊎◌, ℕ, Bool, true, false, List, length, take, Option, Some, None, Err, Ok, unwrap_or, refl, sym, ap, subst, ◌∙◌, inl, inr, arith}
+use Rattle.std.specs.Prelude.{is_some, not, Result, IfErr}
 use Rattle.myi_base.specs.Holding.{Holding, Measures}
 use Rattle.myi_base.specs.Numbers.{AreBytes}
 use Rattle.myi_defs.specs.declared.types.DefFault.{DefFault}
+use Rattle.myi_defs.specs.declared.types.DefFault.TheVariants as def
 use Rattle.myi_defs.specs.ReadDefs.{read_defs}
 use Rattle.myi_defs.proofs.CallerLemmas.{read_defs-take}
 use Rattle.myi_opening.specs.declared.fault.TableFile.TheVariants.{Index, Data}
@@ -23,7 +24,7 @@ no_rows index rows x m there none = ap (λ o. table_of o (m rows)) there ∙ ap 
 
 pub both_there : (index rows x d : List ℕ) (m : Holding) → m index ≡ Some x → m rows ≡ Some d → table_in index rows m ≡ table_by (read_defs x) d x
 unfolding table_in
-both_there index rows x d m there data = ap (λ o. table_of o (m rows)) there ∙ ap (table_of (Some x)) data
+both_there index rows x d m there held = ap (λ o. table_of o (m rows)) there ∙ ap (table_of (Some x)) held
 
 -- a file that has a length is there
 pub is_there : (o : Option (List ℕ)) (size : Option ℕ) (n : ℕ) → size ≡ Some n → Measures o size → (bytes : List ℕ) × (o ≡ Some bytes) × (n ≡ length bytes)
@@ -50,3 +51,17 @@ front_reads h x bytes front = ap read_defs front ∙ read_defs-take 65535 x (ome
 pub cut_or : (f : TableFault) (P Q : Type 0) → (f ≡ Memory) ⊎ P → (P → Q) → IsCutOff f ⊎ Q
 cut_or f P Q (inl memory) go = inl (inr memory)
 cut_or f P Q (inr other) go = inr (go other)
+
+-- what is not read is refused for that reason, or for want of memory
+pub judged_err : (fault : DefFault) (h : List ℕ) (f : TableFault) → AreBytes h → (fault ≢ def.Memory → read_defs h ≡ Err fault) → (f ≡ Memory) ⊎ ((fault ≢ def.Memory) × (f ≡ Def fault))
+    → (f ≡ Memory) ⊎ ((x d : List ℕ) → h ≡ take 65535 x → table_by (read_defs x) d x ≡ Err f)
+judged_err fault h f bytes refused (inl memory) = inl memory
+judged_err fault h f bytes refused (inr other) =
+    inr (λ x d front. ap (λ r. table_by r d x) (sym (front_reads h x bytes front) ∙ refused other.0) ∙ ap Err (sym other.1))
+
+pub err_is : {T E : Type 0} (r : Result T E) (e : E) (P : E → Type 0) → r ≡ Err e → P e → IfErr r P
+err_is (Ok x) e P is holds = absurd cc
+err_is {T} {E} (Err f) e P is holds = subst P (same f e is) holds
+  where
+    same : (f e : E) → ◌≡◌ {A = Result T E} (Err f) (Err e) → e ≡ f
+    same f e is = cc

@@ -35,10 +35,10 @@ table_in index rows m = table_of (m index) (m rows)
 
 -- the table of the files of these two names has these definitions and a data file of that length
 pub record HasTable (index rows : List ℕ) (defs : Defs) (size : ℕ) (m : Holding) : Type 0 where
-  pub data : List ℕ
-  pub keys : List ℕ
-  pub is : table_in index rows m ≡ Ok (table defs data keys)
-  pub long : size ≡ length data
+  pub data_file : List ℕ
+  pub index_file : List ℕ
+  pub is : table_in index rows m ≡ Ok (table defs data_file index_file)
+  pub long : size ≡ length data_file
 
 -- it is not opened for this reason
 abbrev pub HasNoTable : List ℕ → List ℕ → TableFault → Holding → Type 0

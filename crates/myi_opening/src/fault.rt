@@ -4,7 +4,7 @@ ghost use Rattle.myi_opening.specs.declared.fault.TableFault.TheVariants.{Memory
 
 use myi_defs::DefFault;
 use myi_io::FileErr;
-use std::alloc::{AllocError, AllocFailed};
+use std::alloc::{AllocError, AllocFailed, Global};
 use thiserror::Error;
 
 /// One of the two files of a table.
@@ -12,6 +12,21 @@ use thiserror::Error;
 pub enum TableFile {
     Index,
     Data,
+}
+
+impl TableFile {
+    ghost use Rattle.std.specs.Prelude.{◌≡◌, string_bytes, IfOk};
+    ghost use Rattle.myi_opening.specs.Names.{file_of};
+
+    /// The file's name, by the name of the table.
+    pub fn of(self, alloc: Global, table: &str) -> Result<String, AllocError>
+        ensures { IfOk result (λ name. string_bytes name ≡ file_of self table.now) }
+    {
+        match self {
+            TableFile::Index => format!(in alloc; "{table}.MYI"),
+            TableFile::Data => format!(in alloc; "{table}.MYD"),
+        }
+    }
 }
 
 /// Why a table is not opened, or what cut off a call that reads it. Nothing is changed.

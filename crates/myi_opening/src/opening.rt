@@ -61,7 +61,17 @@ fn defs_of(alloc: Global, header: &[u8]) -> Result<Defs, TableFault>
 {
     match read_defs(alloc, header) {
         Ok(defs) => Ok(defs),
-        Err(DefFault::Memory) => Err(TableFault::Memory),
-        Err(fault) => Err(TableFault::Def(fault)),
+        Err(fault) => Err(of_defs(fault)),
+    }
+}
+
+fn of_defs(fault: DefFault) -> TableFault
+    ensures refused { (result ≡ TableFault.Memory)
+        ⊎ ((fault ≢ DefFault.Memory) × (result ≡ TableFault.Def fault)) }
+    ensures file { result ≢ TableFault.File }
+{
+    match fault {
+        DefFault::Memory => TableFault::Memory,
+        fault => TableFault::Def(fault),
     }
 }
