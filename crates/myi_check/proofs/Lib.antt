@@ -1,0 +1,4 @@
+pub mod HeldLemmas
+pub mod GapLemmas
+pub mod MetLemmas
+pub mod RowsLemmas

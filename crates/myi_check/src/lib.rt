@@ -3,6 +3,9 @@
 //! What is found is `findings` of `Rattle.myi_pair.specs.Findings`, over the bytes of the two files.
 #![tactic(auto)]
 
-mod check;
+mod checking;
+mod held_bytes;
+mod met;
+mod rows;
 
-pub use check::check;
+pub use checking::check;
