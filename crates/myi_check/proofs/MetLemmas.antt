@@ -1,14 +1,12 @@
 -- What was met, and one item more.
-use Rattle.std.proofs.Common.{◌≡◌, ℕ, zero, suc, ◌+◌, ◌<◌, ◌≤◌, List, [], ◌∷◌, ◌++◌, length, Option, Some, None, Result, Ok, unwrap_or, refl, sym, ap, subst, ◌∙◌, arith, append_assoc}
-use Rattle.std.specs.Prelude.{map, replicate, ◌^◌}
-use Rattle.std.specs.List.{AllByRecursion, flat_map}
+use Rattle.std.proofs.Common.{◌≡◌, ℕ, zero, suc, ◌+◌, List, [], ◌∷◌, ◌++◌, length, Option, Some, Result, Ok, unwrap_or, refl, sym, ap, subst, ◌∙◌, arith, append_assoc}
+use Rattle.std.specs.Prelude.{map, replicate}
+use Rattle.std.specs.List.{AllByRecursion}
 use Rattle.std.proofs.lemmas.List.{append-nil, map-append, length-map, length_push, length-append}
 use Rattle.std.proofs.lemmas.List.Concat.{flat_map-append}
 use Rattle.myi_base.specs.Holding.{Holding, IfTold}
 use Rattle.myi_base.specs.Ranges.{Range}
 use Rattle.myi_defs.specs.declared.types.Defs.{Defs}
-use Rattle.myi_pack.specs.Packed.{Values}
-use Rattle.myi_pack.specs.Unpacking.{row_of}
 use Rattle.myi_chain.specs.declared.piece.Piece.{Piece}
 use Rattle.myi_chain.specs.declared.piece.Item.{Item}
 use Rattle.myi_chain.specs.declared.piece.Item.TheVariants as item
@@ -20,8 +18,6 @@ use Rattle.myi_chain.specs.Readable as chains
 use Rattle.myi_chain.specs.Meeting.{ranges_of}
 use Rattle.myi_chain.specs.Pieces.{piece_bytes}
 use Rattle.myi_chain.specs.ScanModel.{ComesFirst, IsItem, IsSameScan, EndsInside}
-use Rattle.myi_keylist.specs.declared.pair.Pair.{Pair}
-use Rattle.myi_keylist.specs.PairOrder.{pair_with}
 use Rattle.myi_data.specs.Keys.{key_of}
 use Rattle.myi_data.specs.Scanning.{TableScan, items_ahead, AfterTable}
 use Rattle.myi_rowkeys.specs.TableKeys.{numbers_from, key_numbers, row_keys}

@@ -1,12 +1,12 @@
 -- What was found of a data file, when all was met.
-use Rattle.std.proofs.Common.{◌≡◌, ℕ, zero, suc, ◌+◌, ◌-◌, ◌/◌, ◌<◌, ◌≤◌, Bool, true, false, cond, List, [], ◌∷◌, ◌++◌, length, take, drop, Option, Some, None, unwrap_or, refl, sym, ap, subst, ◌∙◌, arith, add-one, ◌⊎◌, inl, inr}
+use Rattle.std.proofs.Common.{◌≡◌, ℕ, zero, suc, ◌+◌, ◌-◌, ◌/◌, ◌<◌, ◌≤◌, Bool, true, false, cond, List, [], ◌∷◌, ◌++◌, length, take, drop, Some, unwrap_or, refl, sym, ap, subst, ◌∙◌, arith, add-one, ◌⊎◌, inl, inr}
 use Rattle.std.specs.Prelude.{map, filter, sum_by}
 use Rattle.std.specs.List.{AllByRecursion, flat_map}
 use Rattle.std.proofs.Math.Nat.{div-eq_of_lt, add-div_right}
 use Rattle.std.proofs.lemmas.Bool.{cases_lt}
 use Rattle.std.proofs.lemmas.List.Sums.{sum_by-cons}
-use Rattle.std.proofs.lemmas.List.{append-nil, take_all, length-drop, length-take-le}
-use Rattle.myi_base.specs.Holding.{Holding, IfTold, bytes_of}
+use Rattle.std.proofs.lemmas.List.{take_all, length-drop, length-take-le}
+use Rattle.myi_base.specs.Holding.{Holding, bytes_of}
 use Rattle.myi_base.specs.Ranges.{Range, is_apart}
 use Rattle.myi_defs.specs.declared.types.RowFormat.{RowFormat}
 use Rattle.myi_defs.specs.declared.types.RowFormat.TheVariants.{Static, Dynamic}
@@ -21,17 +21,17 @@ use Rattle.myi_chain.specs.Meeting.{IsItemOf, ranges_of, ItemsRise}
 use Rattle.myi_chain.specs.ScanModel.{fresh_scan}
 use Rattle.myi_chain.proofs.CallerLemmas.{blocks_read, rest_fine}
 use Rattle.myi_data.specs.Slots.{Slot, slots}
-use Rattle.myi_data.specs.Readable.{packs, slot_range, slot_row, slot_items, items_at, items_by, items_in, readable, deleted}
+use Rattle.myi_data.specs.Readable.{packs, slot_items, items_at, items_by, items_in, readable, deleted}
 use Rattle.myi_data.specs.Scanning.{TableScan, items_ahead, IsAsKnown}
 use Rattle.myi_data.proofs.CallerLemmas.{slot_cases, fresh_ahead, fresh_known}
 use Rattle.myi_pair.specs.Trees.{total}
 use Rattle.myi_pair.specs.FirstBad.{first_gap}
-use Rattle.myi_pair.specs.Findings.{deleted_places, held, rows_bad}
+use Rattle.myi_pair.specs.Findings.{deleted_places, rows_bad}
 use Rattle.myi_check.specs.declared.met.Met.{Met}
 use Rattle.myi_check.specs.declared.rows.RowsFound.{RowsFound}
 use Rattle.myi_check.specs.HeldBytes.{SameBytes, EndsNear, AreJoined, front_of, gap_behind, is_free}
 use Rattle.myi_check.specs.Rows.{IsAscending, HasRows}
-use Rattle.myi_check.specs.Met.{HasMet, MeetsAll}
+use Rattle.myi_check.specs.Met.{HasMet}
 use Rattle.myi_check.proofs.HeldLemmas.{same_then, same_append, same_of}
 use Rattle.myi_check.proofs.GapLemmas.{gap_same, gap_front}
 

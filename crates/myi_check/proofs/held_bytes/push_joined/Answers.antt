@@ -1,5 +1,4 @@
-use Rattle.std.proofs.Common.{◌≡◌, ◌∙◌, sym, ap, arith}
-use Rattle.myi_check.specs.HeldBytes.{touches}
+use Rattle.std.proofs.Common.{◌∙◌, sym, arith}
 use Rattle.myi_check.proofs.HeldLemmas.{with_none, put_touching, push_far}
 use Rattle.myi_check.proofs.held_bytes.push_joined.Goals as goal
 use Rattle.myi_check.proofs.held_bytes.push_joined.Goals.{else-count-gt0-via-then-count-gt0+else-touches, else-count-gt0-via-else-count-gt0}

@@ -1,4 +1,4 @@
-use Rattle.std.proofs.Common.{◌≡◌, ◌∙◌, sym, ap, subst}
+use Rattle.std.proofs.Common.{◌∙◌, subst}
 use Rattle.myi_defs.proofs.CallerLemmas.{sound}
 use Rattle.myi_check.specs.Met.{HasMet}
 use Rattle.myi_check.proofs.RowsLemmas.{begins_known, all_ahead, same_file}

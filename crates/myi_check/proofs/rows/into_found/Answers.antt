@@ -1,4 +1,4 @@
-use Rattle.std.proofs.Common.{◌≡◌, ◌∙◌, ◌++◌, ℕ, cond, List, length, map, refl, sym, ap, subst}
+use Rattle.std.proofs.Common.{◌∙◌, ◌++◌, ℕ, cond, List, length, map, refl, sym, ap, subst}
 use Rattle.std.specs.Prelude.{filter, sum_by}
 use Rattle.std.specs.List.{AllByRecursion}
 use Rattle.myi_defs.specs.Addressable.{is_addressable}

@@ -1,8 +1,8 @@
-use Rattle.std.proofs.Common.{◌≡◌, ◌∙◌, ◌++◌, ◌∷◌, [], refl, sym, subst, arith, true, false}
+use Rattle.std.proofs.Common.{◌∙◌, ◌++◌, ◌∷◌, [], refl, sym, subst, arith, true, false}
 use Rattle.myi_base.specs.Holding.{IfTold}
 use Rattle.myi_data.specs.Scanning.{IsAsKnown}
-use Rattle.myi_check.specs.Met.{ReadsIf, MeetsAll}
-use Rattle.myi_check.proofs.MetLemmas.{Meeting, meets_more, met_all, same_then_scan}
+use Rattle.myi_check.specs.Met.{ReadsIf}
+use Rattle.myi_check.proofs.MetLemmas.{meets_more, met_all, same_then_scan}
 use Rattle.myi_check.proofs.rows.meet_all.Goals as goal
 
 pub loop-met-init : goal.loop-met-init

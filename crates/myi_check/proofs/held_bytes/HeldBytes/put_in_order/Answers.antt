@@ -1,6 +1,3 @@
-use Rattle.std.proofs.Common.{sym, subst}
-use Rattle.std.specs.List.{AllByRecursion}
-use Rattle.myi_check.specs.HeldBytes.{IsForward}
 use Rattle.myi_check.proofs.HeldLemmas.{put_same, put_order, forward_permuted, forward_joined}
 use Rattle.myi_check.proofs.held_bytes.HeldBytes.put_in_order.Goals as goal
 

@@ -1,4 +1,3 @@
-use Rattle.std.proofs.Common.{rules}
 use Rattle.myi_defs.proofs.CallerLemmas.{sound}
 use Rattle.myi_pack.proofs.CallerLemmas.{row-fits}
 use Rattle.myi_check.proofs.met.Met.note_pairs.Goals as goal

@@ -1,7 +1,5 @@
-use Rattle.std.proofs.Common.{◌≡◌, ◌∙◌, List, length, ap, sym, subst}
+use Rattle.std.proofs.Common.{◌∙◌, List, length, ap, sym, subst}
 use Rattle.std.specs.List.{AllByRecursion}
-use Rattle.myi_chain.specs.declared.piece.Item.TheVariants as item
-use Rattle.myi_chain.specs.declared.piece.Wanted.TheVariants.{Items}
 use Rattle.myi_chain.specs.Readable.{rows_of}
 use Rattle.myi_keylist.specs.declared.pair.Pair.{Pair}
 use Rattle.myi_check.specs.HeldBytes.{EndsNear}
