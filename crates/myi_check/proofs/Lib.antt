@@ -1,3 +1,7 @@
+pub mod HeldLemmas
+pub mod GapLemmas
+pub mod MetLemmas
+pub mod RowsLemmas
 pub mod UnmetLemmas
 pub mod SearchLemmas
 pub mod WalkLemmas

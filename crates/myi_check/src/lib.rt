@@ -18,8 +18,10 @@
 
 mod checking;
 mod header;
+mod held_bytes;
 mod keys;
 mod list;
+mod met;
 mod rows;
 
 pub use checking::check;
