@@ -1,0 +1,12 @@
+pub mod HeldLemmas
+pub mod GapLemmas
+pub mod MetLemmas
+pub mod RowsLemmas
+pub mod UnmetLemmas
+pub mod SearchLemmas
+pub mod WalkLemmas
+pub mod LinkLemmas
+pub mod StoredLemmas
+pub mod ShownLemmas
+pub mod SectionLemmas
+pub mod CheckLemmas

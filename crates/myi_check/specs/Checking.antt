@@ -22,3 +22,7 @@ Finds name found m = findings_in name m ≡ Ok found
 -- nothing is looked for, for this reason
 abbrev pub Refuses : List ℕ → TableFault → Holding → Type 0
 Refuses name fault m = findings_in name m ≡ Err fault
+
+-- this is found of the table of the files of these two names
+abbrev pub AreFindings : List ℕ → List ℕ → List Finding → Holding → Type 0
+AreFindings index rows found m = findings_by (table_in index rows m) ≡ Ok found

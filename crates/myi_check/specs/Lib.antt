@@ -2,3 +2,18 @@
 
 -- what a check of a table answers
 pub mod Checking
+
+-- what serves private contracts
+
+-- what a scan of the data file finds
+pub mod Rows
+-- ranges of bytes, joined
+pub mod HeldBytes
+-- what was met of a data file so far
+pub mod Met
+-- what a walk along the list of deleted blocks has met, and what each block says of the list
+pub mod ListMet
+-- what the walks of all trees show
+pub mod Keys
+-- what the files show of the numbers of a header
+pub mod HeaderShown

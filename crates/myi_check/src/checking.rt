@@ -1,28 +1,176 @@
 //! The check of a table.
-ghost use Rattle.std.specs.Prelude.{◌≡◌, ◌⊎◌, IfOk, IfErr};
-ghost use Rattle.myi_base.specs.Holding.{IfTold};
+//!
+//! `check` opens the table, and then reads the data file once (`rows`), follows the list of deleted blocks
+//! (`list`) and walks the tree of each key (`keys`). What the header says is compared with what these
+//! found (`header`). The sections' findings are put together at the end.
+ghost use Rattle.std.specs.Prelude.{◌≡◌, ◌⊎◌, ◌++◌, ℕ, true, false, List, [], length, map, Some, IfOk, IfErr};
+ghost use Rattle.std.specs.Option.{option_to_list};
+ghost use Rattle.myi_base.specs.Holding.{IfTold, Measures};
 ghost use Rattle.myi_base.specs.Causes.{HasCause};
-ghost use Rattle.myi_opening.specs.Opening.{IsCutOff};
-ghost use Rattle.myi_check.specs.Checking.{Finds, Refuses};
+ghost use Rattle.myi_defs.specs.ReadDefs.{AreDefs};
+ghost use Rattle.myi_header.specs.StateOf.{state_of};
+ghost use Rattle.myi_opening.specs.Opening.{HasTable, HasNoTable, IsCutOff};
+ghost use Rattle.myi_pair.specs.declared.finding.Finding.TheVariants as finding;
+ghost use Rattle.myi_pair.specs.FirstRows.{key_numbers};
+ghost use Rattle.myi_pair.specs.KeyList.{PlacedRow, pairs_of};
+ghost use Rattle.myi_check.specs.Checking.{Finds, Refuses, AreFindings};
+ghost use Rattle.myi_check.specs.Keys.{HasKeys};
 
+use crate::header::{Shown, StoredHeader, header_item, room_left, stored_header};
+use crate::keys::{KeysFound, check_keys};
+use crate::list::check_list;
+use crate::rows::{RowsFound, find_rows};
+use myi_base::Sequence;
+use myi_defs::Defs;
 use myi_io::Files;
-use myi_opening::TableFault;
-use myi_pair::Finding;
-use std::alloc::Global;
+use myi_keylist::PairList;
+use myi_opening::{OpenedTable, TableFault, TableFile, open_table};
+use myi_pair::{Finding, HeaderItem};
+use std::alloc::{AllocError, Global};
 
-/// Says what is wrong with the files of a table, and changes none: nothing exactly where they are a clean pair.
-/// Each file is read in order.
+/// Says what is wrong with the files of a table, and changes none: nothing exactly where they are a clean
+/// pair. The data file is read in order, and each page of a tree once.
 pub fn check<F: Files>(
-    _alloc: Global,
-    _files: &mut F,
-    _name: &str,
+    alloc: Global,
+    files: &mut F,
+    name: &str,
 ) -> Result<Vec<Finding>, TableFault>
     ensures findings { IfOk result (λ found.
-        IfTold (F.holds _files.old) (Finds _name.now found.items)) }
+        IfTold (F.holds files.old) (Finds name.now found.items)) }
     ensures refused { IfErr result (λ f.
-        IsCutOff f ⊎ IfTold (F.holds _files.old) (Refuses _name.now f)) }
-    ensures holds { F.holds _files.new ≡ F.holds _files.old }
-    ensures cause { HasCause TableFault.File (F.faults _files.old) (F.faults _files.new) result }
+        IsCutOff f ⊎ IfTold (F.holds files.old) (Refuses name.now f)) }
+    ensures holds { F.holds files.new ≡ F.holds files.old }
+    ensures cause { HasCause TableFault.File (F.faults files.old) (F.faults files.new) result }
 {
-    Err(TableFault::Memory)
+    let index = TableFile::Index.of(alloc, name)?;
+    let rows = TableFile::Data.of(alloc, name)?;
+    let opened = open_table(alloc, files, index.as_str(), rows.as_str())?;
+    check_opened(alloc, files, index.as_str(), rows.as_str(), &opened)
+}
+
+// The same for a table that is opened.
+fn check_opened<F: Files>(
+    alloc: Global,
+    files: &mut F,
+    index: &str,
+    rows: &str,
+    opened: &OpenedTable,
+) -> Result<Vec<Finding>, TableFault>
+    requires defs { AreDefs opened.now.defs }
+    requires opened { IfTold (F.holds files.old)
+        (HasTable index.now rows.now opened.now.defs opened.now.length) }
+    ensures findings { IfOk result (λ found. IfTold (F.holds files.old)
+        (AreFindings index.now rows.now found.items)) }
+    ensures refused { IfErr result (λ f. IsCutOff f
+        ⊎ IfTold (F.holds files.old) (HasNoTable index.now rows.now f)) }
+    ensures holds { F.holds files.new ≡ F.holds files.old }
+    ensures cause { HasCause TableFault.File (F.faults files.old) (F.faults files.new) result }
+{
+    let Some(size) = files.length(index)? else {
+        return Err(TableFault::Absent(TableFile::Index));
+    };
+    check_sections(alloc, files, index, rows, opened, size)
+}
+
+// The same, where the index file has `size` bytes.
+fn check_sections<F: Files>(
+    alloc: Global,
+    files: &mut F,
+    index: &str,
+    rows: &str,
+    opened: &OpenedTable,
+    size: u64,
+) -> Result<Vec<Finding>, TableFault>
+    requires defs { AreDefs opened.now.defs }
+    requires opened { IfTold (F.holds files.old)
+        (HasTable index.now rows.now opened.now.defs opened.now.length) }
+    requires long { IfTold (F.holds files.old) (λ m. Measures (m index.now) (Some size)) }
+    ensures findings { IfOk result (λ found. IfTold (F.holds files.old)
+        (AreFindings index.now rows.now found.items)) }
+    ensures cut { IfErr result IsCutOff }
+    ensures holds { F.holds files.new ≡ F.holds files.old }
+    ensures cause { HasCause TableFault.File (F.faults files.old) (F.faults files.new) result }
+{
+    let defs = &opened.defs;
+    let header = stored_header(alloc, defs)?;
+    let found = find_rows(alloc, files, rows, defs, opened.length)?;
+    let RowsFound {
+        keys,
+        records,
+        split,
+        deleted,
+        empty,
+        gap,
+    } = found;
+    let head = header.state.dellink;
+    let listed = check_list(files, rows, defs, opened.length, &deleted, head)?;
+    let keys = keys_found(files, index, defs, &header, keys.into_lists())?;
+    let shown = Shown {
+        records,
+        del: deleted.len() as u64,
+        split,
+        key_file_length: size,
+        data_file_length: opened.length,
+        empty,
+        key_empty: room_left(defs, size, keys.page_bytes),
+    };
+    let item = header_item(&header, &shown);
+    Ok(all_findings(alloc, item, listed, keys.findings, gap)?)
+}
+
+// What is wrong with the keys of a table with the mark. Those of a foreign one are not looked at.
+fn keys_found<F: Files>(
+    files: &mut F,
+    index: &str,
+    defs: &Defs,
+    header: &StoredHeader,
+    lists: Sequence<PairList>,
+) -> Result<KeysFound, TableFault>
+    requires defs { AreDefs defs.now }
+    requires roots { length header.now.state.roots ≡ length defs.now.keys }
+    requires lists { length lists ≡ length defs.now.keys }
+    ensures found { IfOk result (λ r. IfTold (F.holds files.old) (λ m.
+        (x : List ℕ) (rows : List PlacedRow) → m index.now ≡ Some x
+        → header.now.state.roots ≡ (state_of defs.now x).roots
+        → lists ≡ map (λ k. pairs_of defs.now k rows) (key_numbers defs.now)
+        → header.now.marked ≡ true → HasKeys defs.now x rows r)) }
+    ensures foreign { IfOk result (λ r. header.now.marked ≡ false → r.findings.items ≡ []) }
+    ensures cut { IfErr result IsCutOff }
+    ensures holds { F.holds files.new ≡ F.holds files.old }
+    ensures cause { HasCause TableFault.File (F.faults files.old) (F.faults files.new) result }
+{
+    let alloc = defs.raw.allocator();
+    if !header.marked {
+        return Ok(KeysFound {
+            findings: Vec::new(alloc),
+            page_bytes: None,
+        });
+    }
+    check_keys(alloc, files, index, defs, header.state.roots.as_slice(), lists)
+}
+
+// The findings of all sections, one after the other.
+fn all_findings(
+    alloc: Global,
+    item: Option<HeaderItem>,
+    listed: Option<u64>,
+    keys: Vec<Finding>,
+    gap: Option<u64>,
+) -> Result<Vec<Finding>, AllocError>
+    ensures { IfOk result (λ all. all.items ≡ map finding.Header (option_to_list item)
+        ++ (map finding.Deleted (option_to_list listed)
+        ++ (keys.items ++ map finding.Rows (option_to_list gap)))) }
+{
+    let mut all = Vec::new(alloc);
+    if let Some(item) = item {
+        all.push(Finding::Header(item))?;
+    }
+    if let Some(at) = listed {
+        all.push(Finding::Deleted { at })?;
+    }
+    all.extend_from_slice(&keys)?;
+    if let Some(at) = gap {
+        all.push(Finding::Rows { at })?;
+    }
+    Ok(all)
 }

@@ -1,0 +1,188 @@
+-- What was met, and one item more.
+use Rattle.std.proofs.Common.{◌≡◌, ℕ, zero, suc, ◌+◌, List, [], ◌∷◌, ◌++◌, length, Option, Some, Result, Ok, unwrap_or, refl, sym, ap, subst, ◌∙◌, arith, append_assoc}
+use Rattle.std.specs.Prelude.{map, replicate}
+use Rattle.std.specs.List.{AllByRecursion}
+use Rattle.std.proofs.lemmas.List.{append-nil, map-append, length-map, length_push, length-append}
+use Rattle.std.proofs.lemmas.List.Concat.{flat_map-append}
+use Rattle.myi_base.specs.Holding.{Holding, IfTold}
+use Rattle.myi_base.specs.Ranges.{Range}
+use Rattle.myi_defs.specs.declared.types.Defs.{Defs}
+use Rattle.myi_chain.specs.declared.piece.Piece.{Piece}
+use Rattle.myi_chain.specs.declared.piece.Item.{Item}
+use Rattle.myi_chain.specs.declared.piece.Item.TheVariants as item
+use Rattle.myi_chain.specs.declared.piece.ScanFault.{ScanFault}
+use Rattle.myi_chain.specs.declared.piece.Wanted.TheVariants.{Items}
+use Rattle.myi_chain.specs.Chain.{ranges_at}
+use Rattle.myi_chain.specs.Readable.{Row, row, free, row_in, free_in, rows_of, frees_of}
+use Rattle.myi_chain.specs.Readable as chains
+use Rattle.myi_chain.specs.Meeting.{ranges_of}
+use Rattle.myi_chain.specs.Pieces.{piece_bytes}
+use Rattle.myi_chain.specs.ScanModel.{ComesFirst, IsItem, IsSameScan, EndsInside}
+use Rattle.myi_data.specs.Keys.{key_of}
+use Rattle.myi_data.specs.Scanning.{TableScan, items_ahead, AfterTable}
+use Rattle.myi_rowkeys.specs.TableKeys.{numbers_from, key_numbers, row_keys}
+use Rattle.myi_rowkeys.specs.RowLists.{with_pairs}
+use Rattle.myi_rowkeys.proofs.CallerLemmas.{length-numbers}
+use Rattle.myi_pair.specs.KeyList.{pointer, pair_of, pairs_of}
+use Rattle.myi_pair.specs.Clean.{values_of, placed_row}
+use Rattle.myi_check.specs.declared.met.Met.{Met}
+use Rattle.myi_check.specs.HeldBytes.{SameBytes, EndsNear}
+use Rattle.myi_check.specs.Rows.{pair_lists}
+use Rattle.myi_check.specs.Met.{HasMet, NotesPairs, NotesBlocks, NotesFree, Takes, Reads, MeetsAll}
+use Rattle.myi_check.proofs.HeldLemmas.{same_then, same_append, same_of}
+
+-- ---- the pairs
+
+pub no_pairs : (d : Defs) → replicate (length d.keys) [] ≡ pair_lists d []
+no_pairs d = none 1 (length d.keys)
+  where
+    none : (at n : ℕ) → replicate n [] ≡ map (λ k. pairs_of d k (map (placed_row d) [])) (numbers_from at n)
+    none at zero = refl
+    none at (suc n) = ap (λ ls. [] ∷ ls) (none (suc at) n)
+
+pub length-pairs : (d : Defs) (rows : List Row) → length (pair_lists d rows) ≡ length d.keys
+length-pairs d rows = length-map (key_numbers d) _ ∙ length-numbers 1 (length d.keys)
+
+pairs_next : (d : Defs) (rows : List Row) (r : Row) → with_pairs (pointer d r.at) (row_keys d (values_of d r)) (pair_lists d rows) ≡ pair_lists d (rows ++ r ∷ [])
+pairs_next d rows r = each (key_numbers d)
+  where
+    one : (k : ℕ) → pairs_of d k (map (placed_row d) rows) ++ pair_of d k (placed_row d r) ∷ [] ≡ pairs_of d k (map (placed_row d) (rows ++ r ∷ []))
+    one k = sym (ap (map (pair_of d k)) (map-append (placed_row d) rows (r ∷ [])) ∙ map-append (pair_of d k) (map (placed_row d) rows) (placed_row d r ∷ []))
+
+    each : (ks : List ℕ) → with_pairs (pointer d r.at) (map (λ k. key_of d k (values_of d r)) ks) (map (λ k. pairs_of d k (map (placed_row d) rows)) ks) ≡ map (λ k. pairs_of d k (map (placed_row d) (rows ++ r ∷ []))) ks
+    each [] = refl
+    each (k ∷ ks) =
+        ap (λ ps. ps ∷ with_pairs (pointer d r.at) (map (λ j. key_of d j (values_of d r)) ks) (map (λ j. pairs_of d j (map (placed_row d) rows)) ks)) (one k)
+        ∙ ap (λ ls. pairs_of d k (map (placed_row d) (rows ++ r ∷ [])) ∷ ls) (each ks)
+
+-- ---- an item more
+
+rows_with : (is : List chains.Item) (r : Row) → rows_of (is ++ row r ∷ []) ≡ rows_of is ++ r ∷ []
+rows_with is r = flat_map-append row_in is (row r ∷ [])
+
+rows_past : (is : List chains.Item) (a : Range) → rows_of (is ++ free a ∷ []) ≡ rows_of is
+rows_past is a = flat_map-append row_in is (free a ∷ []) ∙ append-nil (rows_of is)
+
+frees_with : (is : List chains.Item) (a : Range) → frees_of (is ++ free a ∷ []) ≡ frees_of is ++ a ∷ []
+frees_with is a = flat_map-append free_in is (free a ∷ [])
+
+frees_past : (is : List chains.Item) (r : Row) → frees_of (is ++ row r ∷ []) ≡ frees_of is
+frees_past is r = flat_map-append free_in is (row r ∷ []) ∙ append-nil (frees_of is)
+
+ranges_with : (rows : List Row) (r : Row) → ranges_of (rows ++ r ∷ []) ≡ ranges_of rows ++ r.blocks
+ranges_with rows r = flat_map-append (λ (x : Row). x.blocks) rows (r ∷ []) ∙ ap (λ bs. ranges_of rows ++ bs) (append-nil r.blocks)
+
+pub row_taken : (d : Defs) (r : Row) (blocks : List (ℕ × ℕ)) (old mid new : Met) → NotesPairs d r.at r.bytes old mid → NotesBlocks blocks mid new → ranges_at blocks ≡ r.blocks → Takes d (row r) old new
+row_taken d r blocks old mid new pairs noted are is has =
+    let view : values_of d r ≡ pairs.values = ap (λ o. unwrap_or o []) pairs.read in
+    let all : ranges_of (rows_of (is ++ row r ∷ [])) ≡ ranges_of (rows_of is) ++ ranges_at blocks = ap ranges_of (rows_with is r) ∙ ranges_with (rows_of is) r ∙ ap (λ bs. ranges_of (rows_of is) ++ bs) (sym are) in
+    let number : length (rows_of (is ++ row r ∷ [])) ≡ length (rows_of is) + 1 = ap (λ (rs : List Row). length rs) (rows_with is r) ∙ length_push (rows_of is) r in
+    let count : length (ranges_of (rows_of (is ++ row r ∷ []))) ≡ length (ranges_of (rows_of is)) + length blocks = ap (λ (rs : List Range). length rs) all ∙ length-append (ranges_of (rows_of is)) (ranges_at blocks) ∙ ap (λ n. length (ranges_of (rows_of is)) + n) (length-map blocks (λ b. (b.0, b.0 + b.1))) in
+    record {
+      keys = noted.keys ∙ pairs.keys ∙ ap (with_pairs (pointer d r.at) (row_keys d pairs.values)) has.keys
+          ∙ ap (λ v. with_pairs (pointer d r.at) (row_keys d v) (pair_lists d (rows_of is))) (sym view)
+          ∙ pairs_next d (rows_of is) r ∙ ap (pair_lists d) (sym (rows_with is r));
+      records = noted.records ∙ pairs.records ∙ ap (λ n. n + 1) has.records ∙ sym number;
+      split = noted.split ∙ ap (λ n. n + length blocks) (pairs.split ∙ has.split) ∙ sym count;
+      held = same_then _ _ _ (same_of _ _ all)
+          (same_then _ _ _ (same_append (ranges_of (rows_of is)) mid.held (ranges_at blocks) (subst (SameBytes (ranges_of (rows_of is))) (sym pairs.held) has.held)) noted.held);
+      frees = ap ranges_at (noted.frees ∙ pairs.frees) ∙ has.frees ∙ sym (frees_past is r);
+      near = subst (AllByRecursion EndsNear) (sym (noted.frees ∙ pairs.frees)) has.near;
+    }
+
+near_push : (bs : List (ℕ × ℕ)) (b : ℕ × ℕ) → AllByRecursion EndsNear bs → EndsNear b → AllByRecursion EndsNear (bs ++ b ∷ [])
+near_push [] b all near = (near, tt)
+near_push (x ∷ bs) b all near = (all.0, near_push bs b all.1 near)
+
+pub free_taken : (d : Defs) (at size : ℕ) (old new : Met) → NotesFree at size old new → EndsNear (at, size) → Takes d (free (at, at + size)) old new
+free_taken d at size old new noted near is has = record {
+  keys = noted.keys ∙ has.keys ∙ ap (pair_lists d) (sym (rows_past is (at, at + size)));
+  records = noted.records ∙ has.records ∙ ap (λ (rs : List Row). length rs) (sym (rows_past is (at, at + size)));
+  split = noted.split ∙ has.split ∙ ap (λ rs. length (ranges_of rs)) (sym (rows_past is (at, at + size)));
+  held = same_then _ _ _ (same_of _ _ (ap ranges_of (rows_past is (at, at + size)))) (subst (SameBytes (ranges_of (rows_of is))) (sym noted.held) has.held);
+  frees = ap ranges_at noted.frees ∙ map-append (λ (b : ℕ × ℕ). (b.0, b.0 + b.1)) old.frees.items ((at, size) ∷ []) ∙ ap (λ rs. rs ++ (at, at + size) ∷ []) has.frees ∙ sym (frees_with is (at, at + size));
+  near = subst (AllByRecursion EndsNear) (sym noted.frees) (near_push old.frees.items (at, size) has.near near);
+}
+
+-- nothing was met
+pub none_met : (d : Defs) (met : Met) → met.keys ≡ replicate (length d.keys) [] → met.records ≡ 0 → met.split ≡ 0 → met.held ≡ [] → met.frees.items ≡ [] → HasMet d [] met
+none_met d met keys records split held frees = record {
+  keys = keys ∙ no_pairs d;
+  records = records;
+  split = split;
+  held = same_of [] met.held (sym held);
+  frees = ap ranges_at frees;
+  near = subst (AllByRecursion EndsNear) (sym frees) tt;
+}
+
+-- ---- one call
+
+-- what a call answered, and what it leaves
+pub answered_row : (h : Option Holding) (old new : TableScan) (r : Result (Option Item) ScanFault) (o : Option Item) (i : Item) (at : ℕ) (p : Piece) → r ≡ Ok o → o ≡ Some i → i ≡ item.Row at p → AfterTable Items h old r new → AfterTable Items h old (Ok (Some (item.Row at p))) new
+answered_row h old new r o i at p ok some is leaves = subst (λ x. AfterTable Items h old x new) (ok ∙ ap Ok (some ∙ ap Some is)) leaves
+
+pub answered_free : (h : Option Holding) (old new : TableScan) (r : Result (Option Item) ScanFault) (o : Option Item) (i : Item) (at size : ℕ) → r ≡ Ok o → o ≡ Some i → i ≡ item.Free at size → AfterTable Items h old r new → AfterTable Items h old (Ok (Some (item.Free at size))) new
+answered_free h old new r o i at size ok some is leaves = subst (λ x. AfterTable Items h old x new) (ok ∙ ap Ok (some ∙ ap Some is)) leaves
+
+-- what comes first
+first_item : (before after : List chains.Item) (found : Item) (old new : List (ℕ × ℕ)) → ComesFirst Items before after found old new → (first : chains.Item) × (before ≡ first ∷ after) × IsItem first found old new
+first_item before after found old new comes = (comes.first, comes.next.2 ∙ ap (λ is. is ++ comes.first ∷ after) comes.next.1, comes.is)
+
+-- a row is first
+row_is : (first : chains.Item) (at : ℕ) (p : Piece) (old new : List (ℕ × ℕ)) (bytes : List ℕ) → bytes ≡ piece_bytes p → IsItem first (item.Row at p) old new → first ≡ row (record { at = at; bytes = bytes; blocks = ranges_at new })
+row_is (row r) at p old new bytes same is =
+    ap (λ x. row (record { at = x; bytes = r.bytes; blocks = r.blocks })) is.0
+    ∙ ap (λ x. row (record { at = at; bytes = x; blocks = r.blocks })) (sym is.1 ∙ sym same)
+    ∙ ap (λ x. row (record { at = at; bytes = bytes; blocks = x })) (sym is.2)
+row_is (free a) at p old new bytes same is = absurd is
+
+free_is : (first : chains.Item) (at size : ℕ) (old new : List (ℕ × ℕ)) → IsItem first (item.Free at size) old new → first ≡ free (at, at + size)
+free_is (row r) at size old new is = absurd is
+free_is (free a) at size old new is = ap (λ x. free x) is.0
+
+pub row_read : (d : Defs) (h : Option Holding) (s t : TableScan) (at : ℕ) (p : Piece) (bytes : List ℕ) (old mid new : Met) → AfterTable Items h s (Ok (Some (item.Row at p))) t → bytes ≡ piece_bytes p → NotesPairs d at bytes old mid → NotesBlocks t.blocks mid new → Reads d h s t old new
+row_read d h s t at p bytes old mid new answer shows pairs blocks =
+    let r : Row = record { at = at; bytes = bytes; blocks = ranges_at t.blocks } in
+    record {
+      item = row r;
+      takes = row_taken d r t.blocks old mid new pairs blocks refl;
+      rises = answer.0.rises;
+      within = answer.0.within;
+      first = λ m told.
+          let given = first_item _ _ _ _ _ (answer.0.told m told) in
+          given.1 ∙ ap (λ i. i ∷ items_ahead t m) (row_is given.0 at p s.blocks t.blocks bytes shows given.2);
+    }
+
+pub free_read : (d : Defs) (h : Option Holding) (s t : TableScan) (at size : ℕ) (old new : Met) → AfterTable Items h s (Ok (Some (item.Free at size))) t → NotesFree at size old new → Reads d h s t old new
+free_read d h s t at size old new answer noted = record {
+  item = free (at, at + size);
+  takes = free_taken d at size old new noted answer.0.stands.1.1;
+  rises = answer.0.rises;
+  within = answer.0.within;
+  first = λ m told.
+      let given = first_item _ _ _ _ _ (answer.0.told m told) in
+      given.1 ∙ ap (λ i. i ∷ items_ahead t m) (free_is given.0 at size s.blocks t.blocks given.2);
+}
+
+-- the blocks of an answered row end at places of eight bytes
+pub blocks_near : (end : ℕ) (bs : List (ℕ × ℕ)) → AllByRecursion (EndsInside end) bs → AllByRecursion EndsNear bs
+blocks_near end [] all = tt
+blocks_near end (b ∷ bs) all = (all.0.1, blocks_near end bs all.1)
+
+-- ---- the loop
+
+-- these were met so far, and with those that are left they are all
+abbrev pub Meeting : Defs → Option Holding → TableScan → TableScan → List chains.Item → Met → Type 0
+Meeting d h start now is met = HasMet d is met × IfTold h (λ m. is ++ items_ahead now m ≡ items_ahead start m)
+
+pub meets_more : (d : Defs) (h : Option Holding) (start now next : TableScan) (is : List chains.Item) (old new : Met) → Meeting d h start now is old → (read : Reads d h now next old new) → Meeting d h start next (is ++ read.item ∷ []) new
+meets_more d h start now next is old new so_far read = (
+  read.takes is so_far.0,
+  λ m told. append_assoc is (read.item ∷ []) (items_ahead next m) ∙ ap (λ xs. is ++ xs) (sym (read.first m told)) ∙ so_far.1 m told,
+)
+
+pub met_all : (d : Defs) (h : Option Holding) (start now : TableScan) (is : List chains.Item) (old new : Met) → Meeting d h start now is old → new ≡ old → IfTold h (λ m. items_ahead now m ≡ []) → MeetsAll d h start new
+met_all d h start now is old new so_far same none = (is, subst (HasMet d is) (sym same) so_far.0, λ m told. sym (append-nil is) ∙ ap (λ xs. is ++ xs) (sym (none m told)) ∙ so_far.1 m told)
+
+pub same_then_scan : (a b c : TableScan) → IsSameScan a b → IsSameScan b c → IsSameScan a c
+same_then_scan a b c p q = record { name = q.name ∙ p.name; test = q.test ∙ p.test; extend = q.extend ∙ p.extend; end = omega (arith, p.end, q.end) }

@@ -1,0 +1,73 @@
+-- What was met of a data file so far, and how the next item changes it.
+use Rattle.std.specs.Prelude.{◌≡◌, ◌≤◌, ◌<◌, ◌+◌, ℕ, Bool, true, false, List, [], ◌∷◌, ◌++◌, length, Option, Some}
+use Rattle.std.specs.List.{AllByRecursion}
+use Rattle.myi_base.specs.Holding.{Holding, IfTold}
+use Rattle.myi_defs.specs.declared.types.Defs.{Defs}
+use Rattle.myi_chain.specs.Chain.{ranges_at}
+use Rattle.myi_chain.specs.Readable.{Item, rows_of, frees_of}
+use Rattle.myi_chain.specs.Meeting.{ranges_of}
+use Rattle.myi_data.specs.Scanning.{TableScan, items_ahead}
+use Rattle.myi_pack.specs.Packed.{Values}
+use Rattle.myi_pack.specs.Unpacking.{row_of}
+use Rattle.myi_rowkeys.specs.TableKeys.{row_keys}
+use Rattle.myi_rowkeys.specs.RowLists.{with_pairs}
+use Rattle.myi_pair.specs.KeyList.{pointer}
+use Rattle.myi_check.specs.declared.met.Met.{Met}
+use Rattle.myi_check.specs.HeldBytes.{SameBytes, EndsNear}
+use Rattle.myi_check.specs.Rows.{pair_lists}
+
+-- these items were met
+pub record HasMet (d : Defs) (items : List Item) (met : Met) : Type 0 where
+  pub keys : met.keys ≡ pair_lists d (rows_of items)
+  pub records : met.records ≡ length (rows_of items)
+  pub split : met.split ≡ length (ranges_of (rows_of items))
+  pub held : SameBytes (ranges_of (rows_of items)) met.held
+  pub frees : ranges_at met.frees.items ≡ frees_of items
+  pub near : AllByRecursion EndsNear met.frees.items
+
+-- one more item was met
+abbrev pub Takes : Defs → Item → Met → Met → Type 0
+Takes d item old new = (items : List Item) → HasMet d items old → HasMet d (items ++ item ∷ []) new
+
+-- the pairs of a row of these bytes were noted
+pub record NotesPairs (d : Defs) (at : ℕ) (bytes : List ℕ) (old new : Met) : Type 0 where
+  pub values : Values
+  pub read : row_of d bytes ≡ Some values
+  pub keys : new.keys ≡ with_pairs (pointer d at) (row_keys d values) old.keys
+  pub records : new.records ≡ old.records + 1
+  pub split : new.split ≡ old.split
+  pub held : new.held ≡ old.held
+  pub frees : new.frees.items ≡ old.frees.items
+
+-- the blocks of a row were noted
+pub record NotesBlocks (blocks : List (ℕ × ℕ)) (old new : Met) : Type 0 where
+  pub held : SameBytes (old.held ++ ranges_at blocks) new.held
+  pub split : new.split ≡ old.split + length blocks
+  pub keys : new.keys ≡ old.keys
+  pub records : new.records ≡ old.records
+  pub frees : new.frees.items ≡ old.frees.items
+
+-- a deleted block was noted
+pub record NotesFree (at size : ℕ) (old new : Met) : Type 0 where
+  pub keys : new.keys ≡ old.keys
+  pub records : new.records ≡ old.records
+  pub split : new.split ≡ old.split
+  pub held : new.held ≡ old.held
+  pub frees : new.frees.items ≡ old.frees.items ++ (at, size) ∷ []
+
+-- an item was read, the first that was left; the others are left
+pub record Reads (d : Defs) (told : Option Holding) (s t : TableScan) (old new : Met) : Type 0 where
+  pub item : Item
+  pub takes : Takes d item old new
+  pub rises : s.place < t.place
+  pub within : t.place ≤ t.end
+  pub first : IfTold told (λ m. items_ahead s m ≡ item ∷ items_ahead t m)
+
+-- an item was read, or none was left
+abbrev pub ReadsIf : Bool → Defs → Option Holding → TableScan → TableScan → Met → Met → Type 0
+ReadsIf true d told s t old new = Reads d told s t old new
+ReadsIf false d told s t old new = (new ≡ old) × IfTold told (λ m. items_ahead s m ≡ [])
+
+-- all items that a scan had left were met
+abbrev pub MeetsAll : Defs → Option Holding → TableScan → Met → Type 0
+MeetsAll d told s met = (items : List Item) × HasMet d items met × IfTold told (λ m. items ≡ items_ahead s m)

@@ -1,0 +1,34 @@
+-- What a scan of a data file finds: of the readable rows and the deleted blocks what a check compares.
+use Rattle.std.specs.Prelude.{◌≡◌, ◌<◌, ℕ, false, List, [], ◌∷◌, length, map}
+use Rattle.std.specs.List.{AllByRecursion}
+use Rattle.myi_defs.specs.declared.types.Defs.{Defs}
+use Rattle.myi_keylist.specs.declared.pair.Pair.{Pair}
+use Rattle.myi_chain.specs.Readable.{Row}
+use Rattle.myi_chain.specs.Meeting.{ranges_of}
+use Rattle.myi_data.specs.Readable.{readable}
+use Rattle.myi_data.specs.Readable as table
+use Rattle.myi_pair.specs.FirstRows.{key_numbers}
+use Rattle.myi_pair.specs.KeyList.{pairs_of}
+use Rattle.myi_pair.specs.Trees.{total}
+use Rattle.myi_pair.specs.Clean.{placed_row}
+use Rattle.myi_pair.specs.Findings.{deleted_places, rows_bad}
+use Rattle.myi_check.specs.declared.rows.RowsFound.{RowsFound}
+
+-- each place is below all behind it
+abbrev pub IsAscending : List ℕ → Type 0
+IsAscending [] = Unit {0}
+IsAscending (p ∷ ps) = AllByRecursion (λ q. p < q) ps × IsAscending ps
+
+-- the pairs of these rows, a list for each key
+abbrev pub pair_lists : Defs → List Row → List (List Pair)
+pair_lists d rows = map (λ k. pairs_of d k (map (placed_row d) rows)) (key_numbers d)
+
+-- this was found of a data file
+pub record HasRows (d : Defs) (rows : List ℕ) (r : RowsFound) : Type 0 where
+  pub keys : r.keys ≡ pair_lists d (readable d false rows)
+  pub records : r.records ≡ length (readable d false rows)
+  pub split : r.split ≡ length (ranges_of (readable d false rows))
+  pub deleted : r.deleted.items ≡ deleted_places d rows
+  pub ascends : IsAscending r.deleted.items
+  pub empty : r.empty ≡ total (table.deleted d rows)
+  pub gap : r.gap ≡ rows_bad d rows

@@ -1,0 +1,158 @@
+//! `Met`: what was met of a data file so far.
+//!
+//! Of each row its pairs are noted, how many blocks it has and which bytes they hold; of each deleted block
+//! its place and its size. A deleted block is one of the table only if it meets no block of a row, be it
+//! before or behind, so that which of them count is told when all rows have come.
+ghost use Rattle.std.specs.Prelude.{◌≡◌, ◌+◌, IfOk};
+ghost use Rattle.myi_opening.specs.Opening.{IsCutOff};
+ghost use Rattle.myi_defs.specs.Sound.{IsSound};
+ghost use Rattle.myi_opening.specs.declared.fault.TableFault.TheVariants as table;
+ghost use Rattle.myi_chain.specs.declared.piece.ScanFault.TheVariants as scan;
+ghost use Rattle.myi_pair.specs.KeyList.{pointer};
+
+use crate::held_bytes::HeldBytes;
+use myi_chain::{Item, ScanFault};
+use myi_data::DataScan;
+use myi_defs::{Defs, RowFormat};
+use myi_io::Files;
+use myi_opening::TableFault;
+use myi_pack::view_packed;
+use myi_rowkeys::RowKeys;
+use std::alloc::{AllocError, Global};
+
+/// What was met so far.
+#[derive(Drop)]
+pub(crate) struct Met {
+    /// The pairs of the rows, a list for each key of the table.
+    pub(crate) keys: RowKeys,
+    pub(crate) records: u64,
+    /// How many blocks the rows have.
+    pub(crate) split: u64,
+    /// The bytes of these blocks.
+    pub(crate) held: HeldBytes,
+    /// The deleted blocks that were passed, each by its place and its size.
+    pub(crate) frees: Vec<(u64, u32)>,
+}
+
+impl Met {
+    ghost use Rattle.std.specs.Prelude.{◌≡◌, ◌<◌, ◌^◌, true, List, [], length, IfOk, IfErr, OnOk};
+    ghost use Rattle.std.specs.List.{AllByRecursion};
+    ghost use Rattle.myi_base.specs.Holding.{IfTold};
+    ghost use Rattle.myi_base.specs.Causes.{HasCause};
+    ghost use Rattle.myi_defs.specs.ReadDefs.{AreDefs};
+    ghost use Rattle.myi_opening.specs.Opening.{IsCutOff};
+    ghost use Rattle.myi_chain.specs.Readable as chains;
+    ghost use Rattle.myi_chain.specs.ScanModel.{IsSameScan};
+    ghost use Rattle.myi_data.specs.Readable.{packs};
+    ghost use Rattle.myi_data.specs.Scanning.{IsAsKnown};
+    ghost use Rattle.myi_check.specs.HeldBytes.{EndsNear};
+    ghost use Rattle.myi_check.specs.Met.{HasMet, ReadsIf, NotesPairs, NotesBlocks, NotesFree};
+
+    /// Nothing was met yet, of a table with these definitions.
+    pub(crate) fn new(alloc: Global, defs: &Defs) -> Result<Met, AllocError>
+        ensures { IfOk result (HasMet defs.now []) }
+    {
+        Ok(Met {
+            keys: RowKeys::new(alloc, defs.keys.as_slice().len())?,
+            records: 0,
+            split: 0,
+            held: HeldBytes::new(alloc),
+            frees: Vec::new(alloc),
+        })
+    }
+
+    /// Reads the next row or deleted block of a scan, and says whether there was one.
+    pub(crate) fn read<F: Files>(
+        &mut self,
+        files: &mut F,
+        scan: &mut DataScan,
+        defs: &Defs,
+    ) -> Result<bool, TableFault>
+        requires current { IfTold (F.holds files.old) (IsAsKnown scan.old) }
+        requires test { scan.old.test ≡ defs.now }
+        requires defs { AreDefs defs.now }
+        requires met { (items : List chains.Item) × HasMet defs.now items self.old }
+        ensures read { IfOk result (λ more.
+            ReadsIf more defs.now (F.holds files.old) scan.old scan.new self.old self.new) }
+        ensures same { OnOk result (IsSameScan scan.old scan.new) }
+        ensures current { OnOk result (IfTold (F.holds files.old) (IsAsKnown scan.new)) }
+        ensures holds { F.holds files.new ≡ F.holds files.old }
+        ensures cut { IfErr result IsCutOff }
+        ensures cause { HasCause TableFault.File (F.faults files.old) (F.faults files.new) result }
+    {
+        match scan.next_item(files) {
+            Ok(Some(Item::Row(at, piece))) => {
+                self.note_pairs(defs, at, piece.bytes())?;
+                self.note_blocks(scan.blocks())?;
+                Ok(true)
+            }
+            Ok(Some(Item::Free { at, size })) => {
+                self.note_free(at, size)?;
+                Ok(true)
+            }
+            Ok(None) => Ok(false),
+            Err(fault) => Err(table_fault(fault)),
+        }
+    }
+
+    // Notes the pairs of a row.
+    fn note_pairs(&mut self, defs: &Defs, at: u64, bytes: &[u8]) -> Result<(), AllocError>
+        requires defs { AreDefs defs.now }
+        requires packed { packs defs.now bytes.now ≡ true }
+        requires few { length bytes.now < 2 ^ 32 }
+        requires all { length self.old.keys ≡ length defs.now.keys }
+        ensures { OnOk result (NotesPairs defs.now at bytes.now self.old self.new) }
+    {
+        let row = view_packed(defs, bytes);
+        self.keys.push(defs, &row, pointer(defs, at))?;
+        self.records = sum(self.records, 1)?;
+        Ok(())
+    }
+
+    // Notes the blocks of a row.
+    fn note_blocks(&mut self, blocks: &[(u64, u32)]) -> Result<(), AllocError>
+        requires { AllByRecursion EndsNear blocks.now }
+        ensures { OnOk result (NotesBlocks blocks.now self.old self.new) }
+    {
+        self.held.add_blocks(blocks)?;
+        self.split = sum(self.split, blocks.len() as u64)?;
+        Ok(())
+    }
+
+    // Notes a deleted block.
+    fn note_free(&mut self, at: u64, size: u32) -> Result<(), AllocError>
+        ensures { OnOk result (NotesFree at size self.old self.new) }
+    {
+        self.frees.push((at, size))?;
+        Ok(())
+    }
+}
+
+// Why a scan did not go on, as a fault of the table.
+fn table_fault(fault: ScanFault) -> TableFault
+    ensures file { result ≡ table.File → fault ≡ scan.File }
+    ensures cut { IsCutOff result }
+{
+    match fault {
+        ScanFault::File => TableFault::File,
+        ScanFault::Memory => TableFault::Memory,
+    }
+}
+
+/// The sum of two counts, where eight bytes hold it. Of a file that tells what it holds they do.
+pub(crate) fn sum(count: u64, more: u64) -> Result<u64, AllocError>
+    ensures { IfOk result (λ s. s ≡ count + more) }
+{
+    count.checked_add(more).ok_or(AllocError)
+}
+
+// The pointer of the row at a place of the data file.
+fn pointer(defs: &Defs, at: u64) -> u64
+    requires { IsSound defs.now }
+    ensures { result ≡ pointer defs.now at }
+{
+    match defs.format {
+        RowFormat::Static => at / defs.slot_length as u64,
+        RowFormat::Dynamic => at,
+    }
+}

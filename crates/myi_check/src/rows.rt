@@ -1,0 +1,202 @@
+//! What a scan of a data file finds.
+//!
+//! `find_rows` meets each row and each deleted block once, in order of their places (`Met`). When all rows
+//! have come, it keeps of the deleted blocks those that meet no block of a row, and looks for the lowest byte
+//! that belongs to nothing.
+ghost use Rattle.std.specs.Prelude.{◌≡◌, ◌++◌, ◌∷◌, [], ℕ, List, Some, false, map, filter, sum_by, if◌then◌else◌, IfOk, IfErr, OnOk};
+ghost use Rattle.std.specs.Prelude as std;
+ghost use Rattle.std.specs.List.{AllByRecursion};
+ghost use Rattle.myi_base.specs.Holding.{IfTold};
+ghost use Rattle.myi_base.specs.Causes.{HasCause};
+ghost use Rattle.myi_defs.specs.ReadDefs.{AreDefs};
+ghost use Rattle.myi_defs.specs.Sound.{IsSound};
+ghost use Rattle.myi_opening.specs.Opening.{IsCutOff};
+ghost use Rattle.myi_chain.specs.Readable.{Item};
+ghost use Rattle.myi_chain.specs.ScanModel.{fresh_scan};
+ghost use Rattle.myi_data.specs.Readable.{items_in};
+ghost use Rattle.myi_data.specs.Scanning.{IsAsKnown};
+ghost use Rattle.myi_defs.specs.Addressable.{is_addressable};
+ghost use Rattle.myi_check.specs.HeldBytes.{AreJoined, EndsNear, front_of, gap_behind, is_free};
+ghost use Rattle.myi_check.specs.Met.{HasMet, MeetsAll};
+ghost use Rattle.myi_check.specs.Rows.{HasRows};
+
+use crate::held_bytes::HeldBytes;
+use crate::met::{Met, sum};
+use myi_chain::rows_are_met;
+use myi_data::{DataFile, DataScan};
+use myi_defs::Defs;
+use myi_header::stored_state;
+use myi_io::Files;
+use myi_opening::TableFault;
+use myi_rowkeys::RowKeys;
+use std::alloc::{AllocError, Global};
+
+/// What a scan of a data file finds.
+#[derive(Drop)]
+pub(crate) struct RowsFound {
+    /// The pairs of the readable rows, a list for each key of the table, in the order of the rows.
+    pub(crate) keys: RowKeys,
+    pub(crate) records: u64,
+    /// How many blocks the rows have.
+    pub(crate) split: u64,
+    /// The places of the deleted blocks, in order.
+    pub(crate) deleted: Vec<u64>,
+    /// How many bytes deleted blocks have.
+    pub(crate) empty: u64,
+    /// The lowest byte that belongs to no row and to no deleted block.
+    pub(crate) gap: Option<u64>,
+}
+
+/// Reads a data file of that length once.
+pub(crate) fn find_rows<F: Files>(
+    alloc: Global,
+    files: &mut F,
+    rows: &str,
+    defs: &Defs,
+    length: u64,
+) -> Result<RowsFound, TableFault>
+    requires defs { AreDefs defs.now }
+    requires long { IfTold (F.holds files.old) (λ m.
+        (d : List ℕ) × (m rows.now ≡ Some d) × (length ≡ std.length d)) }
+    ensures found { IfOk result (λ r. IfTold (F.holds files.old) (λ m. (d : List ℕ)
+        → m rows.now ≡ Some d → HasRows defs.now d r)) }
+    ensures lists { IfOk result (λ r. std.length r.keys ≡ std.length defs.now.keys) }
+    ensures cut { IfErr result IsCutOff }
+    ensures holds { F.holds files.new ≡ F.holds files.old }
+    ensures cause { HasCause TableFault.File (F.faults files.old) (F.faults files.new) result }
+{
+    let mut scan = scan_of(alloc, rows, defs, length)?;
+    let met = meet_all(alloc, files, &mut scan, defs)?;
+    Ok(into_found(alloc, met, defs, length)?)
+}
+
+// A scan of the whole file.
+fn scan_of(alloc: Global, rows: &str, defs: &Defs, end: u64) -> Result<DataScan, AllocError>
+    requires { IsSound defs.now }
+    ensures { IfOk result (λ scan. scan ≡ fresh_scan rows.now defs.now false end) }
+{
+    let mut state = stored_state(alloc, defs)?;
+    state.data_file_length = end;
+    DataFile::new(alloc, rows, defs, &state)?.scan(false)
+}
+
+// Meets all that a scan has left.
+fn meet_all<F: Files>(
+    alloc: Global,
+    files: &mut F,
+    scan: &mut DataScan,
+    defs: &Defs,
+) -> Result<Met, TableFault>
+    requires current { IfTold (F.holds files.old) (IsAsKnown scan.old) }
+    requires test { scan.old.test ≡ defs.now }
+    requires defs { AreDefs defs.now }
+    ensures met { IfOk result (MeetsAll defs.now (F.holds files.old) scan.old) }
+    ensures holds { F.holds files.new ≡ F.holds files.old }
+    ensures cut { IfErr result IsCutOff }
+    ensures cause { HasCause TableFault.File (F.faults files.old) (F.faults files.new) result }
+{
+    let mut met = Met::new(alloc, defs)?;
+    while met.read(files, scan, defs)? {}
+    Ok(met)
+}
+
+// What was found, of a data file of that length.
+fn into_found(alloc: Global, met: Met, defs: &Defs, length: u64) -> Result<RowsFound, AllocError>
+    requires sound { IsSound defs.now }
+    requires met { (items : List Item) × HasMet defs.now items met }
+    ensures found { IfOk result (λ r. (d : List ℕ) → length ≡ std.length d
+        → HasMet defs.now (items_in defs.now false d) met → HasRows defs.now d r) }
+    ensures lists { IfOk result (λ r. std.length r.keys ≡ std.length defs.now.keys) }
+{
+    rows_are_met();
+    let Met {
+        keys,
+        records,
+        split,
+        mut held,
+        frees,
+    } = met;
+    held.put_in_order()?;
+    let deleted = keep_apart(alloc, &frees, &held)?;
+    held.add_blocks(&deleted)?;
+    held.put_in_order()?;
+    Ok(RowsFound {
+        keys,
+        records,
+        split,
+        deleted: places(alloc, &deleted)?,
+        empty: bytes_in(&deleted)?,
+        gap: gap(&held, defs, length),
+    })
+}
+
+// The blocks of which no byte is held. The held ranges are in order.
+fn keep_apart(
+    alloc: Global,
+    blocks: &[(u64, u32)],
+    held: &HeldBytes,
+) -> Result<Vec<(u64, u32)>, AllocError>
+    requires near { AllByRecursion EndsNear blocks.now }
+    requires order { AreJoined 0 held.now }
+    ensures { IfOk result (λ kept. kept.items ≡ filter (is_free held.now) blocks.now) }
+{
+    let mut kept = Vec::new(alloc);
+    for index in 0..blocks.len() {
+        push_if_apart(&mut kept, blocks[index], held)?;
+    }
+    Ok(kept)
+}
+
+// Adds a block, if no byte of it is held.
+fn push_if_apart(
+    kept: &mut Vec<(u64, u32)>,
+    block: (u64, u32),
+    held: &HeldBytes,
+) -> Result<(), AllocError>
+    requires near { EndsNear block }
+    requires order { AreJoined 0 held.now }
+    ensures { OnOk result (kept.new.items
+        ≡ kept.old.items ++ filter (is_free held.now) (block ∷ [])) }
+{
+    let (at, size) = block;
+    if held.is_apart(at, at + size as u64) {
+        kept.push(block)?;
+    }
+    Ok(())
+}
+
+// The places of blocks.
+fn places(alloc: Global, blocks: &[(u64, u32)]) -> Result<Vec<u64>, AllocError>
+    ensures { IfOk result (λ places. places.items ≡ map (λ b. b.0) blocks.now) }
+{
+    let mut places = Vec::with_capacity(alloc, blocks.len())?;
+    for index in 0..blocks.len() {
+        places.push(blocks[index].0)?;
+    }
+    Ok(places)
+}
+
+// How many bytes blocks have.
+fn bytes_in(blocks: &[(u64, u32)]) -> Result<u64, AllocError>
+    ensures { IfOk result (λ bytes. bytes ≡ sum_by (λ b. b.1) blocks.now) }
+{
+    let mut bytes = 0;
+    for index in 0..blocks.len() {
+        bytes = sum(bytes, blocks[index].1 as u64)?;
+    }
+    Ok(bytes)
+}
+
+// The lowest byte of a data file of that length that is not held, by ranges that are in order. Where row
+// pointers do not reach so far, none is held.
+fn gap(held: &HeldBytes, defs: &Defs, length: u64) -> Option<u64>
+    ensures { result ≡ gap_behind
+        (if is_addressable defs.now length then front_of held.now else 0) length }
+{
+    let front = if defs.addressable(length) {
+        held.front()
+    } else {
+        0
+    };
+    if front < length { Some(front) } else { None }
+}
