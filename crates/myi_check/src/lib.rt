@@ -3,6 +3,10 @@
 //! What is found is `findings` of `Rattle.myi_pair.specs.Findings`, over the bytes of the two files.
 #![tactic(auto)]
 
-mod check;
+mod busy;
+mod checking;
+mod keys;
+mod pairs_met;
+mod walks;
 
-pub use check::check;
+pub use checking::check;
