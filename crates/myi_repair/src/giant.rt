@@ -117,6 +117,7 @@ fn put_behind<F: Files>(
 // Whether a block may have this size.
 fn may_be_size(size: u32) -> bool
     ensures sized { result ≡ true → (size % 4 ≡ 0) × (20 ≤ size) }
+    ensures all { size % 4 ≡ 0 → 20 ≤ size → result ≡ true }
 {
     size % 4 == 0 && size >= LEAST_SIZE as u32
 }
