@@ -85,3 +85,7 @@ err_is {T} {E} (Err f) {e} P is holds = subst P (same f e is) holds
   where
     same : (f e : E) → ◌≡◌ {A = Result T E} (Err f) (Err e) → e ≡ f
     same f e is = cc
+
+pub if_err : {T E : Type 0} (r : Result T E) {e : E} (P : T → Type 0) → r ≡ Err e → IfOk r P
+if_err (Ok x) P is = absurd cc
+if_err (Err f) P is = tt

@@ -2,7 +2,6 @@
 
 -- what a check of a table answers
 pub mod Checking
-
 -- what serves private contracts
 
 -- what a scan of the data file finds

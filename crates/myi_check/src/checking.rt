@@ -30,11 +30,7 @@ use std::alloc::{AllocError, Global};
 
 /// Says what is wrong with the files of a table, and changes none: nothing exactly where they are a clean
 /// pair. The data file is read in order, and each page of a tree once.
-pub fn check<F: Files>(
-    alloc: Global,
-    files: &mut F,
-    name: &str,
-) -> Result<Vec<Finding>, TableFault>
+pub fn check<F: Files>(alloc: Global, files: &mut F, name: &str) -> Result<Vec<Finding>, TableFault>
     ensures findings { IfOk result (λ found.
         IfTold (F.holds files.old) (Finds name.now found.items)) }
     ensures refused { IfErr result (λ f.
@@ -146,7 +142,14 @@ fn keys_found<F: Files>(
             page_bytes: None,
         });
     }
-    check_keys(alloc, files, index, defs, header.state.roots.as_slice(), lists)
+    check_keys(
+        alloc,
+        files,
+        index,
+        defs,
+        header.state.roots.as_slice(),
+        lists,
+    )
 }
 
 // The findings of all sections, one after the other.
