@@ -36,8 +36,8 @@ use std::alloc::{AllocError, Global};
 pub(crate) struct KeysFound {
     /// The first bad thing of each key that has one, in the order of the keys.
     pub(crate) findings: Vec<Finding>,
-    /// How many bytes the pages of all trees have, and 2^64 - 1 where that is more; None where a tree
-    /// has no walk.
+    /// How many bytes the pages of all trees have, at most 2^64 - 1. None where a tree has no
+    /// walk.
     pub(crate) page_bytes: Option<u64>,
 }
 
@@ -184,8 +184,8 @@ fn check_key<F: Files>(
     Ok(())
 }
 
-/// Walks the tree of each key, from its root, beside the pairs of the table's rows in that key. Each tree is
-/// walked once.
+/// Walks the tree of each key, from its root, beside the pairs of the table's rows in that key.
+/// Each tree is walked once.
 pub(crate) fn check_keys<F: Files>(
     alloc: Global,
     files: &mut F,
