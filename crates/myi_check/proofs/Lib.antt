@@ -10,3 +10,8 @@ pub mod StoredLemmas
 pub mod ShownLemmas
 pub mod SectionLemmas
 pub mod CheckLemmas
+pub mod BusyLaws
+pub mod PairsLaws
+pub mod ShowsLaws
+pub mod WalkLaws
+pub mod KeysLaws

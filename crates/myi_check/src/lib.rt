@@ -16,12 +16,15 @@
 //! ```
 #![tactic(auto)]
 
+mod busy;
 mod checking;
 mod header;
 mod held_bytes;
 mod keys;
 mod list;
 mod met;
+mod pairs_met;
 mod rows;
+mod walks;
 
 pub use checking::check;
