@@ -1,5 +1,5 @@
 -- The findings of all sections, by what was found of each.
-use Rattle.std.proofs.Common.{◌≡◌, ℕ, ◌-◌, ◌^◌, ◌<◌, ◌≤◌, Bool, true, false, cond, min, List, [], ◌∷◌, ◌++◌, length, map, Option, Some, None, refl, sym, ap, ◌∙◌, arith}
+use Rattle.std.proofs.Common.{◌≡◌, ℕ, ◌-◌, ◌^◌, ◌<◌, ◌≤◌, Bool, true, false, cond, min, List, [], ◌++◌, length, map, Option, Some, None, refl, sym, ap, ◌∙◌, arith}
 use Rattle.std.specs.Option.{option_map, option_to_list}
 use Rattle.std.specs.List.{flat_map}
 use Rattle.std.proofs.lemmas.List.{length-map}
@@ -11,10 +11,9 @@ use Rattle.myi_data.specs.Readable.{readable, deleted}
 use Rattle.myi_pair.specs.declared.finding.HeaderItem.{HeaderItem}
 use Rattle.myi_pair.specs.declared.finding.Finding.{Finding}
 use Rattle.myi_pair.specs.declared.finding.Finding.TheVariants as finding
-use Rattle.myi_pair.specs.KeyList.{PlacedRow}
 use Rattle.myi_pair.specs.Clean.{placed_row, next_deleted}
 use Rattle.myi_pair.specs.FirstBad.{list_bad}
-use Rattle.myi_pair.specs.Findings.{KeyWalk, all_walks, header_bad, names_before, deleted_places, deleted_bad, key_findings, keys_bad, rows_bad, told, findings}
+use Rattle.myi_pair.specs.Findings.{all_walks, header_bad, names_before, deleted_places, deleted_bad, key_findings, keys_bad, rows_bad, told, findings}
 use Rattle.myi_base.specs.Holding.{Measures}
 use Rattle.myi_pair.specs.FirstBad.{first_failed}
 use Rattle.myi_pair.specs.Findings.{all_walk, page_bytes}

@@ -1,4 +1,4 @@
-use Rattle.std.proofs.Common.{◌≡◌, ◌∙◌, ℕ, true, false, [], List, Some, Ok, length, map, unwrap_or, refl, sym, ap, subst}
+use Rattle.std.proofs.Common.{◌≡◌, ◌∙◌, true, false, [], List, Ok, map, unwrap_or, refl, sym, ap, subst}
 use Rattle.myi_defs.proofs.CallerLemmas.{sound}
 use Rattle.myi_opening.specs.Opening.{Table, table}
 use Rattle.myi_opening.proofs.CallerLemmas.{table_index, table_rows, table_read}

@@ -1,5 +1,4 @@
-use Rattle.std.proofs.Common.{◌≡◌, Bool, Err, sym, ap, subst, ◌∙◌}
-use Rattle.std.specs.Prelude.{Result, IfOk}
+use Rattle.std.proofs.Common.{◌≡◌, Err, sym, ap, ◌∙◌}
 use Rattle.myi_header.specs.declared.state.StateFault.TheVariants as fault
 use Rattle.myi_header.specs.StateOf.{has_mark, read_state}
 use Rattle.myi_check.proofs.StoredLemmas.{not_short, marked_ok, marked_not, ok_is, if_err}

@@ -1,4 +1,4 @@
-use Rattle.std.proofs.Common.{◌≡◌, ◌<◌, ℕ, ltb, length, get_or, arith, rules}
+use Rattle.std.proofs.Common.{◌<◌, ℕ, ltb, length, get_or, arith, rules}
 use Rattle.std.proofs.lemmas.Bool.{ltb-true, ltb-false}
 use Rattle.std.proofs.lemmas.List.Sorted.{IsPartitionPoint-from_clause, IsPartitionedBy-ltb}
 use Rattle.myi_check.proofs.SearchLemmas.{rises, not_there}
