@@ -1,7 +1,8 @@
 //! The list of deleted blocks, which is followed once by short reads.
 //!
-//! `check_list` holds the places of all deleted blocks in their order, which the scan found, and beside
-//! them a flag for each that the list has named. A `Link` is what the block at a place says of the list.
+//! `check_list` holds the places of all deleted blocks in their order, which the scan found, and
+//! beside them a flag for each that the list has named. A `Link` is what the block at a place says
+//! of the list.
 ghost use Rattle.std.specs.Prelude.{◌≡◌, ◌≢◌, ◌≤◌, ◌<◌, ◌+◌, ◌-◌, ◌^◌, ◌==◌, ℕ, false, List, length, take, drop, replicate, None, IfOk, IfErr, IfSome, HoldsAt};
 ghost use Rattle.std.specs.List.{AllByRecursion};
 ghost use Rattle.std.specs.Option.{option_map};
@@ -33,10 +34,10 @@ pub(crate) struct Link {
     pub(crate) next: Option<u128>,
 }
 
-/// The first bad place of the list of deleted blocks that begins at `head`: one that is no deleted block,
-/// was met before, or does not name the one before it; else the lowest deleted block that is not on the
-/// list. `deleted` has the places of all deleted blocks of a data file of `end` bytes, in order. A place
-/// from 2^64 on is answered as 2^64 - 1.
+/// The first bad place of the list of deleted blocks that begins at `head`: one that is no deleted
+/// block, was met before, or does not name the one before it; else the lowest deleted block that is
+/// not on the list. `deleted` has the places of all deleted blocks of a data file of `end` bytes,
+/// in order. A place from 2^64 on is answered as 2^64 - 1.
 pub(crate) fn check_list<F: Files>(
     files: &mut F,
     rows: &str,
