@@ -1,5 +1,5 @@
 -- Whether a page has a byte of a page of a tree before.
-use Rattle.std.proofs.Common.{◌≡◌, ℕ, suc, ◌+◌, ◌-◌, ◌<◌, ◌≤◌, ◌||◌, ◌&&◌, Bool, true, false, leb, nat_cmp, List, [], ◌∷◌, ◌++◌, map, refl, sym, ap, ◌∙◌, arith, inl, inr}
+use Rattle.std.proofs.Common.{◌≡◌, ℕ, ◌+◌, ◌-◌, ◌<◌, ◌≤◌, ◌||◌, ◌&&◌, Bool, true, false, leb, nat_cmp, List, [], ◌∷◌, refl, sym, ap, ◌∙◌, arith, inl, inr}
 use Rattle.std.specs.List.{list_all, filter, AllByRecursion}
 use Rattle.std.specs.List.Sorted.{IsStrictlySortedBy}
 use Rattle.std.specs.Ordering.{is_le}
@@ -10,8 +10,7 @@ use Rattle.std.specs.declared.ops.Bound.{Bound}
 use Rattle.std.specs.declared.cmp.Ordering.{Ordering}
 use Rattle.std.specs.declared.cmp.Ordering.TheVariants.{Less, Equal, Greater}
 use Rattle.std.proofs.lemmas.Bool.{cases_lt, le-leb, lt-leb}
-use Rattle.myi_base.specs.Ranges.{Range, are_apart, is_apart}
-use Rattle.myi_btree.specs.Visit.{page_range}
+use Rattle.myi_base.specs.Ranges.{are_apart}
 
 is_le-leb : (x y : ℕ) → is_le (nat_cmp x y) ≡ leb x y
 is_le-leb x y = elim (cases_lt x y) [

@@ -1,5 +1,5 @@
 -- A check of the table of a name, by what is found of the files of its two names.
-use Rattle.std.proofs.Common.{◌≡◌, ℕ, List, Option, None, Err, refl, sym, ap, ◌∙◌}
+use Rattle.std.proofs.Common.{◌≡◌, ℕ, List, None, sym, ap, ◌∙◌}
 use Rattle.myi_base.specs.Holding.{Holding}
 use Rattle.myi_opening.specs.declared.fault.TableFile.TheVariants.{Index}
 use Rattle.myi_opening.specs.declared.fault.TableFault.{TableFault}

@@ -1,6 +1,6 @@
 -- What is found of all trees, one tree after the other.
-use Rattle.std.proofs.Common.{◌≡◌, ℕ, suc, ◌+◌, ◌-◌, ◌*◌, ◌^◌, ◌<◌, ◌≤◌, ◌||◌, ◌&&◌, Bool, true, false, not, cond, leb, Option, Some, None, List, [], ◌∷◌, ◌++◌, length, map, drop, append_assoc, append-nil, refl, sym, ap, subst, ◌∙◌, arith}
-use Rattle.std.specs.Prelude.{min, is_none, get_or, All}
+use Rattle.std.proofs.Common.{◌≡◌, ℕ, suc, ◌+◌, ◌-◌, ◌^◌, ◌<◌, ◌||◌, ◌&&◌, Bool, true, false, not, cond, leb, Option, Some, None, List, [], ◌∷◌, ◌++◌, length, map, drop, append_assoc, append-nil, refl, sym, ap, subst, ◌∙◌, arith}
+use Rattle.std.specs.Prelude.{is_none, get_or, All}
 use Rattle.std.specs.Option.{option_to_list}
 use Rattle.std.specs.List.{list_all, flat_map}
 use Rattle.std.proofs.lemmas.Bool.{lt-leb}
@@ -13,7 +13,6 @@ use Rattle.myi_header.specs.Layout.{first_page_of}
 use Rattle.myi_header.specs.StateOf.{state_of}
 use Rattle.myi_keylist.specs.declared.pair.Pair.{Pair}
 use Rattle.myi_keylist.specs.PairOrder.{sorted}
-use Rattle.myi_btree.specs.declared.place.Place.{Place}
 use Rattle.myi_btree.specs.Sizes.{IsPlaced}
 use Rattle.myi_btree.specs.Visit.{page_range}
 use Rattle.myi_btree.specs.Events.{Event, first_bad, pages_in}
@@ -25,7 +24,7 @@ use Rattle.myi_pair.specs.FirstRows.{numbers_from, key_numbers, is_unique}
 use Rattle.myi_pair.specs.KeyList.{PlacedRow, pairs_of, key_list}
 use Rattle.myi_pair.specs.Trees.{block_of_key, place_of, total}
 use Rattle.myi_pair.specs.FirstBad.{walk_bad}
-use Rattle.myi_pair.specs.Findings.{KeyWalk, key_walk, key_walks, all_walks, all_walk, walk_pages, met_in, page_bytes, key_findings, key_bad, told}
+use Rattle.myi_pair.specs.Findings.{KeyWalk, key_walk, key_walks, all_walks, all_walk, walk_pages, met_in, page_bytes, key_findings, told}
 use Rattle.myi_check.specs.declared.busy.TreePages.{TreePages}
 use Rattle.myi_check.specs.declared.busy.BusyPages.{BusyPages}
 use Rattle.myi_check.specs.declared.walks.TreeKey.{TreeKey}

@@ -1,16 +1,14 @@
 -- The first item of a header that is not so, by what the files show.
-use Rattle.std.proofs.Common.{◌≡◌, ℕ, ◌-◌, ◌||◌, Bool, true, false, cond, eqb, not, List, [], ◌∷◌, length, Option, Some, None, refl, sym, ap, ◌∙◌}
+use Rattle.std.proofs.Common.{◌≡◌, ℕ, ◌-◌, ◌||◌, Bool, true, false, cond, eqb, not, List, length, Option, Some, None, refl, ap}
 use Rattle.std.specs.Option.{option_map}
 use Rattle.myi_defs.specs.declared.types.Defs.{Defs}
 use Rattle.myi_header.specs.declared.state.State.{State}
 use Rattle.myi_header.specs.Layout.{first_page_of}
 use Rattle.myi_header.specs.StateOf.{state_of, has_mark}
-use Rattle.myi_pair.specs.declared.finding.HeaderItem.{HeaderItem}
-use Rattle.myi_pair.specs.declared.finding.HeaderItem.TheVariants.{Mark}
 use Rattle.myi_pair.specs.FirstBad.{first_failed}
-use Rattle.myi_pair.specs.Findings.{all_walks, all_walk, page_bytes, header_tests, header_bad}
+use Rattle.myi_pair.specs.Findings.{all_walks, all_walk, page_bytes, header_bad}
 use Rattle.myi_check.specs.declared.header.Shown.{Shown}
-use Rattle.myi_check.specs.HeaderShown.{agrees, shown_tests, room_left, pages_shown, AreShown}
+use Rattle.myi_check.specs.HeaderShown.{agrees, shown_tests, AreShown}
 
 agrees_walked : (n m : ℕ) (all : Bool) (k : Option ℕ) (f : ℕ → ℕ) → k ≡ option_map f (cond all (Some m) None) → agrees n k ≡ (not all || eqb n (f m))
 agrees_walked n m true k f is = ap (agrees n) is

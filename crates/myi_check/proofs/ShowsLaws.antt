@@ -10,14 +10,13 @@ use Rattle.myi_keylist.specs.declared.pair.Pair.{Pair}
 use Rattle.myi_btree.specs.Visit.{page_range}
 use Rattle.myi_btree.specs.Events.{Event, page, pair, bad, first_bad, pages_in}
 use Rattle.myi_btree.specs.Used.{up_to_used}
-use Rattle.myi_pair.specs.Trees.{total}
 use Rattle.myi_pair.specs.FirstBad.{walk_bad}
 use Rattle.myi_pair.specs.Findings.{told}
 use Rattle.myi_check.specs.declared.pairs_met.PairsMet.{PairsMet}
 use Rattle.myi_check.specs.declared.busy.BusyPages.{BusyPages}
 use Rattle.myi_check.specs.declared.walks.TreeKey.{TreeKey}
 use Rattle.myi_check.specs.declared.walks.TreeWalk.{TreeWalk}
-use Rattle.myi_check.specs.WalksBusy.{is_free, AreBusy}
+use Rattle.myi_check.specs.WalksBusy.{is_free}
 use Rattle.myi_check.specs.Walks.{last_key, bad_with, bytes_met, Shows, ShowsApart}
 use Rattle.myi_check.proofs.BusyLaws.{all_more}
 

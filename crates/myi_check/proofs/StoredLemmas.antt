@@ -1,5 +1,5 @@
 -- What the header says that definitions were read from, and the index file itself.
-use Rattle.std.proofs.Common.{◌≡◌, ℕ, zero, suc, ◌+◌, ◌-◌, ◌*◌, ◌≤◌, Bool, true, false, bytes_eq, nat_lt, cond, not, List, [], ◌∷◌, length, map, take, drop, replicate, Option, Ok, Err, refl, sym, ap, subst, ◌∙◌, arith}
+use Rattle.std.proofs.Common.{◌≡◌, ℕ, zero, suc, ◌+◌, ◌-◌, ◌≤◌, Bool, true, false, bytes_eq, nat_lt, cond, not, List, length, map, take, drop, replicate, Ok, Err, refl, ap, subst, ◌∙◌, arith}
 use Rattle.std.specs.Prelude.{Result, IfOk, IfErr}
 use Rattle.std.proofs.lemmas.Bool.{le-ltb}
 use Rattle.std.proofs.lemmas.List.{drop-take, take-take, length-take}
@@ -9,7 +9,6 @@ use Rattle.myi_defs.specs.declared.types.Defs.{Defs}
 use Rattle.myi_defs.specs.Sound.{IsSound}
 use Rattle.myi_defs.specs.Layout.{mark}
 use Rattle.myi_header.specs.declared.state.State.{State}
-use Rattle.myi_header.specs.declared.state.StateFault.{StateFault}
 use Rattle.myi_header.specs.declared.state.StateFault.TheVariants.{Short, Foreign}
 use Rattle.myi_header.specs.Layout.{layout_of}
 use Rattle.myi_header.specs.StateOf.{state_of, has_mark, read_state}
@@ -85,3 +84,7 @@ err_is {T} {E} (Err f) {e} P is holds = subst P (same f e is) holds
   where
     same : (f e : E) → ◌≡◌ {A = Result T E} (Err f) (Err e) → e ≡ f
     same f e is = cc
+
+pub if_err : {T E : Type 0} (r : Result T E) {e : E} (P : T → Type 0) → r ≡ Err e → IfOk r P
+if_err (Ok x) P is = absurd cc
+if_err (Err f) P is = tt

@@ -1,9 +1,10 @@
 -- Deleted blocks that are left to be met, by a flag for each place in order.
-use Rattle.std.proofs.Common.{◌≡◌, ◌≢◌, ℕ, zero, suc, ◌+◌, ◌<◌, ◌≤◌, ◌-◌, ◌^◌, ◌⊎◌, inl, inr, subst, Bool, true, false, eqb, min, List, [], ◌∷◌, length, replicate, get_or, Option, Some, None, refl, sym, ap, ◌∙◌, arith}
+use Rattle.std.proofs.Common.{◌≡◌, ◌≢◌, ℕ, zero, suc, ◌+◌, ◌<◌, ◌≤◌, ◌-◌, ◌^◌, ◌⊎◌, inl, inr, subst, Bool, true, false, not, min, List, [], ◌∷◌, ◌++◌, length, take, drop, replicate, get_or, Option, Some, None, refl, sym, ap, ◌∙◌, arith}
 use Rattle.std.specs.Prelude.{slice_set}
 use Rattle.std.specs.Option.{option_map}
 use Rattle.std.specs.List.{AllByRecursion}
 use Rattle.std.proofs.lemmas.Bool.{eq-eqb, ne_eqb, cases_lt}
+use Rattle.std.proofs.lemmas.List.{drop_all, append-nil, take_all}
 use Rattle.myi_pair.specs.FirstBad.{without, least_of, least}
 use Rattle.myi_pair.specs.Findings.{told}
 use Rattle.myi_check.specs.Rows.{IsAscending}
@@ -110,3 +111,17 @@ met_more flags i before here k lt = by (cases_lt k i)
     by : (k < i) ⊎ (i ≤ k) → get_or flags k false ≡ true
     by (inl far) = before k far
     by (inr near) = let same : i ≡ k = omega (arith, lt, near) in subst (λ (j : ℕ). get_or flags j false ≡ true) same here
+
+-- flags that stand in the place of as many
+pub whole_flags : (new items : List Bool) (len : ℕ) → len ≡ length items → length new ≡ length items → take len (new ++ drop (length new) items) ≡ new
+whole_flags new items len e f =
+    let none : drop (length new) items ≡ [] = drop_all (length new) items (omega (arith, f)) in
+    ap (λ (t : List Bool). take len (new ++ t)) none ∙ ap (take len) (append-nil new) ∙ take_all len new (omega (arith, e, f))
+
+pub named_is : (a b : Bool) → a ≡ b → not a ≡ false → b ≡ true
+named_is true b same names = sym same
+named_is false b same names = absurd cc
+
+pub not_named : (a b : Bool) → a ≡ b → not a ≡ true → b ≡ false
+not_named true b same names = absurd cc
+not_named false b same names = sym same

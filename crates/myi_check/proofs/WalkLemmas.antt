@@ -1,6 +1,8 @@
 -- The steps of a walk along the list of deleted blocks.
-use Rattle.std.proofs.Common.{◌≡◌, ℕ, zero, suc, Bool, true, false, List, Option, Some, None, refl, sym, ap, ◌∙◌}
+use Rattle.std.proofs.Common.{◌≡◌, ℕ, zero, suc, Bool, true, false, List, length, replicate, Option, Some, None, refl, sym, ap, ◌∙◌}
 use Rattle.myi_pair.specs.FirstBad.{without, least, list_bad}
+use Rattle.myi_check.specs.ListMet.{unmet}
+use Rattle.myi_check.proofs.UnmetLemmas.{unmet_fresh}
 
 module _ (next : ℕ → Option ℕ) (names : ℕ → Option ℕ → Bool) where
   pub list_ended : (n : ℕ) (left : List ℕ) (before : Option ℕ) → list_bad next names n left before None ≡ least left
@@ -42,3 +44,10 @@ module _ (next : ℕ → Option ℕ) (names : ℕ → Option ℕ → Bool) where
   pub went_on : (n : ℕ) (left others : List ℕ) (before at whole q : Option ℕ) (p : ℕ) → at ≡ Some p → without p left ≡ Some others → names p before ≡ true → q ≡ next p → list_bad next names (suc n) left before at ≡ whole → list_bad next names n others (Some p) q ≡ whole
   went_on n left others before at whole q p is out named follows ahead =
       ap (list_bad next names n others (Some p)) follows ∙ sym (list_on (suc n) n left others before p refl out named) ∙ ap (list_bad next names (suc n) left before) (sym is) ∙ ahead
+
+  pub begun : (n : ℕ) (places : List ℕ) (flags : List Bool) (at head : Option ℕ) → n ≡ length places → flags ≡ replicate (length places) false → at ≡ head → list_bad next names n (unmet places flags) None at ≡ list_bad next names (length places) places None head
+  begun n places flags at head many none is =
+      ap (λ k. list_bad next names k (unmet places flags) None at) many
+      ∙ ap (λ (fs : List Bool). list_bad next names (length places) (unmet places fs) None at) none
+      ∙ ap (λ (ps : List ℕ). list_bad next names (length places) ps None at) (unmet_fresh places)
+      ∙ ap (list_bad next names (length places) places None) is

@@ -2,7 +2,6 @@
 
 -- what a check of a table answers
 pub mod Checking
-
 -- what serves private contracts
 
 -- what a scan of the data file finds
@@ -13,11 +12,11 @@ pub mod HeldBytes
 pub mod Met
 -- what a walk along the list of deleted blocks has met, and what each block says of the list
 pub mod ListMet
--- what the files show of the numbers of a header
-pub mod HeaderShown
--- what the walks of all trees show
-pub mod Keys
 -- the bytes that no page of the next tree may have
 pub mod WalksBusy
 -- the walk of a tree, as far as it went
 pub mod Walks
+-- what the walks of all trees show
+pub mod Keys
+-- what the files show of the numbers of a header
+pub mod HeaderShown

@@ -1,5 +1,5 @@
 -- The walk of a key's tree, as far as it went: what it met of the sorted pairs of the key, and its pages.
-use Rattle.std.specs.Prelude.{◌≡◌, ◌+◌, ◌&&◌, ℕ, Bool, true, false, not, is_none, List, [], ◌∷◌, length, map, drop, Option, Some, None}
+use Rattle.std.specs.Prelude.{◌≡◌, ◌+◌, ◌&&◌, ℕ, Bool, true, false, not, is_none, List, [], ◌∷◌, length, map, drop, Option, None}
 use Rattle.std.specs.Option.{option_map, option_or}
 use Rattle.std.specs.List.{list_all}
 use Rattle.std.specs.Ordering.{is_eq}

@@ -1,5 +1,5 @@
-//! The bytes of an index file that no page of the next tree may have: the header, and the pages of trees
-//! before.
+//! The bytes of an index file that no page of the next tree may have: the header, and the pages of
+//! trees before.
 ghost use Rattle.std.specs.Prelude.{◌≡◌, ◌<◌, [], All};
 ghost use Rattle.myi_check.specs.WalksBusy.{misses, is_free, HasBytes};
 

@@ -1,8 +1,8 @@
 //! The check of a table.
 //!
-//! `check` opens the table, and then reads the data file once (`rows`), follows the list of deleted blocks
-//! (`list`) and walks the tree of each key (`keys`). What the header says is compared with what these
-//! found (`header`). The sections' findings are put together at the end.
+//! `check` opens the table, and then reads the data file once (`rows`), follows the list of deleted
+//! blocks (`list`) and walks the tree of each key (`keys`). What the header says is compared with
+//! what these found (`header`). The sections' findings are put together at the end.
 ghost use Rattle.std.specs.Prelude.{◌≡◌, ◌⊎◌, ◌++◌, ℕ, true, false, List, [], length, map, Some, IfOk, IfErr};
 ghost use Rattle.std.specs.Option.{option_to_list};
 ghost use Rattle.myi_base.specs.Holding.{IfTold, Measures};
@@ -28,13 +28,9 @@ use myi_opening::{OpenedTable, TableFault, TableFile, open_table};
 use myi_pair::{Finding, HeaderItem};
 use std::alloc::{AllocError, Global};
 
-/// Says what is wrong with the files of a table, and changes none: nothing exactly where they are a clean
-/// pair. The data file is read in order, and each page of a tree once.
-pub fn check<F: Files>(
-    alloc: Global,
-    files: &mut F,
-    name: &str,
-) -> Result<Vec<Finding>, TableFault>
+/// Says what is wrong with the files of a table, and changes none: nothing exactly where they are a
+/// clean pair. The data file is read in order, and each page of a tree once.
+pub fn check<F: Files>(alloc: Global, files: &mut F, name: &str) -> Result<Vec<Finding>, TableFault>
     ensures findings { IfOk result (λ found.
         IfTold (F.holds files.old) (Finds name.now found.items)) }
     ensures refused { IfErr result (λ f.
@@ -146,7 +142,14 @@ fn keys_found<F: Files>(
             page_bytes: None,
         });
     }
-    check_keys(alloc, files, index, defs, header.state.roots.as_slice(), lists)
+    check_keys(
+        alloc,
+        files,
+        index,
+        defs,
+        header.state.roots.as_slice(),
+        lists,
+    )
 }
 
 // The findings of all sections, one after the other.

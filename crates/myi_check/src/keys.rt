@@ -1,5 +1,7 @@
 //! `check_keys`: the trees of all keys, walked one after the other.
-ghost use Rattle.std.specs.Prelude.{◌≡◌, ◌<◌, ◌+◌, ◌^◌, ◌&&◌, ◌++◌, ◌∷◌, ℕ, List, [], true, not, length, map, All, Some, None, IfOk, IfErr, OnOk, if◌then◌else◌};
+ghost use Rattle.std.specs.Prelude.{◌≡◌, ◌<◌, ◌+◌, ◌^◌, ◌&&◌, ◌++◌, if◌then◌else◌};
+ghost use Rattle.std.specs.Prelude.{ℕ, List, [], true, not, length, map, All, Some, None};
+ghost use Rattle.std.specs.Prelude.{IfOk, IfErr, OnOk};
 ghost use Rattle.std.specs.Option.{option_to_list};
 ghost use Rattle.myi_base.specs.Holding.{IfTold};
 ghost use Rattle.myi_base.specs.Causes.{HasCause};
@@ -30,21 +32,13 @@ use myi_pair::Finding;
 use std::alloc::{AllocError, Global};
 
 /// What the walks of all trees show.
+#[derive(Drop)]
 pub(crate) struct KeysFound {
     /// The first bad thing of each key that has one, in the order of the keys.
     pub(crate) findings: Vec<Finding>,
-    /// How many bytes the pages of all trees have, and 2^64 - 1 where that is more; None where a tree has
-    /// no walk.
+    /// How many bytes the pages of all trees have, at most 2^64 - 1. None where a tree has no
+    /// walk.
     pub(crate) page_bytes: Option<u64>,
-}
-
-impl Drop for KeysFound {
-    fn drop(self) {
-        let KeysFound {
-            findings: _,
-            page_bytes: _,
-        } = self;
-    }
 }
 
 /// What the walks of the trees so far show.
@@ -127,8 +121,8 @@ impl KeysSoFar {
     // Adds the pages of a tree, where its walk met no bad place.
     fn add_pages(&mut self, block_length: u16, walk: TreeWalk) -> Result<(), AllocError>
         ensures walks { OnOk result (self.new.walks ≡ (self.old.walks && not walk.is_cut)) }
-        ensures bytes { OnOk result (self.new.page_bytes
-            ≡ (if walk.is_cut then self.old.page_bytes else told (self.old.page_bytes + walk.bytes))) }
+        ensures bytes { OnOk result (self.new.page_bytes ≡ (if walk.is_cut then
+            self.old.page_bytes else told (self.old.page_bytes + walk.bytes))) }
         ensures first { self.new.busy.first_page ≡ self.old.busy.first_page }
         ensures trees { OnOk result (self.new.busy.trees.items
             ≡ self.old.busy.trees.items ++ tree_if walk block_length) }
@@ -176,7 +170,8 @@ fn check_key<F: Files>(
     ensures number { OnOk result (found.new.number ≡ found.old.number + 1) }
     ensures sized { OnOk result (All HasBytes found.new.busy.trees.items) }
     ensures shows { OnOk result (IfTold (F.holds files.old) (λ m. (x : List ℕ)
-        → m index.now ≡ Some x → Adds key (sorted pairs) (events_in key.place x) found.old found.new)) }
+        → m index.now ≡ Some x
+        → Adds key (sorted pairs) (events_in key.place x) found.old found.new)) }
     ensures cut { IfErr result IsCutOff }
     ensures holds { F.holds files.new ≡ F.holds files.old }
     ensures cause { HasCause TableFault.File (F.faults files.old) (F.faults files.new) result }
@@ -189,8 +184,8 @@ fn check_key<F: Files>(
     Ok(())
 }
 
-/// Walks the tree of each key, from its root, beside the pairs of the table's rows in that key. Says what is
-/// wrong with the trees, and how many bytes their pages have. Each tree is walked once.
+/// Walks the tree of each key, from its root, beside the pairs of the table's rows in that key.
+/// Each tree is walked once.
 pub(crate) fn check_keys<F: Files>(
     alloc: Global,
     files: &mut F,

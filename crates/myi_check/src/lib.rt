@@ -1,13 +1,13 @@
 //! Checking a table: what is wrong with its two files, of each section the first failing thing.
 //!
 //! What is found is `findings` of `Rattle.myi_pair.specs.Findings`, over the bytes of the two files
-//! (`specs/Checking`): an item of the header, a place of the deleted list, a page of each key's tree, and a
-//! byte of the data file that belongs to nothing. Nothing is found exactly where the files are a clean pair.
-//! No file is changed.
+//! (`specs/Checking`): an item of the header, a place of the deleted list, a page of each key's
+//! tree, and a byte of the data file that belongs to nothing. Nothing is found exactly where the
+//! files are a clean pair. No file is changed.
 //!
-//! `check` opens the table, reads the data file once in order, follows the list of deleted blocks by short
-//! reads, and walks the tree of each key once, beside the key's sorted list. In memory are the keys of the
-//! table's rows and the places of its deleted blocks, and no file as a whole.
+//! `check` opens the table, reads the data file once in order, follows the list of deleted blocks
+//! by short reads, and walks the tree of each key once, beside the key's sorted list. In memory are
+//! the keys of the table's rows and the places of its deleted blocks, and no file as a whole.
 //!
 //! ```
 //! for finding in &check(alloc, files, "t")? {

@@ -1,8 +1,9 @@
 //! The list of deleted blocks, which is followed once by short reads.
 //!
-//! `check_list` holds the places of all deleted blocks in their order, which the scan found, and beside
-//! them a flag for each that the list has named. A `Link` is what the block at a place says of the list.
-ghost use Rattle.std.specs.Prelude.{◌≡◌, ◌≢◌, ◌≤◌, ◌<◌, ◌+◌, ◌-◌, ◌^◌, ◌==◌, ℕ, List, length, take, drop, None, IfOk, IfErr, IfSome, HoldsAt};
+//! `check_list` holds the places of all deleted blocks in their order, which the scan found, and
+//! beside them a flag for each that the list has named. A `Link` is what the block at a place says
+//! of the list.
+ghost use Rattle.std.specs.Prelude.{◌≡◌, ◌≢◌, ◌≤◌, ◌<◌, ◌+◌, ◌-◌, ◌^◌, ◌==◌, ℕ, false, List, length, take, drop, replicate, None, IfOk, IfErr, IfSome, HoldsAt};
 ghost use Rattle.std.specs.List.{AllByRecursion};
 ghost use Rattle.std.specs.Option.{option_map};
 ghost use Rattle.myi_base.specs.Holding.{IfTold, bytes_of};
@@ -22,6 +23,7 @@ use myi_defs::{Defs, RowFormat};
 use myi_frames::{LEAST_SIZE, head_at};
 use myi_io::{FileErr, Files};
 use myi_opening::TableFault;
+use std::alloc::{AllocError, Global};
 
 /// What a deleted block says of the list.
 #[derive(Clone, Copy)]
@@ -32,10 +34,10 @@ pub(crate) struct Link {
     pub(crate) next: Option<u128>,
 }
 
-/// The first bad place of the list of deleted blocks that begins at `head`: one that is no deleted block,
-/// was met before, or does not name the one before it; else the lowest deleted block that is not on the
-/// list. `deleted` has the places of all deleted blocks of a data file of `end` bytes, in order. A place
-/// from 2^64 on is answered as 2^64 - 1.
+/// The first bad place of the list of deleted blocks that begins at `head`: one that is no deleted
+/// block, was met before, or does not name the one before it; else the lowest deleted block that is
+/// not on the list. `deleted` has the places of all deleted blocks of a data file of `end` bytes,
+/// in order. A place from 2^64 on is answered as 2^64 - 1.
 pub(crate) fn check_list<F: Files>(
     files: &mut F,
     rows: &str,
@@ -53,7 +55,7 @@ pub(crate) fn check_list<F: Files>(
     ensures holds { F.holds files.new ≡ F.holds files.old }
     ensures cause { HasCause TableFault.File (F.faults files.old) (F.faults files.new) result }
 {
-    let mut met = vec![in defs.raw.allocator(); false; deleted.len()]?;
+    let mut met = flags(defs.raw.allocator(), deleted.len())?;
     let mut before = None;
     let mut at = widened(head);
     for _step in 0..deleted.len() {
@@ -74,6 +76,15 @@ pub(crate) fn check_list<F: Files>(
         None => Ok(least_left(deleted, &met)),
         Some(place) => Ok(Some(told(place))),
     }
+}
+
+// So many flags, none of them set.
+fn flags(alloc: Global, count: usize) -> Result<Vec<bool>, AllocError>
+    ensures { IfOk result (λ flags. flags.items ≡ replicate count false) }
+{
+    let mut flags = Vec::new(alloc);
+    flags.resize(count, false)?;
+    Ok(flags)
 }
 
 // A place as findings tell it.

@@ -1,5 +1,6 @@
 //! The pairs that a walk of a tree meets, beside the sorted pairs of its key.
-ghost use Rattle.std.specs.Prelude.{◌≡◌, ◌<◌, ◌&&◌, ◌∷◌, Bool, List, [], Some, None, is_none, false, length, drop, slice_index_or};
+ghost use Rattle.std.specs.Prelude.{◌≡◌, ◌<◌, ◌&&◌, ◌∷◌, Bool, List, [], Some, None};
+ghost use Rattle.std.specs.Prelude.{is_none, false, length, drop, slice_index_or};
 ghost use Rattle.std.specs.Ordering.{is_eq};
 ghost use Rattle.std.specs.Option.{option_or};
 ghost use Rattle.myi_keylist.specs.declared.pair.Pair.{Pair};
@@ -35,7 +36,8 @@ impl Drop for PairsMet {
 // Whether the pair is the one at that place of the list.
 fn is_pair(pairs: &PairList, i: usize, met: &Pair) -> bool
     requires { i < length pairs.now }
-    ensures { (other : Pair) → result ≡ is_eq (pair_cmp met.now (slice_index_or pairs.now i other)) }
+    ensures { (other : Pair)
+        → result ≡ is_eq (pair_cmp met.now (slice_index_or pairs.now i other)) }
 {
     let order = compare_codes(met.key.code(), pairs.code(i));
     order.then(met.row.cmp(&pairs.row(i))).is_eq()
@@ -73,7 +75,8 @@ impl PairsMet {
     // Whether the pair is the one that comes next.
     fn is_next(&self, unique: bool, pairs: &PairList, met: &Pair) -> bool
         requires { self.now.count < length pairs.now }
-        ensures { result ≡ is_next unique (last_key self.now) (drop self.now.count pairs.now) met.now }
+        ensures { result ≡ is_next unique (last_key self.now)
+            (drop self.now.count pairs.now) met.now }
     {
         is_pair(pairs, self.count, met) && !self.repeats_last(unique, &met.key)
     }

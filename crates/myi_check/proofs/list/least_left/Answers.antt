@@ -1,4 +1,4 @@
-use Rattle.std.proofs.Common.{◌≡◌, ◌∙◌, Option, Some, ℕ, sym, ap, arith}
+use Rattle.std.proofs.Common.{◌∙◌, Some, ℕ, sym, ap, arith}
 use Rattle.std.specs.Option.{option_map}
 use Rattle.myi_pair.specs.Findings.{told}
 use Rattle.myi_check.proofs.UnmetLemmas.{least_at, least_none, told_below, met_more}

@@ -1,5 +1,4 @@
-use Rattle.std.proofs.Common.{◌≡◌, ◌∙◌, ℕ, Option, List, [], ◌∷◌, refl, sym, ap, subst, arith}
-use Rattle.myi_base.specs.Holding.{Holding}
+use Rattle.std.proofs.Common.{◌∙◌, ℕ, List, refl, sym, ap, subst, arith}
 use Rattle.myi_btree.specs.declared.place.Place.{Place}
 use Rattle.myi_btree.specs.Events.{Event}
 use Rattle.myi_btree.specs.Serving.{View, nodes_at, IsServed}

@@ -1,4 +1,4 @@
-use Rattle.std.proofs.Common.{◌∙◌, not, Some, List, [], ap, sym, subst, arith}
+use Rattle.std.proofs.Common.{◌∙◌, not, List, [], ap, sym, subst, arith}
 use Rattle.myi_keycache.specs.Caching.{pages_of}
 use Rattle.myi_btree.specs.Events.{Event}
 use Rattle.myi_check.specs.Walks.{ShowsApart, events_in}

@@ -1,5 +1,5 @@
 use Rattle.myi_check.proofs.PairsLaws.{not_some, over_left}
-use Rattle.std.proofs.Common.{◌∙◌, sym, ap, arith}
+use Rattle.std.proofs.Common.{◌∙◌, sym, arith}
 use Rattle.myi_check.proofs.pairs_met.PairsMet.first_bad.Goals as goal
 
 pub returns-then-self-len : goal.returns-then-self-len

@@ -1,5 +1,4 @@
 use Rattle.std.proofs.Common.{◌∙◌, Some, sym, refl, arith, ◌+◌}
-use Rattle.myi_check.specs.declared.pairs_met.PairsMet.{PairsMet}
 use Rattle.myi_check.proofs.PairsLaws.{not_some, noted_next}
 use Rattle.myi_check.proofs.pairs_met.PairsMet.note.Goals as goal
 
