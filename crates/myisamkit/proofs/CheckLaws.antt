@@ -1,6 +1,6 @@
 -- What the turn of a table that is checked comes to.
 use Rattle.std.proofs.Common.{◌≡◌, ◌≢◌, ◌≤◌, ◌+◌, ℕ, Bool, true, false, List, [], ◌∷◌, ◌++◌, length, take, length-append, Option, Some, Result, Ok, Err, refl, sym, subst, ap, ◌∙◌, arith, inl, inr, append_assoc}
-use Rattle.std.specs.Prelude.{◌&&◌}
+use Rattle.std.specs.Prelude.{◌&&◌, OnOk, OnErr}
 use Rattle.std.proofs.lemmas.List.{take-append-le}
 use Rattle.std.proofs.Math.Seq.{take-append-add}
 use Rattle.myi_base.specs.Holding.{Holding, IfTold, Told}
@@ -13,7 +13,10 @@ use Rattle.myi_repair.specs.Names.{names_for}
 use Rattle.myisamkit.specs.declared.options.Options.{Options}
 use Rattle.myisamkit.specs.declared.status.Status.{Status}
 use Rattle.myisamkit.specs.declared.status.Status.TheVariants as status
-use Rattle.myisamkit.specs.Turns.{Turn, checked_status, has_findings, checked_turn, check_turn_by, check_turn, goes_on, without_extend, recover_turn, RepairDone, RepairCutOff, CheckDone, CheckCutOff, CheckRecovers}
+use Rattle.myisamkit.specs.declared.status.Stop.{Stop}
+use Rattle.myisamkit.specs.declared.status.Stop.TheVariants as stop
+use Rattle.myisamkit.proofs.TurnLaws.{repair_earlier}
+use Rattle.myisamkit.specs.Turns.{Turn, checked_text, checked_status, RepairStops, CheckStops, has_findings, checked_turn, check_turn_by, check_turn, goes_on, without_extend, recover_turn, RepairDone, RepairCutOff, CheckDone, CheckCutOff, CheckRecovers}
 
 -- the status says whether something was found
 pub found_by : (r : Result (List Finding) TableFault) → checked_status r ≡ status.Findings → has_findings r ≡ true
@@ -64,3 +67,50 @@ part_of_turn o now name m v b part = by (goes_on o name m)
     by : (g : Bool) → AppendsPart (check_turn_by g o now name m).text v b
     by false = part
     by true = part_first (checked_turn o name m).text (recover_turn (without_extend o) now name m).text v b part
+
+-- all lines of a check that a repair follows
+pub said_both : (o p : Options) (now : ℕ) (name line : List ℕ) (s : Status) (m : Holding) (w0 w1 w2 : Option (List ℕ)) → o.force ≡ true → s ≡ status.Findings → p ≡ without_extend o
+    → s ≡ checked_status (findings_in name m) → line ≡ checked_text o name (findings_in name m)
+    → IfTold w0 (Appends line w1) → IfTold w1 (Appends (recover_turn p now name m).text w2) → IfTold w0 (Appends (check_turn o now name m).text w2)
+said_both o p now name line s m w0 w1 w2 forced found plain is text first second b was =
+    subst (λ g. Appends (check_turn_by g o now name m).text w2 b) (sym (follows o name m forced (sym is ∙ found)))
+    (both_texts (checked_text o name (findings_in name m)) (recover_turn (without_extend o) now name m).text w1 w2 b
+    (subst (λ l. Appends l w1 b) text (first b was))
+    (λ c e. subst (λ q. Appends (recover_turn q now name m).text w2 c) plain (second c e)))
+
+-- a part of them
+pub part_both : (o p : Options) (now : ℕ) (name line : List ℕ) (s : Status) (m : Holding) (w0 w1 w2 : Option (List ℕ)) → o.force ≡ true → s ≡ status.Findings → p ≡ without_extend o
+    → s ≡ checked_status (findings_in name m) → line ≡ checked_text o name (findings_in name m)
+    → IfTold w0 (Appends line w1) → IfTold w1 (AppendsPart (recover_turn p now name m).text w2) → IfTold w0 (AppendsPart (check_turn o now name m).text w2)
+part_both o p now name line s m w0 w1 w2 forced found plain is text first second b was =
+    subst (λ g. AppendsPart (check_turn_by g o now name m).text w2 b) (sym (follows o name m forced (sym is ∙ found)))
+    (part_second (checked_text o name (findings_in name m)) (recover_turn (without_extend o) now name m).text w1 w2 b
+    (subst (λ l. Appends l w1 b) text (first b was))
+    (λ c e. subst (λ q. AppendsPart (recover_turn q now name m).text w2 c) plain (second c e)))
+
+-- the repair that follows stopped
+pub stops_behind : (o p : Options) (now before at after : ℕ) (name : List ℕ) (s : Status) (m n : Holding) (stopped : Stop) → o.force ≡ true → s ≡ status.Findings → p ≡ without_extend o
+    → s ≡ checked_status (findings_in name m) → before ≤ at → RepairStops p now at after name stopped m n → CheckStops o now before after name stopped m n
+stops_behind o p now before at after name s m n stopped forced found plain is later stops = by stopped (subst (λ q. RepairStops q now at after name stopped m n) plain stops)
+  where
+    goes : goes_on o name m ≡ true
+    goes = follows o name m forced (sym is ∙ found)
+
+    done : RepairDone (without_extend o) now name m n → CheckDone o now name m n
+    done repaired = record {
+      files = subst (λ g. n ≡ (check_turn_by g o now name m).files) (sym goes) repaired.files;
+      recovers = subst (λ g. CheckRecovers g o now name m) (sym goes) repaired.recovers;
+    }
+
+    by : (k : Stop) → RepairStops (without_extend o) now at after name k m n → CheckStops o now before after name k m n
+    by stop.File cut = subst (λ g. CheckCutOff g o now 1 before after name m n) (sym goes) (repair_earlier (without_extend o) now 1 before at after name m n later cut)
+    by stop.Memory cut = subst (λ g. CheckCutOff g o now 0 before after name m n) (sym goes) (repair_earlier (without_extend o) now 0 before at after name m n later cut)
+    by stop.Sink repaired = inr (done repaired)
+
+pub on_ok_more : {A E : Type 0} (r : Result A E) (P Q : Type 0) → (P → Q) → OnOk r P → OnOk r Q
+on_ok_more (Ok x) P Q f p = f p
+on_ok_more (Err e) P Q f p = tt
+
+pub on_err_more : {A E : Type 0} (r : Result A E) (P Q : Type 0) → (P → Q) → OnErr r P → OnErr r Q
+on_err_more (Ok x) P Q f p = tt
+on_err_more (Err e) P Q f p = f p

@@ -1,6 +1,7 @@
 pub mod OptionLaws
 pub mod WordLaws
 pub mod SinkLaws
+pub mod OpenLaws
 pub mod TurnLaws
 pub mod CheckLaws
 pub mod TableLaws

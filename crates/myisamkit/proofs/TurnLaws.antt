@@ -45,19 +45,19 @@ pub is_replaced : (t : FourNames) (d x : List ℕ) (m n : Holding) → Holds t d
 is_replaced t d x m n holds keeps = fun_ext (replaced_at t d x m n holds keeps)
 
 -- a count that rose in a turn rose since any time before
+pub repair_earlier : (o : Options) (now told before at after : ℕ) (name : List ℕ) (m n : Holding) → before ≤ at → RepairCutOff o now told at after name m n → RepairCutOff o now told before after name m n
+repair_earlier o now told before at after name m n later cut = record { whole = cut.whole; others = cut.others; cleared = λ more rose. cut.cleared more (omega (arith, rose.0, later), rose.1) }
+
 pub cut_earlier : (o : Options) (now told before at after : ℕ) (name : List ℕ) (m n : Holding) → before ≤ at → CutsTurnOff o now told at after name m n → CutsTurnOff o now told before after name m n
 unfolding CutsTurnOff
 cut_earlier o now told before at after name m n later cut = by_mode o.mode cut
   where
-    by_repair : (p : Options) → RepairCutOff p now told at after name m n → RepairCutOff p now told before after name m n
-    by_repair p cut = record { whole = cut.whole; others = cut.others; cleared = λ more rose. cut.cleared more (omega (arith, rose.0, later), rose.1) }
-
     by_check : (b : Bool) → CheckCutOff b o now told at after name m n → CheckCutOff b o now told before after name m n
     by_check false same = same
-    by_check true cut = by_repair (without_extend o) cut
+    by_check true cut = repair_earlier (without_extend o) now told before at after name m n later cut
 
     by_mode : (mode : Mode) → CutsTurnOffBy mode o now told at after name m n → CutsTurnOffBy mode o now told before after name m n
-    by_mode Recover cut = by_repair o cut
+    by_mode Recover cut = repair_earlier o now told before at after name m n later cut
     by_mode Check cut = by_check (goes_on o name m) cut
     by_mode Describe cut = cut
 

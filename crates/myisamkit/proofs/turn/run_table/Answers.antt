@@ -14,3 +14,8 @@ pub returns-in-Describe-clause-part : goal.returns-in-Describe-clause-part
 unfolding turn
 returns-in-Describe-clause-part g c =
     subst (λ mode. OnErr c.describe_table.result (IfTold (g.F.Files.holds c.args.files.now) (λ m. IfTold (g.O.Sink.written c.args.out.now) (AppendsPart (turn_by mode c.args.options.now c.args.now c.args.name.now m).text (g.O.Sink.written c.describe_table.new.out))))) (sym c.in-Describe.is) c.describe_table.ensures.part
+
+pub returns-in-Check-clause-part : goal.returns-in-Check-clause-part
+unfolding turn
+returns-in-Check-clause-part g c =
+    subst (λ mode. OnErr c.check_table.result (IfTold (g.F.Files.holds c.args.files.now) (λ m. IfTold (g.O.Sink.written c.args.out.now) (AppendsPart (turn_by mode c.args.options.now c.args.now c.args.name.now m).text (g.O.Sink.written c.check_table.new.out))))) (sym c.in-Check.is) c.check_table.ensures.part
