@@ -16,8 +16,6 @@ pub mod Gathering
 pub mod TwoReaders
 -- the counts of real files and of standard output
 pub mod RealFiles
--- how a layer above tells of faults
-pub mod Faults
 -- what serves private contracts and the laws
 
 -- what is told is bytes
