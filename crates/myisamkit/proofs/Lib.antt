@@ -1,5 +1,6 @@
 pub mod OptionLaws
 pub mod WordLaws
+pub mod DumpLaws
 pub mod SinkLaws
 pub mod OpenLaws
 pub mod TurnLaws

@@ -14,7 +14,7 @@ use Rattle.myisamkit.specs.declared.options.Mode.TheVariants.{Check, Recover, De
 use Rattle.myisamkit.specs.declared.options.Options.{Options}
 use Rattle.myisamkit.specs.declared.status.Status.{Status}
 use Rattle.myisamkit.specs.declared.status.Status.TheVariants as status
-use Rattle.myisamkit.specs.Words.{Request, usage, chk}
+use Rattle.myisamkit.specs.Words.{Request, usage, chk, dump}
 use Rattle.myisamkit.specs.Turns.{replaced, repair_turn, without_extend, goes_on, check_turn_by, turn, turn_by, CheckCutOff, CutsTurnOff, CutsTurnOffBy, TurnDone, FailsInTurn, FailsInTurnBy}
 use Rattle.myisamkit.specs.Runs.{TablesDone, CutsTablesOff, FailsInTables, TablesLeave, Leaves, IsApart, IsNoFileOf, KeepsOthers}
 
@@ -101,6 +101,7 @@ tables_keep o now before after names status.Absent m n q apart leaves = done_kee
 run_keeps : (request : Request) (now before after : ℕ) (s : Status) (m n : Holding) → Leaves request now before after s m n → KeepsOthers request m n
 run_keeps usage now before after s m n leaves q apart = ap (λ (h : Holding). h q) leaves
 run_keeps (chk o names) now before after s m n leaves q apart = tables_keep o now before after names s m n q apart leaves
+run_keeps (dump name) now before after s m n leaves q apart = ap (λ (h : Holding). h q) leaves
 
 -- whatever a run leaves, it leaves other files
 pub others_told : (request : Request) (now before after : ℕ) (s : Status) (old new : Option Holding) → Told old new (Leaves request now before after s) → Told old new (KeepsOthers request)

@@ -1,5 +1,5 @@
 -- What words that are accepted ask for, and why words are refused.
-use Rattle.std.specs.Prelude.{◌≡◌, ◌≢◌, false, true, List, ◌∷◌, ℕ, map, codes, is_some}
+use Rattle.std.specs.Prelude.{◌≡◌, ◌≢◌, false, true, List, [], ◌∷◌, length, ℕ, map, codes, is_some}
 use Rattle.std.specs.List.{list_all, list_any}
 use Rattle.myisamkit.specs.declared.options.Options.{Options}
 use Rattle.myisamkit.specs.declared.options.Mode.TheVariants.{Check}
@@ -22,12 +22,25 @@ pub record AreChk (words : List (List ℕ)) (o : Options) (tables : List (List �
   pub force : o.force ≡ list_any is_force (flags_in others)
   pub silent : o.silent ≡ list_any is_silent (flags_in others)
 
+-- these words are `dump` with this table
+pub record AreDump (words : List (List ℕ)) (table : List ℕ) : Type 0 where
+  pub others : List (List ℕ)
+  pub command : words ≡ codes "dump" ∷ others
+  pub no_option : flags_in others ≡ []
+  pub name : List ℕ
+  pub named : names_in others ≡ name ∷ []
+  pub in_form : is_name name ≡ true
+  pub table_is : table ≡ table_name name
+
 -- why words are refused: the command is none, or of the words behind it one of these holds
 pub data AreRefused (words : List (List ℕ)) : Type 0 where
-  no_command : ((others : List (List ℕ)) → words ≢ codes "chk" ∷ others) → AreRefused words
-  no_name : (command : List ℕ) (others : List (List ℕ)) → words ≡ command ∷ others → is_empty (names_in others) ≡ true → AreRefused words
-  bad_name : (command : List ℕ) (others : List (List ℕ)) → words ≡ command ∷ others → list_all is_name (names_in others) ≡ false → AreRefused words
-  unknown_option : (command : List ℕ) (others : List (List ℕ)) → words ≡ command ∷ others → list_all is_some (flags_in others) ≡ false → AreRefused words
-  two_modes : (command : List ℕ) (others : List (List ℕ)) → words ≡ command ∷ others → at_most_one is_mode (flags_in others) ≡ false → AreRefused words
-  extend_twice : (command : List ℕ) (others : List (List ℕ)) → words ≡ command ∷ others → at_most_one is_extend (flags_in others) ≡ false → AreRefused words
-  force_twice : (command : List ℕ) (others : List (List ℕ)) → words ≡ command ∷ others → at_most_one is_force (flags_in others) ≡ false → AreRefused words
+  no_command : ((others : List (List ℕ)) → words ≢ codes "chk" ∷ others) → ((others : List (List ℕ)) → words ≢ codes "dump" ∷ others) → AreRefused words
+  no_name : (others : List (List ℕ)) → words ≡ codes "chk" ∷ others → is_empty (names_in others) ≡ true → AreRefused words
+  bad_name : (others : List (List ℕ)) → words ≡ codes "chk" ∷ others → list_all is_name (names_in others) ≡ false → AreRefused words
+  unknown_option : (others : List (List ℕ)) → words ≡ codes "chk" ∷ others → list_all is_some (flags_in others) ≡ false → AreRefused words
+  two_modes : (others : List (List ℕ)) → words ≡ codes "chk" ∷ others → at_most_one is_mode (flags_in others) ≡ false → AreRefused words
+  extend_twice : (others : List (List ℕ)) → words ≡ codes "chk" ∷ others → at_most_one is_extend (flags_in others) ≡ false → AreRefused words
+  force_twice : (others : List (List ℕ)) → words ≡ codes "chk" ∷ others → at_most_one is_force (flags_in others) ≡ false → AreRefused words
+  dump_option : (others : List (List ℕ)) → words ≡ codes "dump" ∷ others → flags_in others ≢ [] → AreRefused words
+  dump_names : (others : List (List ℕ)) → words ≡ codes "dump" ∷ others → length (names_in others) ≢ 1 → AreRefused words
+  dump_bad_name : (others : List (List ℕ)) (name : List ℕ) → words ≡ codes "dump" ∷ others → names_in others ≡ name ∷ [] → is_name name ≡ false → AreRefused words

@@ -14,6 +14,8 @@ pub mod Descriptions
 pub mod Statuses
 -- a table's turn in a run
 pub mod Turns
+-- what a dump of a table says
+pub mod Dumps
 -- what a run says and does: its tables one after the other
 pub mod Runs
 -- what a repair of one table comes to

@@ -43,6 +43,9 @@ reason_of fault.Memory = codes "17 Memory"
 abbrev pub too_long : List ℕ
 too_long = codes "too long"
 
+abbrev pub foreign : List ℕ
+foreign = codes "foreign"
+
 -- a table was repaired: how many rows are kept, how many repeat others, and the data file's lengths before and after
 abbrev pub recovered_line : List ℕ → Report → List ℕ
 recovered_line name r =

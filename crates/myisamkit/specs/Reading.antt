@@ -1,5 +1,5 @@
 -- How words are read, one after the other, and the request that a plan is.
-use Rattle.std.specs.Prelude.{ℕ, true, false, List, [], ◌∷◌, Option, None, Some, option_and_then, option_map, if◌then◌else◌}
+use Rattle.std.specs.Prelude.{ℕ, Bool, ◌&&◌, is_none, true, false, List, [], ◌∷◌, Option, None, Some, option_and_then, option_map, if◌then◌else◌}
 use Rattle.myisamkit.specs.declared.options.Mode.{Mode}
 use Rattle.myisamkit.specs.declared.options.Mode.TheVariants.{Check}
 use Rattle.myisamkit.specs.declared.options.Flag.{Flag}
@@ -7,7 +7,7 @@ use Rattle.myisamkit.specs.declared.options.Flag.TheVariants as flag
 use Rattle.myisamkit.specs.declared.options.Options.{Options}
 use Rattle.myisamkit.specs.declared.options.Seen.{Seen}
 use Rattle.myisamkit.specs.declared.words.Read.{Read}
-use Rattle.myisamkit.specs.Words.{is_end, is_option, is_name, flags_of}
+use Rattle.myisamkit.specs.Words.{is_end, is_option, is_name, names_table, flags_of}
 
 abbrev pub seen_with_mode : Seen → Option Mode → Mode → Option Seen
 seen_with_mode seen None mode = Some (record seen { mode = Some mode })
@@ -64,3 +64,10 @@ options_read read = if read.named then Some (options_seen read.seen) else None
 -- the options among the words behind `chk`, where they are accepted
 abbrev pub chk_options : List (List ℕ) → Option Options
 chk_options words = option_and_then options_read (read_words read_none words)
+
+-- the table that the words behind `dump` name, behind words that named this one, where the word -- came or not
+abbrev pub dump_left : Bool → Option (List ℕ) → List (List ℕ) → Option (List ℕ)
+dump_left ended name [] = name
+dump_left ended name (word ∷ words) =
+    if names_table ended word then (if is_none name && is_name word then dump_left ended (Some word) words else None) else
+    (if is_end word then dump_left true name words else None)

@@ -9,9 +9,10 @@ use Rattle.myisamkit.specs.declared.status.Status.TheVariants as status
 use Rattle.myisamkit.specs.declared.status.Stop.{Stop}
 use Rattle.myisamkit.specs.declared.status.Stop.TheVariants as stop
 use Rattle.myisamkit.specs.declared.options.Options.{Options}
-use Rattle.myisamkit.specs.Words.{Request, usage, chk}
+use Rattle.myisamkit.specs.Words.{Request, usage, chk, dump}
 use Rattle.myisamkit.specs.Statuses.{IsFault, worse}
 use Rattle.myisamkit.specs.Lines.{usage_line}
+use Rattle.myisamkit.specs.Dumps.{dump_turn}
 use Rattle.myisamkit.specs.Turns.{Turn, then_turn, turn, MayFind, TurnRecovers, CutsTurnOff, FailsInTurn}
 
 -- the tables of these names, behind tables of this status: all lines, the greatest status, the files at the end
@@ -23,11 +24,13 @@ tables_run s o now (name ∷ names) m = then_turn (turn o now name m) (tables_ru
 abbrev pub run_of : Request → ℕ → Holding → Turn
 run_of usage now m = record { text = usage_line; status = status.Usage; files = m }
 run_of (chk o names) now m = tables_run status.Ok o now names m
+run_of (dump name) now m = dump_turn name m
 
 -- the answer may be that something was found
 abbrev pub MayFindAny : Request → Type 0
 MayFindAny usage = ⊥
 MayFindAny (chk o names) = MayFind o
+MayFindAny (dump name) = ⊥
 
 -- ---- the files
 
@@ -68,6 +71,7 @@ TablesLeave o now before after names status.Absent m n = TablesDone o now names 
 abbrev pub Leaves : Request → ℕ → ℕ → ℕ → Status → Holding → Holding → Type 0
 Leaves usage now before after s m n = n ≡ m
 Leaves (chk o names) now before after s m n = TablesLeave o now before after names s m n
+Leaves (dump name) now before after s m n = n ≡ m
 
 -- what was written is this text, or a front of it where a fault cut the run off
 abbrev pub Says : List ℕ → Option (List ℕ) → Option (List ℕ) → Status → Type 0
@@ -94,6 +98,7 @@ IsNoFileOf q (name ∷ names) = IsApart q (names_for name) × IsNoFileOf q names
 abbrev pub tables_of : Request → List (List ℕ)
 tables_of usage = []
 tables_of (chk o names) = names
+tables_of (dump name) = name ∷ []
 
 -- files that are none of a request's tables hold what they held
 abbrev pub KeepsOthers : Request → Holding → Holding → Type 0

@@ -8,10 +8,11 @@ use Rattle.myisamkit.specs.declared.options.Flag.{Flag}
 use Rattle.myisamkit.specs.declared.options.Options.{Options}
 use Rattle.myisamkit.specs.Options.{letter_flag, long_flag, go_together, options_in}
 
--- A command with its options and the names of its tables, or a refusal.
+-- A command with its options and the names of its tables, or a refusal. `dump` prints one table.
 pub data Request : Type 0 where
   usage : Request
   chk : Options → List (List ℕ) → Request
+  dump : List ℕ → Request
 
 -- ---- what a word is
 
@@ -78,9 +79,19 @@ are_accepted words = (not (is_empty (names_in words)) && list_all is_name (names
 abbrev pub plan_chk : List (List ℕ) → Request
 plan_chk words = if are_accepted words then chk (options_in (flags_in words)) (map table_name (names_in words)) else usage
 
+-- `dump` has no options and one table
+abbrev pub dump_of : List (Option Flag) → List (List ℕ) → Request
+dump_of [] [] = usage
+dump_of [] (name ∷ []) = if is_name name then dump (table_name name) else usage
+dump_of [] (name ∷ (other ∷ names)) = usage
+dump_of (f ∷ flags) names = usage
+
+abbrev pub plan_dump : List (List ℕ) → Request
+plan_dump words = dump_of (flags_in words) (names_in words)
+
 abbrev pub plan : List (List ℕ) → Request
 plan [] = usage
-plan (command ∷ words) = if bytes_eq command (codes "chk") then plan_chk words else usage
+plan (command ∷ words) = if bytes_eq command (codes "chk") then plan_chk words else (if bytes_eq command (codes "dump") then plan_dump words else usage)
 
 -- what these words ask for
 abbrev pub request_of : List (String Global) → Request

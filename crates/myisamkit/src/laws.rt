@@ -2,8 +2,8 @@
 //! is proved with the crate.
 ghost use Rattle.std.specs.Prelude.{◌≡◌, ℕ, List};
 ghost use Rattle.myisamkit.specs.declared.options.Options.{Options};
-ghost use Rattle.myisamkit.specs.Words.{plan, chk, usage};
-ghost use Rattle.myisamkit.specs.Asked.{AreChk, AreRefused};
+ghost use Rattle.myisamkit.specs.Words.{plan, chk, dump, usage};
+ghost use Rattle.myisamkit.specs.Asked.{AreChk, AreDump, AreRefused};
 
 /// Words that are accepted have the command, exactly its options, and its tables in their order.
 pub fn accepted_words_are_a_command()
@@ -11,8 +11,15 @@ pub fn accepted_words_are_a_command()
         → plan words ≡ chk o tables → AreChk words o tables }
 {}
 
-/// Words are refused exactly where they have one of these reasons: no command that is known; no name, or one
-/// out of form; an option that is not known; two modes; another option twice, but the silent one.
+/// The words of a dump have the command, no option, and one table.
+pub fn dumping_words_are_a_command()
+    ensures { (words : List (List ℕ)) (table : List ℕ) → plan words ≡ dump table
+        → AreDump words table }
+{}
+
+/// Words are refused exactly where they have one of these reasons: no command that is known; behind
+/// `chk` no name, or one out of form, an option that is not known, two modes, or another option twice, but the
+/// silent one; behind `dump` an option, or other than one name in form.
 pub fn refused_words_have_a_reason()
     ensures reason { (words : List (List ℕ)) → plan words ≡ usage → AreRefused words }
     ensures refused { (words : List (List ℕ)) → AreRefused words → plan words ≡ usage }

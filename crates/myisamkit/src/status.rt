@@ -3,6 +3,7 @@ ghost use Rattle.std.specs.Prelude.{◌≡◌};
 ghost use Rattle.myisamkit.specs.declared.status.Stop.TheVariants.{Memory};
 ghost use Rattle.myisamkit.specs.Statuses.{number_of, worse};
 
+use myi_dump::DumpFault;
 use myi_io::SinkErr;
 use std::alloc::AllocError;
 
@@ -81,6 +82,21 @@ impl From<SinkErr> for Stop {
         match error {
             SinkErr::Failed => Stop::Sink,
             SinkErr::Memory => Stop::Memory,
+        }
+    }
+}
+
+impl From<DumpFault> for Stop {
+    ghost use Rattle.std.specs.Prelude.{◌≡◌};
+    ghost use Rattle.myisamkit.specs.Stops.{stop_of_dump};
+
+    ghost from_gives = { λ e stop. stop ≡ stop_of_dump e };
+
+    fn from(fault: DumpFault) -> Self {
+        match fault {
+            DumpFault::File => Stop::File,
+            DumpFault::Sink => Stop::Sink,
+            DumpFault::Memory => Stop::Memory,
         }
     }
 }

@@ -1,5 +1,5 @@
 //! The words of a command line, and what they ask for.
-ghost use Rattle.std.specs.Prelude.{◌≡◌, ◌<◌, length, map, nat_le, string_bytes};
+ghost use Rattle.std.specs.Prelude.{◌≡◌, ◌<◌, false, None, length, map, nat_le, option_map, string_bytes};
 ghost use Rattle.std.specs.List.{list_all};
 ghost use Rattle.myisamkit.specs.Words as spec;
 ghost use Rattle.myisamkit.specs.Options.{letter_flag};
@@ -18,6 +18,8 @@ pub(crate) enum Plan<'a> {
         options: Options,
         words: &'a [String],
     },
+    /// The rows of the table of this name are printed.
+    Dump(&'a str),
 }
 
 /// What was read of a list of words.
@@ -36,6 +38,7 @@ pub(crate) fn read_words(words: &[String]) -> Plan<'_>
 {
     match words.split_first() {
         Some((command, others)) if command.as_str() == "chk" => plan_chk(others),
+        Some((command, others)) if command.as_str() == "dump" => plan_dump(others),
         _ => Plan::Usage,
     }
 }
@@ -47,6 +50,39 @@ fn plan_chk(words: &[String]) -> Plan<'_>
         Some(options) => Plan::Chk { options, words },
         None => Plan::Usage,
     }
+}
+
+fn plan_dump(words: &[String]) -> Plan<'_>
+    ensures { asked result ≡ spec.plan_dump (map (λ w. string_bytes w) words.now) }
+{
+    match only_name(words) {
+        Some(name) => Plan::Dump(table_name(name)),
+        None => Plan::Usage,
+    }
+}
+
+// The name among the words behind `dump`, where it is in form and no other word stands beside it but one that
+// ends the options.
+fn only_name(words: &[String]) -> Option<&str>
+    ensures { option_map (λ n. n.now) result
+        ≡ reading.dump_left false None (map (λ w. string_bytes w) words.now) }
+{
+    let mut name = None;
+    let mut ended = false;
+    for word in words {
+        let word = word.as_str();
+        if names_table(word, ended) {
+            if name.is_some() || !is_name(word) {
+                return None;
+            }
+            name = Some(word);
+        } else if is_end(word) {
+            ended = true;
+        } else {
+            return None;
+        }
+    }
+    name
 }
 
 // The options among the words behind `chk`, where all words are in form and there is a name.
