@@ -1,6 +1,6 @@
 -- The words behind `dump`, read one after the other.
 use Rattle.std.proofs.Common.{◌≡◌, ◌⊎◌, ℕ, Bool, true, false, List, [], ◌∷◌, ◌++◌, Option, Some, None, length, map, drop, filter, refl, sym, ap, subst, ◌∙◌, inl, inr, arith}
-use Rattle.std.specs.Prelude.{◌&&◌, not, is_none, nat_lt, ◌==◌, if◌then◌else◌}
+use Rattle.std.specs.Prelude.{◌&&◌, ◌||◌, not, is_none, nat_lt, ◌==◌, if◌then◌else◌}
 use Rattle.std.specs.List.{flat_map}
 use Rattle.std.proofs.lemmas.Bool.{cases_Bool}
 use Rattle.myisamkit.specs.declared.options.Flag.{Flag}
@@ -63,7 +63,7 @@ dumped_words (word ∷ words) name = by_end (is_end word)
     by_option true is = sym (none_of (flags_of word) (flags_in words) name (names_in words) (has_flag word is))
     by_option false is = by_name (is_none name && is_name word) ∙ sym (name_comes (flags_in words) name word (names_in words))
 
-    by_end : (end : Bool) → (if not (if end then true else is_option word) then (if is_none name && is_name word then dump_left false (Some word) words else None) else (if end then dump_left true name words else None))
+    by_end : (end : Bool) → (if not (end || is_option word) then (if is_none name && is_name word then dump_left false (Some word) words else None) else (if end then dump_left true name words else None))
         ≡ only_of (flags_among (if end then [] else word ∷ before_end words)) name (names_among (if end then [] else word ∷ before_end words) ++ (if end then words else after_end words))
     by_end true = all_names name words
     by_end false = by_option (is_option word) refl

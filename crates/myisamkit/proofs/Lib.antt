@@ -1,6 +1,7 @@
 pub mod OptionLaws
 pub mod WordLaws
 pub mod DumpLaws
+pub mod DumpTurnLaws
 pub mod SinkLaws
 pub mod OpenLaws
 pub mod TurnLaws

@@ -93,6 +93,10 @@ abbrev pub plan : List (List ℕ) → Request
 plan [] = usage
 plan (command ∷ words) = if bytes_eq command (codes "chk") then plan_chk words else (if bytes_eq command (codes "dump") then plan_dump words else usage)
 
+-- the tables that the words behind a command name
+abbrev pub tables_named : List (String Global) → List (List ℕ)
+tables_named words = map table_name (names_in (map (λ w. string_bytes w) words))
+
 -- what these words ask for
 abbrev pub request_of : List (String Global) → Request
 request_of words = plan (map (λ w. string_bytes w) words)

@@ -1,9 +1,9 @@
 //! The tables of a run, one after the other.
-ghost use Rattle.std.specs.Prelude.{◌≡◌, ◌≢◌, ◌+◌, ℕ, Err, string_bytes, map, IfOk, IfErr, OnOk, OnErr, IsTrue};
+ghost use Rattle.std.specs.Prelude.{◌≡◌, ◌≢◌, ◌+◌, ℕ, Err, IfOk, IfErr, OnOk, OnErr, IsTrue};
 ghost use Rattle.myi_base.specs.Holding.{IfTold, Told};
 ghost use Rattle.myi_base.specs.Output.{Appends, AppendsPart};
 ghost use Rattle.myi_base.specs.Causes.{HasCause};
-ghost use Rattle.myisamkit.specs.Words.{names_in, table_name};
+ghost use Rattle.myisamkit.specs.Words.{tables_named};
 ghost use Rattle.myisamkit.specs.Statuses.{IsFault};
 ghost use Rattle.myisamkit.specs.Turns.{MayFind};
 ghost use Rattle.myisamkit.specs.Runs.{tables_run, TablesDone, TablesStop};
@@ -27,21 +27,21 @@ pub(crate) fn run_tables<F: Files, O: Sink>(
     requires { IsTrue F.writable }
     ensures status { IfOk result (λ s. IfTold (F.holds files.old) (λ m.
         s ≡ (tables_run Status.Ok options.now now
-        (map table_name (names_in (map (λ w. string_bytes w) words.now))) m).status)) }
+        (tables_named words.now) m).status)) }
     ensures said { OnOk result (IfTold (F.holds files.old) (λ m. IfTold (O.written out.old)
         (Appends (tables_run Status.Ok options.now now
-        (map table_name (names_in (map (λ w. string_bytes w) words.now))) m).text
+        (tables_named words.now) m).text
         (O.written out.new)))) }
     ensures part { OnErr result (IfTold (F.holds files.old) (λ m. IfTold (O.written out.old)
         (AppendsPart (tables_run Status.Ok options.now now
-        (map table_name (names_in (map (λ w. string_bytes w) words.now))) m).text
+        (tables_named words.now) m).text
         (O.written out.new)))) }
     ensures done { OnOk result (Told (F.holds files.old) (F.holds files.new)
         (TablesDone options.now now
-        (map table_name (names_in (map (λ w. string_bytes w) words.now))))) }
+        (tables_named words.now))) }
     ensures stops { IfErr result (λ stop. Told (F.holds files.old) (F.holds files.new)
         (TablesStop options.now now (F.faults files.old) (F.faults files.new)
-        (map table_name (names_in (map (λ w. string_bytes w) words.now))) stop)) }
+        (tables_named words.now) stop)) }
     ensures plain { IfOk result (λ s. IsFault s → ⊥) }
     ensures usage { IfOk result (λ s. s ≢ Status.Usage) }
     ensures findings { IfOk result (λ s. s ≡ Status.Findings → MayFind options.now) }
