@@ -5,7 +5,7 @@ ghost use Rattle.myi_defs.specs.ReadDefs.{AreDefs};
 ghost use Rattle.myi_defs.specs.Sound.{IsSound};
 ghost use Rattle.myi_header.specs.StateOf.{IsPlace, rest_length};
 ghost use Rattle.myi_header.specs.HeaderOf.{header_of};
-ghost use Rattle.myi_repair.specs.Names.{names_of, names_for, AreApart, KeepsBut};
+ghost use Rattle.myi_repair.specs.Names.{names_of, names_for, AreApart, KeepsBut, NoWorking};
 ghost use Rattle.myi_repair.specs.Outcome.{Ends, EndsCutOff, EndsIn, EndsWith};
 ghost use Rattle.myi_repair.specs.Finishing.{state_set, Finishes, FinishesPart, FinishesAlone};
 
@@ -44,6 +44,8 @@ pub fn finish<F: Files>(
         (FinishesPart (names_for name.now) gathered.now roots.now index_length now) }
     ensures alone { Told (F.holds files.old) (F.holds files.new)
         (FinishesAlone (names_for name.now) gathered.now roots.now index_length now) }
+    ensures gone { OnOk result (Told (F.holds files.old) (F.holds files.new)
+        (λ _ n. NoWorking (names_for name.now) n)) }
     ensures ends { Ends (names_for name.now) (F.holds files.old) (F.holds files.new)
         (F.faults files.old) (F.faults files.new) result }
 {
@@ -71,6 +73,8 @@ pub(crate) fn finish_table<F: Files>(
         (FinishesPart (names_of table.now) gathered.now roots.now index_length now) }
     ensures alone { Told (F.holds files.old) (F.holds files.new)
         (FinishesAlone (names_of table.now) gathered.now roots.now index_length now) }
+    ensures gone { OnOk result (Told (F.holds files.old) (F.holds files.new)
+        (λ _ n. NoWorking (names_of table.now) n)) }
     ensures ends { EndsCutOff (names_of table.now) (F.holds files.old) (F.holds files.new)
         (F.faults files.old) (F.faults files.new) result }
 {
@@ -102,6 +106,8 @@ fn replace<F: Files>(
         (FinishesPart (names_of table.now) gathered.now roots.now index_length now) }
     ensures alone { Told (F.holds files.old) (F.holds files.new)
         (FinishesAlone (names_of table.now) gathered.now roots.now index_length now) }
+    ensures gone { OnOk result (Told (F.holds files.old) (F.holds files.new)
+        (λ _ n. NoWorking (names_of table.now) n)) }
     ensures ends { EndsWith
         (Told (F.holds files.old) (F.holds files.new) (KeepsBut (names_of table.now)))
         (F.faults files.old) (F.faults files.new) result }
