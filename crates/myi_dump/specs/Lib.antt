@@ -2,3 +2,7 @@
 
 -- the lines on the rows of a table
 pub mod RowLines
+-- what serves private contracts
+
+-- what the steps of a dump do
+pub mod Dumping
