@@ -22,11 +22,11 @@ only_of (f ∷ flags) name names = None
 -- behind the word -- all are names
 all_names : (name : Option (List ℕ)) (words : List (List ℕ)) → dump_left true name words ≡ only name words
 all_names name [] = refl
-all_names name (word ∷ words) = by (is_none name && is_name word)
+all_names name (word ∷ words) = by (is_none name && is_name word) (all_names (Some word) words)
   where
-    by : (b : Bool) → (if b then dump_left true (Some word) words else None) ≡ (if b then only (Some word) words else None)
-    by true = all_names (Some word) words
-    by false = refl
+    by : (b : Bool) → dump_left true (Some word) words ≡ only (Some word) words → (if b then dump_left true (Some word) words else None) ≡ (if b then only (Some word) words else None)
+    by true rest = rest
+    by false rest = refl
 
 -- an option is at least one
 has_flag : (word : List ℕ) → is_option word ≡ true → (f : Option Flag) × (flags : List (Option Flag)) × (flags_of word ≡ f ∷ flags)
@@ -52,21 +52,21 @@ name_comes (f ∷ flags) name word names = by (is_none name && is_name word)
 
 pub dumped_words : (words : List (List ℕ)) (name : Option (List ℕ)) → dump_left false name words ≡ only_of (flags_in words) name (names_in words)
 dumped_words [] name = refl
-dumped_words (word ∷ words) name = by_end (is_end word)
+dumped_words (word ∷ words) name = by_end (dumped_words words (Some word)) (is_end word)
   where
-    by_name : (b : Bool) → (if b then dump_left false (Some word) words else None) ≡ (if b then only_of (flags_in words) (Some word) (names_in words) else None)
-    by_name true = dumped_words words (Some word)
-    by_name false = refl
+    by_name : (b : Bool) → dump_left false (Some word) words ≡ only_of (flags_in words) (Some word) (names_in words) → (if b then dump_left false (Some word) words else None) ≡ (if b then only_of (flags_in words) (Some word) (names_in words) else None)
+    by_name true rest = rest
+    by_name false rest = refl
 
-    by_option : (option : Bool) → is_option word ≡ option → (if not option then (if is_none name && is_name word then dump_left false (Some word) words else None) else None)
+    by_option : dump_left false (Some word) words ≡ only_of (flags_in words) (Some word) (names_in words) → (option : Bool) → is_option word ≡ option → (if not option then (if is_none name && is_name word then dump_left false (Some word) words else None) else None)
         ≡ only_of (flat_map flags_of (if option then word ∷ filter is_option (before_end words) else filter is_option (before_end words))) name ((if not option then word ∷ names_among (before_end words) else names_among (before_end words)) ++ after_end words)
-    by_option true is = sym (none_of (flags_of word) (flags_in words) name (names_in words) (has_flag word is))
-    by_option false is = by_name (is_none name && is_name word) ∙ sym (name_comes (flags_in words) name word (names_in words))
+    by_option rest true is = sym (none_of (flags_of word) (flags_in words) name (names_in words) (has_flag word is))
+    by_option rest false is = by_name (is_none name && is_name word) rest ∙ sym (name_comes (flags_in words) name word (names_in words))
 
-    by_end : (end : Bool) → (if not (end || is_option word) then (if is_none name && is_name word then dump_left false (Some word) words else None) else (if end then dump_left true name words else None))
+    by_end : dump_left false (Some word) words ≡ only_of (flags_in words) (Some word) (names_in words) → (end : Bool) → (if not (end || is_option word) then (if is_none name && is_name word then dump_left false (Some word) words else None) else (if end then dump_left true name words else None))
         ≡ only_of (flags_among (if end then [] else word ∷ before_end words)) name (names_among (if end then [] else word ∷ before_end words) ++ (if end then words else after_end words))
-    by_end true = all_names name words
-    by_end false = by_option (is_option word) refl
+    by_end rest true = all_names name words
+    by_end rest false = by_option rest (is_option word) refl
 
 -- the request of a name
 abbrev pub request_named : Option (List ℕ) → Request

@@ -43,9 +43,9 @@ pub(crate) fn dump_table<F: Files, O: Sink>(
     ensures sink { HasCause Stop.Sink (O.faults out.old) (O.faults out.new) result }
 {
     match check(alloc, files, name) {
-        Ok(found) => match found.as_slice() {
-            [] => dump_sound(alloc, files, out, name),
-            [finding, ..] => refuse(alloc, out, name, *finding),
+        Ok(found) => match found.as_slice().split_first() {
+            None => dump_sound(alloc, files, out, name),
+            Some((finding, _)) => refuse(alloc, out, name, *finding),
         },
         Err(fault) => say_fault(alloc, out, name, fault),
     }
@@ -76,7 +76,14 @@ fn dump_sound<F: Files, O: Sink>(
     let rows = TableFile::Data.of(alloc, name)?;
     match open_table(alloc, files, index.as_str(), rows.as_str()) {
         Ok(opened) => {
-            dump_rows(alloc, files, out, rows.as_str(), &opened.defs, opened.length)?;
+            dump_rows(
+                alloc,
+                files,
+                out,
+                rows.as_str(),
+                &opened.defs,
+                opened.length,
+            )?;
             Ok(Status::Ok)
         }
         Err(fault) => say_fault(alloc, out, name, fault),
@@ -108,12 +115,7 @@ fn say_fault<O: Sink>(
 }
 
 // Says what was found first.
-fn refuse<O: Sink>(
-    alloc: Global,
-    out: &mut O,
-    name: &str,
-    finding: Finding,
-) -> Result<Status, Stop>
+fn refuse<O: Sink>(alloc: Global, out: &mut O, name: &str, finding: Finding) -> Result<Status, Stop>
     ensures status { IfOk result (λ s. s ≡ Status.Refused) }
     ensures said { OnOk result (IfTold (O.written out.old)
         (Appends (spec.finding_line name.now finding ++ reason name.now finding)

@@ -93,7 +93,11 @@ pub(crate) fn finding_lines(
 }
 
 /// Appends the line on a thing that was found.
-pub(crate) fn push_finding(text: &mut String, name: &str, finding: Finding) -> Result<(), AllocError>
+pub(crate) fn push_finding(
+    text: &mut String,
+    name: &str,
+    finding: Finding,
+) -> Result<(), AllocError>
     ensures { IfOk result (λ _. string_bytes text.new
         ≡ string_bytes text.old ++ spec.finding_line name.now finding) }
 {

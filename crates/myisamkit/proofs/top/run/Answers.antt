@@ -16,3 +16,7 @@ returns-in-Chk-clause-part g c =
 pub returns-in-Chk-clause-status : goal.returns-in-Chk-clause-status
 returns-in-Chk-clause-status g c =
     subst (λ r. IfOk c.run_tables.result (λ s. IfTold (g.F.Files.holds c.args.files.now) (λ m. s ≡ (run_of r c.args.now m).status))) c.in-Chk.ensures c.run_tables.ensures.status
+
+pub returns-in-Dump-clause-part : goal.returns-in-Dump-clause-part
+returns-in-Dump-clause-part g c =
+    subst (λ r. OnErr c.dump_table.result (IfTold (g.F.Files.holds c.args.files.now) (λ m. IfTold (g.O.Sink.written c.args.out.now) (AppendsPart (run_of r c.args.now m).text (g.O.Sink.written c.dump_table.new.out))))) c.in-Dump.ensures c.dump_table.ensures.part
