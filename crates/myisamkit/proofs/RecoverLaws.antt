@@ -67,7 +67,7 @@ repaired o now name defs d m n mode table files recovers = record {
     placed = subst (λ t. n ≡ (repair_turn o now name t m).files) table (subst (λ k. n ≡ (turn_by k o now name m).files) mode files)
 
     made : Recovered defs o.extend d now (new_data defs o.extend d) (new_index defs o.extend d now)
-    made = subst (λ k. TurnRecoversBy k o now name m) mode recovers defs d table
+    made = (subst (λ k. TurnRecoversBy k o now name m) mode recovers defs d table).0
 
 -- its status, where nothing cuts the run off
 status_of : (o : Options) (now : ℕ) (name : List ℕ) (defs : Defs) (d : List ℕ) (m : Holding) → o.mode ≡ Recover → IsTable (names_for name) defs d m → (turn o now name m).status ≡ status.Ok

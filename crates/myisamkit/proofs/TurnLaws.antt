@@ -1,10 +1,13 @@
 -- What a table's turn leaves.
-use Rattle.std.proofs.Common.{arith, ◌≡◌, ◌≢◌, ◌≤◌, ◌+◌, ℕ, Bool, true, false, List, Option, Some, None, Result, Ok, Err, refl, sym, subst, ap, ◌∙◌}
+use Rattle.std.proofs.Common.{arith, ◌≡◌, ◌≢◌, ◌≤◌, ◌+◌, ℕ, take, Bool, true, false, List, Option, Some, None, Result, Ok, Err, refl, sym, subst, ap, ◌∙◌}
 use Rattle.std.specs.Prelude.{◌||◌, if◌then◌else◌}
 use Rattle.std.specs.Str.{bytes_eq}
 use Rattle.std.proofs.Math.Path.{fun_ext}
 use Rattle.std.proofs.lemmas.Slice.Eq.{bytes_eq-Decides}
 use Rattle.myi_base.specs.Holding.{Holding, Told}
+use Rattle.myi_base.specs.Numbers.{num_at}
+use Rattle.myi_defs.specs.declared.types.Defs.{Defs}
+use Rattle.myi_pair.proofs.CallerLemmas.{none_where_clean}
 use Rattle.myi_pair.specs.RecoveredBytes.{new_data, new_index}
 use Rattle.myi_pair.specs.Recovered.{Recovered}
 use Rattle.myi_repair.specs.declared.report.Report.{Report}
@@ -15,7 +18,7 @@ use Rattle.myi_repair.specs.Repaired.{LeavesRepaired, OldOrNew}
 use Rattle.myisamkit.specs.declared.options.Mode.{Mode}
 use Rattle.myisamkit.specs.declared.options.Mode.TheVariants.{Check, Recover, Describe}
 use Rattle.myisamkit.specs.declared.options.Options.{Options}
-use Rattle.myisamkit.specs.Turns.{replaced, repair_turn, without_extend, goes_on, RepairDone, RepairCutOff, CheckCutOff, CutsTurnOff, CutsTurnOffBy}
+use Rattle.myisamkit.specs.Turns.{AreSound, replaced, repair_turn, without_extend, goes_on, RepairDone, RepairCutOff, CheckCutOff, CutsTurnOff, CutsTurnOffBy}
 
 -- what a name has that is none of these
 not_named : (q name : List ℕ) → bytes_eq q name ≡ false → q ≢ name
@@ -72,6 +75,10 @@ ok_same : {A E : Type 0} (x y : A) (r : Result A E) → r ≡ Ok x → r ≡ Ok 
 unfolding ok_or
 ok_same x y r a b = sym (ap (ok_or x) a) ∙ ap (ok_or x) b
 
+-- what is recovered is sound
+sound_of : (defs : Defs) (extend : Bool) (d : List ℕ) (now : ℕ) (e y : List ℕ) → Recovered defs extend d now e y → AreSound e y
+sound_of defs extend d now e y made = (record defs { raw = take (num_at 6 2 defs.raw) y }, made.rebuilt.definitions, none_where_clean _ e y made.rebuilt.definitions made.rebuilt.clean)
+
 -- a table was repaired
 pub repair_done : (o : Options) (now : ℕ) (name : List ℕ) (said : Report) (old new : Option Holding)
     → Told old new (LeavesRepaired name o.extend now said) → Told old new (KeepsBut (names_for name)) → Told old new (RepairDone o now name)
@@ -85,7 +92,7 @@ repair_done o now name said old new repaired others = record {
         r.1,
         record {
           files = subst (λ t. r.0 ≡ (repair_turn o now name t m).files) (sym r.2.2) (is_replaced (names_for name) _ _ m r.0 made.holds keeps);
-          recovers = λ defs d table. subst (λ t. Recovered t.0 o.extend t.1 now (new_data t.0 o.extend t.1) (new_index t.0 o.extend t.1 now)) (ok_same (r.2.0, r.2.1) (defs, d) (table_in (names_for name) m) r.2.2 table) made.recovered;
+          recovers = λ defs d table. let made_of = subst (λ t. Recovered t.0 o.extend t.1 now (new_data t.0 o.extend t.1) (new_index t.0 o.extend t.1 now)) (ok_same (r.2.0, r.2.1) (defs, d) (table_in (names_for name) m) r.2.2 table) made.recovered in (made_of, sound_of defs o.extend d now _ _ made_of);
         },
       );
   untold = repaired.untold;

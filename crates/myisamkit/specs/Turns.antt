@@ -4,10 +4,12 @@ use Rattle.std.specs.Prelude.{◌≡◌, ◌⊎◌, ◌+◌, ◌||◌, ◌&&◌,
 use Rattle.std.specs.Str.{bytes_eq}
 use Rattle.myi_base.specs.Holding.{Holding}
 use Rattle.myi_defs.specs.declared.types.Defs.{Defs}
+use Rattle.myi_defs.specs.ReadDefs.{read_defs}
 use Rattle.myi_opening.specs.declared.fault.TableFault.{TableFault}
 use Rattle.myi_opening.specs.Names.{rows_file, index_file}
 use Rattle.myi_opening.specs.Opening as opening
 use Rattle.myi_pair.specs.declared.finding.Finding.{Finding}
+use Rattle.myi_pair.specs.Findings.{findings}
 use Rattle.myi_pair.specs.RecoveredBytes.{new_data, new_index}
 use Rattle.myi_pair.specs.Recovered.{Recovered}
 use Rattle.myi_check.specs.Checking.{findings_in}
@@ -71,9 +73,14 @@ repair_turn o now name (Ok t) m = record {
 abbrev pub recover_turn : Options → ℕ → List ℕ → Holding → Turn
 recover_turn o now name m = repair_turn o now name (table_in (names_for name) m) m
 
--- what a repair makes of a table that can be repaired is recovered
+-- nothing is wrong with a data file and an index file, under the definitions that the index file begins with
+abbrev pub AreSound : List ℕ → List ℕ → Type 0
+AreSound d x = (defs : Defs) × (read_defs x ≡ Ok defs) × (findings defs d x ≡ [])
+
+-- what a repair makes of a table that can be repaired is recovered, and nothing is wrong with it
 abbrev pub IsRecovered : Options → ℕ → List ℕ → Holding → Type 0
-IsRecovered o now name m = (defs : Defs) (d : List ℕ) → IsTable (names_for name) defs d m → Recovered defs o.extend d now (new_data defs o.extend d) (new_index defs o.extend d now)
+IsRecovered o now name m = (defs : Defs) (d : List ℕ) → IsTable (names_for name) defs d m
+    → Recovered defs o.extend d now (new_data defs o.extend d) (new_index defs o.extend d now) × AreSound (new_data defs o.extend d) (new_index defs o.extend d now)
 
 -- a table was repaired, or refused
 pub record RepairDone (o : Options) (now : ℕ) (name : List ℕ) (m n : Holding) : Type 0 where
