@@ -1,9 +1,9 @@
 //! `HeldBytes`: which bytes of a file belong to something.
 //!
 //! Ranges of bytes come in any order, most of them where the one before ends. They stand in a list, and one
-//! that touches the last is joined with it. When the list has grown to twice its length it is put in order,
-//! and all that touch are joined. So it is no longer than twice the number of the gaps, and a range costs
-//! the logarithm of that.
+//! that touches the last is joined with it. When the list has grown to twice its length, and to a thousand,
+//! it is put in order, and all that touch are joined. So it is no longer than that or twice as many as there
+//! are ranges that do not touch, and a range costs the logarithm of their number.
 ghost use Rattle.std.specs.Prelude.{◌≡◌, ◌≤◌, ◌++◌, ◌∷◌, [], OnOk, OnErr, IfOk};
 ghost use Rattle.std.specs.List.{AllByRecursion};
 ghost use Rattle.std.specs.List.Sorted.{IsPermutation, IsNonDecreasingBy};

@@ -10,10 +10,14 @@
 //! the keys of the table's rows and the places of its deleted blocks, and no file as a whole.
 //!
 //! ```
-//! for finding in &check(alloc, files, "t")? {
-//!     write_finding(out, finding)?;
+//! match check(alloc, files, name) {
+//!     Ok(found) if found.is_empty() => Ok((Status::Ok, success_line(alloc, options, name)?)),
+//!     Ok(found) => Ok((Status::Findings, finding_lines(alloc, name, &found)?)),
+//!     Err(fault) => not_worked_on(alloc, name, fault.into()),
 //! }
 //! ```
+//!
+//! `crates/myisamkit/src/check.rt` has it.
 #![tactic(auto)]
 
 mod busy;

@@ -13,7 +13,7 @@ use crate::options::{Options, Seen, letter_flag, long_flag};
 pub(crate) enum Plan<'a> {
     /// The words are refused.
     Usage,
-    /// Tables are checked or repaired, those that the words name which are no options.
+    /// Tables are checked, repaired or described, those that the words name which are no options.
     Chk {
         options: Options,
         words: &'a [String],
