@@ -17,7 +17,7 @@ use crate::blocks::BlockScan;
 use crate::row_test::RowTest;
 use crate::slots::SlotScan;
 use myi_chain::{Item, Piece, ScanFault, ScanSetup, Wanted};
-use myi_defs::RowFormat;
+use myi_defs::{Defs, RowFormat};
 use myi_io::Files;
 use std::alloc::AllocError;
 use std::marker::Model;
@@ -59,6 +59,7 @@ impl DataScan {
     ghost use Rattle.myi_chain.specs.declared.piece.ScanFault.TheVariants.{File};
     ghost use Rattle.myi_chain.specs.declared.piece.Wanted.TheVariants.{Items, Rows};
     ghost use Rattle.myi_data.specs.Scanning.{IsAsKnown, FindsInTable, AfterTable};
+    ghost use Rattle.myi_defs.specs.Sound.{IsSound};
     ghost use Rattle.myi_chain.specs.ScanModel.{fresh_scan, as_items};
     ghost use Rattle.myi_data.specs.contracts.scan.DataScan.{the_row};
 
@@ -73,6 +74,16 @@ impl DataScan {
             RowFormat::Dynamic => Inner::Blocks(BlockScan::new(alloc, name, test, setup)?),
         };
         Ok(DataScan { inner })
+    }
+
+    /// A scan of the whole file of that name, of a table with these definitions; the file's length is
+    /// given, whatever a header says of it. Nothing is read yet.
+    pub fn of_file(name: &str, defs: &Defs, setup: ScanSetup) -> Result<DataScan, AllocError>
+        requires { IsSound defs.now }
+        ensures { IfOk result (λ scan.
+            scan ≡ fresh_scan name.now defs.now setup.extend setup.file_len) }
+    {
+        DataScan::new(name, RowTest::new(defs)?, setup)
     }
 
     // The next row or deleted block that is wanted, and None where none is left.

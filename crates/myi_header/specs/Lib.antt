@@ -1,9 +1,12 @@
--- What a reader of the contracts has to believe: the parts of a header, the state and the mark in it, the header that a
--- state is written into, the state of an empty table.
-pub mod Parts
-pub mod Layout
-pub mod StateOf
-pub mod HeaderOf
-pub mod EmptyState
+-- what a reader of the contracts must believe
 
--- Nothing serves private contracts alone.
+-- parts of a list of bytes
+pub mod Parts
+-- where the state stands in a header
+pub mod Layout
+-- the state and the mark of a header
+pub mod StateOf
+-- the header that a state is written into
+pub mod HeaderOf
+-- the state of a table without rows
+pub mod EmptyState

@@ -29,6 +29,11 @@ Carries P p q = (m n : Holding) → P m n → P (pending_done p m) (pending_done
 abbrev pub HasNone : Pending → List ℕ → Type 0
 HasNone p name = (m : Holding) → pending_done p m name ≡ m name
 
+-- some are to be written to this file
+pub record IsFor (p : Pending) (name : List ℕ) : Type 0 where
+  pub some : p.bytes.items ≢ []
+  pub file : string_bytes p.name ≡ name
+
 -- bytes for this place go on where the writes end, where there are any
 pub record IsNext (p : Pending) (name : List ℕ) (at : ℕ) : Type 0 where
   pub file : p.bytes.items ≢ [] → string_bytes p.name ≡ name

@@ -12,6 +12,8 @@ pub mod MemSink
 -- what files hold with gathered writes done
 pub mod Pending
 pub mod Gathering
+-- what an object that gathers writes shows
+pub mod GatheringFiles
 -- what two readers tell together
 pub mod TwoReaders
 -- the counts of real files and of standard output

@@ -17,10 +17,10 @@ use std::alloc::{AllocError, Global};
 
 /// Files that may be changed, and what `Gathering` does with them. An impl gives nothing of its own.
 pub trait Writable: Files {
-    ghost use Rattle.std.specs.Prelude.{◌≡◌, [], IsTrue, OnOk};
+    ghost use Rattle.std.specs.Prelude.{◌≡◌, ◌≢◌, [], IsTrue, OnOk, OnErr};
     ghost use Rattle.myi_base.specs.Causes.{HasCause};
     ghost use Rattle.myi_io.specs.declared.files.FileErr.TheVariants.{Failed};
-    ghost use Rattle.myi_io.specs.Gathering.{SameShown, HasNone, IsNext};
+    ghost use Rattle.myi_io.specs.Gathering.{SameShown, HasNone, IsNext, IsFor};
 
     /// Does the writes. Where that fails they stay.
     fn write_out(&mut self, pending: &mut Pending) -> Result<(), FileErr>
@@ -28,6 +28,7 @@ pub trait Writable: Files {
         ensures shows { SameShown pending.old (Self.holds self.old)
             pending.new (Self.holds self.new) }
         ensures done { OnOk result (pending.new.bytes.items ≡ []) }
+        ensures some { OnErr result (pending.old.bytes.items ≢ []) }
         ensures reads { Self.reads self.new ≡ Self.reads self.old }
         ensures cause { HasCause Failed (Self.faults self.old) (Self.faults self.new) result }
     {
@@ -45,6 +46,7 @@ pub trait Writable: Files {
         ensures shows { SameShown pending.old (Self.holds self.old)
             pending.new (Self.holds self.new) }
         ensures apart { OnOk result (HasNone pending.new name.now) }
+        ensures met { OnErr result (IsFor pending.old name.now) }
         ensures reads { Self.reads self.new ≡ Self.reads self.old }
         ensures cause { HasCause Failed (Self.faults self.old) (Self.faults self.new) result }
     {
@@ -121,12 +123,15 @@ fn gather(pending: &mut Pending, name: &str, at: u64, bytes: &[u8]) -> Result<()
 }
 
 impl<F: Writable + Drop> Gathering<F> {
+    ghost use Rattle.myi_io.specs.GatheringFiles.{own_faults, SameOwn};
+
     /// Nothing is gathered yet.
     pub fn new(alloc: Global, files: F) -> Self
         requires { IsTrue F.writable }
         ensures holds { ⟦<Gathering<F> as Files>⟧.holds result ≡ F.holds files }
         ensures faults { ⟦<Gathering<F> as Files>⟧.faults result ≡ F.faults files }
         ensures reads { ⟦<Gathering<F> as Files>⟧.reads result ≡ F.reads files }
+        ensures own { own_faults result ≡ 0 }
     {
         Gathering {
             files,
@@ -144,17 +149,28 @@ impl<F: Writable + Drop> Gathering<F> {
         ensures reads { F.reads self.new.files ≡ F.reads self.old.files }
         ensures cause { HasCause Failed (⟦<Gathering<F> as Files>⟧.faults self.old)
             (⟦<Gathering<F> as Files>⟧.faults self.new) result }
+        ensures own { SameOwn self.old self.new }
     {
         self.files.write_out(&mut self.pending)?;
         Ok(())
     }
 }
 
+/// Beside the clauses of the trait: a fault of its own, beside those of the files below, is counted by a
+/// read alone, for whose file writes are gathered, where doing them wants memory (`own`).
 impl<F: Writable + Drop> Files for Gathering<F> {
     type Reader = F::Reader;
 
-    ghost use Rattle.std.specs.Prelude.{◌+◌, true};
+    ghost use Rattle.std.specs.Prelude.{◌≡◌, ◌≤◌, ◌+◌, ◌-◌, ◌^◌};
+    ghost use Rattle.std.specs.Prelude.{true, length, min, OnOk, OnErr, IfOk, IfErr};
+    ghost use Rattle.myi_base.specs.Holding.{IfTold, Told, Gives, Fills, Shows, Writes};
+    ghost use Rattle.myi_base.specs.Holding.{WritesPart, Cuts, CutsOrKeeps, Renames};
+    ghost use Rattle.myi_base.specs.Holding.{Removes, Keeps, Measures, blocks};
+    ghost use Rattle.myi_base.specs.Causes.{HasCause};
+    ghost use Rattle.myi_io.specs.declared.files.FileErr.TheVariants.{Failed};
     ghost use Rattle.myi_io.specs.Gathering.{pending_done, pending_shown, pending_bytes};
+    ghost use Rattle.myi_io.specs.GatheringFiles.{told_with, faults_with, own_faults, SameOwn};
+    ghost use Rattle.myi_io.specs.GatheringFiles.{CountsOwn};
     ghost use Rattle.myi_io.specs.Told.{shown_bytes};
 
     ghost holds = { λ s. pending_shown s.pending (F.holds s.files) };
@@ -165,13 +181,37 @@ impl<F: Writable + Drop> Files for Gathering<F> {
 
     ghost writable = { true };
 
-    fn length(&mut self, name: &str) -> Result<Option<u64>, FileErr> {
+    fn length(&mut self, name: &str) -> Result<Option<u64>, FileErr>
+        ensures told { IfOk result (λ size.
+            IfTold (told_with self.old (F.holds self.old.files)) (λ m. Measures (m name.now) size)) }
+        ensures holds { told_with self.new (F.holds self.new.files)
+            ≡ told_with self.old (F.holds self.old.files) }
+        ensures reads { F.reads self.new.files ≡ F.reads self.old.files }
+        ensures cause { HasCause Failed (faults_with self.old (F.faults self.old.files))
+            (faults_with self.new (F.faults self.new.files)) result }
+        ensures own { SameOwn self.old self.new }
+    {
         self.files.write_out_file(&mut self.pending, name)?;
         let size = self.files.length(name)?;
         Ok(size)
     }
 
-    fn read_at(&mut self, name: &str, at: u64, into: &mut [u8]) -> Result<usize, FileErr> {
+    fn read_at(&mut self, name: &str, at: u64, into: &mut [u8]) -> Result<usize, FileErr>
+        ensures bound { IfOk result (λ count. count ≤ length into.new) }
+        ensures told { IfOk result (λ count.
+            IfTold (told_with self.old (F.holds self.old.files)) (Gives name.now at into.old count)) }
+        ensures bytes { OnOk result
+            (IfTold (told_with self.old (F.holds self.old.files)) (Fills name.now at into.old into.new)) }
+        ensures failed { IfErr result (λ e. e ≡ Failed) }
+        ensures holds { told_with self.new (F.holds self.new.files)
+            ≡ told_with self.old (F.holds self.old.files) }
+        ensures reads { F.reads self.old.files ≤ F.reads self.new.files }
+        ensures few { F.reads self.new.files ≤ F.reads self.old.files + blocks (length into.old) }
+        ensures cause { HasCause Failed (faults_with self.old (F.faults self.old.files))
+            (faults_with self.new (F.faults self.new.files)) result }
+        ensures own { CountsOwn self.old name.now self.new }
+        ensures read { OnOk result (SameOwn self.old self.new) }
+    {
         match self.files.write_out_file(&mut self.pending, name) {
             Ok(()) => {
                 let count = self.files.read_at(name, at, into)?;
@@ -186,7 +226,16 @@ impl<F: Writable + Drop> Files for Gathering<F> {
         }
     }
 
-    fn write_at(&mut self, name: &str, at: u64, bytes: &[u8]) -> Result<(), FileErr> {
+    fn write_at(&mut self, name: &str, at: u64, bytes: &[u8]) -> Result<(), FileErr>
+        ensures ok { OnOk result (Told (told_with self.old (F.holds self.old.files))
+            (told_with self.new (F.holds self.new.files)) (Writes name.now at bytes.now)) }
+        ensures err { OnErr result (Told (told_with self.old (F.holds self.old.files))
+            (told_with self.new (F.holds self.new.files)) (WritesPart name.now at bytes.now)) }
+        ensures reads { F.reads self.new.files ≡ F.reads self.old.files }
+        ensures cause { HasCause Failed (faults_with self.old (F.faults self.old.files))
+            (faults_with self.new (F.faults self.new.files)) result }
+        ensures own { SameOwn self.old self.new }
+    {
         if bytes.is_empty() {
             self.files.write_out(&mut self.pending)?;
             self.files.write_at(name, at, bytes)?;
@@ -197,25 +246,63 @@ impl<F: Writable + Drop> Files for Gathering<F> {
         Ok(())
     }
 
-    fn cut(&mut self, name: &str, length: u64) -> Result<(), FileErr> {
+    fn cut(&mut self, name: &str, length: u64) -> Result<(), FileErr>
+        ensures ok { OnOk result (Told (told_with self.old (F.holds self.old.files))
+            (told_with self.new (F.holds self.new.files)) (Cuts name.now length)) }
+        ensures err { OnErr result (Told (told_with self.old (F.holds self.old.files))
+            (told_with self.new (F.holds self.new.files)) (CutsOrKeeps name.now length)) }
+        ensures reads { F.reads self.new.files ≡ F.reads self.old.files }
+        ensures cause { HasCause Failed (faults_with self.old (F.faults self.old.files))
+            (faults_with self.new (F.faults self.new.files)) result }
+        ensures own { SameOwn self.old self.new }
+    {
         self.files.write_out(&mut self.pending)?;
         self.files.cut(name, length)?;
         Ok(())
     }
 
-    fn rename(&mut self, from: &str, to: &str) -> Result<(), FileErr> {
+    fn rename(&mut self, from: &str, to: &str) -> Result<(), FileErr>
+        ensures ok { OnOk result (Told (told_with self.old (F.holds self.old.files))
+            (told_with self.new (F.holds self.new.files)) (Renames from.now to.now)) }
+        ensures err { OnErr result (Told (told_with self.old (F.holds self.old.files))
+            (told_with self.new (F.holds self.new.files)) Keeps) }
+        ensures reads { F.reads self.new.files ≡ F.reads self.old.files }
+        ensures cause { HasCause Failed (faults_with self.old (F.faults self.old.files))
+            (faults_with self.new (F.faults self.new.files)) result }
+        ensures own { SameOwn self.old self.new }
+    {
         self.files.write_out(&mut self.pending)?;
         self.files.rename(from, to)?;
         Ok(())
     }
 
-    fn remove(&mut self, name: &str) -> Result<(), FileErr> {
+    fn remove(&mut self, name: &str) -> Result<(), FileErr>
+        ensures ok { OnOk result (Told (told_with self.old (F.holds self.old.files))
+            (told_with self.new (F.holds self.new.files)) (Removes name.now)) }
+        ensures err { OnErr result (Told (told_with self.old (F.holds self.old.files))
+            (told_with self.new (F.holds self.new.files)) Keeps) }
+        ensures failed { IfErr result (λ e. e ≡ Failed) }
+        ensures reads { F.reads self.new.files ≡ F.reads self.old.files }
+        ensures cause { HasCause Failed (faults_with self.old (F.faults self.old.files))
+            (faults_with self.new (F.faults self.new.files)) result }
+        ensures own { SameOwn self.old self.new }
+    {
         self.files.remove(name)?;
         forget(&mut self.pending, name);
         Ok(())
     }
 
-    fn reader(&mut self, name: &str) -> Result<F::Reader, FileErr> {
+    fn reader(&mut self, name: &str) -> Result<F::Reader, FileErr>
+        ensures told { IfOk result (λ r. IfTold (told_with self.old (F.holds self.old.files))
+            (Shows name.now (F.Reader.holds r))) }
+        ensures fresh { IfOk result (λ r. F.Reader.faults r ≡ 0) }
+        ensures holds { told_with self.new (F.holds self.new.files)
+            ≡ told_with self.old (F.holds self.old.files) }
+        ensures reads { F.reads self.new.files ≡ F.reads self.old.files }
+        ensures cause { HasCause Failed (faults_with self.old (F.faults self.old.files))
+            (faults_with self.new (F.faults self.new.files)) result }
+        ensures own { SameOwn self.old self.new }
+    {
         self.files.write_out_file(&mut self.pending, name)?;
         let reader = self.files.reader(name)?;
         Ok(reader)

@@ -1,8 +1,16 @@
--- What a reader of the contracts has to believe: pages, how long they are, what a view shows, what is written.
+-- what a reader of the contracts must believe
+
+-- pages, and the one spelling of each
 pub mod Page
+-- how many bytes entries take
 pub mod Fitting
+-- the page that bytes are
 pub mod Views
+-- what a writer leaves
 pub mod Writing
+-- a page whose children stand further on
 pub mod Shifting
--- What serves private contracts: reading from left to right.
+-- what serves private contracts
+
+-- items read from left to right
 pub mod PageItems

@@ -26,9 +26,9 @@ use crate::next_row::NextRow;
 use crate::opening::open_reached;
 use crate::report::Report;
 use myi_base::Sequence;
-use myi_data::{DataFile, DataScan};
+use myi_chain::ScanSetup;
+use myi_data::DataScan;
 use myi_defs::Defs;
-use myi_header::{State, stored_state};
 use myi_io::Files;
 use myi_keylist::PairList;
 use myi_opening::OpenedTable;
@@ -144,14 +144,18 @@ fn gather_opened<F: Files>(
 {
     let OpenedTable { defs, length } = opened;
     let file = table.new_rows.as_str();
-    let mut scan = scan_of(alloc, table, &defs, length, extend)?;
+    let setup = ScanSetup {
+        extend,
+        file_len: length,
+    };
+    let mut scan = scan_of(table, &defs, setup)?;
     let (rows, mut keys) = take_rows(alloc, files, &mut scan, file, &defs)?;
     keys.sort_unique(&defs);
     if !keys.has_repeat(&defs) {
         return Ok(into_gathered(defs, length, rows, keys));
     }
     let flags = keys.keep_first(alloc, &defs, rows.pointers.len())?;
-    let mut again = scan_of(alloc, table, &defs, length, extend)?;
+    let mut again = scan_of(table, &defs, setup)?;
     let kept = keep_rows(alloc, files, &mut again, file, &defs, &flags)?;
     keys.retain(&flags);
     Ok(into_gathered(defs, length, kept, keys))
@@ -272,28 +276,11 @@ fn keep_rows<F: Files>(
     Ok(rows)
 }
 
-fn scan_of(
-    alloc: Global,
-    table: &TableFiles,
-    defs: &Defs,
-    end: u64,
-    extend: bool,
-) -> Result<DataScan, AllocError>
+// A scan of the table's data file.
+fn scan_of(table: &TableFiles, defs: &Defs, setup: ScanSetup) -> Result<DataScan, AllocError>
     requires { IsSound defs.now }
     ensures { IfOk result (λ scan.
-        scan ≡ fresh_scan (names_of table.now).rows defs.now extend end) }
+        scan ≡ fresh_scan (names_of table.now).rows defs.now setup.extend setup.file_len) }
 {
-    let state = state_at(alloc, defs, end)?;
-    let file = DataFile::new(alloc, table.rows.as_str(), defs, &state)?;
-    file.scan(extend)
-}
-
-// The state of the table, but with a data file of that length.
-fn state_at(alloc: Global, defs: &Defs, end: u64) -> Result<State, AllocError>
-    requires { IsSound defs.now }
-    ensures { IfOk result (λ state. state.data_file_length ≡ end) }
-{
-    let mut state = stored_state(alloc, defs)?;
-    state.data_file_length = end;
-    Ok(state)
+    DataScan::of_file(table.rows.as_str(), defs, setup)
 }

@@ -1,6 +1,7 @@
 //! The trees of the new index file.
-ghost use Rattle.std.specs.Prelude.{◌≡◌, ◌⊎◌, ◌↔◌, ◌%◌, All, IfOk, OnOk, IsTrue};
+ghost use Rattle.std.specs.Prelude.{◌≡◌, ◌⊎◌, ◌%◌, All, IfOk, OnOk, IsTrue};
 ghost use Rattle.myi_base.specs.Holding.{Told, OthersStay};
+ghost use Rattle.myi_base.specs.HandsOn.{HandsOn};
 ghost use Rattle.myi_defs.specs.ReadDefs.{AreDefs};
 ghost use Rattle.myi_defs.specs.Sound.{IsSound};
 ghost use Rattle.myi_header.specs.StateOf.{IsPlace};
@@ -12,7 +13,6 @@ ghost use Rattle.myi_btree.specs.Building.{laid_at, CanLay, Lays};
 ghost use Rattle.myi_btree.specs.TreePages.{tree_end};
 ghost use Rattle.myi_keylist.specs.PairOrder.{sorted};
 ghost use Rattle.myi_pair.specs.Trees.{place_of};
-ghost use Rattle.myi_repair.specs.Opening.{CutsOff};
 ghost use Rattle.myi_repair.specs.Outcome.{EndsIn, EndsWith};
 ghost use Rattle.myi_repair.specs.Sized.{AreSizedPairs};
 ghost use Rattle.myi_repair.specs.Building.{AreTrees, Builds, LaysTrees};
@@ -171,8 +171,8 @@ fn build_tree<F: Files>(
 
 fn of_build(fault: TreeFault) -> RepairFault
     requires { (fault ≡ TreeFault.File) ⊎ (fault ≡ TreeFault.Memory) }
-    ensures file { (result ≡ RepairFault.File) ↔ (fault ≡ TreeFault.File) }
-    ensures cut { CutsOff result }
+    ensures { HandsOn (TreeFault.File, RepairFault.File) (TreeFault.Memory, RepairFault.Memory)
+        fault result }
 {
     match fault {
         TreeFault::File => RepairFault::File,
@@ -184,8 +184,8 @@ fn of_build(fault: TreeFault) -> RepairFault
 
 fn of_flush(fault: CacheFault) -> RepairFault
     requires { (fault ≡ CacheFault.File) ⊎ (fault ≡ CacheFault.Memory) }
-    ensures file { (result ≡ RepairFault.File) ↔ (fault ≡ CacheFault.File) }
-    ensures cut { CutsOff result }
+    ensures { HandsOn (CacheFault.File, RepairFault.File) (CacheFault.Memory, RepairFault.Memory)
+        fault result }
 {
     match fault {
         CacheFault::File => RepairFault::File,
