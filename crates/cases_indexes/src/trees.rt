@@ -249,17 +249,20 @@ fn push_events(out: &mut String, index: &mut Index, place: Place) -> Result<(), 
     let Index { files, cache, .. } = index;
     let mut events = Events::new(*out.allocator(), place);
     for _ in 0..u64::MAX {
-        let Some(event) = events.next(files, cache).map_err(of_tree)? else {
-            return Ok(());
-        };
-        push_event(out, event)?;
+        match events.next(files, cache) {
+            Ok(Some(event)) => push_event(out, event)?,
+            Ok(None) => return Ok(()),
+            Err(TreeFault::File) => out.push_str(" failed")?,
+            Err(fault) => return Err(of_tree(fault)),
+        }
     }
     Err(Fault::Memory)
 }
 
-/// `events LENGTH POINTER ROOT BYTES`: what a walk of the tree with that root meets, one after the other.
+/// `events LENGTH POINTER ROOT FAULTS BYTES`: what a walk of the tree with that root meets, one after the
+/// other. Behind a call that failed it goes on.
 fn events(words: &Words, args: &[&str]) -> Result<String, Fault> {
-    let [block_length, rec_ref, root, bytes] = args else {
+    let [block_length, rec_ref, root, faults, bytes] = args else {
         return Err(Fault::Unread);
     };
     let alloc = words.alloc();
@@ -267,7 +270,7 @@ fn events(words: &Words, args: &[&str]) -> Result<String, Fault> {
         root: place(*root)?,
         ..unrooted(*block_length, *rec_ref)?
     };
-    let mut index = index_of(alloc, words.bytes(*bytes)?, Vec::new(alloc))?;
+    let mut index = index_of(alloc, words.bytes(*bytes)?, words.numbers(*faults)?)?;
     let mut out = String::from_str(alloc, "events")?;
     push_events(&mut out, &mut index, place)?;
     Ok(out)

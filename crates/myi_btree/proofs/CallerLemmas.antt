@@ -23,7 +23,7 @@ pub use Rattle.myi_btree.proofs.MoveLaws.{laid_movable, laid_moved, laid_stored}
 -- laid_pages_are_written
 pub use Rattle.myi_btree.proofs.LaidRead.{laid_written, written_read}
 -- laid_pages_stand_behind
-pub use Rattle.myi_btree.proofs.FilePages.{page_long, pages_long, tree_behind}
+pub use Rattle.myi_btree.proofs.FilePages.{page_long, pages_long, tree_long, over_behind, tree_behind}
 -- trees_have_few_pages
 pub use Rattle.myi_btree.proofs.FewPages.{laid_few}
 -- events_are_walks

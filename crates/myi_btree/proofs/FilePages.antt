@@ -34,7 +34,7 @@ over_is at page file short =
     let none : drop (at + length page) file ≡ [] = drop_of_length-le file (omega arith) in
     rw (front, none, append-nil) refl
 
-over_behind : (base end : ℕ) (bytes file page : List ℕ) → HasBehind base end bytes file → HasBehind base (end + length page) (bytes ++ page) (overwritten end page file)
+pub over_behind : (base end : ℕ) (bytes file page : List ℕ) → HasBehind base end bytes file → HasBehind base (end + length page) (bytes ++ page) (overwritten end page file)
 over_behind base end bytes file page is =
     let zeros : List ℕ = replicate (end - length file) 0 in
     let whole : overwritten end page file ≡ (file ++ zeros) ++ page = over_is end page file is.short in

@@ -13,7 +13,7 @@ ghost use Rattle.myi_btree.specs.TreeEvents.{tree_events, AreWithin};
 ghost use Rattle.myi_btree.specs.Serving.{View};
 ghost use Rattle.myi_btree.specs.Walking.{Walking, walk_at, IsOver, IsStillMet, MayGo};
 ghost use Rattle.std.specs.List.{AllByRecursion};
-ghost use Rattle.myi_base.specs.Holding.{Holding};
+ghost use Rattle.myi_base.specs.Holding.{Holding, overwritten};
 ghost use Rattle.myi_keycache.specs.Caching.{Caching, IsCurrent, Stays};
 ghost use Rattle.myi_btree.specs.declared.place.Place.{Place};
 ghost use Rattle.myi_btree.specs.CachedTrees.{node_lent, CanWalk, HasPages, IsClear, AddsNamed, AddsItsOwn, ReadsOnce, AreApart};
@@ -253,8 +253,8 @@ pub fn builds_leave_trees_clear()
         → IsClear other new n other.root }
 {}
 
-/// The bytes of a page are as many as a page has. The pages of a tree that are written from the end of a
-/// file on stand behind what the file has from a place on, which may lie past its end.
+/// The bytes of a page are as many as a page has. What is written from the end of a file on, and so the
+/// pages of a tree, stands behind what the file has from a place on, which may lie past its end.
 pub fn laid_pages_stand_behind()
     ensures page { (place : Place) (node : Node) → IsWritten place node
         → length (page_for place node) ≡ place.block_length }
@@ -262,6 +262,8 @@ pub fn laid_pages_stand_behind()
         → length (pages_bytes place nodes) ≡ place.block_length * length nodes }
     ensures long { (place : Place) (first : ℕ) (pairs : List Pair) → CanBeLaid place first pairs
         → first + length (tree_pages place first pairs) ≡ tree_end place first pairs }
+    ensures written { (base end : ℕ) (bytes file pages : List ℕ) → HasBehind base end bytes file
+        → HasBehind base (end + length pages) (bytes ++ pages) (overwritten end pages file) }
     ensures behind { (place : Place) (first : ℕ) (pairs : List Pair) → CanBeLaid place first pairs
         → (base : ℕ) (bytes file : List ℕ) → HasBehind base first bytes file
         → HasBehind base (tree_end place first pairs) (bytes

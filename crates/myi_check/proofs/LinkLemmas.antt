@@ -2,7 +2,7 @@
 use Rattle.std.proofs.Common.{◌≡◌, ℕ, zero, suc, ◌+◌, ◌<◌, ◌≤◌, ◌-◌, Bool, true, false, eqb, List, [], ◌∷◌, ◌++◌, length, take, drop, replicate, get_or, min, Option, Some, None, refl, sym, ap, ◌∙◌, arith, length-drop}
 use Rattle.std.specs.Prelude.{slice_index, option_and_then}
 use Rattle.std.specs.Option.{option_map, option_map_or}
-use Rattle.std.proofs.lemmas.List.{get_or-replicate, get_or-drop, take_at, length-take, length-replicate}
+use Rattle.std.proofs.lemmas.List.{get_or-drop, take_at, length-take, length-replicate}
 use Rattle.std.proofs.lemmas.Bool.{eqb-true, eqb-false}
 use Rattle.byteorder.specs.Endian.{big_from}
 use Rattle.myi_base.specs.Numbers.{num, num_at}
@@ -17,7 +17,7 @@ use Rattle.myi_pair.specs.Findings.{same_link, names_by}
 use Rattle.myi_check.specs.declared.list.Link.{Link}
 use Rattle.myi_check.specs.ListMet.{IsLinkAt}
 
--- ---- a number behind whose bytes there are zeros
+-- ---- a number by its bytes
 
 same_from : (i n : ℕ) (x y : List ℕ) → ((k : ℕ) → k < i + n → slice_index x k ≡ slice_index y k) → big_from i n x ≡ big_from i n y
 same_from i zero x y same = refl
@@ -30,18 +30,18 @@ same_num : (n : ℕ) (x y : List ℕ) → ((k : ℕ) → k < n → slice_index x
 unfolding num
 same_num n x y same = same_from 0 n x y (λ k lt. same k (omega (arith, lt)))
 
-padded : (xs : List ℕ) (n k : ℕ) → k < n → get_or (take n xs ++ drop (length xs) (replicate n 0)) k 0 ≡ get_or xs k 0
-padded [] zero k lt = absurd (omega (arith, lt))
-padded [] (suc n) k lt = get_or-replicate (suc n) k 0 0 lt
-padded (x ∷ xs) zero k lt = absurd (omega (arith, lt))
-padded (x ∷ xs) (suc n) zero lt = refl
-padded (x ∷ xs) (suc n) (suc k) lt = padded xs n k (omega (arith, lt))
+front_at : (xs : List ℕ) (n k : ℕ) → k < n → get_or (take n xs) k 0 ≡ get_or xs k 0
+front_at [] zero k lt = absurd (omega (arith, lt))
+front_at [] (suc n) k lt = refl
+front_at (x ∷ xs) zero k lt = absurd (omega (arith, lt))
+front_at (x ∷ xs) (suc n) zero lt = refl
+front_at (x ∷ xs) (suc n) (suc k) lt = front_at xs n k (omega (arith, lt))
 
 -- the number behind the first byte, in what was read from a place on
-pub number_read : (p w : ℕ) (d into : List ℕ) → w ≤ 8 → into ≡ filled p (replicate 20 0) d → num_at 1 w into ≡ num_at (p + 1) w d
-number_read p w d into narrow is =
-    same_num w (drop 1 into) (drop (p + 1) d)
-    (λ k lt. get_or-drop 1 into k 0 ∙ ap (λ (xs : List ℕ). get_or xs (1 + k) 0) is ∙ padded (drop p d) 20 (1 + k) (omega (arith, lt, narrow)) ∙ get_or-drop p d (1 + k) 0 ∙ ap (λ n. get_or d n 0) (later p k) ∙ sym (get_or-drop (p + 1) d k 0))
+number_read : (p w : ℕ) (d bytes : List ℕ) → w ≤ 8 → bytes ≡ take 20 (drop p d) → num_at 1 w bytes ≡ num_at (p + 1) w d
+number_read p w d bytes narrow is =
+    same_num w (drop 1 bytes) (drop (p + 1) d)
+    (λ k lt. get_or-drop 1 bytes k 0 ∙ ap (λ (xs : List ℕ). get_or xs (1 + k) 0) is ∙ front_at (drop p d) 20 (1 + k) (omega (arith, lt, narrow)) ∙ get_or-drop p d (1 + k) 0 ∙ ap (λ n. get_or d n 0) (later p k) ∙ sym (get_or-drop (p + 1) d k 0))
   where
     later : (p k : ℕ) → p + (1 + k) ≡ p + 1 + k
     later p k = omega arith
@@ -93,11 +93,19 @@ head_next defs d p h same =
 
 -- ---- in each format
 
-pub slot_says : (defs : Defs) (d into : List ℕ) (p : ℕ) (before next : Option ℕ) → defs.format ≡ Static → defs.rec_ref ≤ 8 → into ≡ filled p (replicate 20 0) d → next ≡ slot_named defs.slot_length defs.rec_ref (num_at 1 defs.rec_ref into) → IsLinkAt defs d p before (record { named = true; next = next })
-slot_says defs d into p before next static narrow is said = record {
-  named = sym (ap (λ f. names_by f d p before) static);
-  next = said ∙ ap (slot_named defs.slot_length defs.rec_ref) (number_read p defs.rec_ref d into narrow is) ∙ sym (ap (λ f. next_by f defs d p) static);
-}
+-- the link of a slot that names a place
+abbrev link_to : Option ℕ → Link
+link_to next = record { named = true; next = next }
+
+pub slot_says : (defs : Defs) (d bytes : List ℕ) (p : ℕ) (before : Option ℕ) (link : Link) → defs.format ≡ Static → defs.rec_ref ≤ 8 → p + defs.rec_ref < length d → bytes ≡ take 20 (drop p d)
+    → (defs.rec_ref < length bytes → link ≡ link_to (slot_named defs.slot_length defs.rec_ref (num_at 1 defs.rec_ref bytes))) → IsLinkAt defs d p before link
+slot_says defs d bytes p before link static narrow inside is said =
+    let all : defs.rec_ref < length bytes = omega (arith, ap (λ (xs : List ℕ). length xs) is, length-take 20 (drop p d), length-drop p d, narrow, inside) in
+    let named = said all in
+    record {
+      named = ap (λ (l : Link). l.named) named ∙ sym (ap (λ f. names_by f d p before) static);
+      next = ap (λ (l : Link). l.next) named ∙ ap (slot_named defs.slot_length defs.rec_ref) (number_read p defs.rec_ref d bytes narrow is) ∙ sym (ap (λ f. next_by f defs d p) static);
+    }
 
 pub block_says : (defs : Defs) (d : List ℕ) (p : ℕ) (before : Option ℕ) (link : Link) → defs.format ≡ Dynamic → link.named ≡ names_by Dynamic d p before → link.next ≡ next_by Dynamic defs d p → IsLinkAt defs d p before link
 block_says defs d p before link dynamic named next = record {

@@ -1,8 +1,8 @@
 -- What was met, and one item more.
-use Rattle.std.proofs.Common.{◌≡◌, ℕ, zero, suc, ◌+◌, List, [], ◌∷◌, ◌++◌, length, Option, Some, Result, Ok, unwrap_or, refl, sym, ap, subst, ◌∙◌, arith, append_assoc}
+use Rattle.std.proofs.Common.{◌≡◌, ℕ, zero, suc, ◌+◌, true, List, [], ◌∷◌, ◌++◌, length, Option, Some, Result, Ok, unwrap_or, refl, sym, ap, subst, ◌∙◌, arith, append_assoc}
 use Rattle.std.specs.Prelude.{map, replicate}
 use Rattle.std.specs.List.{AllByRecursion}
-use Rattle.std.proofs.lemmas.List.{append-nil, map-append, length-map, length_push, length-append}
+use Rattle.std.proofs.lemmas.List.{append-nil, map-append, length-map, length_push, length-append, length-replicate}
 use Rattle.std.proofs.lemmas.List.Concat.{flat_map-append}
 use Rattle.myi_base.specs.Holding.{Holding, IfTold}
 use Rattle.myi_base.specs.Ranges.{Range}
@@ -20,9 +20,10 @@ use Rattle.myi_chain.specs.Pieces.{piece_bytes}
 use Rattle.myi_chain.specs.ScanModel.{ComesFirst, IsItem, IsSameScan, EndsInside}
 use Rattle.myi_data.specs.Keys.{key_of}
 use Rattle.myi_data.specs.Scanning.{TableScan, items_ahead, AfterTable}
+use Rattle.myi_keys.specs.declared.values.KeySeg.{KeySeg}
+use Rattle.myi_keylist.specs.declared.pair.Pair.{Pair}
 use Rattle.myi_rowkeys.specs.TableKeys.{numbers_from, key_numbers, row_keys}
 use Rattle.myi_rowkeys.specs.RowLists.{with_pairs}
-use Rattle.myi_rowkeys.proofs.CallerLemmas.{length-numbers}
 use Rattle.myi_pair.specs.KeyList.{pointer, pair_of, pairs_of}
 use Rattle.myi_pair.specs.Clean.{values_of, placed_row}
 use Rattle.myi_check.specs.declared.met.Met.{Met}
@@ -40,8 +41,11 @@ no_pairs d = none 1 (length d.keys)
     none at zero = refl
     none at (suc n) = ap (λ ls. [] ∷ ls) (none (suc at) n)
 
-pub length-pairs : (d : Defs) (rows : List Row) → length (pair_lists d rows) ≡ length d.keys
-length-pairs d rows = length-map (key_numbers d) _ ∙ length-numbers 1 (length d.keys)
+-- there are as many lists as before
+pub length-with : (at : ℕ) (keys : List (List KeySeg)) (lists : List (List Pair)) → length (with_pairs at keys lists) ≡ length lists
+length-with at [] lists = refl
+length-with at (key ∷ keys) [] = refl
+length-with at (key ∷ keys) (pairs ∷ lists) = ap suc (length-with at keys lists)
 
 pairs_next : (d : Defs) (rows : List Row) (r : Row) → with_pairs (pointer d r.at) (row_keys d (values_of d r)) (pair_lists d rows) ≡ pair_lists d (rows ++ r ∷ [])
 pairs_next d rows r = each (key_numbers d)
@@ -74,14 +78,18 @@ ranges_with rows r = flat_map-append (λ (x : Row). x.blocks) rows (r ∷ []) �
 
 pub row_taken : (d : Defs) (r : Row) (blocks : List (ℕ × ℕ)) (old mid new : Met) → NotesPairs d r.at r.bytes old mid → NotesBlocks blocks mid new → ranges_at blocks ≡ r.blocks → Takes d (row r) old new
 row_taken d r blocks old mid new pairs noted are is has =
-    let view : values_of d r ≡ pairs.values = ap (λ o. unwrap_or o []) pairs.read in
     let all : ranges_of (rows_of (is ++ row r ∷ [])) ≡ ranges_of (rows_of is) ++ ranges_at blocks = ap ranges_of (rows_with is r) ∙ ranges_with (rows_of is) r ∙ ap (λ bs. ranges_of (rows_of is) ++ bs) (sym are) in
     let number : length (rows_of (is ++ row r ∷ [])) ≡ length (rows_of is) + 1 = ap (λ (rs : List Row). length rs) (rows_with is r) ∙ length_push (rows_of is) r in
     let count : length (ranges_of (rows_of (is ++ row r ∷ []))) ≡ length (ranges_of (rows_of is)) + length blocks = ap (λ (rs : List Range). length rs) all ∙ length-append (ranges_of (rows_of is)) (ranges_at blocks) ∙ ap (λ n. length (ranges_of (rows_of is)) + n) (length-map blocks (λ b. (b.0, b.0 + b.1))) in
     record {
-      keys = noted.keys ∙ pairs.keys ∙ ap (with_pairs (pointer d r.at) (row_keys d pairs.values)) has.keys
+      keys = λ on.
+          let was : old.with_keys ≡ true = sym pairs.with_keys ∙ sym noted.with_keys ∙ on in
+          let k = pairs.keys was in
+          let view : values_of d r ≡ k.0 = ap (λ o. unwrap_or o []) k.1 in
+          noted.keys ∙ k.2 ∙ ap (with_pairs (pointer d r.at) (row_keys d k.0)) (has.keys was)
           ∙ ap (λ v. with_pairs (pointer d r.at) (row_keys d v) (pair_lists d (rows_of is))) (sym view)
           ∙ pairs_next d (rows_of is) r ∙ ap (pair_lists d) (sym (rows_with is r));
+      lists = ap (λ (ls : List (List Pair)). length ls) noted.keys ∙ pairs.lists ∙ has.lists;
       records = noted.records ∙ pairs.records ∙ ap (λ n. n + 1) has.records ∙ sym number;
       split = noted.split ∙ ap (λ n. n + length blocks) (pairs.split ∙ has.split) ∙ sym count;
       held = same_then _ _ _ (same_of _ _ all)
@@ -96,7 +104,8 @@ near_push (x ∷ bs) b all near = (all.0, near_push bs b all.1 near)
 
 pub free_taken : (d : Defs) (at size : ℕ) (old new : Met) → NotesFree at size old new → EndsNear (at, size) → Takes d (free (at, at + size)) old new
 free_taken d at size old new noted near is has = record {
-  keys = noted.keys ∙ has.keys ∙ ap (pair_lists d) (sym (rows_past is (at, at + size)));
+  keys = λ on. noted.keys ∙ has.keys (sym noted.with_keys ∙ on) ∙ ap (pair_lists d) (sym (rows_past is (at, at + size)));
+  lists = ap (λ (ls : List (List Pair)). length ls) noted.keys ∙ has.lists;
   records = noted.records ∙ has.records ∙ ap (λ (rs : List Row). length rs) (sym (rows_past is (at, at + size)));
   split = noted.split ∙ has.split ∙ ap (λ rs. length (ranges_of rs)) (sym (rows_past is (at, at + size)));
   held = same_then _ _ _ (same_of _ _ (ap ranges_of (rows_past is (at, at + size)))) (subst (SameBytes (ranges_of (rows_of is))) (sym noted.held) has.held);
@@ -107,7 +116,8 @@ free_taken d at size old new noted near is has = record {
 -- nothing was met
 pub none_met : (d : Defs) (met : Met) → met.keys ≡ replicate (length d.keys) [] → met.records ≡ 0 → met.split ≡ 0 → met.held ≡ [] → met.frees.items ≡ [] → HasMet d [] met
 none_met d met keys records split held frees = record {
-  keys = keys ∙ no_pairs d;
+  keys = λ on. keys ∙ no_pairs d;
+  lists = ap (λ (ls : List (List Pair)). length ls) keys ∙ length-replicate {A = List Pair} (length d.keys) [];
   records = records;
   split = split;
   held = same_of [] met.held (sym held);
@@ -146,6 +156,7 @@ row_read d h s t at p bytes old mid new answer shows pairs blocks =
     record {
       item = row r;
       takes = row_taken d r t.blocks old mid new pairs blocks refl;
+      with_keys = blocks.with_keys ∙ pairs.with_keys;
       rises = answer.0.rises;
       within = answer.0.within;
       first = λ m told.
@@ -157,6 +168,7 @@ pub free_read : (d : Defs) (h : Option Holding) (s t : TableScan) (at size : ℕ
 free_read d h s t at size old new answer noted = record {
   item = free (at, at + size);
   takes = free_taken d at size old new noted answer.0.stands.1.1;
+  with_keys = noted.with_keys;
   rises = answer.0.rises;
   within = answer.0.within;
   first = λ m told.

@@ -30,7 +30,7 @@ use Rattle.myi_pair.specs.Findings.{deleted_places, rows_bad}
 use Rattle.myi_check.specs.declared.met.Met.{Met}
 use Rattle.myi_check.specs.declared.rows.RowsFound.{RowsFound}
 use Rattle.myi_check.specs.HeldBytes.{SameBytes, EndsNear, AreJoined, front_of, gap_behind, is_free}
-use Rattle.myi_check.specs.Rows.{IsAscending, HasRows}
+use Rattle.myi_check.specs.Rows.{IsAscending, ArePointed, HasRows}
 use Rattle.myi_check.specs.Met.{HasMet}
 use Rattle.myi_check.proofs.HeldLemmas.{same_then, same_append, same_of}
 use Rattle.myi_check.proofs.GapLemmas.{gap_same, gap_front}
@@ -163,19 +163,58 @@ deleted_ascend : (d : Defs) (x : List ℕ) → RangesRise 0 (frees_of (items_in 
 unfolding deleted
 deleted_ascend d x rise = places_ascend 0 _ (rise_kept (λ a. is_apart a (ranges_of (readable d false x))) 0 (frees_of (items_in d false x)) rise)
 
+-- in a static table each deleted block is a slot, which holds a row pointer behind its first byte
+
+slots_pointed : (accepts : List ℕ → Bool) (n at size ref len : ℕ) (xs : List ℕ) → ref < size → n ≤ length xs / size → at + length xs ≤ len → AllByRecursion (λ (a : Range). a.0 + ref < len) (frees_of (flat_map (slot_items accepts) (slots n at size xs)))
+slots_pointed accepts zero at size ref len xs some few inside = tt
+slots_pointed accepts (suc n) at size ref len xs some few inside =
+    let whole : size ≤ length xs = has_one (cases_lt (length xs) size) in
+    let rest : length (drop size xs) ≡ length xs - size = length-drop size xs in
+    let all : length xs ≡ length (drop size xs) + size = omega (arith, rest, whole) in
+    let count : length xs / size ≡ suc (length (drop size xs) / size) = ap (λ n. n / size) all ∙ add-div_right (length (drop size xs)) (omega (arith, some)) ∙ add-one (length (drop size xs) / size) in
+    let slot : Slot = record { at = at; bytes = take size xs } in
+    let more : List Item = flat_map (slot_items accepts) (slots n (at + size) size (drop size xs)) in
+    let behind : AllByRecursion (λ (a : Range). a.0 + ref < len) (frees_of more) = slots_pointed accepts n (at + size) size ref len (drop size xs) some (omega (arith, few, count)) (omega (arith, inside, all)) in
+    slot_cases (λ (is : List Item). AllByRecursion (λ (a : Range). a.0 + ref < len) (frees_of (is ++ more))) accepts slot (λ _. (omega (arith, some, whole, inside), behind)) (λ _. behind) behind
+  where
+    has_one : (length xs < size) ⊎ (size ≤ length xs) → size ≤ length xs
+    has_one (inl short) = absurd (omega (arith, few, div-eq_of_lt short))
+    has_one (inr le) = le
+
+all_kept : (P : Range → Type 0) (p : Range → Bool) (rs : List Range) → AllByRecursion P rs → AllByRecursion P (filter p rs)
+all_kept P p [] all = tt
+all_kept P p (a ∷ rs) all = by_test (p a) (all_kept P p rs all.1)
+  where
+    by_test : (b : Bool) → AllByRecursion P (filter p rs) → AllByRecursion P (cond b (a ∷ filter p rs) (filter p rs))
+    by_test true more = (all.0, more)
+    by_test false more = more
+
+all_places : (P : ℕ → Type 0) (rs : List Range) → AllByRecursion (λ (a : Range). P a.0) rs → AllByRecursion P (map (λ (a : Range). a.0) rs)
+all_places P [] all = tt
+all_places P (a ∷ rs) all = (all.0, all_places P rs all.1)
+
+deleted_pointed : (d : Defs) (x : List ℕ) → IsSound d → ArePointed d (length x) (deleted_places d x)
+unfolding deleted items_in items_at
+deleted_pointed d x s static =
+    all_places (λ p. p + d.rec_ref < length x) (deleted d x)
+    (all_kept (λ (a : Range). a.0 + d.rec_ref < length x) (λ a. is_apart a (ranges_of (readable d false x))) (frees_of (items_in d false x))
+    (subst (λ (is : List Item). AllByRecursion (λ (a : Range). a.0 + d.rec_ref < length x) (frees_of is)) (sym (ap (λ (f : RowFormat). items_by f d false x) static))
+    (slots_pointed (packs d) (length x / d.slot_length) 0 d.slot_length d.rec_ref (length x) x (omega (arith, s.slot_pointer static)) (omega arith) (omega arith))))
+
 pub rows_found : (d : Defs) (x : List ℕ) (met : Met) (h joined last : List Range) (kept : List (ℕ × ℕ)) (r : RowsFound) → RangesRise 0 (frees_of (items_in d false x)) → HasMet d (items_in d false x) met
     → SameBytes met.held h → kept ≡ filter (is_free h) met.frees.items → SameBytes (h ++ ranges_at kept) joined → SameBytes joined last → AreJoined 0 last
-    → r.keys ≡ met.keys → r.records ≡ met.records → r.split ≡ met.split → r.deleted.items ≡ map (λ b. b.0) kept → r.empty ≡ sum_by (λ b. b.1) kept → r.gap ≡ gap_behind (cond (is_addressable d (length x)) (front_of last) 0) (length x) → HasRows d x r
+    → r.keys ≡ met.keys → r.records ≡ met.records → r.split ≡ met.split → r.deleted.items ≡ map (λ b. b.0) kept → r.empty ≡ sum_by (λ b. b.1) kept → r.gap ≡ gap_behind (cond (is_addressable d (length x)) (front_of last) 0) (length x) → IsSound d → HasRows d met.with_keys x r
 unfolding readable
-rows_found d x met h joined last kept r rise has first is second third order keys records split places empty gap =
+rows_found d x met h joined last kept r rise has first is second third order keys records split places empty gap s =
     let are = deleted_found d x met h kept rise has first is in
     let at : r.deleted.items ≡ deleted_places d x = places ∙ places_of kept ∙ ap (map (λ (a : Range). a.0)) are in
     record {
-      keys = keys ∙ has.keys;
+      keys = λ on. keys ∙ has.keys on;
       records = records ∙ has.records;
       split = split ∙ has.split;
       deleted = at;
       ascends = subst IsAscending (sym at) (deleted_ascend d x rise);
+      pointed = subst (ArePointed d (length x)) (sym at) (deleted_pointed d x s);
       empty = empty ∙ total_of kept ∙ ap total are;
       gap = gap ∙ gap_found d x met h joined last kept has are first second third order;
     }

@@ -54,6 +54,15 @@ marked_ok d s ok = by (nat_lt (length d.raw) (length d.raw)) (has_mark d d.raw) 
     by false true e = refl
     by false false e = absurd cc
 
+pub state_ok : (d : Defs) (s : State) → read_state d d.raw ≡ Ok s → s ≡ state_of d d.raw
+unfolding read_state
+state_ok d s ok = by (nat_lt (length d.raw) (length d.raw)) (has_mark d d.raw) ok
+  where
+    by : (b m : Bool) → (cond b (Err Short) (cond (not m) (Err Foreign) (Ok (state_of d d.raw)))) ≡ Ok s → s ≡ state_of d d.raw
+    by true m e = absurd cc
+    by false true e = cc
+    by false false e = absurd cc
+
 pub marked_not : (d : Defs) → read_state d d.raw ≡ Err Foreign → false ≡ has_mark d d.raw
 unfolding read_state
 marked_not d absent = by (nat_lt (length d.raw) (length d.raw)) (has_mark d d.raw) absent

@@ -2,12 +2,14 @@
 use Rattle.std.proofs.Common.{◌≡◌, ◌≢◌, ℕ, zero, suc, ◌+◌, ◌<◌, ◌≤◌, ◌-◌, ◌^◌, ◌⊎◌, inl, inr, subst, Bool, true, false, not, min, List, [], ◌∷◌, ◌++◌, length, take, drop, replicate, get_or, Option, Some, None, refl, sym, ap, ◌∙◌, arith}
 use Rattle.std.specs.Prelude.{slice_set}
 use Rattle.std.specs.Option.{option_map}
+use Rattle.std.specs.Prelude.{HoldsAt}
 use Rattle.std.specs.List.{AllByRecursion}
 use Rattle.std.proofs.lemmas.Bool.{eq-eqb, ne_eqb, cases_lt}
 use Rattle.std.proofs.lemmas.List.{drop_all, append-nil, take_all}
 use Rattle.myi_pair.specs.FirstBad.{without, least_of, least}
 use Rattle.myi_pair.specs.Findings.{told}
-use Rattle.myi_check.specs.Rows.{IsAscending}
+use Rattle.myi_defs.specs.declared.types.Defs.{Defs}
+use Rattle.myi_check.specs.Rows.{IsAscending, ArePointed}
 use Rattle.myi_check.specs.ListMet.{unmet}
 
 -- all of these places, with a weaker fact
@@ -125,3 +127,13 @@ named_is false b same names = absurd cc
 pub not_named : (a b : Bool) → a ≡ b → not a ≡ true → b ≡ false
 not_named true b same names = absurd cc
 not_named false b same names = sym same
+
+-- an element does not depend on what stands for none
+pub elements_same : (ps : List ℕ) (i a b : ℕ) → i < length ps → get_or ps i a ≡ get_or ps i b
+elements_same [] i a b lt = absurd (omega (arith, lt))
+elements_same (p ∷ ps) zero a b lt = refl
+elements_same (p ∷ ps) (suc i) a b lt = elements_same ps i a b (omega (arith, lt))
+
+-- what holds of all places of deleted blocks holds of one
+pub pointed_one : (d : Defs) (end : ℕ) (ps : List ℕ) (p : ℕ) → (i : ℕ) × (i < length ps) × HoldsAt (λ q. q ≡ p) ps i → ArePointed d end ps → ArePointed d end (p ∷ [])
+pointed_one d end ps p (i, lt, at) are = λ static. (subst (λ q. q + d.rec_ref < end) (at 0) (at_index (λ q. q + d.rec_ref < end) ps i (are static) lt), tt)

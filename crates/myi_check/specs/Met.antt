@@ -18,7 +18,8 @@ use Rattle.myi_check.specs.Rows.{pair_lists}
 
 -- these items were met
 pub record HasMet (d : Defs) (items : List Item) (met : Met) : Type 0 where
-  pub keys : met.keys ≡ pair_lists d (rows_of items)
+  pub keys : met.with_keys ≡ true → met.keys ≡ pair_lists d (rows_of items)
+  pub lists : length met.keys ≡ length d.keys
   pub records : met.records ≡ length (rows_of items)
   pub split : met.split ≡ length (ranges_of (rows_of items))
   pub held : SameBytes (ranges_of (rows_of items)) met.held
@@ -29,11 +30,21 @@ pub record HasMet (d : Defs) (items : List Item) (met : Met) : Type 0 where
 abbrev pub Takes : Defs → Item → Met → Met → Type 0
 Takes d item old new = (items : List Item) → HasMet d items old → HasMet d (items ++ item ∷ []) new
 
--- the pairs of a row of these bytes were noted
+-- the pairs of a row of these bytes were noted, where they are noted
+pub record NotesKeys (d : Defs) (at : ℕ) (bytes : List ℕ) (old new : Met) : Type 0 where
+  pub with_keys : new.with_keys ≡ old.with_keys
+  pub keys : old.with_keys ≡ true → (values : Values) × (row_of d bytes ≡ Some values) × (new.keys ≡ with_pairs (pointer d at) (row_keys d values) old.keys)
+  pub lists : length new.keys ≡ length old.keys
+  pub records : new.records ≡ old.records
+  pub split : new.split ≡ old.split
+  pub held : new.held ≡ old.held
+  pub frees : new.frees.items ≡ old.frees.items
+
+-- a row of these bytes was noted, with its pairs
 pub record NotesPairs (d : Defs) (at : ℕ) (bytes : List ℕ) (old new : Met) : Type 0 where
-  pub values : Values
-  pub read : row_of d bytes ≡ Some values
-  pub keys : new.keys ≡ with_pairs (pointer d at) (row_keys d values) old.keys
+  pub with_keys : new.with_keys ≡ old.with_keys
+  pub keys : old.with_keys ≡ true → (values : Values) × (row_of d bytes ≡ Some values) × (new.keys ≡ with_pairs (pointer d at) (row_keys d values) old.keys)
+  pub lists : length new.keys ≡ length old.keys
   pub records : new.records ≡ old.records + 1
   pub split : new.split ≡ old.split
   pub held : new.held ≡ old.held
@@ -43,12 +54,14 @@ pub record NotesPairs (d : Defs) (at : ℕ) (bytes : List ℕ) (old new : Met) :
 pub record NotesBlocks (blocks : List (ℕ × ℕ)) (old new : Met) : Type 0 where
   pub held : SameBytes (old.held ++ ranges_at blocks) new.held
   pub split : new.split ≡ old.split + length blocks
+  pub with_keys : new.with_keys ≡ old.with_keys
   pub keys : new.keys ≡ old.keys
   pub records : new.records ≡ old.records
   pub frees : new.frees.items ≡ old.frees.items
 
 -- a deleted block was noted
 pub record NotesFree (at size : ℕ) (old new : Met) : Type 0 where
+  pub with_keys : new.with_keys ≡ old.with_keys
   pub keys : new.keys ≡ old.keys
   pub records : new.records ≡ old.records
   pub split : new.split ≡ old.split
@@ -59,6 +72,7 @@ pub record NotesFree (at size : ℕ) (old new : Met) : Type 0 where
 pub record Reads (d : Defs) (told : Option Holding) (s t : TableScan) (old new : Met) : Type 0 where
   pub item : Item
   pub takes : Takes d item old new
+  pub with_keys : new.with_keys ≡ old.with_keys
   pub rises : s.place < t.place
   pub within : t.place ≤ t.end
   pub first : IfTold told (λ m. items_ahead s m ≡ item ∷ items_ahead t m)

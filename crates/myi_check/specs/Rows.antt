@@ -1,6 +1,7 @@
 -- What a scan of a data file finds: of the readable rows and the deleted blocks what a check compares.
-use Rattle.std.specs.Prelude.{◌≡◌, ◌<◌, ℕ, false, List, [], ◌∷◌, length, map}
+use Rattle.std.specs.Prelude.{◌≡◌, ◌+◌, ◌<◌, ℕ, Bool, true, false, List, [], ◌∷◌, length, map}
 use Rattle.std.specs.List.{AllByRecursion}
+use Rattle.myi_defs.specs.declared.types.RowFormat.TheVariants.{Static}
 use Rattle.myi_defs.specs.declared.types.Defs.{Defs}
 use Rattle.myi_keylist.specs.declared.pair.Pair.{Pair}
 use Rattle.myi_chain.specs.Readable.{Row}
@@ -19,16 +20,21 @@ abbrev pub IsAscending : List ℕ → Type 0
 IsAscending [] = Unit {0}
 IsAscending (p ∷ ps) = AllByRecursion (λ q. p < q) ps × IsAscending ps
 
+-- in a static table a row pointer stands behind the first byte at each of these places of a file of so many bytes
+abbrev pub ArePointed : Defs → ℕ → List ℕ → Type 0
+ArePointed d len ps = d.format ≡ Static → AllByRecursion (λ p. p + d.rec_ref < len) ps
+
 -- the pairs of these rows, a list for each key
 abbrev pub pair_lists : Defs → List Row → List (List Pair)
 pair_lists d rows = map (λ k. pairs_of d k (map (placed_row d) rows)) (key_numbers d)
 
--- this was found of a data file
-pub record HasRows (d : Defs) (rows : List ℕ) (r : RowsFound) : Type 0 where
-  pub keys : r.keys ≡ pair_lists d (readable d false rows)
+-- this was found of a data file, with the pairs of its rows where these are looked at
+pub record HasRows (d : Defs) (with_keys : Bool) (rows : List ℕ) (r : RowsFound) : Type 0 where
+  pub keys : with_keys ≡ true → r.keys ≡ pair_lists d (readable d false rows)
   pub records : r.records ≡ length (readable d false rows)
   pub split : r.split ≡ length (ranges_of (readable d false rows))
   pub deleted : r.deleted.items ≡ deleted_places d rows
   pub ascends : IsAscending r.deleted.items
+  pub pointed : ArePointed d (length rows) r.deleted.items
   pub empty : r.empty ≡ total (table.deleted d rows)
   pub gap : r.gap ≡ rows_bad d rows

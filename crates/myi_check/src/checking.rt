@@ -1,6 +1,6 @@
 //! The check of a table.
 //!
-//! `check` opens the table, and then reads the data file once (`rows`), follows the list of deleted
+//! `check` opens the table, and then goes through the data file once (`rows`), follows the list of deleted
 //! blocks (`list`) and walks the tree of each key (`keys`). What the header says is compared with
 //! what these found (`header`). The sections' findings are put together at the end.
 ghost use Rattle.std.specs.Prelude.{◌≡◌, ◌⊎◌, ◌++◌, ℕ, true, false, List, [], length, map, Some, IfOk, IfErr};
@@ -29,7 +29,7 @@ use myi_pair::{Finding, HeaderItem};
 use std::alloc::{AllocError, Global};
 
 /// Says what is wrong with the files of a table, and changes none: nothing exactly where they are a
-/// clean pair. The data file is read in order, and each page of a tree once.
+/// clean pair.
 pub fn check<F: Files>(alloc: Global, files: &mut F, name: &str) -> Result<Vec<Finding>, TableFault>
     ensures findings { IfOk result (λ found.
         IfTold (F.holds files.old) (Finds name.now found.items)) }
@@ -89,7 +89,7 @@ fn check_sections<F: Files>(
 {
     let defs = &opened.defs;
     let header = stored_header(alloc, defs)?;
-    let found = find_rows(alloc, files, rows, defs, opened.length)?;
+    let found = find_rows(alloc, files, rows, defs, opened.length, header.marked)?;
     let RowsFound {
         keys,
         records,

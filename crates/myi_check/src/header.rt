@@ -2,7 +2,7 @@
 //!
 //! A `StoredHeader` is what the header says, and `Shown` what the files show of the same numbers;
 //! `header_item` answers the first item in which they differ.
-ghost use Rattle.std.specs.Prelude.{◌≡◌, ℕ, true, List, length, Ok, IfOk, IfErr};
+ghost use Rattle.std.specs.Prelude.{◌≡◌, ℕ, true, false, List, length, Ok, IfOk, IfErr};
 ghost use Rattle.myi_defs.specs.Sound.{IsSound};
 ghost use Rattle.myi_defs.specs.ReadDefs.{read_defs};
 ghost use Rattle.myi_header.specs.StateOf.{state_of, has_mark};
@@ -48,23 +48,29 @@ pub(crate) fn stored_header(alloc: Global, defs: &Defs) -> Result<StoredHeader, 
     ensures memory { IfErr result (λ f. f ≡ Memory) }
 {
     definitions_are_sound();
-    let marked = is_marked(alloc, defs)?;
-    let state = stored_state(alloc, defs)?;
-    Ok(StoredHeader { state, marked })
-}
-
-// Whether the header has the mark.
-fn is_marked(alloc: Global, defs: &Defs) -> Result<bool, TableFault>
-    requires { IsSound defs.now }
-    ensures marked { IfOk result (λ marked. marked ≡ has_mark defs.now defs.now.raw) }
-    ensures memory { IfErr result (λ f. f ≡ Memory) }
-{
     match read_state(alloc, defs, defs.raw.as_slice()) {
-        Ok(_) => Ok(true),
-        Err(StateFault::Foreign) => Ok(false),
+        Ok(state) => Ok(StoredHeader {
+            state,
+            marked: true,
+        }),
+        Err(StateFault::Foreign) => foreign_header(alloc, defs),
         Err(StateFault::Short) => unreachable!(),
         Err(StateFault::Memory) => Err(TableFault::Memory),
     }
+}
+
+// What a header without the mark says.
+fn foreign_header(alloc: Global, defs: &Defs) -> Result<StoredHeader, TableFault>
+    requires { IsSound defs.now }
+    ensures state { IfOk result (λ h. h.state ≡ state_of defs.now defs.now.raw) }
+    ensures marked { IfOk result (λ h. h.marked ≡ false) }
+    ensures memory { IfErr result (λ f. f ≡ Memory) }
+{
+    let state = stored_state(alloc, defs)?;
+    Ok(StoredHeader {
+        state,
+        marked: false,
+    })
 }
 
 /// The first item of a header that is not what the files show.

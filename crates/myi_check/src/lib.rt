@@ -5,9 +5,11 @@
 //! tree, and a byte of the data file that belongs to nothing. Nothing is found exactly where the
 //! files are a clean pair. No file is changed.
 //!
-//! `check` opens the table, reads the data file once in order, follows the list of deleted blocks
-//! by short reads, and walks the tree of each key once, beside the key's sorted list. In memory are
-//! the keys of the table's rows and the places of its deleted blocks, and no file as a whole.
+//! `check` opens the table, goes through the data file once in order (blocks of a row that the
+//! window does not hold are read besides), follows the list of deleted blocks by short reads, and
+//! walks the tree of each key once, beside the key's sorted list. In memory are the keys of the
+//! table's rows, the places of its deleted blocks and of its pages, and what of rows' blocks stands
+//! apart from those before it, and no file as a whole.
 //!
 //! ```
 //! match check(alloc, files, name) {

@@ -3,7 +3,7 @@
 //! `check_list` holds the places of all deleted blocks in their order, which the scan found, and
 //! beside them a flag for each that the list has named. A `Link` is what the block at a place says
 //! of the list.
-ghost use Rattle.std.specs.Prelude.{◌≡◌, ◌≢◌, ◌≤◌, ◌<◌, ◌+◌, ◌-◌, ◌^◌, ◌==◌, ℕ, false, List, length, take, drop, replicate, None, IfOk, IfErr, IfSome, HoldsAt};
+ghost use Rattle.std.specs.Prelude.{◌≡◌, ◌≢◌, ◌≤◌, ◌<◌, ◌+◌, ◌-◌, ◌^◌, ◌==◌, ◌∷◌, ℕ, true, false, List, [], length, take, drop, replicate, None, IfOk, IfErr, IfSome, HoldsAt};
 ghost use Rattle.std.specs.List.{AllByRecursion};
 ghost use Rattle.std.specs.Option.{option_map};
 ghost use Rattle.myi_base.specs.Holding.{IfTold, bytes_of};
@@ -15,7 +15,7 @@ ghost use Rattle.myi_opening.specs.Opening.{IsCutOff};
 ghost use Rattle.myi_pair.specs.Clean.{slot_named, next_by, next_deleted};
 ghost use Rattle.myi_pair.specs.FirstBad.{without, least, list_bad};
 ghost use Rattle.myi_pair.specs.Findings.{same_link, names_by, names_before, told};
-ghost use Rattle.myi_check.specs.Rows.{IsAscending};
+ghost use Rattle.myi_check.specs.Rows.{IsAscending, ArePointed};
 ghost use Rattle.myi_check.specs.ListMet.{unmet, IsLinkAt};
 
 use myi_base::number_at;
@@ -34,10 +34,17 @@ pub(crate) struct Link {
     pub(crate) next: Option<u128>,
 }
 
+/// Where no deleted block stands.
+const NO_LINK: Link = Link {
+    named: false,
+    next: None,
+};
+
 /// The first bad place of the list of deleted blocks that begins at `head`: one that is no deleted
 /// block, was met before, or does not name the one before it; else the lowest deleted block that is
 /// not on the list. `deleted` has the places of all deleted blocks of a data file of `end` bytes,
-/// in order. A place from 2^64 on is answered as 2^64 - 1.
+/// in order. A place from 2^64 on is answered as 2^64 - 1. Where the file is shorter by now, so that what
+/// a block names is not there, its place is a bad one.
 pub(crate) fn check_list<F: Files>(
     files: &mut F,
     rows: &str,
@@ -49,6 +56,7 @@ pub(crate) fn check_list<F: Files>(
     requires sound { IsSound defs.now }
     ensures found { IfOk result (λ bad. IfTold (F.holds files.old) (λ m. (d : List ℕ)
         → bytes_of rows.now m ≡ d → length d ≡ end → IsAscending deleted.now
+        → ArePointed defs.now end deleted.now
         → bad ≡ option_map told (list_bad (next_deleted defs.now d) (names_before defs.now d)
         (length deleted.now) deleted.now None head))) }
     ensures cut { IfErr result IsCutOff }
@@ -127,6 +135,8 @@ fn take_out(places: &[u64], met: &mut [bool], place: u128) -> Option<u64>
     ensures left { IsAscending places.now → without place (unmet places.now met.old)
         ≡ option_map (λ p. unmet places.now met.new) result }
     ensures same { IfSome result (λ p. p ≡ place) }
+    ensures among { IfSome result (λ p. (i : ℕ)
+        × (i < length places.now) × HoldsAt (λ q. q ≡ p) places.now i) }
     ensures long { length met.new ≡ length met.old }
 {
     let Some(index) = index_of(places, place) else {
@@ -153,7 +163,8 @@ fn least_left(places: &[u64], met: &[bool]) -> Option<u64>
     None
 }
 
-// What the deleted block at a place of a data file of `end` bytes says, by one read.
+// What the deleted block at a place of a data file of `end` bytes says, by one read. Where it is not there
+// whole, it names nothing.
 fn link_at<F: Files>(
     files: &mut F,
     rows: &str,
@@ -165,25 +176,40 @@ fn link_at<F: Files>(
     requires sound { IsSound defs.now }
     ensures told { IfOk result (λ link. IfTold (F.holds files.old) (λ m. (d : List ℕ)
         → bytes_of rows.now m ≡ d → length d ≡ end
-        → IsLinkAt defs.now d place before link)) }
+        → ArePointed defs.now end (place ∷ []) → IsLinkAt defs.now d place before link)) }
     ensures holds { F.holds files.new ≡ F.holds files.old }
     ensures cause { HasCause Failed (F.faults files.old) (F.faults files.new) result }
 {
     let mut bytes = [0u8; LEAST_SIZE];
     let count = files.read_at(rows, place, &mut bytes)?;
     match defs.format {
-        RowFormat::Static => Ok(Link {
-            named: true,
-            next: next_slot(&bytes, defs.slot_length, defs.rec_ref),
-        }),
+        RowFormat::Static => Ok(slot_link(&bytes[..count], defs.slot_length, defs.rec_ref)),
         RowFormat::Dynamic => Ok(block_link(&bytes[..count], place, end, before)),
+    }
+}
+
+// What a deleted slot says, by its first 20 bytes, or by all up to the file's end.
+fn slot_link(bytes: &[u8], slot_length: u32, rec_ref: u8) -> Link
+    requires narrow { rec_ref ≤ 8 }
+    ensures names { rec_ref < length bytes.now → result ≡ record {
+      named = true;
+      next = slot_named slot_length rec_ref (num_at 1 rec_ref bytes.now);
+    } }
+    ensures none { length bytes.now ≤ rec_ref → result.named ≡ false }
+{
+    if bytes.len() <= rec_ref as usize {
+        return NO_LINK;
+    }
+    Link {
+        named: true,
+        next: next_slot(bytes, slot_length, rec_ref),
     }
 }
 
 // The place that a deleted slot names as the next one, by its first bytes.
 fn next_slot(bytes: &[u8], slot_length: u32, rec_ref: u8) -> Option<u128>
     requires narrow { rec_ref ≤ 8 }
-    requires long { 9 ≤ length bytes.now }
+    requires long { rec_ref < length bytes.now }
     ensures { result ≡ slot_named slot_length rec_ref (num_at 1 rec_ref bytes.now) }
 {
     let number = number_at(bytes, 1, rec_ref as usize);
@@ -210,16 +236,10 @@ fn block_link(bytes: &[u8], place: u64, end: u64, before: Option<u64>) -> Link
         → result.next ≡ next_by RowFormat.Dynamic defs d place }
 {
     if bytes.len() < LEAST_SIZE {
-        return Link {
-            named: false,
-            next: None,
-        };
+        return NO_LINK;
     }
     match head_at(bytes, place, end) {
-        None => Link {
-            named: false,
-            next: None,
-        },
+        None => NO_LINK,
         Some(head) => Link {
             named: is_same(head.prev, before),
             next: widened(head.next),

@@ -1,10 +1,10 @@
 //! `Met`: what was met of a data file so far.
 //!
-//! Of each row its pairs are noted, how many blocks it has and which bytes they hold; of each deleted block
-//! its place and its size. A deleted block is one of the table only if it meets no block of a row, be it
+//! Of each row its pairs are noted, where keys are looked at, how many blocks it has and which bytes they hold;
+//! of each deleted block its place and its size. A deleted block is one of the table only if it meets no block of a row, be it
 //! before or behind, so that which of them count is told when all rows have come.
 ghost use Rattle.std.specs.Prelude.{◌≡◌, ◌+◌, IfOk};
-ghost use Rattle.myi_opening.specs.Opening.{IsCutOff};
+ghost use Rattle.myi_base.specs.HandsOn.{HandsOn};
 ghost use Rattle.myi_defs.specs.Sound.{IsSound};
 ghost use Rattle.myi_opening.specs.declared.fault.TableFault.TheVariants as table;
 ghost use Rattle.myi_chain.specs.declared.piece.ScanFault.TheVariants as scan;
@@ -23,7 +23,9 @@ use std::alloc::{AllocError, Global};
 /// What was met so far.
 #[derive(Drop)]
 pub(crate) struct Met {
-    /// The pairs of the rows, a list for each key of the table.
+    /// Whether the pairs of the rows are noted.
+    pub(crate) with_keys: bool,
+    /// These pairs, a list for each key of the table. The lists are empty where none is noted.
     pub(crate) keys: RowKeys,
     pub(crate) records: u64,
     /// How many blocks the rows have.
@@ -46,13 +48,15 @@ impl Met {
     ghost use Rattle.myi_data.specs.Readable.{packs};
     ghost use Rattle.myi_data.specs.Scanning.{IsAsKnown};
     ghost use Rattle.myi_check.specs.HeldBytes.{EndsNear};
-    ghost use Rattle.myi_check.specs.Met.{HasMet, ReadsIf, NotesPairs, NotesBlocks, NotesFree};
+    ghost use Rattle.myi_check.specs.Met.{HasMet, ReadsIf, NotesKeys, NotesPairs, NotesBlocks, NotesFree};
 
     /// Nothing was met yet, of a table with these definitions.
-    pub(crate) fn new(alloc: Global, defs: &Defs) -> Result<Met, AllocError>
-        ensures { IfOk result (HasMet defs.now []) }
+    pub(crate) fn new(alloc: Global, defs: &Defs, with_keys: bool) -> Result<Met, AllocError>
+        ensures met { IfOk result (HasMet defs.now []) }
+        ensures keys { IfOk result (λ met. met.with_keys ≡ with_keys) }
     {
         Ok(Met {
+            with_keys,
             keys: RowKeys::new(alloc, defs.keys.as_slice().len())?,
             records: 0,
             split: 0,
@@ -95,7 +99,7 @@ impl Met {
         }
     }
 
-    // Notes the pairs of a row.
+    // Notes a row and its pairs.
     fn note_pairs(&mut self, defs: &Defs, at: u64, bytes: &[u8]) -> Result<(), AllocError>
         requires defs { AreDefs defs.now }
         requires packed { packs defs.now bytes.now ≡ true }
@@ -103,9 +107,24 @@ impl Met {
         requires all { length self.old.keys ≡ length defs.now.keys }
         ensures { OnOk result (NotesPairs defs.now at bytes.now self.old self.new) }
     {
+        self.note_keys(defs, at, bytes)?;
+        self.records = sum(self.records, 1)?;
+        Ok(())
+    }
+
+    // Notes the pairs of a row in the lists, where they are noted.
+    fn note_keys(&mut self, defs: &Defs, at: u64, bytes: &[u8]) -> Result<(), AllocError>
+        requires defs { AreDefs defs.now }
+        requires packed { packs defs.now bytes.now ≡ true }
+        requires few { length bytes.now < 2 ^ 32 }
+        requires all { length self.old.keys ≡ length defs.now.keys }
+        ensures { OnOk result (NotesKeys defs.now at bytes.now self.old self.new) }
+    {
+        if !self.with_keys {
+            return Ok(());
+        }
         let row = view_packed(defs, bytes);
         self.keys.push(defs, &row, pointer(defs, at))?;
-        self.records = sum(self.records, 1)?;
         Ok(())
     }
 
@@ -130,8 +149,7 @@ impl Met {
 
 // Why a scan did not go on, as a fault of the table.
 fn table_fault(fault: ScanFault) -> TableFault
-    ensures file { result ≡ table.File → fault ≡ scan.File }
-    ensures cut { IsCutOff result }
+    ensures { HandsOn (scan.File, table.File) (scan.Memory, table.Memory) fault result }
 {
     match fault {
         ScanFault::File => TableFault::File,

@@ -3,7 +3,8 @@
 //! `find_rows` meets each row and each deleted block once, in order of their places (`Met`). When all rows
 //! have come, it keeps of the deleted blocks those that meet no block of a row, and looks for the lowest byte
 //! that belongs to nothing.
-ghost use Rattle.std.specs.Prelude.{◌≡◌, ◌++◌, ◌∷◌, [], ℕ, List, Some, false, map, filter, sum_by, if◌then◌else◌, IfOk, IfErr, OnOk};
+ghost use Rattle.std.specs.Prelude.{◌≡◌, ◌<◌, ◌≤◌, ◌+◌, ◌++◌, ℕ, List, Some, false, map, filter, sum_by, if◌then◌else◌};
+ghost use Rattle.std.specs.Prelude.{take, drop, HoldsAt, IfOk, IfErr};
 ghost use Rattle.std.specs.Prelude as std;
 ghost use Rattle.std.specs.List.{AllByRecursion};
 ghost use Rattle.myi_base.specs.Holding.{IfTold};
@@ -12,7 +13,6 @@ ghost use Rattle.myi_defs.specs.ReadDefs.{AreDefs};
 ghost use Rattle.myi_defs.specs.Sound.{IsSound};
 ghost use Rattle.myi_opening.specs.Opening.{IsCutOff};
 ghost use Rattle.myi_chain.specs.Readable.{Item};
-ghost use Rattle.myi_chain.specs.ScanModel.{fresh_scan};
 ghost use Rattle.myi_data.specs.Readable.{items_in};
 ghost use Rattle.myi_data.specs.Scanning.{IsAsKnown};
 ghost use Rattle.myi_defs.specs.Addressable.{is_addressable};
@@ -22,10 +22,9 @@ ghost use Rattle.myi_check.specs.Rows.{HasRows};
 
 use crate::held_bytes::HeldBytes;
 use crate::met::{Met, sum};
-use myi_chain::rows_are_met;
-use myi_data::{DataFile, DataScan};
+use myi_chain::{ScanSetup, rows_are_met};
+use myi_data::DataScan;
 use myi_defs::Defs;
-use myi_header::stored_state;
 use myi_io::Files;
 use myi_opening::TableFault;
 use myi_rowkeys::RowKeys;
@@ -34,7 +33,8 @@ use std::alloc::{AllocError, Global};
 /// What a scan of a data file finds.
 #[derive(Drop)]
 pub(crate) struct RowsFound {
-    /// The pairs of the readable rows, a list for each key of the table, in the order of the rows.
+    /// The pairs of the readable rows, a list for each key of the table, in the order of the rows. The lists
+    /// are empty where keys are not looked at.
     pub(crate) keys: RowKeys,
     pub(crate) records: u64,
     /// How many blocks the rows have.
@@ -47,37 +47,32 @@ pub(crate) struct RowsFound {
     pub(crate) gap: Option<u64>,
 }
 
-/// Reads a data file of that length once.
+/// Goes through a data file of that length once, and notes the pairs of its rows where keys are looked at.
 pub(crate) fn find_rows<F: Files>(
     alloc: Global,
     files: &mut F,
     rows: &str,
     defs: &Defs,
     length: u64,
+    with_keys: bool,
 ) -> Result<RowsFound, TableFault>
     requires defs { AreDefs defs.now }
     requires long { IfTold (F.holds files.old) (λ m.
         (d : List ℕ) × (m rows.now ≡ Some d) × (length ≡ std.length d)) }
     ensures found { IfOk result (λ r. IfTold (F.holds files.old) (λ m. (d : List ℕ)
-        → m rows.now ≡ Some d → HasRows defs.now d r)) }
+        → m rows.now ≡ Some d → HasRows defs.now with_keys d r)) }
     ensures lists { IfOk result (λ r. std.length r.keys ≡ std.length defs.now.keys) }
     ensures cut { IfErr result IsCutOff }
     ensures holds { F.holds files.new ≡ F.holds files.old }
     ensures cause { HasCause TableFault.File (F.faults files.old) (F.faults files.new) result }
 {
-    let mut scan = scan_of(alloc, rows, defs, length)?;
-    let met = meet_all(alloc, files, &mut scan, defs)?;
+    let setup = ScanSetup {
+        extend: false,
+        file_len: length,
+    };
+    let mut scan = DataScan::of_file(rows, defs, setup)?;
+    let met = meet_all(alloc, files, &mut scan, defs, with_keys)?;
     Ok(into_found(alloc, met, defs, length)?)
-}
-
-// A scan of the whole file.
-fn scan_of(alloc: Global, rows: &str, defs: &Defs, end: u64) -> Result<DataScan, AllocError>
-    requires { IsSound defs.now }
-    ensures { IfOk result (λ scan. scan ≡ fresh_scan rows.now defs.now false end) }
-{
-    let mut state = stored_state(alloc, defs)?;
-    state.data_file_length = end;
-    DataFile::new(alloc, rows, defs, &state)?.scan(false)
 }
 
 // Meets all that a scan has left.
@@ -86,16 +81,18 @@ fn meet_all<F: Files>(
     files: &mut F,
     scan: &mut DataScan,
     defs: &Defs,
+    with_keys: bool,
 ) -> Result<Met, TableFault>
     requires current { IfTold (F.holds files.old) (IsAsKnown scan.old) }
     requires test { scan.old.test ≡ defs.now }
     requires defs { AreDefs defs.now }
     ensures met { IfOk result (MeetsAll defs.now (F.holds files.old) scan.old) }
+    ensures keys { IfOk result (λ met. met.with_keys ≡ with_keys) }
     ensures holds { F.holds files.new ≡ F.holds files.old }
     ensures cut { IfErr result IsCutOff }
     ensures cause { HasCause TableFault.File (F.faults files.old) (F.faults files.new) result }
 {
-    let mut met = Met::new(alloc, defs)?;
+    let mut met = Met::new(alloc, defs, with_keys)?;
     while met.read(files, scan, defs)? {}
     Ok(met)
 }
@@ -105,19 +102,21 @@ fn into_found(alloc: Global, met: Met, defs: &Defs, length: u64) -> Result<RowsF
     requires sound { IsSound defs.now }
     requires met { (items : List Item) × HasMet defs.now items met }
     ensures found { IfOk result (λ r. (d : List ℕ) → length ≡ std.length d
-        → HasMet defs.now (items_in defs.now false d) met → HasRows defs.now d r) }
+        → HasMet defs.now (items_in defs.now false d) met
+        → HasRows defs.now met.with_keys d r) }
     ensures lists { IfOk result (λ r. std.length r.keys ≡ std.length defs.now.keys) }
 {
     rows_are_met();
     let Met {
+        with_keys: _,
         keys,
         records,
         split,
         mut held,
-        frees,
+        frees: mut deleted,
     } = met;
     held.put_in_order()?;
-    let deleted = keep_apart(alloc, &frees, &held)?;
+    keep_apart(&mut deleted, &held);
     held.add_blocks(&deleted)?;
     held.put_in_order()?;
     Ok(RowsFound {
@@ -130,39 +129,48 @@ fn into_found(alloc: Global, met: Met, defs: &Defs, length: u64) -> Result<RowsF
     })
 }
 
-// The blocks of which no byte is held. The held ranges are in order.
-fn keep_apart(
-    alloc: Global,
-    blocks: &[(u64, u32)],
-    held: &HeldBytes,
-) -> Result<Vec<(u64, u32)>, AllocError>
-    requires near { AllByRecursion EndsNear blocks.now }
+// Keeps the blocks of which no byte is held. The held ranges are in order.
+fn keep_apart(blocks: &mut Vec<(u64, u32)>, held: &HeldBytes)
+    requires near { AllByRecursion EndsNear blocks.old.items }
     requires order { AreJoined 0 held.now }
-    ensures { IfOk result (λ kept. kept.items ≡ filter (is_free held.now) blocks.now) }
+    ensures { blocks.new.items ≡ filter (is_free held.now) blocks.old.items }
 {
-    let mut kept = Vec::new(alloc);
+    let mut count = 0;
     for index in 0..blocks.len() {
-        push_if_apart(&mut kept, blocks[index], held)?;
+        count = keep_block(blocks, index, count, held);
     }
-    Ok(kept)
+    blocks.truncate(count);
 }
 
-// Adds a block, if no byte of it is held.
-fn push_if_apart(
-    kept: &mut Vec<(u64, u32)>,
-    block: (u64, u32),
-    held: &HeldBytes,
-) -> Result<(), AllocError>
+// Puts a block behind those in front that are kept, if no byte of it is held, and says how many these are
+// then.
+fn keep_block(blocks: &mut Vec<(u64, u32)>, index: usize, count: usize, held: &HeldBytes) -> usize
+    requires inside { index < std.length blocks.old.items }
+    requires few { count ≤ index }
+    requires near { HoldsAt EndsNear blocks.old.items index }
+    requires order { AreJoined 0 held.now }
+    ensures kept { take result blocks.new.items ≡ take count blocks.old.items
+        ++ filter (is_free held.now) (take 1 (drop index blocks.old.items)) }
+    ensures left { drop (index + 1) blocks.new.items ≡ drop (index + 1) blocks.old.items }
+    ensures long { std.length blocks.new.items ≡ std.length blocks.old.items }
+    ensures few { result ≤ index + 1 }
+{
+    let block = blocks[index];
+    if !is_apart(block, held) {
+        return count;
+    }
+    blocks[count] = block;
+    count + 1
+}
+
+// Whether no byte of a block is held.
+fn is_apart(block: (u64, u32), held: &HeldBytes) -> bool
     requires near { EndsNear block }
     requires order { AreJoined 0 held.now }
-    ensures { OnOk result (kept.new.items
-        ≡ kept.old.items ++ filter (is_free held.now) (block ∷ [])) }
+    ensures { result ≡ is_free held.now block }
 {
     let (at, size) = block;
-    if held.is_apart(at, at + size as u64) {
-        kept.push(block)?;
-    }
-    Ok(())
+    held.is_apart(at, at + size as u64)
 }
 
 // The places of blocks.

@@ -1,8 +1,9 @@
 //! `TreeWalk`: what the walk of a key's tree shows, page by page.
-ghost use Rattle.std.specs.Prelude.{◌≡◌, ◌↔◌, ◌∷◌, ℕ, List, [], true, is_some, Some, All};
+ghost use Rattle.std.specs.Prelude.{◌≡◌, ◌∷◌, ℕ, List, [], true, is_some, Some, All};
 ghost use Rattle.std.specs.Prelude.{IfOk, IfErr, OnOk};
 ghost use Rattle.myi_base.specs.Holding.{IfTold};
 ghost use Rattle.myi_base.specs.Causes.{HasCause};
+ghost use Rattle.myi_base.specs.HandsOn.{HandsOn};
 ghost use Rattle.myi_opening.specs.Opening.{IsCutOff};
 ghost use Rattle.myi_keylist.specs.declared.pair.Pair.{Pair};
 ghost use Rattle.myi_keycache.specs.Kept.{AllWritten};
@@ -147,8 +148,8 @@ impl TreeWalk {
 
 fn of_tree(fault: TreeFault) -> TableFault
     requires { IsFileOrMemory fault }
-    ensures file { (result ≡ TableFault.File) ↔ (fault ≡ TreeFault.File) }
-    ensures cut { IsCutOff result }
+    ensures { HandsOn (TreeFault.File, TableFault.File) (TreeFault.Memory, TableFault.Memory)
+        fault result }
 {
     match fault {
         TreeFault::File => TableFault::File,

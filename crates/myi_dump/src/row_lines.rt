@@ -4,19 +4,17 @@ ghost use Rattle.myi_base.specs.Holding.{IfTold};
 ghost use Rattle.myi_base.specs.Output.{Appends, AppendsPart};
 ghost use Rattle.myi_base.specs.Causes.{HasCause};
 ghost use Rattle.myi_defs.specs.ReadDefs.{AreDefs};
-ghost use Rattle.myi_defs.specs.Sound.{IsSound};
-ghost use Rattle.myi_chain.specs.ScanModel.{fresh_scan};
 ghost use Rattle.myi_data.specs.Readable.{readable};
 ghost use Rattle.myi_data.specs.Scanning.{IsAsKnown, rows_ahead};
 ghost use Rattle.myi_dump.specs.RowLines.{row_lines};
 
 use crate::fault::DumpFault;
 use crate::line_buffer::LineBuffer;
-use myi_data::{DataFile, DataScan};
+use myi_chain::ScanSetup;
+use myi_data::DataScan;
 use myi_defs::Defs;
-use myi_header::stored_state;
 use myi_io::{Files, Sink};
-use std::alloc::{AllocError, Global};
+use std::alloc::Global;
 
 /// Writes a line for each readable row of the data file of that name, which has `size` bytes, in
 /// the order of the file. The files stay as they are.
@@ -41,18 +39,12 @@ pub fn dump_rows<F: Files, O: Sink>(
     ensures file { HasCause DumpFault.File (F.faults files.old) (F.faults files.new) result }
     ensures sink { HasCause DumpFault.Sink (O.faults out.old) (O.faults out.new) result }
 {
-    let mut scan = scan_of(alloc, rows, defs, size)?;
+    let setup = ScanSetup {
+        extend: false,
+        file_len: size,
+    };
+    let mut scan = DataScan::of_file(rows, defs, setup)?;
     write_rows(alloc, files, out, &mut scan, defs)
-}
-
-// A scan of the whole file.
-fn scan_of(alloc: Global, rows: &str, defs: &Defs, end: u64) -> Result<DataScan, AllocError>
-    requires { IsSound defs.now }
-    ensures { IfOk result (λ scan. scan ≡ fresh_scan rows.now defs.now false end) }
-{
-    let mut state = stored_state(alloc, defs)?;
-    state.data_file_length = end;
-    DataFile::new(alloc, rows, defs, &state)?.scan(false)
 }
 
 // Writes a line for each row that a scan has left.

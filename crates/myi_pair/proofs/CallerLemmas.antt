@@ -14,3 +14,5 @@ pub use Rattle.myi_pair.proofs.FoundLaws.{none_where_clean, clean_where_none, no
 pub use Rattle.myi_pair.proofs.ShorterLaws.{length-slot}
 pub use Rattle.myi_pair.proofs.SizedLaws.{pointer_near}
 pub use Rattle.myi_pair.proofs.HeaderLaws.{new_rest}
+-- empty_tables_are_clean
+pub use Rattle.myi_pair.proofs.EmptyTableLaws.{empty_is_clean, empty_none}

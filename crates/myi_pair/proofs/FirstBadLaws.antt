@@ -74,7 +74,7 @@ taken_out p (x ∷ xs) ys e = by (eqb x p) refl (without p xs) refl e (taken_out
         subst (λ (ws : List ℕ). IsPermutation (x ∷ xs) (p ∷ ws)) same
         (IsPermutation-trans (x ∷ xs) (x ∷ p ∷ zs) (p ∷ x ∷ zs) (IsPermutation-cons x xs (p ∷ zs) (ih zs f)) (IsPermutation-middle (x ∷ []) p zs))
 
-length_out : (p : ℕ) (xs ys : List ℕ) → without p xs ≡ Some ys → length xs ≡ suc (length ys)
+pub length_out : (p : ℕ) (xs ys : List ℕ) → without p xs ≡ Some ys → length xs ≡ suc (length ys)
 length_out p [] ys e = absurd cc
 length_out p (x ∷ xs) ys e = by (eqb x p) (without p xs) (λ zs f. length_out p xs zs f) e
   where

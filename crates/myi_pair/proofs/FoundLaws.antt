@@ -4,7 +4,7 @@ use Rattle.std.specs.Prelude.{is_none}
 use Rattle.std.specs.Option.{option_map, option_map_or, option_to_list}
 use Rattle.std.specs.List.{AllByRecursion, flat_map, list_any}
 use Rattle.std.proofs.Math.Nat.{pow-le-pow_right, div-eq_of_lt}
-use Rattle.std.proofs.lemmas.Bool.{and_from, eqb-true, eq-eqb, leb-true, lt-ltb}
+use Rattle.std.proofs.lemmas.Bool.{and_from, and_parts, eqb-true, eq-eqb, leb-true, lt-ltb}
 use Rattle.std.proofs.lemmas.List.{length-map}
 use Rattle.std.proofs.lemmas.List.Sorted.{sum_by-IsPermutation}
 use Rattle.std.proofs.lemmas.List.Sums.{sum_by-cons, sum_by-append}
@@ -32,7 +32,7 @@ use Rattle.myi_chain.specs.Readable.{Row}
 use Rattle.myi_chain.specs.Meeting.{ranges_of}
 use Rattle.myi_data.specs.Readable.{readable, deleted}
 use Rattle.myi_data.specs.Keys.{IsKeyNumber, key_of}
-use Rattle.myi_btree.specs.Walk.{◌>>=◌, Node, Walked, content}
+use Rattle.myi_btree.specs.Walk.{◌>>=◌, Node, Walked}
 use Rattle.myi_btree.specs.Nodes.{node_in}
 use Rattle.myi_btree.specs.Visit.{page_range}
 use Rattle.myi_btree.specs.Events.{Event, first_bad, pairs_in, pages_in, walked_in}
@@ -41,13 +41,13 @@ use Rattle.myi_btree.proofs.CallerLemmas.{at_shape}
 use Rattle.myi_pair.specs.declared.finding.Finding.TheVariants as finding
 use Rattle.myi_pair.specs.FirstRows.{numbers_from, key_numbers, is_unique, repeats, AreDistinct}
 use Rattle.myi_pair.specs.KeyList.{PlacedRow, pairs_of, key_list}
-use Rattle.myi_pair.specs.Trees.{block_of_key, node_at, AreFree, HasTree, HaveTrees, total}
+use Rattle.myi_pair.specs.Trees.{block_of_key, node_at, pages_on, HasWalkApart, HaveWalks, AreKeyLists, all_pages, total}
 use Rattle.myi_pair.specs.Clean.{values_of, placed_row, covers, next_deleted, NamesByFormat, Follows, ListsDeleted, IsClean}
 use Rattle.myi_pair.specs.FirstBad.{walk_bad}
-use Rattle.myi_pair.specs.Findings.{met_in, walk_pages, KeyWalk, key_walks, all_walks, all_walk, page_bytes, header_tests, header_bad, same_link, names_by, names_before, deleted_places, deleted_bad, key_bad, key_findings, keys_bad, held, rows_bad, told, findings}
+use Rattle.myi_pair.specs.Findings.{met_in, walk_pages, KeyWalk, key_walk, key_walks, all_walks, all_walk, page_bytes, header_tests, header_bad, same_link, names_by, names_before, deleted_places, deleted_bad, key_bad, key_findings, keys_bad, held, rows_bad, told, findings}
 use Rattle.myi_pair.proofs.FirstBadLaws.{all_passed, passed_all, none_gap, gap_none, Runs, list_none, none_list, Fresh, without_pages, IsMet, walk_none, none_walk}
 use Rattle.myi_pair.proofs.DistinctLaws.{fresh_none, none_fresh, plain_fresh, apart_none, Among, all_at, all_from, Distinct, distinct_apart, apart_distinct}
-use Rattle.myi_pair.proofs.MetLaws.{met_walk, walk_met}
+use Rattle.myi_pair.proofs.MetLaws.{MeetsAll, met_walk, walk_met}
 use Rattle.myi_pair.proofs.SizedLaws.{placed}
 use Rattle.myi_pair.specs.RecoveredBytes.{new_data, new_index}
 use Rattle.myi_pair.specs.Recovered.{IsRepairable}
@@ -69,71 +69,104 @@ within rec_ref block x some = λ at node e. by (eqb (at % 1024) 0) at node e
     by true at node e = here at (nat_le block (length (drop at x))) refl node e
     by false at node e = absurd cc
 
-block_some : (d : Defs) (k : ℕ) → IsSound d → IsKeyNumber d k → 0 < block_of_key d k
+pub block_some : (d : Defs) (k : ℕ) → IsSound d → IsKeyNumber d k → 0 < block_of_key d k
 block_some d k s inside = omega (arith, (placed d s k inside).least)
 
 pages_are : (block : ℕ) (es : List Event) → first_bad es ≡ None → walk_pages block es ≡ map (page_range block) (pages_in es)
 pages_are block es none = ap (λ (o : Option ℕ). cond (is_none o) (map (page_range block) (pages_in es)) []) none
 
-tree_found : (d : Defs) (k : ℕ) (x : List ℕ) (root : Option ℕ) (busy : List Range) (list : List Pair) → 0 < block_of_key d k → first_bad (met_in d k x root busy) ≡ None → without_pages (pairs_in (met_in d k x root busy)) ≡ list
-    → HasTree d k x root busy list (walk_pages (block_of_key d k) (met_in d k x root busy))
-tree_found d k x None busy list some none met = (sym met, refl)
-tree_found d k x (Some root) busy list some none met =
+pub tree_found : (d : Defs) (k : ℕ) (x : List ℕ) (root : Option ℕ) (busy : List Range) → 0 < block_of_key d k → first_bad (met_in d k x root busy) ≡ None → HasWalkApart d k x root busy (walked_in (met_in d k x root busy))
+tree_found d k x None busy some none = refl
+tree_found d k x (Some root) busy some none =
     let block : ℕ = block_of_key d k in
-    let es : List Event = met_in d k x (Some root) busy in
     let w = met_walk (length x) block (node_at d.rec_ref block x) root busy some (within d.rec_ref block x some) (at_shape d.rec_ref block x) none in
-    let pages = pages_are block es none in
-    (walked_in es, w.has, met, pages, subst (AreFree busy) (sym pages) w.free)
+    (w.has, w.free)
 
-record TreeMet (block : ℕ) (list : List Pair) (pages : List Range) (es : List Event) : Type 0 where
-  pub none : first_bad es ≡ None
-  pub met : without_pages (pairs_in es) ≡ list
-  pub over : walk_pages block es ≡ pages
-
-found_tree : (d : Defs) (k : ℕ) (x : List ℕ) (root : Option ℕ) (busy : List Range) (list : List Pair) (pages : List Range) → 0 < block_of_key d k → HasTree d k x root busy list pages → TreeMet (block_of_key d k) list pages (met_in d k x root busy)
-found_tree d k x None busy list pages some h = record { none = refl; met = sym h.0; over = sym h.1 }
-found_tree d k x (Some root) busy list pages some (w, has, list_is, is, free) =
+pub found_tree : (d : Defs) (k : ℕ) (x : List ℕ) (root : Option ℕ) (busy : List Range) (w : Walked) → 0 < block_of_key d k → HasWalkApart d k x root busy w → MeetsAll (block_of_key d k) w (met_in d k x root busy)
+found_tree d k x None busy w some h = record { none = refl; is = sym h }
+found_tree d k x (Some root) busy w some h =
     let block : ℕ = block_of_key d k in
-    let m = walk_met (length x) block (node_at d.rec_ref block x) root busy w some (within d.rec_ref block x some) (at_shape d.rec_ref block x) has (subst (AreFree busy) is free) in
-    record { none = m.none; met = ap content m.is ∙ list_is; over = pages_are block (met_in d k x (Some root) busy) m.none ∙ ap (λ (v : Walked). map (page_range block) v.pages) m.is ∙ sym is }
+    walk_met (length x) block (node_at d.rec_ref block x) root busy w some (within d.rec_ref block x some) (at_shape d.rec_ref block x) h.0 h.1
 
 -- ---- all trees
 
+abbrev pub walk_in : KeyWalk → Walked
+walk_in w = walked_in w.events
+
+abbrev pub IsWhole : KeyWalk → Type 0
+IsWhole w = first_bad w.events ≡ None
+
+-- what a walk meets are the pairs of the key list
+abbrev HasList : Defs → List PlacedRow → KeyWalk → Type 0
+HasList d rows w = without_pages (pairs_in w.events) ≡ key_list d w.key rows
+
 -- a walk meets no bad place, and the pairs of the key list
 abbrev IsMetAs : Defs → List PlacedRow → KeyWalk → Type 0
-IsMetAs d rows w = (first_bad w.events ≡ None) × (without_pages (pairs_in w.events) ≡ key_list d w.key rows)
+IsMetAs d rows w = IsWhole w × HasList d rows w
 
-abbrev pages_over : Defs → List KeyWalk → List Range
-pages_over d walks = flat_map (λ (w : KeyWalk). walk_pages (block_of_key d w.key) w.events) walks
+pub walks_found : (d : Defs) (x : List ℕ) (busy : List Range) (ks : List ℕ) (roots : List (Option ℕ)) → IsSound d → AllByRecursion (IsKeyNumber d) ks → length ks ≡ length roots
+    → AllByRecursion IsWhole (key_walks d x busy ks roots) → HaveWalks d x busy ks roots (map walk_in (key_walks d x busy ks roots))
+walks_found d x busy [] [] s inside long all = (refl, refl)
+walks_found d x busy [] (root ∷ roots) s inside long all = absurd (omega (arith, long))
+walks_found d x busy (k ∷ ks) [] s inside long all = absurd (omega (arith, long))
+walks_found d x busy (k ∷ ks) (root ∷ roots) s inside long all =
+    let es : List Event = met_in d k x root busy in
+    let more = walks_found d x (busy ++ walk_pages (block_of_key d k) es) ks roots s inside.1 (omega (arith, long)) all.1 in (
+      tree_found d k x root busy (block_some d k s inside.0) all.0,
+      subst (λ (ps : List Range). HaveWalks d x (busy ++ ps) ks roots (map walk_in (key_walks d x (busy ++ walk_pages (block_of_key d k) es) ks roots))) (pages_are (block_of_key d k) es all.0) more,
+    )
 
-trees_found : (d : Defs) (x : List ℕ) (rows : List PlacedRow) (busy : List Range) (ks : List ℕ) (roots : List (Option ℕ)) → IsSound d → AllByRecursion (IsKeyNumber d) ks → length ks ≡ length roots
-    → AllByRecursion (IsMetAs d rows) (key_walks d x busy ks roots) → HaveTrees d x rows busy ks roots (pages_over d (key_walks d x busy ks roots))
-trees_found d x rows busy [] [] s inside long all = refl
-trees_found d x rows busy [] (root ∷ roots) s inside long all = absurd (omega (arith, long))
-trees_found d x rows busy (k ∷ ks) [] s inside long all = absurd (omega (arith, long))
-trees_found d x rows busy (k ∷ ks) (root ∷ roots) s inside long all =
-    let own : List Range = walk_pages (block_of_key d k) (met_in d k x root busy) in
-    let more = trees_found d x rows (busy ++ own) ks roots s inside.1 (omega (arith, long)) all.1 in
-    (own, pages_over d (key_walks d x (busy ++ own) ks roots), tree_found d k x root busy (key_list d k rows) (block_some d k s inside.0) all.0.0 all.0.1, more, refl)
+lists_found : (d : Defs) (x : List ℕ) (rows : List PlacedRow) (busy : List Range) (ks : List ℕ) (roots : List (Option ℕ)) → length ks ≡ length roots → AllByRecursion (HasList d rows) (key_walks d x busy ks roots) → AreKeyLists d rows ks (map walk_in (key_walks d x busy ks roots))
+lists_found d x rows busy [] roots long all = refl
+lists_found d x rows busy (k ∷ ks) [] long all = absurd (omega (arith, long))
+lists_found d x rows busy (k ∷ ks) (root ∷ roots) long all = (all.0, lists_found d x rows (busy ++ walk_pages (block_of_key d k) (met_in d k x root busy)) ks roots (omega (arith, long)) all.1)
 
-found_trees : (d : Defs) (x : List ℕ) (rows : List PlacedRow) (busy : List Range) (ks : List ℕ) (roots : List (Option ℕ)) (pages : List Range) → IsSound d → AllByRecursion (IsKeyNumber d) ks → HaveTrees d x rows busy ks roots pages
-    → AllByRecursion (IsMetAs d rows) (key_walks d x busy ks roots) × (pages ≡ pages_over d (key_walks d x busy ks roots))
-found_trees d x rows busy [] [] pages s inside have = (tt, have)
-found_trees d x rows busy [] (root ∷ roots) pages s inside have = absurd have
-found_trees d x rows busy (k ∷ ks) [] pages s inside have = absurd have
-found_trees d x rows busy (k ∷ ks) (root ∷ roots) pages s inside (own, others, tree, more, is) =
-    let m = found_tree d k x root busy (key_list d k rows) own (block_some d k s inside.0) tree in
-    let rest = found_trees d x rows (busy ++ walk_pages (block_of_key d k) (met_in d k x root busy)) ks roots others s inside.1 (subst (λ (ps : List Range). HaveTrees d x rows (busy ++ ps) ks roots others) (sym m.over) more) in
-    (((m.none, m.met), rest.0), is ∙ ap (λ (ps : List Range). ps ++ others) (sym m.over) ∙ ap (λ (ps : List Range). walk_pages (block_of_key d k) (met_in d k x root busy) ++ ps) rest.1)
+pub found_walks : (d : Defs) (x : List ℕ) (busy : List Range) (ks : List ℕ) (roots : List (Option ℕ)) (ws : List Walked) → IsSound d → AllByRecursion (IsKeyNumber d) ks → HaveWalks d x busy ks roots ws
+    → AllByRecursion IsWhole (key_walks d x busy ks roots) × (ws ≡ map walk_in (key_walks d x busy ks roots))
+found_walks d x busy [] roots ws s inside have = (tt, have.1)
+found_walks d x busy (k ∷ ks) [] ws s inside have = absurd have
+found_walks d x busy (k ∷ ks) (root ∷ roots) [] s inside have = absurd have
+found_walks d x busy (k ∷ ks) (root ∷ roots) (w ∷ ws) s inside (tree, more) =
+    let es : List Event = met_in d k x root busy in
+    let m = found_tree d k x root busy w (block_some d k s inside.0) tree in
+    let own : walk_pages (block_of_key d k) es ≡ pages_on d k w = pages_are (block_of_key d k) es m.none ∙ ap (pages_on d k) m.is in
+    let rest = found_walks d x (busy ++ walk_pages (block_of_key d k) es) ks roots ws s inside.1 (subst (λ (ps : List Range). HaveWalks d x (busy ++ ps) ks roots ws) (sym own) more) in
+    ((m.none, rest.0), ap (λ (v : Walked). v ∷ ws) (sym m.is) ∙ ap (λ (vs : List Walked). walked_in es ∷ vs) rest.1)
 
-bytes_over : (d : Defs) (walks : List KeyWalk) → page_bytes d walks ≡ total (pages_over d walks)
-bytes_over d [] = refl
-bytes_over d (w ∷ walks) =
-    omega (arith, sum_by-cons (λ (v : KeyWalk). total (walk_pages (block_of_key d v.key) v.events)) w walks, sum_by-append (λ (r : Range). r.1 - r.0) (walk_pages (block_of_key d w.key) w.events) (pages_over d walks), bytes_over d walks)
+found_lists : (d : Defs) (x : List ℕ) (rows : List PlacedRow) (busy : List Range) (ks : List ℕ) (roots : List (Option ℕ)) → AreKeyLists d rows ks (map walk_in (key_walks d x busy ks roots)) → AllByRecursion (HasList d rows) (key_walks d x busy ks roots)
+found_lists d x rows busy [] roots are = tt
+found_lists d x rows busy (k ∷ ks) [] are = tt
+found_lists d x rows busy (k ∷ ks) (root ∷ roots) are = (are.0, found_lists d x rows (busy ++ walk_pages (block_of_key d k) (met_in d k x root busy)) ks roots are.1)
 
-walks_all : (d : Defs) (rows : List PlacedRow) (walks : List KeyWalk) → AllByRecursion (IsMetAs d rows) walks → all_walk walks ≡ true
-walks_all d rows [] all = refl
-walks_all d rows (w ∷ walks) all = and_from (is_none (first_bad w.events)) (all_walk walks) (ap (λ (o : Option ℕ). is_none o) all.0.0) (walks_all d rows walks all.1)
+met_as : (d : Defs) (rows : List PlacedRow) (walks : List KeyWalk) → AllByRecursion IsWhole walks → AllByRecursion (HasList d rows) walks → AllByRecursion (IsMetAs d rows) walks
+met_as d rows [] whole lists = tt
+met_as d rows (w ∷ walks) whole lists = ((whole.0, lists.0), met_as d rows walks whole.1 lists.1)
+
+pub bytes_over : (d : Defs) (x : List ℕ) (busy : List Range) (ks : List ℕ) (roots : List (Option ℕ)) → AllByRecursion IsWhole (key_walks d x busy ks roots) → page_bytes d (key_walks d x busy ks roots) ≡ total (all_pages d ks (map walk_in (key_walks d x busy ks roots)))
+bytes_over d x busy [] roots all = refl
+bytes_over d x busy (k ∷ ks) [] all = refl
+bytes_over d x busy (k ∷ ks) (root ∷ roots) all =
+    let es : List Event = met_in d k x root busy in
+    let others : List KeyWalk = key_walks d x (busy ++ walk_pages (block_of_key d k) es) ks roots in
+    omega (
+      arith,
+      sum_by-cons (λ (v : KeyWalk). total (walk_pages (block_of_key d v.key) v.events)) (key_walk k es) others,
+      sum_by-append (λ (r : Range). r.1 - r.0) (pages_on d k (walked_in es)) (all_pages d ks (map walk_in others)),
+      ap total (pages_are (block_of_key d k) es all.0),
+      bytes_over d x (busy ++ walk_pages (block_of_key d k) es) ks roots all.1,
+    )
+
+pub walks_all : (walks : List KeyWalk) → AllByRecursion IsWhole walks → all_walk walks ≡ true
+walks_all [] all = refl
+walks_all (w ∷ walks) all = and_from (is_none (first_bad w.events)) (all_walk walks) (ap (λ (o : Option ℕ). is_none o) all.0) (walks_all walks all.1)
+
+none_is : (o : Option ℕ) → is_none o ≡ true → o ≡ None
+none_is None e = refl
+none_is (Some n) e = absurd cc
+
+pub whole_all : (walks : List KeyWalk) → all_walk walks ≡ true → AllByRecursion IsWhole walks
+whole_all [] e = tt
+whole_all (w ∷ walks) e = let both = and_parts (is_none (first_bad w.events)) (all_walk walks) e in (none_is (first_bad w.events) both.0, whole_all walks both.1)
 
 -- ---- the keys
 
@@ -141,7 +174,7 @@ numbers_inside : (d : Defs) (first n : ℕ) → 0 < first → first + n ≤ leng
 numbers_inside d first zero some few = tt
 numbers_inside d first (suc n) some few = ((some, omega (arith, few)), numbers_inside d (suc first) n (omega arith) (omega (arith, few)))
 
-all_inside : (d : Defs) → AllByRecursion (IsKeyNumber d) (key_numbers d)
+pub all_inside : (d : Defs) → AllByRecursion (IsKeyNumber d) (key_numbers d)
 all_inside d = numbers_inside d 1 (length d.keys) (omega arith) (omega arith)
 
 length-numbers_from : (first n : ℕ) → length (numbers_from first n) ≡ n
@@ -152,7 +185,7 @@ length-roots : (at n : ℕ) (x : List ℕ) → length (map pointer_of (numbers a
 length-roots at zero x = refl
 length-roots at (suc n) x = ap suc (length-roots (at + 8) n x)
 
-as_many_roots : (d : Defs) (x : List ℕ) → length (key_numbers d) ≡ length (state_of d x).roots
+pub as_many_roots : (d : Defs) (x : List ℕ) → length (key_numbers d) ≡ length (state_of d x).roots
 unfolding state_of
 as_many_roots d x = length-numbers_from 1 (length d.keys) ∙ sym (length-roots 124 (length d.keys) x)
 
@@ -184,7 +217,7 @@ keys_none d rows (w ∷ walks) e =
     let f = no_front (key_findings d rows w) (flat_map (key_findings d rows) walks) e in
     (walk_none (is_unique d w.key) w.events None (key_list d w.key rows) (no_item (λ at. finding.Key w.key at) (key_bad d rows w) f.0), keys_none d rows walks f.1)
 
-none_key : (d : Defs) (rows : List PlacedRow) (w : KeyWalk) → IsMetAs d rows w → Fresh (is_unique d w.key) None (key_list d w.key rows) → key_bad d rows w ≡ None
+pub none_key : (d : Defs) (rows : List PlacedRow) (w : KeyWalk) → IsMetAs d rows w → Fresh (is_unique d w.key) None (key_list d w.key rows) → key_bad d rows w ≡ None
 none_key d rows w is fresh =
     subst (λ (ps : List Pair). walk_bad (is_unique d w.key) None ps w.events ≡ None) is.1
     (none_walk (is_unique d w.key) w.events None is.0 (subst (λ (ps : List Pair). Fresh (is_unique d w.key) None ps) (sym is.1) fresh))
@@ -247,7 +280,7 @@ is_link : (p : Option ℕ) → same_link p p ≡ true
 is_link None = refl
 is_link (Some p) = eq-eqb p p refl
 
-names_true : (f : RowFormat) (rows : List ℕ) (p : ℕ) (before : Option ℕ) → names_by f rows p before ≡ true → NamesByFormat f rows p before
+pub names_true : (f : RowFormat) (rows : List ℕ) (p : ℕ) (before : Option ℕ) → names_by f rows p before ≡ true → NamesByFormat f rows p before
 names_true Static rows p before e = tt
 names_true Dynamic rows p before e = by (block_of rows p) e
   where
@@ -255,7 +288,7 @@ names_true Dynamic rows p before e = by (block_of rows p) e
     by None e = absurd cc
     by (Some b) e = ap (λ (q : Option ℕ). Some q) (link_is b.prev before e)
 
-true_names : (f : RowFormat) (rows : List ℕ) (p : ℕ) (before : Option ℕ) → NamesByFormat f rows p before → names_by f rows p before ≡ true
+pub true_names : (f : RowFormat) (rows : List ℕ) (p : ℕ) (before : Option ℕ) → NamesByFormat f rows p before → names_by f rows p before ≡ true
 true_names Static rows p before h = refl
 true_names Dynamic rows p before h = by (block_of rows p) h
   where
@@ -277,7 +310,7 @@ deleted_none d rows x e =
     let r = list_none (next_deleted d rows) (names_before d rows) (length (deleted d rows)) (deleted_places d rows) None (state_of d x).dellink e in
     (r.0, r.1, runs_follow d rows None (state_of d x).dellink r.0 r.2)
 
-none_deleted : (d : Defs) (rows x : List ℕ) → ListsDeleted d rows (state_of d x).dellink → deleted_bad d rows x ≡ None
+pub none_deleted : (d : Defs) (rows x : List ℕ) → ListsDeleted d rows (state_of d x).dellink → deleted_bad d rows x ≡ None
 unfolding deleted_bad
 none_deleted d rows x (ps, same, follows) =
     none_list (next_deleted d rows) (names_before d rows) (length (deleted d rows)) (deleted_places d rows) None (state_of d x).dellink ps
@@ -295,7 +328,7 @@ or_last false c is e = absurd cc
 
 -- ---- bytes
 
-empty_reached : (d : Defs) → IsSound d → is_addressable d 0 ≡ true
+pub empty_reached : (d : Defs) → IsSound d → is_addressable d 0 ≡ true
 unfolding is_addressable
 empty_reached d s =
     let room : 256 ^ 2 ≤ 256 ^ d.rec_ref = pow-le-pow_right (omega arith) s.rec_ref_least in
@@ -320,9 +353,13 @@ all_held d rows false s is whole = by rows refl
 
 -- ---- all sections
 
-mets : (d : Defs) (rows : List PlacedRow) (walks : List KeyWalk) → AllByRecursion (IsSoundKeyWalk d rows) walks → AllByRecursion (IsMetAs d rows) walks
+wholes : (d : Defs) (rows : List PlacedRow) (walks : List KeyWalk) → AllByRecursion (IsSoundKeyWalk d rows) walks → AllByRecursion IsWhole walks
+wholes d rows [] all = tt
+wholes d rows (w ∷ walks) all = (all.0.none, wholes d rows walks all.1)
+
+mets : (d : Defs) (rows : List PlacedRow) (walks : List KeyWalk) → AllByRecursion (IsSoundKeyWalk d rows) walks → AllByRecursion (HasList d rows) walks
 mets d rows [] all = tt
-mets d rows (w ∷ walks) all = ((all.0.none, all.0.met), mets d rows walks all.1)
+mets d rows (w ∷ walks) all = (all.0.met, mets d rows walks all.1)
 
 freshes : (d : Defs) (rows : List PlacedRow) (walks : List KeyWalk) → AllByRecursion (IsSoundKeyWalk d rows) walks → AllByRecursion (λ (w : KeyWalk). Fresh (is_unique d w.key) None (key_list d w.key rows)) walks
 freshes d rows [] all = tt
@@ -341,7 +378,7 @@ clean_where_none d rows x read e =
     let walks : List KeyWalk = key_walks d x ((0, first_page_of d) ∷ []) (key_numbers d) (state_of d x).roots in
     let keys : flat_map (key_findings d placed_rows) walks ≡ [] = sym (ap (λ (b : Bool). cond b (flat_map (key_findings d placed_rows) walks) []) mark) ∙ f3.0 in
     let each = keys_none d placed_rows walks keys in
-    let met : AllByRecursion (IsMetAs d placed_rows) walks = mets d placed_rows walks each in
+    let whole_walks : AllByRecursion IsWhole walks = wholes d placed_rows walks each in
     let fresh : AllByRecursion (λ (w : KeyWalk). Fresh (is_unique d w.key) None (key_list d w.key placed_rows)) walks = freshes d placed_rows walks each in
     let gap = no_item (λ at. finding.Rows at) (rows_bad d rows) f3.1 in
     let whole : (p : ℕ) → p < length rows → list_any (covers p) (held d rows) ≡ true = λ p lt. none_gap (length rows) 0 (held d rows) gap p (omega arith) (omega (arith, lt)) in
@@ -362,9 +399,11 @@ clean_where_none d rows x read e =
         data_file_length = eqb-true _ _ h.1.1.1.1.1.0;
         empty = eqb-true _ _ h.1.1.1.1.1.1.0;
       };
-      pages = pages_over d walks;
-      trees = trees_found d x placed_rows ((0, first_page_of d) ∷ []) (key_numbers d) (state_of d x).roots s (all_inside d) (as_many_roots d x) met;
-      key_empty = eqb-true _ _ (or_last _ _ (walks_all d placed_rows walks met) h.1.1.1.1.1.1.1.0) ∙ ap (λ n. length x - first_page_of d - n) (bytes_over d walks);
+      walks = map walk_in walks;
+      trees = walks_found d x ((0, first_page_of d) ∷ []) (key_numbers d) (state_of d x).roots s (all_inside d) (as_many_roots d x) whole_walks;
+      lists = lists_found d x placed_rows ((0, first_page_of d) ∷ []) (key_numbers d) (state_of d x).roots (as_many_roots d x) (mets d placed_rows walks each);
+      key_empty = eqb-true _ _ (or_last _ _ (walks_all walks whole_walks) h.1.1.1.1.1.1.1.0)
+          ∙ ap (λ n. length x - first_page_of d - n) (bytes_over d x ((0, first_page_of d) ∷ []) (key_numbers d) (state_of d x).roots whole_walks);
       distinct = distinct_rows d (readable d false rows) (each_key (λ k. Fresh (is_unique d k) None (key_list d k placed_rows)) d x ((0, first_page_of d) ∷ []) (key_numbers d) (state_of d x).roots (as_many_roots d x) fresh);
     }
 
@@ -373,8 +412,9 @@ unfolding header_bad all_walks
 none_header rows x c =
     let d : Defs = c.defs in
     let walks : List KeyWalk = key_walks d x ((0, first_page_of d) ∷ []) (key_numbers d) (state_of d x).roots in
-    let f = found_trees d x (map (placed_row d) (readable d false rows)) ((0, first_page_of d) ∷ []) (key_numbers d) (state_of d x).roots c.pages (sound d (are_defs x d c.read)) (all_inside d) c.trees in
-    let bytes : page_bytes d walks ≡ total c.pages = bytes_over d walks ∙ ap total (sym f.1) in
+    let f = found_walks d x ((0, first_page_of d) ∷ []) (key_numbers d) (state_of d x).roots c.walks (sound d (are_defs x d c.read)) (all_inside d) c.trees in
+    let bytes : page_bytes d walks ≡ total (all_pages d (key_numbers d) c.walks) =
+    bytes_over d x ((0, first_page_of d) ∷ []) (key_numbers d) (state_of d x).roots f.0 ∙ ap (λ (ws : List Walked). total (all_pages d (key_numbers d) ws)) (sym f.1) in
     let same : (state_of d x).key_empty ≡ length x - first_page_of d - page_bytes d walks = c.key_empty ∙ ap (λ n. length x - first_page_of d - n) (sym bytes) in
     passed_all (header_tests d (state_of d x) rows x) (
       c.mark,
@@ -399,9 +439,10 @@ none_in_keys rows x c =
     let d : Defs = c.defs in
     let placed_rows : List PlacedRow = map (placed_row d) (readable d false rows) in
     let walks : List KeyWalk = key_walks d x ((0, first_page_of d) ∷ []) (key_numbers d) (state_of d x).roots in
-    let f = found_trees d x placed_rows ((0, first_page_of d) ∷ []) (key_numbers d) (state_of d x).roots c.pages (sound d (are_defs x d c.read)) (all_inside d) c.trees in
+    let f = found_walks d x ((0, first_page_of d) ∷ []) (key_numbers d) (state_of d x).roots c.walks (sound d (are_defs x d c.read)) (all_inside d) c.trees in
+    let lists = found_lists d x placed_rows ((0, first_page_of d) ∷ []) (key_numbers d) (state_of d x).roots (subst (AreKeyLists d placed_rows (key_numbers d)) f.1 c.lists) in
     let fresh = key_each (λ k. Fresh (is_unique d k) None (key_list d k placed_rows)) d x ((0, first_page_of d) ∷ []) (key_numbers d) (state_of d x).roots (rows_distinct d (readable d false rows) c.distinct) in
-    ap (λ (b : Bool). cond b (flat_map (key_findings d placed_rows) walks) []) c.mark ∙ none_keys d placed_rows walks f.0 fresh
+    ap (λ (b : Bool). cond b (flat_map (key_findings d placed_rows) walks) []) c.mark ∙ none_keys d placed_rows walks (met_as d placed_rows walks f.0 lists) fresh
 
 none_in_rows : (rows x : List ℕ) (c : IsClean rows x) → rows_bad c.defs rows ≡ None
 unfolding rows_bad

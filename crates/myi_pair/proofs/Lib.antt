@@ -19,3 +19,5 @@ pub mod FirstBadLaws
 pub mod DistinctLaws
 pub mod MetLaws
 pub mod FoundLaws
+pub mod FirstFailingLaws
+pub mod EmptyTableLaws

@@ -26,13 +26,14 @@ use Rattle.myi_data.specs.Readable.{readable, deleted}
 use Rattle.myi_data.specs.Stored.{SizedRow, values_in, stored_file, block_count, stored_rows, IsStorable}
 use Rattle.myi_pair.specs.FirstRows.{key_numbers, AreDistinct}
 use Rattle.myi_pair.specs.KeyList.{PlacedRow}
-use Rattle.myi_pair.specs.Trees.{HaveTrees, total}
+use Rattle.myi_btree.specs.Walk.{Walked}
+use Rattle.myi_pair.specs.Trees.{HaveWalks, AreKeyLists, all_pages, total}
 use Rattle.myi_pair.specs.Clean.{values_of, placed_row, covers, ListsDeleted, Counts, IsClean}
 use Rattle.myi_pair.specs.RebuiltBytes.{placed_from, LaidTrees, new_trees, rebuilt_state, rebuilt_index}
 use Rattle.myi_pair.specs.Rebuilt.{CanBeRebuilt, Rebuilt}
 use Rattle.myi_pair.proofs.KeptLaws.{rows_read, values_read}
 use Rattle.myi_pair.proofs.ShorterLaws.{stored_length, near_reached}
-use Rattle.myi_pair.proofs.SameDefs.{with_raw, readable_same, deleted_same, values_same, placed_same, addressable_same, distinct_same, trees_same}
+use Rattle.myi_pair.proofs.SameDefs.{with_raw, readable_same, deleted_same, values_same, placed_same, addressable_same, distinct_same, walks_same, lists_same, pages_same}
 use Rattle.myi_pair.proofs.LaidLaws.{laid_covered, none_deleted, laid_count, laid_split, laid_placed}
 use Rattle.myi_pair.proofs.HeaderLaws.{IsNewIndex}
 use Rattle.myi_pair.proofs.NewIndexLaws.{trees_are, data_long, there, index_long, index_shows}
@@ -106,9 +107,10 @@ record AreClean (d : Defs) (vs : List SizedRow) (e y : List ℕ) (roots : List (
   pub placed : map (placed_row d) (readable d false e) ≡ placed_from d 0 vs
   pub long : length e ≡ stored_length d vs
   pub distinct : AreDistinct d [] (values_in vs)
-  pub pages : List Range
-  pub trees : HaveTrees d y (placed_from d 0 vs) ((0, first_page_of d) ∷ []) (key_numbers d) roots pages
-  pub size : first_page_of d + total pages ≡ length y
+  pub walks : List Walked
+  pub trees : HaveWalks d y ((0, first_page_of d) ∷ []) (key_numbers d) roots walks
+  pub lists : AreKeyLists d (placed_from d 0 vs) (key_numbers d) walks
+  pub size : first_page_of d + total (all_pages d (key_numbers d) walks) ≡ length y
 
 covered_rows : (d : Defs) (vs : List SizedRow) (e y : List ℕ) (roots : List (Option ℕ)) → IsSound d → AreClean d vs e y roots → (p : ℕ) → p < length e → list_any (covers p) (ranges_of (readable d false e)) ≡ true
 covered_rows d vs e y roots s are p inside =
@@ -169,7 +171,8 @@ clean_pair d vs e y r roots s read like marked reached c is =
     let first : first_page_of d2 ≡ first_page_of d = first_same d r like in
     let same_roots : (state_of d2 y).roots ≡ roots = ap (λ (t : State). t.roots) state ∙ is.trees in
     let busy : one_busy (first_page_of d2) ≡ one_busy (first_page_of d) = ap one_busy first in
-    let trees = trees_same d r y (placed_from d 0 vs) ((0, first_page_of d) ∷ []) (key_numbers d) roots c.pages c.trees in
+    let trees = walks_same d r y ((0, first_page_of d) ∷ []) (key_numbers d) roots c.walks c.trees in
+    let pages : total (all_pages d2 (key_numbers d2) c.walks) ≡ total (all_pages d (key_numbers d) c.walks) = ap total (pages_same d r (key_numbers d) c.walks) in
     record {
       defs = d2;
       read = read;
@@ -179,11 +182,11 @@ clean_pair d vs e y r roots s read like marked reached c is =
           ∙ covered_rows d vs e y roots s c p inside;
       list = lists_none d2 e (state_of d2 y).dellink none (ap (λ (t : State). t.dellink) state ∙ is.dellink);
       counts = subst (λ (t : State). Counts d2 t e y) (sym state) (counts_same d r (state_of d y) e y (counted d (state_of d y) vs e y roots s c is));
-      pages = c.pages;
-      trees = subst (λ (rs : List PlacedRow). HaveTrees d2 y rs ((0, first_page_of d2) ∷ []) (key_numbers d2) (state_of d2 y).roots c.pages) (sym placed)
-          (subst (λ (b : List Range). HaveTrees d2 y (placed_from d 0 vs) b (key_numbers d2) (state_of d2 y).roots c.pages) (sym busy)
-          (subst (λ (rs : List (Option ℕ)). HaveTrees d2 y (placed_from d 0 vs) ((0, first_page_of d) ∷ []) (key_numbers d2) rs c.pages) (sym same_roots) trees));
-      key_empty = ap (λ (t : State). t.key_empty) state ∙ is.key_empty ∙ omega (arith, first, c.size);
+      walks = c.walks;
+      trees = subst (λ (b : List Range). HaveWalks d2 y b (key_numbers d2) (state_of d2 y).roots c.walks) (sym busy)
+          (subst (λ (rs : List (Option ℕ)). HaveWalks d2 y ((0, first_page_of d) ∷ []) (key_numbers d2) rs c.walks) (sym same_roots) trees);
+      lists = subst (λ (rs : List PlacedRow). AreKeyLists d2 rs (key_numbers d2) c.walks) (sym placed) (lists_same d r (placed_from d 0 vs) (key_numbers d) c.walks c.lists);
+      key_empty = ap (λ (t : State). t.key_empty) state ∙ is.key_empty ∙ omega (arith, first, c.size, pages);
       distinct = subst (λ (ws : List Values). AreDistinct d2 [] ws) (sym values) (distinct_same d r [] (values_in vs) c.distinct);
     }
 
@@ -204,8 +207,9 @@ module _ (d : Defs) (rows : List SizedRow) (now : ℕ) (can : CanBeRebuilt d row
         placed = ap (map (placed_row d)) read ∙ laid_placed d 0 rows s can.storable;
         long = data_long d rows now can;
         distinct = can.distinct;
-        pages = t.pages;
-        trees = subst (λ (u : LaidTrees). HaveTrees d (rebuilt_index d rows now) (placed_from d 0 rows) ((0, first_page_of d) ∷ []) (key_numbers d) u.roots t.pages) (sym same) t.trees;
+        walks = t.walks;
+        trees = subst (λ (u : LaidTrees). HaveWalks d (rebuilt_index d rows now) ((0, first_page_of d) ∷ []) (key_numbers d) u.roots t.walks) (sym same) t.trees;
+        lists = t.lists;
         size = t.size ∙ ap (λ (u : LaidTrees). u.end) (sym same) ∙ sym (index_long d rows now can);
       }
 
@@ -240,8 +244,9 @@ module _ (d : Defs) (rows : List SizedRow) (now : ℕ) (can : CanBeRebuilt d row
       }
 
 pub trees_stand : (d : Defs) (rows : List SizedRow) (now : ℕ) → CanBeRebuilt d rows now
-    → (pages : List Range) × HaveTrees d (rebuilt_index d rows now) (placed_from d 0 rows) ((0, first_page_of d) ∷ []) (key_numbers d) (new_trees d rows).roots pages × (first_page_of d + total pages ≡ length (rebuilt_index d rows now))
-trees_stand d rows now can = let c = the_clean d rows now can in (c.pages, c.trees, c.size)
+    → (walks : List Walked) × HaveWalks d (rebuilt_index d rows now) ((0, first_page_of d) ∷ []) (key_numbers d) (new_trees d rows).roots walks × AreKeyLists d (placed_from d 0 rows) (key_numbers d) walks
+    × (first_page_of d + total (all_pages d (key_numbers d) walks) ≡ length (rebuilt_index d rows now))
+trees_stand d rows now can = let c = the_clean d rows now can in (c.walks, c.trees, c.lists, c.size)
 
 pub same_defs : (a b : Defs) (x : List ℕ) → read_defs x ≡ Ok a → read_defs x ≡ Ok b → b ≡ a
 same_defs a b x one other = let e = sym other ∙ one in cc

@@ -1,5 +1,5 @@
 -- What definitions say of rows, keys and trees does not depend on the bytes of the header that they were read from.
-use Rattle.std.proofs.Common.{◌≡◌, ℕ, ◌-◌, Bool, false, List, [], ◌∷◌, ◌++◌, map, filter, Option, Some, None, is_some, unwrap_or, refl, sym, ap, subst, ◌∙◌}
+use Rattle.std.proofs.Common.{◌≡◌, ℕ, ◌-◌, Bool, false, List, [], ◌∷◌, ◌++◌, map, filter, Option, Some, None, is_some, unwrap_or, refl, sym, ap, ◌∙◌}
 use Rattle.std.specs.List.{list_any}
 use Rattle.myi_base.specs.Ranges.{Range, is_apart}
 use Rattle.myi_defs.specs.declared.types.RowFormat.{RowFormat}
@@ -14,10 +14,10 @@ use Rattle.myi_chain.specs.Meeting.{ranges_of}
 use Rattle.std.specs.Prelude.{option_and_then}
 use Rattle.myi_data.specs.Keys.{key_of}
 use Rattle.myi_data.specs.Readable.{packs, items_at, items_by, items_in, readable, deleted}
-use Rattle.myi_keylist.specs.declared.pair.Pair.{Pair}
 use Rattle.myi_pair.specs.FirstRows.{repeats, AreDistinct}
 use Rattle.myi_pair.specs.KeyList.{PlacedRow, key_list}
-use Rattle.myi_pair.specs.Trees.{HasTree, HaveTrees}
+use Rattle.myi_btree.specs.Walk.{Walked}
+use Rattle.myi_pair.specs.Trees.{pages_on, HasWalkApart, HaveWalks, AreKeyLists, all_pages}
 use Rattle.myi_pair.specs.Clean.{values_of, sized_row, placed_row}
 
 -- these definitions, with another header
@@ -77,18 +77,22 @@ module _ (d : Defs) (r : List ℕ) where
   unfolding key_list key_of
   list_same k rows = refl
 
-  tree_same : (k : ℕ) (x : List ℕ) (root : Option ℕ) (busy : List Range) (pairs : List Pair) (pages : List Range) → HasTree d k x root busy pairs pages → HasTree (with_raw d r) k x root busy pairs pages
-  tree_same k x None busy pairs pages t = t
-  tree_same k x (Some root) busy pairs pages t = t
+  walk_same : (k : ℕ) (x : List ℕ) (root : Option ℕ) (busy : List Range) (w : Walked) → HasWalkApart d k x root busy w → HasWalkApart (with_raw d r) k x root busy w
+  walk_same k x None busy w t = t
+  walk_same k x (Some root) busy w t = t
 
-  pub trees_same : (x : List ℕ) (rows : List PlacedRow) (busy : List Range) (ks : List ℕ) (roots : List (Option ℕ)) (pages : List Range) → HaveTrees d x rows busy ks roots pages → HaveTrees (with_raw d r) x rows busy ks roots pages
-  trees_same x rows busy [] [] pages t = t
-  trees_same x rows busy [] (root ∷ roots) pages t = t
-  trees_same x rows busy (k ∷ ks) [] pages t = t
-  trees_same x rows busy (k ∷ ks) (root ∷ roots) pages t = (
-    t.0,
-    t.1,
-    subst (λ (list : List Pair). HasTree (with_raw d r) k x root busy list t.0) (sym (list_same k rows)) (tree_same k x root busy (key_list d k rows) t.0 t.2),
-    trees_same x rows (busy ++ t.0) ks roots t.1 t.3,
-    t.4,
-  )
+  pub walks_same : (x : List ℕ) (busy : List Range) (ks : List ℕ) (roots : List (Option ℕ)) (ws : List Walked) → HaveWalks d x busy ks roots ws → HaveWalks (with_raw d r) x busy ks roots ws
+  walks_same x busy [] roots ws t = t
+  walks_same x busy (k ∷ ks) [] ws t = t
+  walks_same x busy (k ∷ ks) (root ∷ roots) [] t = t
+  walks_same x busy (k ∷ ks) (root ∷ roots) (w ∷ ws) t = (walk_same k x root busy w t.0, walks_same x (busy ++ pages_on d k w) ks roots ws t.1)
+
+  pub lists_same : (rows : List PlacedRow) (ks : List ℕ) (ws : List Walked) → AreKeyLists d rows ks ws → AreKeyLists (with_raw d r) rows ks ws
+  lists_same rows [] ws t = t
+  lists_same rows (k ∷ ks) [] t = t
+  lists_same rows (k ∷ ks) (w ∷ ws) t = (t.0 ∙ sym (list_same k rows), lists_same rows ks ws t.1)
+
+  pub pages_same : (ks : List ℕ) (ws : List Walked) → all_pages (with_raw d r) ks ws ≡ all_pages d ks ws
+  pages_same [] ws = refl
+  pages_same (k ∷ ks) [] = refl
+  pages_same (k ∷ ks) (w ∷ ws) = ap (λ ps. pages_on d k w ++ ps) (pages_same ks ws)

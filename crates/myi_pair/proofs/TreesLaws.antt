@@ -11,7 +11,7 @@ use Rattle.myi_defs.specs.Addressable.{is_addressable}
 use Rattle.myi_keycache.specs.Lent.{bytes_at}
 use Rattle.myi_keylist.specs.declared.pair.Pair.{Pair}
 use Rattle.myi_btree.specs.declared.place.Place.{Place}
-use Rattle.myi_btree.specs.Walk.{Node}
+use Rattle.myi_btree.specs.Walk.{Node, Walked, content}
 use Rattle.myi_btree.specs.Sizes.{IsPlaced, AreSized, fits_in}
 use Rattle.myi_btree.specs.LaidPages.{laid, Stands, root_of}
 use Rattle.myi_btree.specs.Building.{page_for}
@@ -20,10 +20,10 @@ use Rattle.myi_btree.specs.Building.{AreKeys, IsWritten}
 use Rattle.myi_btree.proofs.CallerLemmas.{walks_once, root_some, laid_written, written_read, page_long, pages_long}
 use Rattle.myi_data.specs.Keys.{IsKeyNumber}
 use Rattle.myi_pair.specs.KeyList.{PlacedRow, key_list}
-use Rattle.myi_pair.specs.Trees.{block_of_key, place_of, node_at, HasTree, HaveTrees, total}
+use Rattle.myi_pair.specs.Trees.{block_of_key, place_of, node_at, pages_on, no_walk, HasWalkApart, HaveWalks, AreKeyLists, all_pages, total}
 use Rattle.myi_pair.specs.RebuiltBytes.{LaidTrees, laid_trees}
 use Rattle.myi_pair.proofs.SizedLaws.{IsNear, placed, list_sized}
-use Rattle.myi_pair.proofs.PageRanges.{ranges_at, total_pages, all_between, EndBy, end_later, end_append, between_free, between_end}
+use Rattle.myi_pair.proofs.PageRanges.{total_pages, all_between, EndBy, end_later, end_append, between_free, between_end}
 
 -- what stands behind a part that is at a place
 behind : (n k j : ℕ) (x p q : List ℕ) → drop n x ≡ p ++ q → length p ≡ k → j ≡ n + k → drop j x ≡ q
@@ -56,18 +56,19 @@ nodes_stand place x first (node ∷ nodes) rest is_placed whole w is =
 
 -- one tree
 
--- the pages of a key's tree
+-- the walk of a key's tree
 record HasOwn (d : Defs) (k : ℕ) (x : List ℕ) (busy : List Range) (first : ℕ) (list : List Pair) (nodes : List Node) : Type 0 where
-  pub own : List Range
-  pub tree : HasTree d k x (root_of (block_of_key d k) first nodes) busy list own
-  pub size : total own ≡ block_of_key d k * length nodes
-  pub ends : EndBy (first + block_of_key d k * length nodes) own
+  pub own : Walked
+  pub tree : HasWalkApart d k x (root_of (block_of_key d k) first nodes) busy own
+  pub pairs : content own ≡ list
+  pub size : total (pages_on d k own) ≡ block_of_key d k * length nodes
+  pub ends : EndBy (first + block_of_key d k * length nodes) (pages_on d k own)
 
 own_tree : (d : Defs) (k : ℕ) (x : List ℕ) (busy : List Range) (first : ℕ) (list : List Pair) (rest : List ℕ) → IsPlaced (place_of d k) → AreSized (place_of d k) list → AreKeys list → first % 1024 ≡ 0 → EndBy first busy
     → first + block_of_key d k * length (laid (fits_in (place_of d k)) (block_of_key d k) first list) < 2 ^ 64
     → drop first x ≡ flat_map (page_for (place_of d k)) (laid (fits_in (place_of d k)) (block_of_key d k) first list) ++ rest
     → HasOwn d k x busy first list (laid (fits_in (place_of d k)) (block_of_key d k) first list)
-own_tree d k x busy first [] rest is_placed sized keys whole ends small is = record { own = []; tree = (refl, refl); size = omega arith; ends = tt }
+own_tree d k x busy first [] rest is_placed sized keys whole ends small is = record { own = no_walk; tree = refl; pairs = refl; size = omega arith; ends = tt }
 own_tree d k x busy first (p ∷ ps) rest is_placed sized keys whole ends small is =
     let place : Place = place_of d k in
     let block : ℕ = block_of_key d k in
@@ -75,12 +76,12 @@ own_tree d k x busy first (p ∷ ps) rest is_placed sized keys whole ends small 
     let n : ℕ = length nodes in
     let written : AllByRecursion (IsWritten place) nodes = laid_written place first (p ∷ ps) is_placed whole sized keys small in
     let t : WalksOnce (node_at d.rec_ref block x) block first n (p ∷ ps) = walks_once (node_at d.rec_ref block x) (fits_in place) block first p ps (omega (arith, is_placed.least)) (nodes_stand place x first nodes rest is_placed whole written is) in
-    let own : List Range = ranges_at block t.walked.pages in
     let between = all_between block first n t.walked.pages t.pages in
-    let tree : HasTree d k x (Some (first + block * t.before)) busy (p ∷ ps) own = (t.walked, t.walk, t.content, refl, between_free first (first + block * n) block busy t.walked.pages ends between) in
+    let tree : HasWalkApart d k x (Some (first + block * t.before)) busy t.walked = (t.walk, between_free first (first + block * n) block busy t.walked.pages ends between) in
     record {
-      own = own;
-      tree = subst (λ root. HasTree d k x root busy (p ∷ ps) own) (sym (root_some block first t.before nodes t.last)) tree;
+      own = t.walked;
+      tree = subst (λ root. HasWalkApart d k x root busy t.walked) (sym (root_some block first t.before nodes t.last)) tree;
+      pairs = t.content;
       size = total_pages block t.walked.pages ∙ ap (λ m. block * m) t.count;
       ends = between_end first (first + block * n) block t.walked.pages between;
     }
@@ -97,14 +98,15 @@ first_le_end d first (k ∷ ks) (pairs ∷ lists) =
     omega (arith, first_le_end d (first + block_of_key d k * length (laid (fits_in (place_of d k)) (block_of_key d k) first pairs)) ks lists)
 
 pub record AreThere (d : Defs) (x : List ℕ) (rows : List PlacedRow) (busy : List Range) (first : ℕ) (ks : List ℕ) : Type 0 where
-  pub pages : List Range
-  pub trees : HaveTrees d x rows busy ks (trees_of d first ks rows).roots pages
-  pub size : first + total pages ≡ (trees_of d first ks rows).end
+  pub walks : List Walked
+  pub trees : HaveWalks d x busy ks (trees_of d first ks rows).roots walks
+  pub lists : AreKeyLists d rows ks walks
+  pub size : first + total (all_pages d ks walks) ≡ (trees_of d first ks rows).end
   pub long : first + length (trees_of d first ks rows).bytes ≡ (trees_of d first ks rows).end
 
 pub trees_there : (d : Defs) (len : ℕ) (x : List ℕ) (rows : List PlacedRow) (busy : List Range) (first : ℕ) (ks : List ℕ) (rest : List ℕ) → IsSound d → is_addressable d len ≡ true → AllByRecursion (IsNear d len) rows → AllByRecursion (IsKeyNumber d) ks
     → first % 1024 ≡ 0 → EndBy first busy → (trees_of d first ks rows).end < 2 ^ 64 → drop first x ≡ (trees_of d first ks rows).bytes ++ rest → AreThere d x rows busy first ks
-trees_there d len x rows busy first [] rest s reached near inside whole ends small is = record { pages = []; trees = refl; size = omega arith; long = omega arith }
+trees_there d len x rows busy first [] rest s reached near inside whole ends small is = record { walks = []; trees = (refl, refl); lists = refl; size = omega arith; long = omega arith }
 trees_there d len x rows busy first (k ∷ ks) rest s reached near inside whole ends small is =
     let place : Place = place_of d k in
     let block : ℕ = block_of_key d k in
@@ -121,11 +123,13 @@ trees_there d len x rows busy first (k ∷ ks) rest s reached near inside whole 
     let long : length pages ≡ block * length nodes = pages_long place nodes written in
     let there : drop next x ≡ others.bytes ++ rest = behind first (block * length nodes) next x pages (others.bytes ++ rest) here long refl in
     let t : HasOwn d k x busy first list nodes = own_tree d k x busy first list (others.bytes ++ rest) is_placed good.0 good.1 whole ends (omega arith) here in
-    let more : AreThere d x rows (busy ++ t.own) next ks = trees_there d len x rows (busy ++ t.own) next ks rest s reached near inside.1 (next_whole block first (length nodes) whole is_placed.whole) (end_append next busy t.own (end_later first next busy (omega arith) ends) t.ends) small there in
+    let own : List Range = pages_on d k t.own in
+    let more : AreThere d x rows (busy ++ own) next ks = trees_there d len x rows (busy ++ own) next ks rest s reached near inside.1 (next_whole block first (length nodes) whole is_placed.whole) (end_append next busy own (end_later first next busy (omega arith) ends) t.ends) small there in
     record {
-      pages = t.own ++ more.pages;
-      trees = (t.own, more.pages, t.tree, more.trees, refl {a = t.own ++ more.pages});
-      size = omega (arith, sum_by-append (λ (r : Range). r.1 - r.0) t.own more.pages, t.size, more.size);
+      walks = t.own ∷ more.walks;
+      trees = (t.tree, more.trees);
+      lists = (t.pairs, more.lists);
+      size = omega (arith, sum_by-append (λ (r : Range). r.1 - r.0) own (all_pages d ks more.walks), t.size, more.size);
       long = omega (arith, length-append pages others.bytes, long, more.long);
     }
   where

@@ -21,7 +21,8 @@ use Rattle.myi_data.specs.Readable.{readable, deleted}
 use Rattle.myi_data.specs.Stored.{SizedRow}
 use Rattle.myi_pair.specs.FirstRows.{key_numbers, AreDistinct}
 use Rattle.myi_pair.specs.KeyList.{PlacedRow}
-use Rattle.myi_pair.specs.Trees.{HaveTrees, total}
+use Rattle.myi_btree.specs.Walk.{Walked}
+use Rattle.myi_pair.specs.Trees.{HaveWalks, AreKeyLists, all_pages, total}
 
 -- the values of a readable row
 abbrev pub values_of : Defs → Row → Values
@@ -87,8 +88,10 @@ pub record IsClean (d x : List ℕ) : Type 0 where
   pub covered : (p : ℕ) → p < length d → list_any (covers p) (ranges_of (readable defs false d) ++ deleted defs d) ≡ true
   pub list : ListsDeleted defs d (state_of defs x).dellink
   pub counts : Counts defs (state_of defs x) d x
-  -- each tree is that of its key list; what is left of the index file behind the header belongs to no page
-  pub pages : List Range
-  pub trees : HaveTrees defs x (map (placed_row defs) (readable defs false d)) ((0, first_page_of defs) ∷ []) (key_numbers defs) (state_of defs x).roots pages
-  pub key_empty : (state_of defs x).key_empty ≡ length x - first_page_of defs - total pages
+  -- each tree has a walk, whose pairs are its key list; what is left of the index file behind the header belongs to no
+  -- page
+  pub walks : List Walked
+  pub trees : HaveWalks defs x ((0, first_page_of defs) ∷ []) (key_numbers defs) (state_of defs x).roots walks
+  pub lists : AreKeyLists defs (map (placed_row defs) (readable defs false d)) (key_numbers defs) walks
+  pub key_empty : (state_of defs x).key_empty ≡ length x - first_page_of defs - total (all_pages defs (key_numbers defs) walks)
   pub distinct : AreDistinct defs [] (map (values_of defs) (readable defs false d))

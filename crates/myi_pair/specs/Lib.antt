@@ -12,6 +12,8 @@ pub mod Clean
 pub mod FirstBad
 -- what is wrong with a pair
 pub mod Findings
+-- what is told of each section, by what fails first
+pub mod FirstFailing
 -- the two files of a table of given rows that is made anew, as bytes
 pub mod RebuiltBytes
 -- what is to hold of them

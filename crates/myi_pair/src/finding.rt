@@ -19,10 +19,12 @@ pub enum HeaderItem {
 pub enum Finding {
     /// The first item that the files show otherwise.
     Header(HeaderItem),
-    /// A place that is on the list and should not be, or is not and should be.
+    /// The first place on the list that has no deleted block, was on the list before, or names another one
+    /// before it; else the lowest deleted block that the list leaves out.
     Deleted { at: u64 },
     /// The page of what is wrong, or 0 where rows are missing from the tree.
     Key { key: u8, at: u64 },
-    /// The lowest byte that belongs to no row and to no deleted block.
+    /// The lowest byte that belongs to no row and to no deleted block; none does where the file is longer
+    /// than row pointers reach.
     Rows { at: u64 },
 }

@@ -1,11 +1,13 @@
 //! Laws over pairs of files. Each is the contract of a function that does nothing, so that it is proved
 //! with the crate and stands for the crates above.
-ghost use Rattle.std.specs.Prelude.{◌≡◌, ◌+◌, ◌^◌, ◌<◌, ◌≤◌, ℕ, Bool, true, false, List, [], ◌∷◌, ◌++◌, length, map, Some, Ok, IsPermutation};
-ghost use Rattle.std.specs.List.{AllByRecursion};
+ghost use Rattle.std.specs.Prelude.{◌≡◌, ◌↔◌, ◌+◌, ◌^◌, ◌<◌, ◌≤◌, ℕ, Bool, true, false, Option, None};
+ghost use Rattle.std.specs.Prelude.{List, [], ◌∷◌, ◌++◌, length, map, Some, Ok, IsPermutation};
+ghost use Rattle.std.specs.List.{AllByRecursion, Contains};
 ghost use Rattle.myi_base.specs.Numbers.{AreBytes};
 ghost use Rattle.myi_base.specs.Ranges.{Range};
 ghost use Rattle.myi_defs.specs.declared.types.Defs.{Defs};
 ghost use Rattle.myi_defs.specs.ReadDefs.{read_defs, AreDefs};
+ghost use Rattle.myi_defs.specs.EmptyTable.{empty_header};
 ghost use Rattle.myi_defs.specs.Sound.{IsSound};
 ghost use Rattle.myi_defs.specs.Addressable.{is_addressable};
 ghost use Rattle.myi_defs.specs.declared.types.RowFormat.TheVariants.{Static};
@@ -22,11 +24,16 @@ ghost use Rattle.myi_data.specs.Stored.{SizedRow, values_in, IsStorable, stored_
 ghost use Rattle.myi_btree.specs.Nodes.{entry_of};
 ghost use Rattle.myi_btree.specs.Sizes.{IsPlaced, IsSized, AreSized};
 ghost use Rattle.myi_rowkeys.specs.TableKeys.{unique_keys};
-ghost use Rattle.myi_pair.specs.FirstRows.{key_numbers, first_rows, AreDistinct};
+ghost use Rattle.myi_pair.specs.declared.finding.Finding.{Finding};
+ghost use Rattle.myi_pair.specs.FirstRows.{key_numbers, is_unique, first_rows, AreDistinct};
 ghost use Rattle.myi_pair.specs.KeyList.{PlacedRow, pointer, pair_of, pairs_of, key_list};
-ghost use Rattle.myi_pair.specs.Trees.{place_of, HaveTrees, total};
-ghost use Rattle.myi_pair.specs.Clean.{values_of, sized_row, IsClean};
-ghost use Rattle.myi_pair.specs.Findings.{findings};
+ghost use Rattle.myi_btree.specs.Walk.{Walked};
+ghost use Rattle.myi_pair.specs.Trees.{place_of, HaveWalks, AreKeyLists, all_pages, total};
+ghost use Rattle.myi_pair.specs.Clean.{values_of, sized_row, ListsDeleted, IsClean};
+ghost use Rattle.myi_pair.specs.Findings.{KeyWalk, key_walk, met_in, header_bad, deleted_bad};
+ghost use Rattle.myi_pair.specs.Findings.{key_bad, rows_bad, findings};
+ghost use Rattle.myi_pair.specs.FirstFailing.{IsFirst, Differs, ComesBefore, IsFirstInList};
+ghost use Rattle.myi_pair.specs.FirstFailing.{IsFirstMet, IsWholeTree, BelongsToNothing, IsToldOf};
 ghost use Rattle.myi_pair.specs.RebuiltBytes.{without_free_pages, placed_from, new_trees, rebuilt_index, rebuilt};
 ghost use Rattle.myi_pair.specs.Rebuilt.{CanBeRebuilt, Rebuilt};
 ghost use Rattle.myi_pair.specs.RecoveredBytes.{kept, new_data, new_index};
@@ -129,8 +136,8 @@ pub fn rebuilt_files_are_no_longer()
         → is_addressable d longer ≡ true → is_addressable d shorter ≡ true }
 {}
 
-/// In the index file of a table of given rows each key has the tree of its key list, and the pages of all
-/// trees, which have no byte in common, fill the file behind the header. The file's length is a number of
+/// In the index file of a table of given rows the tree of each key has a walk, whose pairs are the key list,
+/// and the pages of all trees, which have no byte in common, fill the file behind the header. The file's length is a number of
 /// eight bytes.
 pub fn new_trees_stand()
     ensures room { (d : Defs) (rows : List SizedRow) (now : ℕ) → CanBeRebuilt d rows now
@@ -138,16 +145,27 @@ pub fn new_trees_stand()
     ensures long { (d : Defs) (rows : List SizedRow) (now : ℕ) → CanBeRebuilt d rows now
         → length (rebuilt_index d rows now) ≡ (new_trees d rows).end }
     ensures trees { (d : Defs) (rows : List SizedRow) (now : ℕ) → CanBeRebuilt d rows now
-        → (pages : List Range)
-        × HaveTrees d (rebuilt_index d rows now) (placed_from d 0 rows) ((0, first_page_of d) ∷ [])
-        (key_numbers d) (new_trees d rows).roots pages
-        × (first_page_of d + total pages ≡ length (rebuilt_index d rows now)) }
+        → (walks : List Walked)
+        × HaveWalks d (rebuilt_index d rows now) ((0, first_page_of d) ∷ []) (key_numbers d)
+        (new_trees d rows).roots walks
+        × AreKeyLists d (placed_from d 0 rows) (key_numbers d) walks
+        × (first_page_of d + total (all_pages d (key_numbers d) walks)
+        ≡ length (rebuilt_index d rows now)) }
 {}
 
 /// The two files that a repair leaves are what a repair is to leave.
 pub fn recovered_bytes_recover()
     ensures { (d : Defs) (extend : Bool) (x : List ℕ) (now : ℕ) → IsRepairable d x now
         → Recovered d extend x now (new_data d extend x) (new_index d extend x now) }
+{}
+
+/// An empty table is a clean pair: the header of an empty table with given definitions, beside a data file of no
+/// bytes. So nothing is found wrong with it.
+pub fn empty_tables_are_clean()
+    ensures clean { (d : Defs) → AreDefs d → AreBytes d.raw → IsClean [] (empty_header d.raw) }
+    ensures found { (d again : Defs) → AreDefs d → AreBytes d.raw
+        → read_defs (empty_header d.raw) ≡ Ok again
+        → findings again [] (empty_header d.raw) ≡ [] }
 {}
 
 /// A repair of a clean table keeps all its rows.
@@ -166,6 +184,32 @@ pub fn findings_are_none_where_clean()
     ensures recovered { (d again : Defs) (extend : Bool) (x : List ℕ) (now : ℕ)
         → IsRepairable d x now → read_defs (new_index d extend x now) ≡ Ok again
         → findings again (new_data d extend x) (new_index d extend x now) ≡ [] }
+{}
+
+/// What is found of each section is the first thing there that is not as it should be, and nothing is found
+/// of one exactly where all is so, but of keys only in a file with the mark: of the header the first item that the files show otherwise (`header`); of
+/// the list of deleted blocks the first bad place, else the lowest block that it leaves out (`deleted`,
+/// `listed`); of a key's tree the first bad place or pair that its walk meets, else 0 where pairs are left
+/// (`key`, `tree`); of the data file the lowest byte that belongs to nothing (`bytes`). So each finding is
+/// told of the first thing of its section (`told`).
+pub fn findings_are_first()
+    ensures header { (d : Defs) (rows x : List ℕ) → IsSound d
+        → IsFirst ComesBefore (Differs d rows x) (header_bad d rows x) }
+    ensures deleted { (d : Defs) (rows x : List ℕ)
+        → IsFirstInList d rows (state_of d x).dellink (deleted_bad d rows x) }
+    ensures listed { (d : Defs) (rows x : List ℕ)
+        → ListsDeleted d rows (state_of d x).dellink → deleted_bad d rows x ≡ None }
+    ensures key { (d : Defs) (rows : List PlacedRow) (walk : KeyWalk)
+        → IsFirstMet (is_unique d walk.key) (key_list d walk.key rows) walk.events
+        (key_bad d rows walk) }
+    ensures tree { (d : Defs) (k : ℕ) (x : List ℕ) (rows : List PlacedRow) (root : Option ℕ)
+        (busy : List Range) → IsSound d → IsKeyNumber d k
+        → (key_bad d rows (key_walk k (met_in d k x root busy)) ≡ None)
+        ↔ IsWholeTree d k x rows root busy }
+    ensures bytes { (d : Defs) (rows : List ℕ)
+        → IsFirst (λ p q. p < q) (BelongsToNothing d rows) (rows_bad d rows) }
+    ensures told { (d : Defs) (rows x : List ℕ) → IsSound d → (finding : Finding)
+        → Contains (findings d rows x) finding → IsToldOf d rows x finding }
 {}
 
 /// The measures of what a repair writes: a static row takes its slot, a place in a file within reach fits

@@ -3,7 +3,8 @@
 //!
 //! The model is in `specs/`: the first rows of unique keys (`FirstRows`), the key list of a key
 //! (`KeyList`), the trees of an index file (`Trees`), a clean pair (`Clean`), what is wrong with a pair
-//! (`Findings`, the first failing thing of each section, over `FirstBad`), the files of a table of given rows that is
+//! (`Findings`, the first failing thing of each section, over `FirstBad`, and `FirstFailing`, which says so by
+//! what fails before what), the files of a table of given rows that is
 //! made anew, as bytes (`RebuiltBytes`) and in what holds of them (`Rebuilt`), and those that a repair leaves
 //! (`RecoveredBytes`, `Recovered`). The laws over them are the contracts of the
 //! functions in `laws`.
@@ -28,8 +29,8 @@ mod laws;
 
 pub use finding::{Finding, HeaderItem};
 pub use laws::{
-    clean_tables_keep_all, findings_are_none_where_clean, first_rows_are_distinct,
-    kept_rows_make_a_table, new_trees_stand, pairs_are_sized, rebuilt_files_are_a_table,
-    rebuilt_files_are_no_longer, recovered_bytes_recover, repairs_of_rebuilt_files_settle,
-    written_parts_are_measured,
+    clean_tables_keep_all, empty_tables_are_clean, findings_are_first,
+    findings_are_none_where_clean, first_rows_are_distinct, kept_rows_make_a_table,
+    new_trees_stand, pairs_are_sized, rebuilt_files_are_a_table, rebuilt_files_are_no_longer,
+    recovered_bytes_recover, repairs_of_rebuilt_files_settle, written_parts_are_measured,
 };

@@ -1,6 +1,7 @@
 //! `RowTexts`: the buffers that serve for the texts of many rows.
-ghost use Rattle.std.specs.Prelude.{◌≡◌, ◌<◌, ◌++◌, OnOk};
+ghost use Rattle.std.specs.Prelude.{◌≡◌, ◌<◌, ◌++◌, Some, OnOk, OnErr};
 ghost use Rattle.std.specs.List.{flat_map};
+ghost use Rattle.myi_base.specs.Output.{AppendsPart};
 ghost use Rattle.myi_rowtext.specs.RowText.{digit, byte_text, value_text, values_text};
 
 use myi_pack::{RowView, value_into};
@@ -22,7 +23,8 @@ impl Drop for RowTexts {
 }
 
 impl RowTexts {
-    ghost use Rattle.std.specs.Prelude.{◌≡◌, ◌++◌, OnOk};
+    ghost use Rattle.std.specs.Prelude.{◌≡◌, ◌++◌, Some, OnOk, OnErr};
+    ghost use Rattle.myi_base.specs.Output.{AppendsPart};
     ghost use Rattle.myi_rowtext.specs.RowText.{row_text};
 
     /// Empty buffers, for which no memory is taken.
@@ -33,9 +35,11 @@ impl RowTexts {
         }
     }
 
-    /// Appends the text of the row at a place. Where memory runs out, a part of it may have been appended.
+    /// Appends the text of the row at a place. Where memory runs out, a first part of it may have been appended.
     pub fn push(&mut self, out: &mut Vec<u8>, at: u64, row: &RowView<'_>) -> Result<(), AllocError>
-        ensures { OnOk result (out.new.items ≡ out.old.items ++ row_text at row.now) }
+        ensures text { OnOk result (out.new.items ≡ out.old.items ++ row_text at row.now) }
+        ensures part { OnErr result
+            (AppendsPart (row_text at row.now) (Some out.new.items) out.old.items) }
     {
         self.number.clear();
         write!(self.number, "{at}")?;
@@ -46,7 +50,9 @@ impl RowTexts {
 
 // Appends the values of a row.
 fn push_values(out: &mut Vec<u8>, value: &mut Vec<u8>, row: &RowView<'_>) -> Result<(), AllocError>
-    ensures { OnOk result (out.new.items ≡ out.old.items ++ values_text row.now) }
+    ensures text { OnOk result (out.new.items ≡ out.old.items ++ values_text row.now) }
+    ensures part { OnErr result
+        (AppendsPart (values_text row.now) (Some out.new.items) out.old.items) }
 {
     let mut fields = row.fields();
     while let Some((length, shown)) = fields.next_with_length() {
@@ -59,7 +65,9 @@ fn push_values(out: &mut Vec<u8>, value: &mut Vec<u8>, row: &RowView<'_>) -> Res
 
 // Appends a value.
 fn push_value(out: &mut Vec<u8>, value: &[u8]) -> Result<(), AllocError>
-    ensures { OnOk result (out.new.items ≡ out.old.items ++ value_text value.now) }
+    ensures text { OnOk result (out.new.items ≡ out.old.items ++ value_text value.now) }
+    ensures part { OnErr result
+        (AppendsPart (value_text value.now) (Some out.new.items) out.old.items) }
 {
     if value.is_empty() {
         out.push(b'-')?;
@@ -70,7 +78,9 @@ fn push_value(out: &mut Vec<u8>, value: &[u8]) -> Result<(), AllocError>
 }
 
 fn push_digits(out: &mut Vec<u8>, value: &[u8]) -> Result<(), AllocError>
-    ensures { OnOk result (out.new.items ≡ out.old.items ++ flat_map byte_text value.now) }
+    ensures text { OnOk result (out.new.items ≡ out.old.items ++ flat_map byte_text value.now) }
+    ensures part { OnErr result
+        (AppendsPart (flat_map byte_text value.now) (Some out.new.items) out.old.items) }
 {
     for byte in value {
         out.push(digit(*byte / 16))?;

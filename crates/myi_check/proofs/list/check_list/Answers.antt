@@ -5,7 +5,7 @@ use Rattle.myi_pair.specs.Clean.{next_deleted}
 use Rattle.myi_pair.specs.FirstBad.{without, least}
 use Rattle.myi_pair.specs.Findings.{names_before, told}
 use Rattle.myi_check.specs.ListMet.{unmet}
-use Rattle.myi_check.proofs.UnmetLemmas.{whole_flags, named_is, not_named}
+use Rattle.myi_check.proofs.UnmetLemmas.{whole_flags, named_is, not_named, pointed_one}
 use Rattle.myi_check.proofs.WalkLemmas.{ended_at, stopped_at, broken_at, spent_at, went_on, begun}
 use Rattle.myi_check.proofs.list.check_list.Goals as goal
 
@@ -14,7 +14,7 @@ loop-step-init g c = record {
   holds = refl;
   faults = omega arith;
   long = ap length c.in_ok-met.ensures ∙ length-replicate (length c.args.deleted.now) false;
-  ahead = λ n count m held d is size up. begun (next_deleted c.args.defs.now d) (names_before c.args.defs.now d) n c.args.deleted.now c.in_ok-met.met.items c.widened-at.result c.args.head (omega (arith, count)) c.in_ok-met.ensures c.widened-at.ensures;
+  ahead = λ n count m held d is size up points. begun (next_deleted c.args.defs.now d) (names_before c.args.defs.now d) n c.args.deleted.now c.in_ok-met.met.items c.widened-at.result c.args.head (omega (arith, count)) c.in_ok-met.ensures c.widened-at.ensures;
 }
 
 pub loop-step-preserved : goal.loop-step-preserved
@@ -29,58 +29,58 @@ loop-step-preserved g c =
       holds = c.in_ok-link.ensures.holds ∙ inv.holds;
       faults = omega (arith, inv.faults, c.in_ok-link.ensures.cause.later);
       long = ap length whole ∙ long ∙ inv.long;
-      ahead = λ n count m held d is size up.
-          let said = c.in_ok-link.ensures.told m (inv.holds ∙ held) d is size in
+      ahead = λ n count m held d is size up points.
+          let said = c.in_ok-link.ensures.told m (inv.holds ∙ held) d is size (pointed_one c.args.defs.now c.args.end deleted block (c.in-Some-take_out.ensures.among) points) in
           let same = c.in-Some-take_out.ensures.same in
           let out = ap (λ q. without q (unmet deleted met)) same ∙ ap (λ flags. without c.in-Some.place (unmet deleted flags)) (sym c.deref_mut.ensures.value) ∙ c.in-Some-take_out.ensures.left up ∙ ap (λ (flags : List Bool). Some (unmet deleted flags)) (sym whole) in
           let named : names_before c.args.defs.now d block c.loop-step.before ≡ true = named_is c.in_ok-link.link.named _ said.named c.if-not-link.false in
-          went_on (next_deleted c.args.defs.now d) (names_before c.args.defs.now d) n (unmet deleted met) _ c.loop-step.before c.loop-step.at _ c.in_ok-link.link.next block (c.in-Some.is ∙ ap (λ (q : ℕ). Some q) (sym same)) out named said.next (inv.ahead (suc n) (omega (arith, count)) m held d is size up);
+          went_on (next_deleted c.args.defs.now d) (names_before c.args.defs.now d) n (unmet deleted met) _ c.loop-step.before c.loop-step.at _ c.in_ok-link.link.next block (c.in-Some.is ∙ ap (λ (q : ℕ). Some q) (sym same)) out named said.next (inv.ahead (suc n) (omega (arith, count)) m held d is size up points);
     }
 
 pub returns-in_default-clause-found : goal.returns-in_default-clause-found
-returns-in_default-clause-found g c m held d is size up =
+returns-in_default-clause-found g c m held d is size up points =
     let inv = c.loop-step.invariant in
     let deleted = c.args.deleted.now in
     let met = c.loop-step.met.items in
     let n : ℕ = length deleted - c.loop-step._step in
     c.least_left.ensures up ∙ ap (λ (flags : List Bool). option_map told (least (unmet deleted flags))) c.deref.ensures.value
-    ∙ ap (option_map told) (ended_at (next_deleted c.args.defs.now d) (names_before c.args.defs.now d) n (unmet deleted met) c.loop-step.before c.loop-step.at _ c.in_default.is (inv.ahead n (omega (arith, c.loop-step-test.true)) m held d is size up))
+    ∙ ap (option_map told) (ended_at (next_deleted c.args.defs.now d) (names_before c.args.defs.now d) n (unmet deleted met) c.loop-step.before c.loop-step.at _ c.in_default.is (inv.ahead n (omega (arith, c.loop-step-test.true)) m held d is size up points))
 
 pub returns-in_default-take_out-clause-found : goal.returns-in_default-take_out-clause-found
-returns-in_default-take_out-clause-found g c m held d is size up =
+returns-in_default-take_out-clause-found g c m held d is size up points =
     let inv = c.loop-step.invariant in
     let deleted = c.args.deleted.now in
     let met = c.loop-step.met.items in
     let n : ℕ = length deleted - c.loop-step._step in
     let out = ap (λ (flags : List Bool). without c.in-Some.place (unmet deleted flags)) (sym c.deref_mut.ensures.value) ∙ c.in_default-take_out.ensures.left up in
     ap (λ (p : ℕ). Some p) c.told.ensures
-    ∙ ap (option_map told) (stopped_at (next_deleted c.args.defs.now d) (names_before c.args.defs.now d) n (unmet deleted met) c.loop-step.before c.loop-step.at _ c.in-Some.place c.in-Some.is out (inv.ahead n (omega (arith, c.loop-step-test.true)) m held d is size up))
+    ∙ ap (option_map told) (stopped_at (next_deleted c.args.defs.now d) (names_before c.args.defs.now d) n (unmet deleted met) c.loop-step.before c.loop-step.at _ c.in-Some.place c.in-Some.is out (inv.ahead n (omega (arith, c.loop-step-test.true)) m held d is size up points))
 
 pub returns-then-not-link-clause-found : goal.returns-then-not-link-clause-found
-returns-then-not-link-clause-found g c m held d is size up =
+returns-then-not-link-clause-found g c m held d is size up points =
     let inv = c.loop-step.invariant in
     let deleted = c.args.deleted.now in
     let met = c.loop-step.met.items in
     let n : ℕ = length deleted - c.loop-step._step in
     let out = ap (λ (flags : List Bool). without c.in-Some.place (unmet deleted flags)) (sym c.deref_mut.ensures.value) ∙ c.in-Some-take_out.ensures.left up in
-    let said = c.in_ok-link.ensures.told m (inv.holds ∙ held) d is size in
+    let said = c.in_ok-link.ensures.told m (inv.holds ∙ held) d is size (pointed_one c.args.defs.now c.args.end deleted c.in-Some-take_out.block (c.in-Some-take_out.ensures.among) points) in
     let named = not_named c.in_ok-link.link.named _ said.named c.if-not-link.true in
     let here = ap (λ (p : ℕ). names_before c.args.defs.now d p c.loop-step.before) (sym c.in-Some-take_out.ensures.same) ∙ named in
     ap (λ (p : ℕ). Some p) c.told-then-not-link.ensures
-    ∙ ap (option_map told) (broken_at (next_deleted c.args.defs.now d) (names_before c.args.defs.now d) n (unmet deleted met) _ c.loop-step.before c.loop-step.at _ c.in-Some.place c.in-Some.is out here (inv.ahead n (omega (arith, c.loop-step-test.true)) m held d is size up))
+    ∙ ap (option_map told) (broken_at (next_deleted c.args.defs.now d) (names_before c.args.defs.now d) n (unmet deleted met) _ c.loop-step.before c.loop-step.at _ c.in-Some.place c.in-Some.is out here (inv.ahead n (omega (arith, c.loop-step-test.true)) m held d is size up points))
 
 pub returns-in-None-clause-found : goal.returns-in-None-clause-found
-returns-in-None-clause-found g c m held d is size up =
+returns-in-None-clause-found g c m held d is size up points =
     let inv = c.loop-step.invariant in
     let deleted = c.args.deleted.now in
     let met = c.loop-step.met.items in
     c.least_left-in-None.ensures up ∙ ap (λ (flags : List Bool). option_map told (least (unmet deleted flags))) c.deref-in-None.ensures.value
-    ∙ ap (option_map told) (ended_at (next_deleted c.args.defs.now d) (names_before c.args.defs.now d) 0 (unmet deleted met) c.loop-step.before c.loop-step.at _ c.in-None.is (inv.ahead 0 (omega (arith, c.loop-step-test.false, c.loop-step.auto._step-end)) m held d is size up))
+    ∙ ap (option_map told) (ended_at (next_deleted c.args.defs.now d) (names_before c.args.defs.now d) 0 (unmet deleted met) c.loop-step.before c.loop-step.at _ c.in-None.is (inv.ahead 0 (omega (arith, c.loop-step-test.false, c.loop-step.auto._step-end)) m held d is size up points))
 
 pub returns-clause-found : goal.returns-clause-found
-returns-clause-found g c m held d is size up =
+returns-clause-found g c m held d is size up points =
     let inv = c.loop-step.invariant in
     let deleted = c.args.deleted.now in
     let met = c.loop-step.met.items in
     ap (λ (p : ℕ). Some p) c.told-in-Some-at.ensures
-    ∙ ap (option_map told) (spent_at (next_deleted c.args.defs.now d) (names_before c.args.defs.now d) 0 (unmet deleted met) c.loop-step.before c.loop-step.at _ c.in-Some-at.place refl c.in-Some-at.is (inv.ahead 0 (omega (arith, c.loop-step-test.false, c.loop-step.auto._step-end)) m held d is size up))
+    ∙ ap (option_map told) (spent_at (next_deleted c.args.defs.now d) (names_before c.args.defs.now d) 0 (unmet deleted met) c.loop-step.before c.loop-step.at _ c.in-Some-at.place refl c.in-Some-at.is (inv.ahead 0 (omega (arith, c.loop-step-test.false, c.loop-step.auto._step-end)) m held d is size up points))

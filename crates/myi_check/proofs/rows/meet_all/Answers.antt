@@ -1,6 +1,7 @@
-use Rattle.std.proofs.Common.{◌∙◌, ◌++◌, ◌∷◌, [], refl, sym, subst, arith, true, false}
+use Rattle.std.proofs.Common.{◌∙◌, ◌++◌, ◌∷◌, [], refl, sym, ap, subst, arith, true, false}
 use Rattle.myi_base.specs.Holding.{IfTold}
 use Rattle.myi_data.specs.Scanning.{IsAsKnown}
+use Rattle.myi_check.specs.declared.met.Met.{Met}
 use Rattle.myi_check.specs.Met.{ReadsIf}
 use Rattle.myi_check.proofs.MetLemmas.{meets_more, met_all, same_then_scan}
 use Rattle.myi_check.proofs.rows.meet_all.Goals as goal
@@ -11,8 +12,9 @@ loop-met-init g c = record {
   holds = refl;
   current = c.requires.current;
   later = omega arith;
+  keys = c.in_ok-met.ensures.keys;
   came = [];
-  so_far = (c.in_ok-met.ensures, λ m told. refl);
+  so_far = (c.in_ok-met.ensures.met, λ m told. refl);
 }
 
 pub read-requires-clause-test : goal.read-requires-clause-test
@@ -32,6 +34,7 @@ loop-met-preserved g c =
       holds = c.read.ensures.holds ∙ was.holds;
       current = subst (λ h. IfTold h (IsAsKnown c.read.new.scan)) (sym c.read.ensures.holds) c.in_ok-read.ensures.current;
       later = omega (arith, was.later, c.read.ensures.cause.later);
+      keys = read.with_keys ∙ was.keys;
       came = was.came ++ read.item ∷ [];
       so_far = meets_more d start c.args.scan.now c.loop-met.scan c.read.new.scan was.came c.loop-met.met c.read.new.self was.so_far read;
     }
@@ -48,3 +51,8 @@ returns-clause-met g c =
     let start = g.F.Files.holds c.args.files.now in
     let none = subst (λ h. ReadsIf false d h c.loop-met.scan c.read.new.scan c.loop-met.met c.read.new.self) was.holds (subst (λ more. ReadsIf more d (g.F.Files.holds c.loop-met.files) c.loop-met.scan c.read.new.scan c.loop-met.met c.read.new.self) c.if-branch.false c.in_ok-read.ensures.read) in
     met_all d start c.args.scan.now c.loop-met.scan was.came c.loop-met.met c.read.new.self was.so_far none.0 none.1
+
+pub returns-clause-keys : goal.returns-clause-keys
+returns-clause-keys g c =
+    let none = subst (λ more. ReadsIf more c.args.defs.now (g.F.Files.holds c.loop-met.files) c.loop-met.scan c.read.new.scan c.loop-met.met c.read.new.self) c.if-branch.false c.in_ok-read.ensures.read in
+    ap (λ (m : Met). m.with_keys) none.0 ∙ c.loop-met.invariant.keys

@@ -6,8 +6,8 @@ use Rattle.myi_dump.specs.RowLines.{row_lines}
 use Rattle.myi_dump.proofs.DumpLemmas.{begins_known, all_rows, same_file, on_ok_more, on_err_more}
 use Rattle.myi_dump.proofs.row_lines.dump_rows.Goals as goal
 
-pub scan_of-requires : goal.scan_of-requires
-scan_of-requires g c = sound c.args.defs.now c.requires.defs
+pub of_file-requires : goal.of_file-requires
+of_file-requires g c = sound c.args.defs.now c.requires.defs
 
 pub write_rows-requires-clause-current : goal.write_rows-requires-clause-current
 write_rows-requires-clause-current g c κs lives m told =

@@ -1,14 +1,12 @@
-use Rattle.std.proofs.Common.{◌∙◌, List, length, ap, sym, subst}
+use Rattle.std.proofs.Common.{sym, subst}
 use Rattle.std.specs.List.{AllByRecursion}
-use Rattle.myi_chain.specs.Readable.{rows_of}
-use Rattle.myi_keylist.specs.declared.pair.Pair.{Pair}
 use Rattle.myi_check.specs.HeldBytes.{EndsNear}
 use Rattle.myi_check.specs.Met.{NotesBlocks}
-use Rattle.myi_check.proofs.MetLemmas.{length-pairs, answered_row, answered_free, row_read, free_read, blocks_near}
+use Rattle.myi_check.proofs.MetLemmas.{answered_row, answered_free, row_read, free_read, blocks_near}
 use Rattle.myi_check.proofs.met.Met.read.Goals as goal
 
 pub note_pairs-requires-clause-all : goal.note_pairs-requires-clause-all
-note_pairs-requires-clause-all g c = ap (λ (ls : List (List Pair)). length ls) c.requires.met.1.keys ∙ length-pairs c.args.defs.now (rows_of c.requires.met.0)
+note_pairs-requires-clause-all g c = c.requires.met.1.lists
 
 pub note_blocks-requires : goal.note_blocks-requires
 note_blocks-requires g c =
