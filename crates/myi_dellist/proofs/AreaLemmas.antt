@@ -23,7 +23,7 @@ untouched : (p : ℕ) (a : Area) (areas : List Area) → a.at ≤ p → p < a.at
 untouched p a [] le lt apart = refl
 untouched p a (b ∷ areas) le lt apart = omega (arith, apart.0, untouched p a areas le lt apart.1)
 
-one_more : (p : ℕ) (areas : List Area) → AreApart areas → Holds p areas → bytes_below (p + 1) areas ≡ bytes_below p areas + 1
+pub one_more : (p : ℕ) (areas : List Area) → AreApart areas → Holds p areas → bytes_below (p + 1) areas ≡ bytes_below p areas + 1
 one_more p [] apart h = absurd h
 one_more p (a ∷ areas) apart (inl h) = let r = untouched p a areas h.0 h.1 apart.0 in let h0 = h.0 in let h1 = h.1 in omega arith
 one_more p (a ∷ areas) apart (inr h) = by_side (cases_lt p a.at) (cases_lt p (a.at + a.size)) (one_more p areas apart.1 h)
@@ -101,7 +101,7 @@ inside_by end (a ∷ areas) some none = (
 pub tile-inside : (end : ℕ) (areas : List Area) → HaveBytes areas → Tile end areas → AreInside end areas
 tile-inside end areas some t = inside_by end areas some (λ p le. omega (arith, t p, t end))
 
-held_or : (p : ℕ) (areas : List Area) → Holds p areas ⊎ (bytes_below (p + 1) areas ≡ bytes_below p areas)
+pub held_or : (p : ℕ) (areas : List Area) → Holds p areas ⊎ (bytes_below (p + 1) areas ≡ bytes_below p areas)
 held_or p [] = inr refl
 held_or p (a ∷ areas) = by_side (cases_lt p a.at) (cases_lt p (a.at + a.size)) (held_or p areas)
   where

@@ -8,34 +8,20 @@ use Rattle.myi_frames.specs.Sizes.{least_size, start_room, middle_room}
 use Rattle.myi_frames.specs.Writing.{whole_spec, start_spec, middle_spec, end_spec, IsWritable}
 use Rattle.myi_frames.proofs.CallerLemmas.{least-sized, start-writable, middle-writable}
 use Rattle.myi_dellist.specs.Areas.{Area}
-use Rattle.myi_dellist.specs.Releasing.{most_size, half_size, IsHole, IsFreeable}
-use Rattle.myi_dellist.specs.Placing.{Space, Piece, room, fits, Taking, take_last, with_piece, take_one, take_from, take_more, append_one, append_from, is_none, Placing, last_pieces, placed_by, place, specs_behind, specs_of, AreWritable, IsUsable}
+use Rattle.myi_dellist.specs.Releasing.{most_size, IsHole, IsFreeable}
+use Rattle.myi_dellist.specs.declared.pieces.Piece.{Piece}
+use Rattle.myi_dellist.specs.Taking.{IsFull, Run}
+use Rattle.myi_dellist.specs.Placing.{Space, room, fits, Taking, take_last, with_piece, take_one, take_from, take_more, append_one, append_from, is_none, Placing, last_pieces, placed_by, place, specs_behind, specs_of, AreWritable, IsUsable}
 use Rattle.myi_dellist.proofs.ReleaseLemmas.{holes-release_all}
 use Rattle.myi_dellist.proofs.SizeLemmas.{room-bounds, not-fits-few, does-fit, last-writable}
 
--- a block that is not the last one of its row
-pub record IsFull (len : ℕ) (first : Bool) (left : ℕ) (p : Piece) : Type 0 where
-  pub aligned : p.at % 4 ≡ 0
-  pub multiple : p.size % 4 ≡ 0
-  pub least : 20 ≤ p.size
-  pub most : p.size ≤ half_size + most_size
-  pub taken : p.taken ≡ room len first p.size
-  pub less : p.taken < left
-  pub few : p.taken < 2 ^ 24
-
 -- the last one
 pub record IsLast (left : ℕ) (p : Piece) : Type 0 where
-  pub aligned : p.at % 4 ≡ 0
   pub multiple : p.size % 4 ≡ 0
   pub taken : p.taken ≡ left
   pub few : left < 2 ^ 24
   pub least : least_size left ≤ p.size
   pub close : p.size < least_size left + 20
-
--- full blocks, behind which so many bytes are left
-abbrev pub Run : ℕ → Bool → ℕ → List Piece → ℕ → Type 0
-Run len first left [] rest = left ≡ rest
-Run len first left (p ∷ ps) rest = IsFull len first left p × Run len false (left - p.taken) ps rest
 
 -- all blocks of what is left
 abbrev pub Fill : ℕ → Bool → ℕ → List Piece → Type 0
@@ -87,13 +73,13 @@ take_last_done len first left a more true u few le e =
     let s = least-sized left in
     record {
       none = refl;
-      fill = record { aligned = u.aligned; multiple = s.multiple; taken = refl; few = few; least = omega arith; close = omega arith };
+      fill = record { multiple = s.multiple; taken = refl; few = few; least = omega arith; close = omega arith };
       spare = (record { aligned = omega (arith, u.aligned, s.multiple); multiple = omega (arith, u.multiple, s.multiple, le); least = omega (arith, leb-true _ _ e); most = omega (arith, u.most) }, tt);
     }
 take_last_done len first left a more false u few le e =
     record {
       none = refl;
-      fill = record { aligned = u.aligned; multiple = u.multiple; taken = refl; few = few; least = le; close = omega (arith, leb-false _ _ e) };
+      fill = record { multiple = u.multiple; taken = refl; few = few; least = le; close = omega (arith, leb-false _ _ e) };
       spare = tt;
     }
 
@@ -111,7 +97,7 @@ take_runs len first left (a ∷ areas) some le all = by_fits (fits left a.size) 
     by_fits true e go = let f = does-fit left a.size e in inl (take_last_done len first left a areas (nat_le (least_size left + 20) a.size) all.0 f.0 f.1 refl)
     by_fits false e go =
         let few = not-fits-few len left first a le all.0 e in
-        let full : IsFull len first left (record { at = a.at; size = a.size; taken = room len first a.size }) = record { aligned = all.0.aligned; multiple = all.0.multiple; least = all.0.least; most = all.0.most; taken = refl; less = few.0; few = few.1 } in
+        let full : IsFull len first left (record { at = a.at; size = a.size; taken = room len first a.size }) = record { multiple = all.0.multiple; least = all.0.least; most = all.0.most; taken = refl; less = few.0; few = few.1 } in
         by_rest full (go few.0)
       where
         by_rest : IsFull len first left (record { at = a.at; size = a.size; taken = room len first a.size }) → IsDone len false (left - room len first a.size) (take_from len false (left - room len first a.size) areas) ⊎ IsOpen len false (left - room len first a.size) (take_from len false (left - room len first a.size) areas) → IsDone len first left (with_piece (record { at = a.at; size = a.size; taken = room len first a.size }) (take_from len false (left - room len first a.size) areas)) ⊎ IsOpen len first left (with_piece (record { at = a.at; size = a.size; taken = room len first a.size }) (take_from len false (left - room len first a.size) areas))
@@ -120,20 +106,20 @@ take_runs len first left (a ∷ areas) some le all = by_fits (fits left a.size) 
 
 -- ---- at the end
 
-pub append_fills : (fuel len : ℕ) (first : Bool) (left at : ℕ) → left ≤ fuel → 0 < left → at % 4 ≡ 0 → Fill len first left (append_from fuel len first left at)
-append_fills zero len first left at le some aligned = absurd (omega arith)
-append_fills (suc fuel) len first left at le some aligned =
+pub append_fills : (fuel len : ℕ) (first : Bool) (left at : ℕ) → left ≤ fuel → 0 < left → Fill len first left (append_from fuel len first left at)
+append_fills zero len first left at le some = absurd (omega arith)
+append_fills (suc fuel) len first left at le some =
     let cap = room-bounds len first most_size (omega arith) in
-    by_test (nat_lt left (2 ^ 24)) refl (λ (far : 2 ^ 24 ≤ left). append_fills fuel len false (left - room len first most_size) (at + most_size) (omega (arith, far, cap.0)) (omega (arith, far, cap.1)) (omega (arith, aligned)))
+    by_test (nat_lt left (2 ^ 24)) refl (λ (far : 2 ^ 24 ≤ left). append_fills fuel len false (left - room len first most_size) (at + most_size) (omega (arith, far, cap.0)) (omega (arith, far, cap.1)))
   where
     by_test : (b : Bool) → nat_lt left (2 ^ 24) ≡ b → (2 ^ 24 ≤ left → Fill len false (left - room len first most_size) (append_from fuel len false (left - room len first most_size) (at + most_size))) → Fill len first left (append_one len first left at b (λ more. append_from fuel len false more (at + most_size)))
     by_test true t go =
         let s = least-sized left in
-        record { aligned = aligned; multiple = s.multiple; taken = refl; few = ltb-true _ _ t; least = omega arith; close = omega arith }
+        record { multiple = s.multiple; taken = refl; few = ltb-true _ _ t; least = omega arith; close = omega arith }
     by_test false t go =
         let far = ltb-false _ _ t in
         let cap = room-bounds len first most_size (omega arith) in
-        fill_more len first left (record { at = at; size = most_size; taken = room len first most_size }) (append_from fuel len false (left - room len first most_size) (at + most_size)) (record { aligned = aligned; multiple = omega arith; least = omega arith; most = omega arith; taken = refl; less = omega (arith, far, cap.1); few = omega (arith, cap.1) }) (go far)
+        fill_more len first left (record { at = at; size = most_size; taken = room len first most_size }) (append_from fuel len false (left - room len first most_size) (at + most_size)) (record { multiple = omega arith; least = omega arith; most = omega arith; taken = refl; less = omega (arith, far, cap.1); few = omega (arith, cap.1) }) (go far)
 
 -- ---- a row
 
@@ -143,7 +129,7 @@ no_pieces = []
 nothing_more : (xs : List Piece) → (xs ++ no_pieces) ++ no_pieces ≡ xs
 nothing_more xs = append-nil (xs ++ no_pieces) ∙ append-nil xs
 
-first_is : (xs : List Piece) → first_behind true xs ≡ is_none xs
+pub first_is : (xs : List Piece) → first_behind true xs ≡ is_none xs
 first_is [] = refl
 first_is (x ∷ xs) = refl
 
@@ -196,26 +182,26 @@ pub record IsPlaced (len : ℕ) (r : Placing) : Type 0 where
   pub fill : Fill len true len r.pieces
   pub holes : AllByRecursion IsHole r.space.holes
 
-fill_by : (s : Space) (len : ℕ) (a b : Taking) → s.end % 4 ≡ 0
+fill_by : (s : Space) (len : ℕ) (a b : Taking)
     → IsDone len true len a ⊎ IsOpen len true len a
     → IsNothing a.left b ⊎ (IsDone len (is_none a.pieces) a.left b ⊎ IsOpen len (is_none a.pieces) a.left b)
     → (a.left ≡ 0 → b.pieces ≡ []) → (a.left ≡ 0 → b.left ≡ 0) → (b.left ≡ 0 → last_pieces len a b s.end ≡ [])
     → Fill len true len (placed_by s len a b).pieces
-fill_by s len a b aligned (inl d) any none done last =
+fill_by s len a b (inl d) any none done last =
     let p = none d.none in
     let l = last (done d.none) in
     let same : (a.pieces ++ b.pieces) ++ last_pieces len a b s.end ≡ a.pieces = ap (λ (xs : List Piece). (a.pieces ++ xs) ++ last_pieces len a b s.end) p ∙ ap (λ (xs : List Piece). (a.pieces ++ no_pieces) ++ xs) l ∙ nothing_more a.pieces in
     subst (λ xs. Fill len true len xs) (sym same) d.fill
-fill_by s len a b aligned (inr o) (inl n) none done last = absurd (omega (arith, o.some, n.was))
-fill_by s len a b aligned (inr o) (inr (inl d)) none done last =
+fill_by s len a b (inr o) (inl n) none done last = absurd (omega (arith, o.some, n.was))
+fill_by s len a b (inr o) (inr (inl d)) none done last =
     let l = last d.none in
     let same : (a.pieces ++ b.pieces) ++ last_pieces len a b s.end ≡ a.pieces ++ b.pieces = ap (λ (xs : List Piece). (a.pieces ++ b.pieces) ++ xs) l ∙ append-nil (a.pieces ++ b.pieces) in
     let more = subst (λ f. Fill len f a.left b.pieces) (sym (first_is a.pieces)) d.fill in
     subst (λ xs. Fill len true len xs) (sym same) (run_fill len true len a.left a.pieces b.pieces o.run more)
-fill_by s len a b aligned (inr o) (inr (inr p)) none done last =
+fill_by s len a b (inr o) (inr (inr p)) none done last =
     let more = subst (λ f. Run len f a.left b.pieces b.left) (sym (first_is a.pieces)) p.run in
     let both = run_run len true len a.left b.left a.pieces b.pieces o.run more in
-    let ends = append_fills b.left len (is_none (a.pieces ++ b.pieces)) b.left s.end (omega arith) p.some aligned in
+    let ends = append_fills b.left len (is_none (a.pieces ++ b.pieces)) b.left s.end (omega arith) p.some in
     let end = subst (λ f. Fill len f b.left (append_from b.left len (is_none (a.pieces ++ b.pieces)) b.left s.end)) (sym (first_is (a.pieces ++ b.pieces))) ends in
     run_fill len true len b.left (a.pieces ++ b.pieces) (append_from b.left len (is_none (a.pieces ++ b.pieces)) b.left s.end) both end
 
@@ -244,15 +230,15 @@ left_most : (len : ℕ) (t : Taking) → IsDone len true len t ⊎ IsOpen len tr
 left_most len t (inl d) = omega (arith, d.none)
 left_most len t (inr o) = o.less
 
-pub place-placed : (s : Space) (own : List Area) (len : ℕ) → 0 < len → s.end % 4 ≡ 0 → AllByRecursion (IsUsable len) own → AllByRecursion IsHole s.holes → IsPlaced len (place s own len)
+pub place-placed : (s : Space) (own : List Area) (len : ℕ) → 0 < len → AllByRecursion (IsUsable len) own → AllByRecursion IsHole s.holes → IsPlaced len (place s own len)
 unfolding place
-place-placed s own len some aligned all holes =
+place-placed s own len some all holes =
     let a = take_from len true len own in
     let b = take_more len (is_none a.pieces) a.left s.holes in
     let ra = take_runs len true len own some (omega arith) all in
     let rb = more_runs len (is_none a.pieces) a.left s.holes (left_most len a ra) (holes_usable len s.holes holes) in
     record {
-      fill = fill_by s len a b aligned ra rb (more_none len (is_none a.pieces) a.left s.holes) (more_done len (is_none a.pieces) a.left s.holes) (append_none b.left len (is_none (a.pieces ++ b.pieces)) b.left s.end);
+      fill = fill_by s len a b ra rb (more_none len (is_none a.pieces) a.left s.holes) (more_done len (is_none a.pieces) a.left s.holes) (append_none b.left len (is_none (a.pieces ++ b.pieces)) b.left s.end);
       holes = holes-release_all (a.spare ++ (b.spare ++ a.unused)) b.unused
           (all-append IsFreeable a.spare (b.spare ++ a.unused) (spare_own len a ra) (all-append IsFreeable b.spare a.unused (spare_more len (is_none a.pieces) a.left b rb) (unused_taken IsFreeable len true len own (usable_freeable len own all))))
           (unused_more IsHole len (is_none a.pieces) a.left s.holes holes);

@@ -7,19 +7,20 @@ use Rattle.myi_frames.specs.Sizes.{least_size}
 use Rattle.myi_frames.proofs.CallerLemmas.{least-sized}
 use Rattle.myi_dellist.specs.Areas.{Area, below, bytes_below, AreInside, HaveBytes}
 use Rattle.myi_dellist.specs.Releasing.{most_size, front_part, back_part, IsHole}
-use Rattle.myi_dellist.specs.Placing.{Space, Piece, areas_of, fits, take_last, take_one, take_from, take_more, append_one, append_from, is_none, last_pieces, place, own_parts, own_areas, specs_of, AreWritable, IsUsable, place_of, next_place}
+use Rattle.myi_dellist.specs.declared.pieces.Piece.{Piece}
+use Rattle.myi_dellist.specs.Placing.{Space, areas_of, fits, take_last, take_one, take_from, take_more, append_one, append_from, is_none, last_pieces, place, own_parts, own_areas, specs_of, AreWritable, IsUsable, place_of, next_place}
 use Rattle.myi_dellist.proofs.AreaLemmas.{rising, no_more, inside_by}
 use Rattle.myi_dellist.proofs.PlaceLemmas.{place-keeps}
 use Rattle.myi_dellist.proofs.FillLemmas.{Fill, place-placed, AreReached, fill-writable, holes_usable}
 
 -- ---- inside
 
-fill_bytes : (len : ℕ) (first : Bool) (left : ℕ) (ps : List Piece) → Fill len first left ps → HaveBytes (areas_of ps)
+pub fill_bytes : (len : ℕ) (first : Bool) (left : ℕ) (ps : List Piece) → Fill len first left ps → HaveBytes (areas_of ps)
 fill_bytes len first left [] f = absurd f
 fill_bytes len first left (p ∷ []) f = (omega (arith, f.least, (least-sized left).least), tt)
 fill_bytes len first left (p ∷ q ∷ ps) f = (omega (arith, f.0.least), fill_bytes len false (left - p.taken) (q ∷ ps) f.1)
 
-hole_bytes : (holes : List Area) → AllByRecursion IsHole holes → HaveBytes holes
+pub hole_bytes : (holes : List Area) → AllByRecursion IsHole holes → HaveBytes holes
 hole_bytes [] all = tt
 hole_bytes (h ∷ holes) all = (omega (arith, all.0.least), hole_bytes holes all.1)
 
@@ -27,7 +28,7 @@ pub place-inside : (s : Space) (own : List Area) (len : ℕ) → 0 < len → s.e
 place-inside s own len some aligned all holes io ih =
     let r = place s own len in
     let k = place-keeps s own len all (holes_usable len s.holes holes) in
-    let p = place-placed s own len some aligned all holes in (
+    let p = place-placed s own len some all holes in (
       inside_by r.space.end (areas_of r.pieces) (fill_bytes len true len r.pieces p.fill) (λ q le. omega (arith, sums q le, rising r.space.end q r.space.holes le)),
       inside_by r.space.end r.space.holes (hole_bytes r.space.holes p.holes) (λ q le. omega (arith, sums q le, rising r.space.end q (areas_of r.pieces) le)),
     )
@@ -38,13 +39,13 @@ place-inside s own len some aligned all holes io ih =
         let k = place-keeps s own len all (holes_usable len s.holes holes) in
         omega (arith, k.bytes q, k.bytes r.space.end, k.grows, no_more s.end q own io (omega (arith, k.grows)), no_more s.end q s.holes ih (omega (arith, k.grows)), no_more s.end r.space.end own io k.grows, no_more s.end r.space.end s.holes ih k.grows)
 
-reached_by : (end : ℕ) (ps : List Piece) → end < 2 ^ 64 → HaveBytes (areas_of ps) → AreInside end (areas_of ps) → AreReached ps
+pub reached_by : (end : ℕ) (ps : List Piece) → end < 2 ^ 64 → HaveBytes (areas_of ps) → AreInside end (areas_of ps) → AreReached ps
 reached_by end [] lt some inside = tt
 reached_by end (p ∷ ps) lt some inside = (omega (arith, some.0, inside.0), reached_by end ps lt some.1 inside.1)
 
 pub place-writable : (s : Space) (own : List Area) (len : ℕ) → 0 < len → len < 2 ^ 32 → s.end % 4 ≡ 0 → AllByRecursion (IsUsable len) own → AllByRecursion IsHole s.holes → AreInside s.end own → AreInside s.end s.holes → (place s own len).space.end < 2 ^ 64 → AreWritable (specs_of len (place s own len).pieces) (place s own len).pieces
 place-writable s own len some few aligned all holes io ih lt =
-    let p = place-placed s own len some aligned all holes in
+    let p = place-placed s own len some all holes in
     let i = place-inside s own len some aligned all holes io ih in
     let ps = (place s own len).pieces in
     fill-writable len ps few p.fill (reached_by (place s own len).space.end ps lt (fill_bytes len true len ps p.fill) i.0)

@@ -14,7 +14,7 @@ use Rattle.myi_dellist.specs.FreeList.{ListState, MayRelease, Frees, Releases, I
 use Rattle.myi_dellist.proofs.ReleasedLemmas.{release-stands, back_head, front_alone}
 use Rattle.myi_dellist.proofs.PlanLemmas.{release-plans}
 
-short_release : (a : Area) (holes : List Area) → a.size ≤ most_size → release a holes ≡ release_one a holes
+pub short_release : (a : Area) (holes : List Area) → a.size ≤ most_size → release a holes ≡ release_one a holes
 unfolding release
 short_release a holes le = ap (λ (b : Bool). if b then release_one a holes else release_one (front_part a) (release_one (back_part a) holes)) (le-leb _ _ le)
 
@@ -22,7 +22,7 @@ short_bytes : (a : Area) (holes : List Area) (d : List ℕ) → a.size ≤ most_
 unfolding release_bytes
 short_bytes a holes d le = ap (λ (b : Bool). if b then release_one_bytes a holes d else release_one_bytes (front_part a) (release_one (back_part a) holes) (release_one_bytes (back_part a) holes d)) (le-leb _ _ le)
 
-first_one : (a : Area) (holes : List Area) → first_or (release_one a holes) None ≡ Some a.at
+pub first_one : (a : Area) (holes : List Area) → first_or (release_one a holes) None ≡ Some a.at
 unfolding release_one
 first_one a holes =
     let h = back_head a holes (hole_at (a.at + a.size) holes) in

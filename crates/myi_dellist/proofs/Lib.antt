@@ -1,3 +1,4 @@
+pub mod CallerLemmas
 pub mod AreaLemmas
 pub mod ReleaseLemmas
 pub mod SizeLemmas
@@ -5,7 +6,6 @@ pub mod PlaceLemmas
 pub mod FillLemmas
 pub mod FirstLemmas
 pub mod UpdateLemmas
-pub mod SlotLemmas
 pub mod LinkLemmas
 pub mod ReleasedLemmas
 pub mod HoleLemmas
@@ -16,3 +16,13 @@ pub mod MergeLemmas
 pub mod OrderLemmas
 pub mod RowLemmas
 pub mod TakenLemmas
+pub mod EndLemmas
+pub mod AppendedLemmas
+pub mod PutLemmas
+pub mod StandLemmas
+pub mod AtEndLemmas
+pub mod TakeLemmas
+pub mod PlanningLemmas
+pub mod RestLemmas
+pub mod PutRowLemmas
+pub mod SoundLemmas

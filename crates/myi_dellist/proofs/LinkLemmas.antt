@@ -63,7 +63,7 @@ part_split d prev next [] ys h = (tt, h)
 part_split d prev next (x ∷ []) ys h = ((h.0, tt), h.1)
 part_split d prev next (x ∷ y ∷ xs) ys h = let more = part_split d (Some x.at) next (y ∷ xs) ys h.1 in ((h.0, more.0), more.1)
 
-part_join : (d : List ℕ) (prev next : Option ℕ) (xs ys : List Area) → IsPart d prev xs (first_or ys next) → IsPart d (last_or xs prev) ys next → IsPart d prev (xs ++ ys) next
+pub part_join : (d : List ℕ) (prev next : Option ℕ) (xs ys : List Area) → IsPart d prev xs (first_or ys next) → IsPart d (last_or xs prev) ys next → IsPart d prev (xs ++ ys) next
 part_join d prev next [] ys h k = k
 part_join d prev next (x ∷ []) ys h k = (h.0, k)
 part_join d prev next (x ∷ y ∷ xs) ys h k = (h.0, part_join d (Some x.at) next (y ∷ xs) ys h.1 k)

@@ -6,7 +6,8 @@ use Rattle.std.proofs.lemmas.Bool.{ltb-false, leb-true}
 use Rattle.myi_frames.specs.Sizes.{least_size}
 use Rattle.myi_dellist.specs.Areas.{Area, bytes_below, Tile}
 use Rattle.myi_dellist.specs.Releasing.{most_size, release_all}
-use Rattle.myi_dellist.specs.Placing.{Space, Piece, areas_of, taken_by, room, fits, Taking, take_last, take_one, take_from, take_more, append_one, append_from, end_behind, is_none, Placing, last_pieces, placed_by, place, IsUsable}
+use Rattle.myi_dellist.specs.declared.pieces.Piece.{Piece}
+use Rattle.myi_dellist.specs.Placing.{Space, areas_of, taken_by, room, fits, Taking, take_last, take_one, take_from, take_more, append_one, append_from, end_behind, is_none, Placing, last_pieces, placed_by, place, IsUsable}
 use Rattle.myi_dellist.proofs.AreaLemmas.{below-append}
 use Rattle.myi_dellist.proofs.ReleaseLemmas.{below-release_all}
 use Rattle.myi_dellist.proofs.SizeLemmas.{room-bounds, not-fits, does-fit}
@@ -62,7 +63,7 @@ taken-append : (xs ys : List Piece) → taken_by (xs ++ ys) ≡ taken_by xs + ta
 taken-append [] ys = omega arith
 taken-append (x ∷ xs) ys = omega (arith, taken-append xs ys)
 
-below-pieces : (p : ℕ) (xs ys : List Piece) → bytes_below p (areas_of (xs ++ ys)) ≡ bytes_below p (areas_of xs) + bytes_below p (areas_of ys)
+pub below-pieces : (p : ℕ) (xs ys : List Piece) → bytes_below p (areas_of (xs ++ ys)) ≡ bytes_below p (areas_of xs) + bytes_below p (areas_of ys)
 below-pieces p [] ys = omega arith
 below-pieces p (x ∷ xs) ys = omega (arith, below-pieces p xs ys)
 

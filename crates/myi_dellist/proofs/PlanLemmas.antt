@@ -21,7 +21,7 @@ use Rattle.myi_dellist.proofs.NeedLemmas.{given_ok, before_none, before_some, na
 abbrev pub the_head : Area → Option ℕ → Option ℕ → Head
 the_head a next prev = record { kind = Deleted; at = a.at; size = a.size; rec_len = 0; next = next; prev = prev }
 
-hole_on : (d : List ℕ) (a : Area) (next prev : Option ℕ) → block_of d a.at ≡ Some (hole_block a next prev) → hole_in d a.at ≡ Some (the_head a next prev)
+pub hole_on : (d : List ℕ) (a : Area) (next prev : Option ℕ) → block_of d a.at ≡ Some (hole_block a next prev) → hole_in d a.at ≡ Some (the_head a next prev)
 unfolding hole_in
 hole_on d a next prev e = ap (λ o. if_deleted (option_map head_of o)) e
 
@@ -41,7 +41,7 @@ says_so says p o h e t = ap (if_says says p) e ∙ ap (λ (b : Bool). if b then 
     given_head : Result Head ℕ
     given_head = Ok h
 
-named_first : (d : List ℕ) (prev : Option ℕ) (ys : List Area) → IsPart d prev ys None → block_named d prev (first_or ys None) ≡ Ok (first_of prev ys)
+pub named_first : (d : List ℕ) (prev : Option ℕ) (ys : List Area) → IsPart d prev ys None → block_named d prev (first_or ys None) ≡ Ok (first_of prev ys)
 named_first d prev [] h = named_none d prev None refl
 named_first d prev (y ∷ ys) h =
     sym (named_some d prev (Some y.at) y.at refl)
@@ -114,11 +114,11 @@ off_is d [] h ys = behind_is None h ys d
 off_is d (x ∷ xs) h ys =
     behind_is (last_or (x ∷ xs) None) h ys _ ∙ ap (with_prev ys (last_or (x ∷ xs) None) None) (last_bytes d None x xs (Some h.at) (first_or ys None))
 
-none_before : (h : Area) (ys : List Area) → without_prev (first_of (Some h.at) ys) ≡ first_of None ys
+pub none_before : (h : Area) (ys : List Area) → without_prev (first_of (Some h.at) ys) ≡ first_of None ys
 none_before h [] = refl
 none_before h (y ∷ ys) = refl
 
-past_is : (x : Area) (xs : List Area) (h : Area) (ys : List Area) → AllByRecursion IsHole (x ∷ xs) → AllByRecursion (IsApart x) xs → next_past (last_head None x xs (Some h.at)) (the_head h (first_or ys None) (last_or (x ∷ xs) None)) (first_of None (x ∷ xs ++ h ∷ ys)) ≡ first_of None (x ∷ xs ++ ys)
+pub past_is : (x : Area) (xs : List Area) (h : Area) (ys : List Area) → AllByRecursion IsHole (x ∷ xs) → AllByRecursion (IsApart x) xs → next_past (last_head None x xs (Some h.at)) (the_head h (first_or ys None) (last_or (x ∷ xs) None)) (first_of None (x ∷ xs ++ h ∷ ys)) ≡ first_of None (x ∷ xs ++ ys)
 past_is x [] h ys s far = ap (λ (b : Bool). if b then Some (the_head x (first_or ys None) None) else Some (the_head x (Some h.at) None)) (eq-eqb x.at x.at refl)
 past_is x (y ∷ xs) h ys s far = ap (λ (b : Bool). if b then Some (the_head x (first_or ys None) None) else Some (the_head x (Some y.at) None)) (last_apart x (Some x.at) y xs (Some h.at) s.0.least s.1 far)
 
@@ -130,7 +130,7 @@ first_is d (x ∷ xs) h ys s far list =
 
 -- ---- the head
 
-put_is : (a : Area) (hs : List Area) (e : List ℕ) → put_first_bytes a (first_of None hs) e ≡ with_first a hs e
+pub put_is : (a : Area) (hs : List Area) (e : List ℕ) → put_first_bytes a (first_of None hs) e ≡ with_first a hs e
 put_is a [] e = refl
 put_is a (h ∷ hs) e = refl
 

@@ -8,10 +8,12 @@ use Rattle.myi_frames.specs.Block.{Block}
 use Rattle.myi_frames.specs.Writing.{start_spec, middle_spec, written_block}
 use Rattle.myi_dellist.specs.Areas.{Area}
 use Rattle.myi_dellist.specs.Releasing.{IsHole, IsFreeable}
-use Rattle.myi_dellist.specs.Placing.{Space, Piece, update, own_areas, place_at_end, append_from, specs_behind, specs_of, place_of}
+use Rattle.myi_dellist.specs.declared.pieces.Piece.{Piece}
+use Rattle.myi_dellist.specs.Taking.{IsFull}
+use Rattle.myi_dellist.specs.Placing.{Space, update, own_areas, place_at_end, append_from, specs_behind, specs_of, place_of}
 use Rattle.myi_dellist.specs.RowBlocks.{blocks_as, row_blocks, AreNamed, AreLinked, HoldRow}
 use Rattle.myi_dellist.proofs.SizeLemmas.{room-bounds}
-use Rattle.myi_dellist.proofs.FillLemmas.{IsFull, Fill, place-placed, append_fills}
+use Rattle.myi_dellist.proofs.FillLemmas.{Fill, place-placed, append_fills}
 use Rattle.myi_dellist.proofs.UpdateLemmas.{own-usable}
 
 named_more : (link : Option ℕ) (b : Block) (bs : List Block) → link ≡ Some b.at → b.kind ≡ Middle → AreNamed b.next bs → AreNamed link (b ∷ bs)
@@ -91,7 +93,7 @@ fill-holds ps row some f = record {
 
 pub update-holds : (s : Space) (own : List Area) (row : List ℕ) → 0 < length row → s.end % 4 ≡ 0 → AllByRecursion IsFreeable own → AllByRecursion IsHole s.holes → HoldRow (place_of (update s own (length row)).pieces) row (row_blocks (update s own (length row)).pieces row)
 update-holds s own row some aligned all holes =
-    fill-holds (update s own (length row)).pieces row some (place-placed s (own_areas (length row) own) (length row) some aligned (own-usable (length row) own all) holes).fill
+    fill-holds (update s own (length row)).pieces row some (place-placed s (own_areas (length row) own) (length row) some (own-usable (length row) own all) holes).fill
 
 pub end-holds : (s : Space) (row : List ℕ) → 0 < length row → s.end % 4 ≡ 0 → HoldRow (place_of (place_at_end s (length row)).pieces) row (row_blocks (place_at_end s (length row)).pieces row)
-end-holds s row some aligned = fill-holds (append_from (length row) (length row) true (length row) s.end) row some (append_fills (length row) (length row) true (length row) s.end (omega arith) some aligned)
+end-holds s row some aligned = fill-holds (append_from (length row) (length row) true (length row) s.end) row some (append_fills (length row) (length row) true (length row) s.end (omega arith) some)

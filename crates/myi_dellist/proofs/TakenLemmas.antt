@@ -1,10 +1,10 @@
 -- The list once its first blocks are taken, and once bytes are written elsewhere.
-use Rattle.std.proofs.Common.{◌≡◌, ℕ, ◌+◌, ◌^◌, ◌<◌, ◌≤◌, ◌⊎◌, inl, inr, List, [], ◌∷◌, ◌++◌, length, Option, Some, None, sym, subst, arith}
+use Rattle.std.proofs.Common.{ℕ, ◌+◌, ◌^◌, ◌<◌, ◌≤◌, ◌⊎◌, inl, inr, List, [], ◌∷◌, ◌++◌, length, Option, Some, None, sym, subst, arith}
 use Rattle.std.specs.List.{AllByRecursion}
 use Rattle.myi_base.specs.Holding.{overwritten}
 use Rattle.myi_frames.proofs.CallerLemmas.{block-elsewhere, length-overwritten}
 use Rattle.myi_dellist.specs.Areas.{Area, IsApart, AreInside}
-use Rattle.myi_dellist.specs.Standing.{hole_block, first_or, last_or, IsPart, HasList, with_prev, KeepsBut, LeavesList}
+use Rattle.myi_dellist.specs.Standing.{hole_block, first_or, last_or, IsPart, HasList, with_prev, LeavesList}
 use Rattle.myi_dellist.proofs.LinkLemmas.{IsOn, apart_test, part_split, all_split, apart_split, prev_part, prev_length, prev_keeps, list_on, on_list}
 
 pub first-taken : (d : List ℕ) (taken holes : List Area) → HasList d (taken ++ holes) → LeavesList holes d (with_prev holes None None d)

@@ -68,7 +68,7 @@ update-tile s own others len all holes tile =
     (λ p. omega (arith, tile p, below-append p others (own ++ s.holes), below-append p own s.holes, below-append p others (o ++ s.holes), below-append p o s.holes, below-own_areas p len own))
 
 pub update-holes : (s : Space) (own : List Area) (len : ℕ) → 0 < len → s.end % 4 ≡ 0 → AllByRecursion IsFreeable own → AllByRecursion IsHole s.holes → AllByRecursion IsHole (update s own len).space.holes
-update-holes s own len some aligned all holes = (place-placed s (own_areas len own) len some aligned (own-usable len own all) holes).holes
+update-holes s own len some aligned all holes = (place-placed s (own_areas len own) len some (own-usable len own all) holes).holes
 
 pub update-writable : (s : Space) (own : List Area) (len : ℕ) → 0 < len → len < 2 ^ 32 → s.end % 4 ≡ 0 → AllByRecursion IsFreeable own → AllByRecursion IsHole s.holes → AreInside s.end own → AreInside s.end s.holes → (update s own len).space.end < 2 ^ 64 → AreWritable (specs_of len (update s own len).pieces) (update s own len).pieces
 update-writable s own len some few aligned all holes io ih lt = place-writable s (own_areas len own) len some few aligned (own-usable len own all) holes (own-inside s.end len own io) ih lt

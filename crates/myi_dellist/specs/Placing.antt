@@ -6,6 +6,7 @@ use Rattle.std.specs.List.{flat_map}
 use Rattle.myi_frames.specs.declared.write.FrameSpec.{FrameSpec}
 use Rattle.myi_frames.specs.Sizes.{least_size, start_room, middle_room}
 use Rattle.myi_frames.specs.Writing.{whole_spec, start_spec, middle_spec, end_spec, IsWritable}
+use Rattle.myi_dellist.specs.declared.pieces.Piece.{Piece}
 use Rattle.myi_dellist.specs.Areas.{Area}
 use Rattle.myi_dellist.specs.Releasing.{most_size, half_size, front_part, back_part, release_all}
 
@@ -13,12 +14,6 @@ use Rattle.myi_dellist.specs.Releasing.{most_size, half_size, front_part, back_p
 pub record Space : Type 0 where
   pub holes : List Area
   pub end : ℕ
-
--- a block of a row: its place, its size, and how many row bytes it takes
-pub record Piece : Type 0 where
-  pub at : ℕ
-  pub size : ℕ
-  pub taken : ℕ
 
 abbrev pub area_of : Piece → Area
 area_of p = record { at = p.at; size = p.size }

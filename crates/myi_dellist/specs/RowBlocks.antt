@@ -6,7 +6,8 @@ use Rattle.myi_frames.specs.declared.write.FrameSpec.{FrameSpec}
 use Rattle.myi_frames.specs.declared.form.FrameKind.TheVariants.{Whole, Start, Middle, End}
 use Rattle.myi_frames.specs.Block.{Block}
 use Rattle.myi_frames.specs.Writing.{written_block}
-use Rattle.myi_dellist.specs.Placing.{Piece, specs_of}
+use Rattle.myi_dellist.specs.declared.pieces.Piece.{Piece}
+use Rattle.myi_dellist.specs.Placing.{specs_of}
 
 -- each takes the next of the row's bytes
 abbrev pub blocks_as : List FrameSpec → List Piece → List ℕ → List Block

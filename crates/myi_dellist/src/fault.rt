@@ -1,6 +1,7 @@
 //! Why a call on the deleted list did not do its work.
 
 use myi_io::FileErr;
+use std::alloc::AllocFailed;
 use thiserror::Error;
 
 /// Why a call on the deleted list did not do its work.
@@ -31,5 +32,16 @@ impl From<FileErr> for FreeFault {
             FileErr::Failed => FreeFault::File,
             FileErr::Memory => FreeFault::Memory,
         }
+    }
+}
+
+impl<T: Drop> From<AllocFailed<T>> for FreeFault {
+    ghost use Rattle.std.specs.Prelude.{◌≡◌};
+    ghost use Rattle.myi_dellist.specs.declared.fault.FreeFault.TheVariants.{Memory};
+
+    ghost from_gives = { λ _ e. e ≡ Memory };
+
+    fn from(_: AllocFailed<T>) -> Self {
+        FreeFault::Memory
     }
 }

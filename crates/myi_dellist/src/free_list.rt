@@ -3,6 +3,9 @@
 //! The links stand in the file; a `FreeList` keeps where the list begins and where the file ends.
 use crate::fault::FreeFault;
 use crate::links::{merge_one, release_one, release_two};
+use crate::pieces::Piece;
+use crate::rows::{FileEnd, put_at_end, put_row};
+use crate::taking::ListEnds;
 use myi_frames::MOST_SIZE;
 use myi_io::Files;
 use std::alloc::{AllocError, Global};
@@ -21,6 +24,8 @@ pub struct FreeList {
     head: Option<u64>,
     end: u64,
     limits: Limits,
+    /// The blocks of the row that is put, so that no row takes memory that one before had.
+    pieces: Vec<Piece>,
 }
 
 impl Drop for FreeList {
@@ -30,12 +35,13 @@ impl Drop for FreeList {
             head: _,
             end: _,
             limits: _,
+            pieces: _,
         } = self;
     }
 }
 
 impl Model for FreeList {
-    ghost use Rattle.std.specs.Prelude.{string_bytes};
+    ghost use Rattle.std.specs.Prelude.{◌<◌, string_bytes};
     ghost use Rattle.myi_dellist.specs.FreeList.{ListState};
 
     ghost Value = { ListState };
@@ -46,10 +52,12 @@ impl Model for FreeList {
       end = l.end;
       end_below = l.limits.end_below;
     } };
+
+    ghost invariant = { λ l. l.end < l.limits.end_below };
 }
 
 impl FreeList {
-    ghost use Rattle.std.specs.Prelude.{◌≡◌, ◌≤◌, ◌<◌, ◌+◌, Some, None, Err, IfOk, IfErr, OnOk, OnErr, IsTrue};
+    ghost use Rattle.std.specs.Prelude.{◌≡◌, ◌≤◌, ◌<◌, ◌+◌, Some, None, Err, IfOk, IfErr, OnOk, OnErr, IsTrue, ◌^◌, length};
     ghost use Rattle.std.specs.Option.{option_map_or};
     ghost use Rattle.myi_base.specs.Holding.{Told, IfTold, OthersStay, bytes_of};
     ghost use Rattle.myi_base.specs.Causes.{HasCause};
@@ -59,6 +67,8 @@ impl FreeList {
     ghost use Rattle.myi_dellist.specs.Freeing.{IfDamaged, IsNotFull};
     ghost use Rattle.myi_dellist.specs.FreeList.{next_by, Releases, IsLong, FindsAll, FindsBad};
     ghost use Rattle.myi_dellist.specs.Merging.{Merges, MergeFinds, MergeFindsBad};
+    ghost use Rattle.myi_dellist.specs.Putting.{Puts, ends_of, PutFindsBad, PutIsLong};
+    ghost use Rattle.myi_dellist.specs.Rows.{most_end, end_with, IfFull, IsNotDamaged, PutsAtEnd, PutsBehind, PutsNew};
 
     /// The deleted list of the file of a name, by the place of its first block and the file's length.
     pub fn new(
@@ -81,6 +91,7 @@ impl FreeList {
             head,
             end,
             limits,
+            pieces: Vec::new(alloc),
         })
     }
 
@@ -94,6 +105,82 @@ impl FreeList {
         }
     }
 
+    /// Puts a row at the file's end, whatever is deleted, and answers its place. `Full` comes exactly where
+    /// the end would not stay below its limit, or where no file can end there, and then nothing is changed.
+    pub fn write_row_at_end<F: Files>(
+        &mut self,
+        files: &mut F,
+        packed: &[u8],
+    ) -> Result<u64, FreeFault>
+        requires writable { IsTrue F.writable }
+        requires some { 0 < length packed.now }
+        requires few { length packed.now < 2 ^ 32 }
+        requires long { IfTold (F.holds files.old) (IsLong self.old) }
+        ensures ok { IfOk result (λ at. Told (F.holds files.old) (F.holds files.new)
+            (PutsAtEnd self.old self.new packed.now at)) }
+        ensures puts { OnOk result (Told (F.holds files.old) (F.holds files.new)
+            (PutsBehind self.old packed.now)) }
+        ensures others { Told (F.holds files.old) (F.holds files.new) (OthersStay self.old.name) }
+        ensures place { IfOk result (λ at. at ≡ self.old.end) }
+        ensures end { OnOk result
+            (self.new ≡ record self.old { end = end_with self.old (length packed.now) }) }
+        ensures room { OnOk result (end_with self.old (length packed.now) < most_end self.old) }
+        ensures full { IfErr result (λ f. IfFull f
+            (most_end self.old ≤ end_with self.old (length packed.now))) }
+        ensures unchanged { IfErr result (λ f. IfFull f (F.holds files.new ≡ F.holds files.old)) }
+        ensures found { IfErr result IsNotDamaged }
+        ensures list { OnErr result (self.new ≡ self.old) }
+        ensures cause { HasCause File (F.faults files.old) (F.faults files.new) result }
+    {
+        let at = self.end;
+        let end = FileEnd {
+            at,
+            below: self.limits.end_below,
+        };
+        self.end = put_at_end(files, &self.name, &mut self.pieces, packed, &end)?;
+        Ok(at)
+    }
+
+    /// Puts a row into the deleted blocks from the head of the list, as many as it takes, and behind the
+    /// end what they do not hold, and answers its place. What the last block leaves over is released. All
+    /// that is read is read before anything is written: `Damaged` comes exactly where a block that is read
+    /// is not what the list needs there, and then `Full` exactly where the end would not stay below its
+    /// limit, or where no file can end there; then nothing is changed.
+    pub fn write_row<F: Files>(&mut self, files: &mut F, packed: &[u8]) -> Result<u64, FreeFault>
+        requires writable { IsTrue F.writable }
+        requires some { 0 < length packed.now }
+        requires few { length packed.now < 2 ^ 32 }
+        requires long { IfTold (F.holds files.old) (IsLong self.old) }
+        ensures ok { IfOk result (λ at. Told (F.holds files.old) (F.holds files.new)
+            (PutsNew self.old self.new packed.now at)) }
+        ensures puts { OnOk result (Told (F.holds files.old) (F.holds files.new)
+            (Puts self.old.name (ends_of self.old) packed.now (ends_of self.new))) }
+        ensures others { Told (F.holds files.old) (F.holds files.new) (OthersStay self.old.name) }
+        ensures place { IfOk result (λ at. at ≡ (next_by self.old.head self.old.end).0) }
+        ensures state { self.new ≡ record self.old { head = self.new.head; end = self.new.end } }
+        ensures room { OnOk result (self.new.end < most_end self.old) }
+        ensures damaged { IfErr result (λ f. IfDamaged f (λ p. IfTold (F.holds files.old)
+            (PutFindsBad self.old (length packed.now) p))) }
+        ensures full { IfErr result (λ f. IfFull f (IfTold (F.holds files.old)
+            (PutIsLong self.old (length packed.now)))) }
+        ensures unchanged { IfErr result (λ f. IfDamaged f (λ p.
+            F.holds files.new ≡ F.holds files.old)) }
+        ensures refused { IfErr result (λ f. IfFull f (F.holds files.new ≡ F.holds files.old)) }
+        ensures list { OnErr result (self.new ≡ self.old) }
+        ensures cause { HasCause File (F.faults files.old) (F.faults files.new) result }
+    {
+        let (at, _) = self.place();
+        let list = ListEnds {
+            head: self.head,
+            end: self.end,
+        };
+        let end_below = self.limits.end_below;
+        let new = put_row(files, &self.name, list, &mut self.pieces, packed, end_below)?;
+        self.head = new.head;
+        self.end = new.end;
+        Ok(at)
+    }
+
     /// Releases an area: it is joined with the deleted block directly behind it, where both together are
     /// not too long, and becomes the head of the list. One that is longer than a deleted block can be is
     /// released as two, the back part first. `Damaged` comes exactly where a block that is read is not
@@ -105,8 +192,7 @@ impl FreeList {
         requires long { IfTold (F.holds files.old) (IsLong self.old) }
         ensures ok { OnOk result (Told (F.holds files.old) (F.holds files.new)
             (Releases self.old self.new (record { at = at; size = size }))) }
-        ensures others { OnOk result (Told (F.holds files.old) (F.holds files.new)
-            (OthersStay self.old.name)) }
+        ensures others { Told (F.holds files.old) (F.holds files.new) (OthersStay self.old.name) }
         ensures finds { OnOk result (IfTold (F.holds files.old)
             (FindsAll self.old (record { at = at; size = size }))) }
         ensures head { OnOk result (self.new ≡ record self.old { head = Some at }) }
@@ -144,8 +230,7 @@ impl FreeList {
         requires long { IfTold (F.holds files.old) (IsLong self.old) }
         ensures ok { IfOk result (λ whole. Told (F.holds files.old) (F.holds files.new)
             (Merges self.old self.new (record { at = at; size = size }) whole)) }
-        ensures others { OnOk result (Told (F.holds files.old) (F.holds files.new)
-            (OthersStay self.old.name)) }
+        ensures others { Told (F.holds files.old) (F.holds files.new) (OthersStay self.old.name) }
         ensures finds { OnOk result (IfTold (F.holds files.old)
             (MergeFinds self.old (record { at = at; size = size }))) }
         ensures most { IfOk result (λ whole. whole ≤ most_size) }

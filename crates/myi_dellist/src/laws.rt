@@ -1,6 +1,6 @@
-//! Laws over the definitions of this crate: first on lists of areas and of slots alone, then on the bytes
-//! of a file. Each is the contract of a function that does nothing, so that it is proved with the crate
-//! and stands for the crates above.
+//! Laws over the definitions of this crate: first on lists of areas alone, then on the bytes of a file.
+//! Each is the contract of a function that does nothing, so that it is proved with the crate and stands
+//! for the crates above.
 ghost use Rattle.std.specs.Prelude.{◌≡◌, ◌⊎◌, ℕ, ◌+◌, ◌%◌, ◌^◌, ◌<◌, ◌≤◌, ◌++◌, List, [], ◌∷◌, length, Option, Some, None, Ok};
 ghost use Rattle.std.specs.List.{AllByRecursion};
 ghost use Rattle.myi_base.specs.Holding.{overwritten};
@@ -11,13 +11,14 @@ ghost use Rattle.myi_dellist.specs.Placing.{Space, areas_of, taken_by, place, up
 ghost use Rattle.myi_dellist.specs.Standing.{HasList, KeepsBut, LeavesList, first_or, with_prev, without_block, release_one_bytes, release_bytes};
 ghost use Rattle.myi_dellist.specs.declared.linked.ReleasePlan.{ReleasePlan};
 ghost use Rattle.myi_dellist.specs.Freeing.{plan_in, plan_bytes};
-ghost use Rattle.myi_dellist.specs.FreeList.{MayRelease};
+ghost use Rattle.myi_dellist.specs.FreeList.{ListState, HasHoles, MayRelease};
+ghost use Rattle.myi_dellist.specs.Putting.{PutBad};
 ghost use Rattle.myi_dellist.specs.declared.linked.Linked.{Linked};
 ghost use Rattle.myi_dellist.specs.Freeing.{unlinked_bytes};
 ghost use Rattle.myi_dellist.specs.Merging.{merged_size, merged, merged_bytes, merge_in, head_past};
 ghost use Rattle.myi_dellist.specs.Order.{in_order, Follow};
 ghost use Rattle.myi_dellist.specs.RowBlocks.{row_blocks, HoldRow};
-ghost use Rattle.myi_dellist.specs.Slots.{Slots, take_slot, take_slot_at_end, release_slot, NameEach};
+ghost use Rattle.myi_dellist.specs.Rows.{KeepsApart, AreListedBehind};
 
 /// Areas tile a file, by the count of bytes below each place, exactly where no byte belongs to two of
 /// them, none to one behind the end, and each byte below it to one.
@@ -83,20 +84,6 @@ pub fn rows_have_their_places()
         → place_of (place s [] len).pieces ≡ Some (next_place s.holes s.end) }
 {}
 
-/// Slots of static rows: each slot of the file is a row's or deleted, exactly once, also after one is
-/// taken for a row, or a row's is released.
-pub fn slots_are_named_once()
-    ensures taken { (s : Slots) (rows : List ℕ) → NameEach s.count (rows ++ s.holes)
-        → NameEach (take_slot s).slots.count
-        ((take_slot s).slot ∷ rows ++ (take_slot s).slots.holes) }
-    ensures at_end { (s : Slots) (rows : List ℕ) → NameEach s.count (rows ++ s.holes)
-        → NameEach (take_slot_at_end s).slots.count
-        ((take_slot_at_end s).slot ∷ rows ++ (take_slot_at_end s).slots.holes) }
-    ensures released { (s : Slots) (slot : ℕ) (rows : List ℕ)
-        → NameEach s.count (slot ∷ rows ++ s.holes)
-        → NameEach (release_slot slot s).count (rows ++ (release_slot slot s).holes) }
-{}
-
 /// The deleted list in a file's bytes. A block that is taken off it, and an area that is released, leave
 /// the list that the definitions on lists say, and change no byte but the first 20 of the blocks that
 /// are on it then. So each block that has none of these stands as before.
@@ -124,7 +111,8 @@ pub fn releases_find_their_list()
 /// no more.
 pub fn merged_areas_take_bytes()
     ensures { (p : ℕ) (a : Area) (holes : List Area)
-        → below p (record { at = a.at; size = merged_size a holes }) + bytes_below p (merged a holes)
+        → below p (record { at = a.at; size = merged_size a holes })
+        + bytes_below p (merged a holes)
         ≡ below p a + bytes_below p holes }
 {}
 
@@ -166,4 +154,41 @@ pub fn taken_blocks_leave_their_list()
         → at + length bytes < 2 ^ 64
         → AllByRecursion (IsApart (record { at = at; size = length bytes })) holes
         → HasList (overwritten at bytes d) holes }
+{}
+
+/// A row of `len` bytes behind the end: its blocks take exactly its bytes, and stand from the end on. What
+/// tiles the file tiles it afterwards with them, and the deleted list stays.
+pub fn appended_rows_tile()
+    ensures counts { (s : Space) (len : ℕ) → 0 < len → taken_by (place_at_end s len).pieces ≡ len }
+    ensures grows { (s : Space) (len : ℕ) → 0 < len → s.end ≤ (place_at_end s len).space.end }
+    ensures tile { (s : Space) (others : List Area) (len : ℕ) → 0 < len
+        → Tile s.end (others ++ s.holes)
+        → Tile (place_at_end s len).space.end
+        (others ++ (areas_of (place_at_end s len).pieces ++ s.holes)) }
+    ensures place { (s : Space) (len : ℕ) → 0 < len
+        → place_of (place_at_end s len).pieces ≡ Some s.end }
+{}
+
+/// Each block of a placed row is an area that may be released again.
+pub fn placed_blocks_can_be_released()
+    ensures placed { (s : Space) (own : List Area) (len : ℕ) → 0 < len → s.end % 4 ≡ 0
+        → AllByRecursion IsFreeable own → AllByRecursion IsHole s.holes
+        → AllByRecursion IsFreeable (areas_of (update s own len).pieces) }
+    ensures at_end { (s : Space) (len : ℕ) → 0 < len → s.end % 4 ≡ 0
+        → AllByRecursion IsFreeable (areas_of (place_at_end s len).pieces) }
+{}
+
+/// A row that is put leaves each block that is apart from the row's blocks and from the deleted ones,
+/// before and after.
+pub fn put_rows_leave_the_rest()
+    ensures { (areas : List Area) (d e : List ℕ) (p : ℕ) (b : Block) → KeepsApart areas d e
+        → AllByRecursion (IsApart (record { at = p; size = b.size })) areas
+        → block_of d p ≡ Some b → block_of e p ≡ Some b }
+{}
+
+/// In a file that has a list, where each deleted block directly behind one of the list is on it, each
+/// block that is read for a row that is put is what the list needs there: none is found damaged.
+pub fn rows_find_their_list()
+    ensures { (l : ListState) (holes : List Area) (d : List ℕ) (len at : ℕ) → HasHoles l holes d
+        → AreListedBehind holes holes d → PutBad d l.head len at → ⊥ }
 {}

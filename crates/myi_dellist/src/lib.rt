@@ -6,8 +6,7 @@
 //! `specs/Placing`: the deleted blocks from their head, and the file's end). `place` says which blocks a
 //! row of so many bytes takes: in an update its own first, then those of the list from its head, then
 //! space behind the end. `release` says how the list grows: what is released becomes its head, joined
-//! with the deleted block directly behind it. `specs/Slots` says the same of static rows, whose slots
-//! have one size.
+//! with the deleted block directly behind it.
 //!
 //! What holds of these is said by counting: below each place rows and deleted blocks have together as
 //! many bytes as stand there (`Tile` in `specs/Areas`), before and after each change. `specs/Standing`
@@ -17,9 +16,12 @@
 //! functions in `laws`.
 //!
 //! `FreeList` is the list of one file, by its head and the file's end. `place` says where the next row
-//! goes, `release` gives an area to the list, `merge_next` takes the deleted block behind a free area off
-//! it. All that a call reads is read before it writes, so that a block that is not what the list needs
-//! leaves all as it was. Rows are not written yet.
+//! goes, and `write_row` puts one there: into the deleted blocks from the head, then behind the end;
+//! `write_row_at_end` puts it behind the end, whatever is deleted. `release` gives an area to the list,
+//! `merge_next` takes the deleted block behind a free area off it. All that a call reads is read before it
+//! writes, so that a block that is not what the list needs leaves all as it was. `specs/Taking` says what a
+//! row takes of the list, `specs/Planning` what is written beside it, `specs/Putting` both together, and
+//! `specs/Rows` what stands in the file then. A row is not yet put in the place of another.
 #![tactic(auto)]
 
 mod fault;
@@ -27,12 +29,18 @@ mod free_list;
 mod laws;
 mod linked;
 mod links;
+mod pieces;
+mod planning;
+mod rows;
+mod taking;
+mod writing;
 
 pub use fault::FreeFault;
 pub use free_list::{FreeList, Limits};
 pub use laws::{
-    lists_stand_in_files, merged_areas_take_bytes, merges_find_their_list,
-    placed_blocks_can_be_written, placed_rows_are_chains, placed_rows_tile,
-    released_areas_are_deleted, releases_find_their_list, rows_have_their_places,
-    slots_are_named_once, taken_blocks_leave_their_list, tiling_is_counting, tiling_is_following,
+    appended_rows_tile, lists_stand_in_files, merged_areas_take_bytes, merges_find_their_list,
+    placed_blocks_can_be_released, placed_blocks_can_be_written, placed_rows_are_chains,
+    placed_rows_tile, put_rows_leave_the_rest, released_areas_are_deleted,
+    releases_find_their_list, rows_find_their_list, rows_have_their_places,
+    taken_blocks_leave_their_list, tiling_is_counting, tiling_is_following,
 };

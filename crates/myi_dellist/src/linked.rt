@@ -79,7 +79,7 @@ pub(crate) fn hole_at<F: Files>(
 }
 
 /// Whether two links are the same.
-fn is_same(a: Option<u64>, b: Option<u64>) -> bool
+pub(crate) fn is_same(a: Option<u64>, b: Option<u64>) -> bool
     ensures { result ≡ same_link a b }
 {
     match a {
@@ -165,7 +165,7 @@ fn block_before<F: Files>(
 }
 
 /// The block that a link names, which is to name this one before it.
-fn block_named<F: Files>(
+pub(crate) fn block_named<F: Files>(
     files: &mut F,
     name: &str,
     end: u64,
@@ -263,7 +263,7 @@ fn first_without<F: Files>(
 }
 
 /// The block, as one that names none before it.
-fn without_prev(hole: Option<Head>) -> Option<Head>
+pub(crate) fn without_prev(hole: Option<Head>) -> Option<Head>
     ensures { result ≡ without_prev hole }
 {
     match hole {
@@ -274,7 +274,7 @@ fn without_prev(hole: Option<Head>) -> Option<Head>
 
 /// The first block, as one that names the next past a block that is taken off, where it is the one
 /// before that.
-fn next_past(before: &Head, hole: &Head, first: Option<Head>) -> Option<Head>
+pub(crate) fn next_past(before: &Head, hole: &Head, first: Option<Head>) -> Option<Head>
     ensures { result ≡ next_past before.now hole.now first }
 {
     let Some(first) = first else {

@@ -1,12 +1,13 @@
 //! Writing the headers of deleted blocks: blocks are taken off the list, and areas become its head.
 ghost use Rattle.std.specs.Prelude.{◌≡◌, ◌≤◌, ◌<◌, ◌+◌, ◌-◌, ◌^◌, IfOk, IfErr, IfSome, OnOk, IsTrue, length, Err};
-ghost use Rattle.myi_base.specs.Holding.{Told, IfTold, bytes_of};
+ghost use Rattle.myi_base.specs.Holding.{Told, IfTold, OthersStay, bytes_of};
 ghost use Rattle.myi_base.specs.Causes.{HasCause};
 ghost use Rattle.myi_frames.specs.Block.{IsPointer, IsPlace};
 ghost use Rattle.myi_dellist.specs.declared.fault.FreeFault.TheVariants.{File};
 ghost use Rattle.myi_dellist.specs.Releasing.{most_size, half_size};
 ghost use Rattle.myi_dellist.specs.Standing.{with_head};
 ghost use Rattle.myi_dellist.specs.Freeing.{IsLinkable, AreLinkable, CutsOff, IsNotFull, IfDamaged, Becomes, ReleasesOne, ReleasesTwo, plan_in, before_bytes, behind_bytes, taken_off_bytes, put_first_bytes, place_at, joined_size, unlinked_bytes};
+ghost use Rattle.myi_dellist.specs.Planning.{next_bytes};
 ghost use Rattle.myi_dellist.specs.Merging.{head_past, merge_in, MergesOne};
 
 use crate::fault::FreeFault;
@@ -41,6 +42,7 @@ fn write_head<F: Files>(
     requires prev { IsPointer prev }
     ensures ok { OnOk result (Told (F.holds files.old) (F.holds files.new) (λ m n. Becomes name.now
         (with_head (record { at = at; size = size }) next prev (bytes_of name.now m)) m n)) }
+    ensures others { Told (F.holds files.old) (F.holds files.new) (OthersStay name.now) }
     ensures cut { IfErr result CutsOff }
     ensures cause { HasCause File (F.faults files.old) (F.faults files.new) result }
 {
@@ -56,6 +58,7 @@ fn write_before<F: Files>(files: &mut F, name: &str, linked: &Linked) -> Result<
     requires hole { IsLinkable linked.now.hole }
     ensures ok { OnOk result (Told (F.holds files.old) (F.holds files.new) (λ m n. Becomes name.now
         (before_bytes linked.now.hole linked.now.before (bytes_of name.now m)) m n)) }
+    ensures others { Told (F.holds files.old) (F.holds files.new) (OthersStay name.now) }
     ensures cut { IfErr result CutsOff }
     ensures cause { HasCause File (F.faults files.old) (F.faults files.new) result }
 {
@@ -80,6 +83,7 @@ fn write_behind<F: Files>(files: &mut F, name: &str, linked: &Linked) -> Result<
     requires hole { IsLinkable linked.now.hole }
     ensures ok { OnOk result (Told (F.holds files.old) (F.holds files.new) (λ m n. Becomes name.now
         (behind_bytes linked.now.hole linked.now.behind (bytes_of name.now m)) m n)) }
+    ensures others { Told (F.holds files.old) (F.holds files.new) (OthersStay name.now) }
     ensures cut { IfErr result CutsOff }
     ensures cause { HasCause File (F.faults files.old) (F.faults files.new) result }
 {
@@ -103,6 +107,7 @@ fn take_off<F: Files>(files: &mut F, name: &str, linked: &Linked) -> Result<(), 
     requires linkable { AreLinkable linked.now }
     ensures ok { OnOk result (Told (F.holds files.old) (F.holds files.new) (λ m n. Becomes name.now
         (taken_off_bytes linked.now (bytes_of name.now m)) m n)) }
+    ensures others { Told (F.holds files.old) (F.holds files.new) (OthersStay name.now) }
     ensures cut { IfErr result CutsOff }
     ensures cause { HasCause File (F.faults files.old) (F.faults files.new) result }
 {
@@ -112,7 +117,7 @@ fn take_off<F: Files>(files: &mut F, name: &str, linked: &Linked) -> Result<(), 
 }
 
 /// The place of a block, where there is one.
-fn place_at(head: Option<Head>) -> Option<u64>
+pub(crate) fn place_at(head: Option<Head>) -> Option<u64>
     ensures { result ≡ place_at head }
 {
     match head {
@@ -136,6 +141,7 @@ pub(crate) fn put_first<F: Files>(
     requires first { IfSome first IsLinkable }
     ensures ok { OnOk result (Told (F.holds files.old) (F.holds files.new) (λ m n. Becomes name.now
         (put_first_bytes (record { at = at; size = size }) first (bytes_of name.now m)) m n)) }
+    ensures others { Told (F.holds files.old) (F.holds files.new) (OthersStay name.now) }
     ensures cut { IfErr result CutsOff }
     ensures cause { HasCause File (F.faults files.old) (F.faults files.new) result }
 {
@@ -147,8 +153,29 @@ pub(crate) fn put_first<F: Files>(
     Ok(())
 }
 
+/// Makes a block the head of the list: it names none before it.
+pub(crate) fn write_first<F: Files>(
+    files: &mut F,
+    name: &str,
+    first: Option<Head>,
+) -> Result<(), FreeFault>
+    requires writable { IsTrue F.writable }
+    requires first { IfSome first IsLinkable }
+    ensures ok { OnOk result (Told (F.holds files.old) (F.holds files.new) (λ m n. Becomes name.now
+        (next_bytes first (bytes_of name.now m)) m n)) }
+    ensures others { Told (F.holds files.old) (F.holds files.new) (OthersStay name.now) }
+    ensures cut { IfErr result CutsOff }
+    ensures cause { HasCause File (F.faults files.old) (F.faults files.new) result }
+{
+    let Some(first) = first else {
+        return Ok(());
+    };
+    write_head(files, name, first.at, first.size, first.next, None)?;
+    Ok(())
+}
+
 /// Takes the block off the list that an area is joined with, if any, and answers how long both are.
-fn take_joined<F: Files>(
+pub(crate) fn take_joined<F: Files>(
     files: &mut F,
     name: &str,
     size: u32,
@@ -160,6 +187,7 @@ fn take_joined<F: Files>(
     ensures size { IfOk result (λ whole. whole ≡ joined_size size joined) }
     ensures ok { OnOk result (Told (F.holds files.old) (F.holds files.new) (λ m n. Becomes name.now
         (unlinked_bytes joined (bytes_of name.now m)) m n)) }
+    ensures others { Told (F.holds files.old) (F.holds files.new) (OthersStay name.now) }
     ensures cut { IfErr result CutsOff }
     ensures cause { HasCause File (F.faults files.old) (F.faults files.new) result }
 {
@@ -190,6 +218,7 @@ pub(crate) fn release_one<F: Files>(
         → plan_in (bytes_of name.now m) head at size ≡ Err p))) }
     ensures unchanged { IfErr result (λ f. IfDamaged f (λ p.
         F.holds files.new ≡ F.holds files.old)) }
+    ensures others { Told (F.holds files.old) (F.holds files.new) (OthersStay name.now) }
     ensures room { IfErr result IsNotFull }
     ensures cause { HasCause File (F.faults files.old) (F.faults files.new) result }
 {
@@ -220,6 +249,7 @@ pub(crate) fn release_two<F: Files>(
         → plan_in (bytes_of name.now m) head (at + half_size) (size - half_size) ≡ Err p))) }
     ensures unchanged { IfErr result (λ f. IfDamaged f (λ p.
         F.holds files.new ≡ F.holds files.old)) }
+    ensures others { Told (F.holds files.old) (F.holds files.new) (OthersStay name.now) }
     ensures room { IfErr result IsNotFull }
     ensures cause { HasCause File (F.faults files.old) (F.faults files.new) result }
 {
@@ -273,6 +303,7 @@ pub(crate) fn merge_one<F: Files>(
         → merge_in (bytes_of name.now m) head at size ≡ Err p))) }
     ensures unchanged { IfErr result (λ f. IfDamaged f (λ p.
         F.holds files.new ≡ F.holds files.old)) }
+    ensures others { Told (F.holds files.old) (F.holds files.new) (OthersStay name.now) }
     ensures room { IfErr result IsNotFull }
     ensures cause { HasCause File (F.faults files.old) (F.faults files.new) result }
 {

@@ -1,0 +1,77 @@
+-- A row that is put into the deleted blocks from the head of the list, by what stands in the file: what is written, or what refuses it.
+use Rattle.std.specs.Prelude.{◌≡◌, ℕ, ◌≤◌, ◌⊎◌, true, List, [], ◌∷◌, ◌++◌, length, Option, Some, None, Ok, Err}
+use Rattle.myi_base.specs.Holding.{Holding, bytes_of, OthersStay}
+use Rattle.myi_frames.specs.declared.head.Head.{Head}
+use Rattle.myi_dellist.specs.declared.pieces.Piece.{Piece}
+use Rattle.myi_dellist.specs.declared.planning.RowPlan.{RowPlan}
+use Rattle.myi_dellist.specs.declared.taking.Taken.{Taken}
+use Rattle.myi_dellist.specs.declared.taking.ListEnds.{ListEnds}
+use Rattle.myi_dellist.specs.Placing.{append_from, end_behind, is_none, fits}
+use Rattle.myi_dellist.specs.Taking.{IsRun, TakesFull, MeetsBad}
+use Rattle.myi_dellist.specs.FreeList.{ListState}
+use Rattle.myi_dellist.specs.Rows.{most_end, row_written}
+use Rattle.myi_dellist.specs.Planning.{last_piece, row_plan_in, planned_bytes, head_by}
+
+-- the list ends before the row does, and the rest goes behind the file's end
+pub record EndsBehind (end : ℕ) (ps : List Piece) (t : Taken) (row : List ℕ) (new : ListEnds) (d e : List ℕ) : Type 0 where
+  pub none : t.next ≡ None
+  pub bytes : e ≡ row_written (ps ++ append_from t.left (length row) (is_none ps) t.left end) row d
+  pub head_is : new.head ≡ None
+  pub end_is : new.end ≡ end_behind end (append_from t.left (length row) (is_none ps) t.left end)
+
+-- the row ends in a block of the list
+pub record EndsIn (head : Option ℕ) (end : ℕ) (ps : List Piece) (t : Taken) (row : List ℕ) (new : ListEnds) (d e : List ℕ) : Type 0 where
+  pub hole : Head
+  pub next_is : t.next ≡ Some hole
+  pub fits_in : fits t.left hole.size ≡ true
+  pub plan : RowPlan
+  pub found : row_plan_in d head ps t.left hole ≡ Ok plan
+  pub bytes : e ≡ planned_bytes plan (ps ++ last_piece t.left hole ∷ []) row d
+  pub head_is : new.head ≡ head_by plan.next plan.rest
+  pub end_is : new.end ≡ end
+
+-- in a file of the length that the list says, and no other file is changed
+pub record PutsIn (name : List ℕ) (l : ListEnds) (row : List ℕ) (new : ListEnds) (m n : Holding) : Type 0 where
+  pub ps : List Piece
+  pub t : Taken
+  pub run : IsRun l.end (length row) ps t
+  pub takes : TakesFull (bytes_of name m) l.head (length row) ps t
+  pub ends : EndsBehind l.end ps t row new (bytes_of name m) (bytes_of name n) ⊎ EndsIn l.head l.end ps t row new (bytes_of name m) (bytes_of name n)
+
+abbrev pub Puts : List ℕ → ListEnds → List ℕ → ListEnds → Holding → Holding → Type 0
+Puts name l row new m n = OthersStay name m n × (length (bytes_of name m) ≡ l.end → PutsIn name l row new m n)
+
+-- ---- what refuses it
+
+-- behind the blocks that it fills, a block that is read is not what the list needs there
+pub record PlanBad (d : List ℕ) (head : Option ℕ) (len at : ℕ) : Type 0 where
+  pub ps : List Piece
+  pub t : Taken
+  pub takes : TakesFull d head len ps t
+  pub hole : Head
+  pub next_is : t.next ≡ Some hole
+  pub fits_in : fits t.left hole.size ≡ true
+  pub bad : row_plan_in d head ps t.left hole ≡ Err at
+
+-- the first block that is not what the list needs stands at this place
+abbrev pub PutBad : List ℕ → Option ℕ → ℕ → ℕ → Type 0
+PutBad d head len at = MeetsBad d head len at ⊎ PlanBad d head len at
+
+-- the list ends before the row does, and the file's end would not stay below a place
+pub record PutLong (d : List ℕ) (head : Option ℕ) (end below len : ℕ) : Type 0 where
+  pub ps : List Piece
+  pub t : Taken
+  pub takes : TakesFull d head len ps t
+  pub none : t.next ≡ None
+  pub long : below ≤ end_behind end (append_from t.left len (is_none ps) t.left end)
+
+-- ---- in the words of a list
+
+abbrev pub ends_of : ListState → ListEnds
+ends_of l = record { head = l.head; end = l.end }
+
+abbrev pub PutFindsBad : ListState → ℕ → ℕ → Holding → Type 0
+PutFindsBad l len at m = PutBad (bytes_of l.name m) l.head len at
+
+abbrev pub PutIsLong : ListState → ℕ → Holding → Type 0
+PutIsLong l len m = PutLong (bytes_of l.name m) l.head l.end (most_end l) len

@@ -1,0 +1,178 @@
+//! Putting rows into a data file.
+ghost use Rattle.std.specs.Prelude.{◌≡◌, ◌≤◌, ◌<◌, ◌^◌, ◌++◌, true, min, Option, IfOk, IfErr, IfSome, OnOk, IsTrue, length};
+ghost use Rattle.myi_base.specs.Holding.{Told, IfTold, OthersStay, bytes_of};
+ghost use Rattle.myi_base.specs.Causes.{HasCause};
+ghost use Rattle.myi_dellist.specs.declared.fault.FreeFault.TheVariants.{File};
+ghost use Rattle.myi_dellist.specs.Areas.{AreInside};
+ghost use Rattle.myi_dellist.specs.Placing.{areas_of, append_from, end_behind, is_none};
+ghost use Rattle.myi_dellist.specs.Freeing.{Becomes, CutsOff, IfDamaged};
+ghost use Rattle.myi_dellist.specs.Taking.{Run};
+ghost use Rattle.myi_dellist.specs.Rows.{row_written, IfFull, IsNotDamaged};
+ghost use Rattle.myi_dellist.specs.Planning.{rest_bytes, head_by, IsReleasable};
+ghost use Rattle.myi_dellist.specs.Putting.{Puts, PutBad, PutLong};
+
+use crate::fault::FreeFault;
+use crate::links::{put_first, take_joined, write_first};
+use crate::pieces::{Piece, append_pieces};
+use crate::planning::{RestPlan, RowPlan, plan_last};
+use crate::taking::{ListEnds, take_full};
+use crate::writing::write_pieces;
+use myi_io::Files;
+
+/// No file is longer than places reach.
+const PLACES: u128 = 1 << 64;
+
+/// Where a file ends, and the place that its end stays below.
+#[derive(Clone, Copy)]
+pub(crate) struct FileEnd {
+    pub at: u64,
+    pub below: u128,
+}
+
+/// Writes a row into these blocks, and what they leave of it behind the file's end; answers where the file
+/// ends then.
+fn put_behind<F: Files>(
+    files: &mut F,
+    name: &str,
+    pieces: &mut Vec<Piece>,
+    packed: &[u8],
+    left: u32,
+    end: &FileEnd,
+) -> Result<u64, FreeFault>
+    requires writable { IsTrue F.writable }
+    requires few { length packed.now < 2 ^ 32 }
+    requires run { Run (length packed.now) true (length packed.now) pieces.old.items left }
+    requires some { 0 < left }
+    requires less { left ≤ length packed.now }
+    requires inside { AreInside end.now.at (areas_of pieces.old.items) }
+    ensures ok { OnOk result (Told (F.holds files.old) (F.holds files.new) (λ m n. Becomes name.now
+        (row_written (pieces.old.items
+        ++ append_from left (length packed.now) (is_none pieces.old.items) left end.now.at)
+        packed.now (bytes_of name.now m)) m n)) }
+    ensures others { Told (F.holds files.old) (F.holds files.new) (OthersStay name.now) }
+    ensures end { IfOk result (λ r. r ≡ end_behind end.now.at
+        (append_from left (length packed.now) (is_none pieces.old.items) left end.now.at)) }
+    ensures room { IfOk result (λ r. r < min end.now.below (2 ^ 64)) }
+    ensures full { IfErr result (λ f. IfFull f (min end.now.below (2 ^ 64) ≤ end_behind end.now.at
+        (append_from left (length packed.now) (is_none pieces.old.items) left end.now.at))) }
+    ensures unchanged { IfErr result (λ f. IfFull f (F.holds files.new ≡ F.holds files.old)) }
+    ensures found { IfErr result IsNotDamaged }
+    ensures cause { HasCause File (F.faults files.old) (F.faults files.new) result }
+{
+    let len = packed.len() as u32;
+    let to = append_pieces(pieces, len, left, end.at, end.below.min(PLACES))?;
+    write_pieces(files, name, pieces, packed)?;
+    Ok(to)
+}
+
+/// Puts a row at the end of a file of that length, and answers where it ends then.
+pub(crate) fn put_at_end<F: Files>(
+    files: &mut F,
+    name: &str,
+    pieces: &mut Vec<Piece>,
+    packed: &[u8],
+    end: &FileEnd,
+) -> Result<u64, FreeFault>
+    requires writable { IsTrue F.writable }
+    requires some { 0 < length packed.now }
+    requires few { length packed.now < 2 ^ 32 }
+    ensures ok { OnOk result (Told (F.holds files.old) (F.holds files.new) (λ m n. Becomes name.now
+        (row_written (append_from (length packed.now) (length packed.now) true (length packed.now)
+        end.now.at) packed.now (bytes_of name.now m)) m n)) }
+    ensures others { Told (F.holds files.old) (F.holds files.new) (OthersStay name.now) }
+    ensures end { IfOk result (λ r. r ≡ end_behind end.now.at (append_from (length packed.now)
+        (length packed.now) true (length packed.now) end.now.at)) }
+    ensures room { IfOk result (λ r. r < min end.now.below (2 ^ 64)) }
+    ensures full { IfErr result (λ f. IfFull f (min end.now.below (2 ^ 64)
+        ≤ end_behind end.now.at (append_from (length packed.now) (length packed.now) true
+        (length packed.now) end.now.at))) }
+    ensures unchanged { IfErr result (λ f. IfFull f (F.holds files.new ≡ F.holds files.old)) }
+    ensures found { IfErr result IsNotDamaged }
+    ensures cause { HasCause File (F.faults files.old) (F.faults files.new) result }
+{
+    pieces.clear();
+    put_behind(files, name, pieces, packed, packed.len() as u32, end)
+}
+
+/// Releases what a row's last block leaves over, as it was planned.
+fn write_rest<F: Files>(files: &mut F, name: &str, rest: Option<RestPlan>) -> Result<(), FreeFault>
+    requires writable { IsTrue F.writable }
+    requires rest { IfSome rest IsReleasable }
+    ensures ok { OnOk result (Told (F.holds files.old) (F.holds files.new) (λ m n. Becomes name.now
+        (rest_bytes rest (bytes_of name.now m)) m n)) }
+    ensures others { Told (F.holds files.old) (F.holds files.new) (OthersStay name.now) }
+    ensures cut { IfErr result CutsOff }
+    ensures cause { HasCause File (F.faults files.old) (F.faults files.new) result }
+{
+    let Some(rest) = rest else {
+        return Ok(());
+    };
+    let whole = take_joined(files, name, rest.size, rest.plan.joined)?;
+    put_first(files, name, rest.at, whole, rest.plan.first)?;
+    Ok(())
+}
+
+/// Where the list begins once a row was put.
+fn head_by(plan: &RowPlan) -> Option<u64>
+    ensures { result ≡ head_by plan.now.next plan.now.rest }
+{
+    if let Some(rest) = plan.rest {
+        return Some(rest.at);
+    }
+    match plan.next {
+        None => None,
+        Some(next) => Some(next.at),
+    }
+}
+
+/// Puts a row into the blocks of the list, and behind the end what they do not hold; answers the list then.
+pub(crate) fn put_row<F: Files>(
+    files: &mut F,
+    name: &str,
+    list: ListEnds,
+    pieces: &mut Vec<Piece>,
+    packed: &[u8],
+    end_below: u128,
+) -> Result<ListEnds, FreeFault>
+    requires writable { IsTrue F.writable }
+    requires some { 0 < length packed.now }
+    requires few { length packed.now < 2 ^ 32 }
+    requires end { list.end < end_below }
+    ensures ok { IfOk result (λ new. Told (F.holds files.old) (F.holds files.new)
+        (Puts name.now list packed.now new)) }
+    ensures others { Told (F.holds files.old) (F.holds files.new) (OthersStay name.now) }
+    ensures room { IfOk result (λ new. new.end < min end_below (2 ^ 64)) }
+    ensures damaged { IfErr result (λ f. IfDamaged f (λ p. IfTold (F.holds files.old) (λ m.
+        length (bytes_of name.now m) ≡ list.end
+        → PutBad (bytes_of name.now m) list.head (length packed.now) p))) }
+    ensures full { IfErr result (λ f. IfFull f (IfTold (F.holds files.old) (λ m.
+        length (bytes_of name.now m) ≡ list.end
+        → PutLong (bytes_of name.now m) list.head list.end (min end_below (2 ^ 64))
+        (length packed.now)))) }
+    ensures unchanged { IfErr result (λ f. IfDamaged f (λ p.
+        F.holds files.new ≡ F.holds files.old)) }
+    ensures refused { IfErr result (λ f. IfFull f (F.holds files.new ≡ F.holds files.old)) }
+    ensures cause { HasCause File (F.faults files.old) (F.faults files.new) result }
+{
+    pieces.clear();
+    let taken = take_full(files, name, &list, pieces, packed.len() as u32)?;
+    let Some(hole) = taken.next else {
+        let limit = FileEnd {
+            at: list.end,
+            below: end_below,
+        };
+        let to = put_behind(files, name, pieces, packed, taken.left, &limit)?;
+        return Ok(ListEnds {
+            head: None,
+            end: to,
+        });
+    };
+    let plan = plan_last(files, name, &list, pieces, taken.left, &hole)?;
+    write_first(files, name, plan.next)?;
+    write_pieces(files, name, pieces, packed)?;
+    write_rest(files, name, plan.rest)?;
+    Ok(ListEnds {
+        head: head_by(&plan),
+        end: list.end,
+    })
+}
