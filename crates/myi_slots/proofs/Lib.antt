@@ -1,0 +1,11 @@
+pub mod SlotLemmas
+pub mod StandLemmas
+pub mod ChangeLemmas
+pub mod FoundLemmas
+pub mod HeadLemmas
+pub mod FileLemmas
+pub mod CountLemmas
+pub mod StepLemmas
+pub mod RowSteps
+pub mod ResultLemmas
+pub mod OthersLemmas

@@ -1,0 +1,9 @@
+pub mod RowLemmas
+pub mod TakenLemmas
+pub mod KeptLemmas
+pub mod CellLemmas
+pub mod ShownLemmas
+pub mod ReadLemmas
+pub mod StandingLemmas
+pub mod StateLemmas
+pub mod CallerLemmas
