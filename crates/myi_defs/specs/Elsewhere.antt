@@ -1,3 +1,4 @@
+-- On which bytes of an index file its definitions rest.
 use Rattle.std.specs.Prelude.{◌≡◌, ◌≤◌, ◌+◌, ℕ, List, length, take, drop}
 use Rattle.myi_base.specs.Numbers.{num_at}
 

@@ -1,16 +1,30 @@
--- What a reader of the contracts has to believe: what stands in a header and where, on what a table is refused, read
--- and sound definitions, data files within reach, the header of an empty table, creating texts.
-pub mod Kinds
-pub mod Layout
-pub mod Header
-pub mod Conditions
-pub mod ReadDefs
-pub mod Sound
-pub mod Addressable
-pub mod Elsewhere
-pub mod EmptyTable
-pub mod Text
-pub mod TextHeader
-pub mod ParseText
+-- what a reader of the contracts must believe
 
--- Nothing serves private contracts alone.
+-- words on kinds of fields and types of key segments
+pub mod Kinds
+-- what the form of a header fixes, and where its parts stand
+pub mod Layout
+-- what stands where in a header
+pub mod Header
+-- on what a table is refused
+pub mod Conditions
+-- read definitions: what a header says of its table, or why the table is refused
+pub mod ReadDefs
+-- what the definitions of each table keep that is not refused
+pub mod Sound
+-- data files within reach of row pointers
+pub mod Addressable
+-- on which bytes of an index file definitions rest
+pub mod Elsewhere
+-- the header of an empty table
+pub mod EmptyTable
+-- the words of creating texts
+pub mod Text
+-- the grammar of creating texts
+pub mod Grammar
+-- the header that a creating text stands for
+pub mod TextHeader
+-- the header that a table stands for
+pub mod TableHeader
+-- what a creating text stands for, or why for nothing
+pub mod ParseText

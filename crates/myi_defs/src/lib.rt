@@ -38,7 +38,10 @@ mod text;
 mod text_header;
 mod types;
 
-pub use laws::{definitions_are_sound, definitions_rest_on_the_header, empty_tables_print_again};
+pub use laws::{
+    definitions_are_sound, definitions_rest_on_the_header, empty_tables_print_again,
+    headers_say_the_table, texts_are_read_by_the_grammar, texts_describe_one_table,
+};
 pub use layout::{
     BASE_LENGTH, FRONT_LENGTH, Layout, MARK, MARK_PLACE, ROOTS_PLACE, first_page_behind,
 };

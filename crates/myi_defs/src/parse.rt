@@ -3,11 +3,11 @@
 //! A text is lines of words: `rows static` or `rows dynamic`, `pointer N` or nothing, then fields and then
 //! keys with their segments. `parse_text` reads the lines, prints the header that they stand for, and reads
 //! the definitions from it, so that a text is refused exactly as its header is.
-ghost use Rattle.std.specs.Prelude.{◌≡◌, ◌≢◌, take, IfOk, IfErr};
-ghost use Rattle.myi_base.specs.Numbers.{num_at};
-ghost use Rattle.myi_defs.specs.Text.{lines, said};
-ghost use Rattle.myi_defs.specs.TextHeader.{text_header};
-ghost use Rattle.myi_defs.specs.declared.parse.TextFault.TheVariants.{Memory};
+ghost use Rattle.std.specs.Prelude.{◌≡◌, ◌≢◌, ℕ, Ok, Err, IfOk, IfErr};
+ghost use Rattle.myi_defs.specs.Text.{lines};
+ghost use Rattle.myi_defs.specs.Grammar.{IsFirstOutside};
+ghost use Rattle.myi_defs.specs.declared.types.DefFault.{DefFault};
+ghost use Rattle.myi_defs.specs.declared.parse.TextFault.TheVariants as fault;
 ghost use Rattle.myi_defs.specs.ParseText as spec;
 ghost use Rattle.myi_defs.specs.ReadDefs.{AreDefs};
 
@@ -47,16 +47,23 @@ impl From<AllocError> for TextFault {
     }
 }
 
-/// The definitions of the table that a creating text stands for. Their header is the only one that the
-/// text stands for.
-#[tactic(auto, unfolding(crate::specs::ParseText::parse_text))]
+/// The definitions of the table that a creating text describes: those that are read of its header.
 pub fn parse_text(alloc: Global, text: &[u8]) -> Result<Defs, TextFault>
-    ensures found { IfOk result (λ d. spec.parse_text text.now ≡ Ok d) }
-    ensures refused { IfErr result (λ f. f ≢ Memory → spec.parse_text text.now ≡ Err f) }
+    ensures described { IfOk result (λ d. spec.StandsFor text.now (Ok d)) }
+    ensures outside { (n : ℕ) → result ≡ Err (fault.Line n) → IsFirstOutside (lines text.now) n }
+    ensures refused { (f : DefFault) → result ≡ Err (fault.Def f) → spec.StandsFor text.now (Err f) }
     ensures itself { IfOk result AreDefs }
-    ensures header { IfOk result (λ d.
-        let header = text_header (said (lines text.now)) in
-        d.raw ≡ take (num_at 6 2 header) header) }
+    ensures read { IfOk result (λ d. spec.parse_text text.now ≡ Ok d) }
+    ensures stopped { IfErr result (λ f. f ≢ fault.Memory → spec.parse_text text.now ≡ Err f) }
+{
+    definitions_of(alloc, text)
+}
+
+#[tactic(auto, unfolding(crate::specs::ParseText::parse_text))]
+fn definitions_of(alloc: Global, text: &[u8]) -> Result<Defs, TextFault>
+    ensures found { IfOk result (λ d. spec.parse_text text.now ≡ Ok d) }
+    ensures refused { IfErr result (λ f. f ≢ fault.Memory → spec.parse_text text.now ≡ Err f) }
+    ensures itself { IfOk result AreDefs }
 {
     let lines = match read_lines(alloc, text) {
         Ok(lines) => lines,

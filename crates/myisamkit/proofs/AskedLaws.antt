@@ -7,9 +7,9 @@ use Rattle.std.proofs.lemmas.Bool.{cases_Bool, false_from_ne_true}
 use Rattle.std.proofs.lemmas.Slice.Eq.{bytes_eq-Decides}
 use Rattle.myisamkit.specs.declared.options.Options.{Options}
 use Rattle.myisamkit.specs.declared.options.Flag.{Flag}
-use Rattle.myisamkit.specs.Words.{Request, usage, chk, dump, plan, plan_chk, plan_dump, dump_of, are_accepted, is_empty, is_name, names_in, flags_in, table_name}
+use Rattle.myisamkit.specs.Words.{Request, usage, chk, create, dump, plan, plan_chk, plan_create, plan_dump, create_of, dump_of, are_accepted, is_empty, is_name, names_in, flags_in, table_name}
 use Rattle.myisamkit.specs.Options.{is_mode, is_extend, is_force, at_most_one, go_together, options_in}
-use Rattle.myisamkit.specs.Asked.{AreChk, AreDump, AreRefused, dump_option, dump_names, dump_bad_name, no_command, no_name, bad_name, unknown_option, two_modes, extend_twice, force_twice}
+use Rattle.myisamkit.specs.Asked.{AreChk, AreCreate, AreDump, AreRefused, create_option, create_names, create_bad_name, dump_option, dump_names, dump_bad_name, no_command, no_name, bad_name, unknown_option, two_modes, extend_twice, force_twice}
 
 first_holds : (a b : Bool) → (a && b) ≡ true → a ≡ true
 first_holds true b e = refl
@@ -67,40 +67,176 @@ accepted others o tables is = by_case (cases_Bool (are_accepted others))
         let e : usage ≡ chk o tables = sym (ap (λ b. if b then chk (options_in (flags_in others)) (map table_name (names_in others)) else usage) none) ∙ is in
         absurd cc
 
--- words behind `dump` ask for no check and no repair
-never_chk : (flags : List (Option Flag)) (names : List (List ℕ)) (o : Options) (tables : List (List ℕ)) → dump_of flags names ≡ chk o tables → ⊥
-never_chk [] [] o tables is = cc
-never_chk [] (name ∷ []) o tables is = by (is_name name) is
+-- what words behind each command ask for, if they are not refused
+chk_is : (others : List (List ℕ)) (r : Request) → plan_chk others ≡ r → (r ≡ usage) ⊎ ((o : Options) × (tables : List (List ℕ)) × (r ≡ chk o tables))
+chk_is others r is = by (are_accepted others) is
   where
-    by : (b : Bool) → (if b then dump (table_name name) else usage) ≡ chk o tables → ⊥
-    by true e = cc
-    by false e = cc
-never_chk [] (name ∷ (other ∷ names)) o tables is = cc
-never_chk (f ∷ flags) names o tables is = cc
+    by : (b : Bool) → (if b then chk (options_in (flags_in others)) (map table_name (names_in others)) else usage) ≡ r → (r ≡ usage) ⊎ ((o : Options) × (tables : List (List ℕ)) × (r ≡ chk o tables))
+    by true e = inr (options_in (flags_in others), map table_name (names_in others), sym e)
+    by false e = inl (sym e)
 
--- and words behind `chk` for no dump
-never_dump : (others : List (List ℕ)) (table : List ℕ) → plan_chk others ≡ dump table → ⊥
-never_dump others table is = by (are_accepted others) is
+create_is : (flags : List (Option Flag)) (names : List (List ℕ)) (r : Request) → create_of flags names ≡ r → (r ≡ usage) ⊎ ((table : List ℕ) × (file : List ℕ) × (r ≡ create table file))
+create_is [] [] r is = inl (sym is)
+create_is [] (name ∷ []) r is = inl (sym is)
+create_is [] (name ∷ (file ∷ [])) r is = by (is_name name && is_name file) is
   where
-    by : (b : Bool) → (if b then chk (options_in (flags_in others)) (map table_name (names_in others)) else usage) ≡ dump table → ⊥
-    by true e = cc
-    by false e = cc
+    by : (b : Bool) → (if b then create (table_name name) file else usage) ≡ r → (r ≡ usage) ⊎ ((table : List ℕ) × (file : List ℕ) × (r ≡ create table file))
+    by true e = inr (table_name name, file, sym e)
+    by false e = inl (sym e)
+create_is [] (name ∷ (file ∷ (other ∷ names))) r is = inl (sym is)
+create_is (f ∷ flags) names r is = inl (sym is)
 
--- what words behind a command other than `chk` ask for
+dump_is : (flags : List (Option Flag)) (names : List (List ℕ)) (r : Request) → dump_of flags names ≡ r → (r ≡ usage) ⊎ ((table : List ℕ) × (r ≡ dump table))
+dump_is [] [] r is = inl (sym is)
+dump_is [] (name ∷ []) r is = by (is_name name) is
+  where
+    by : (b : Bool) → (if b then dump (table_name name) else usage) ≡ r → (r ≡ usage) ⊎ ((table : List ℕ) × (r ≡ dump table))
+    by true e = inr (table_name name, sym e)
+    by false e = inl (sym e)
+dump_is [] (name ∷ (other ∷ names)) r is = inl (sym is)
+dump_is (f ∷ flags) names r is = inl (sym is)
+
+-- each asks for its own alone
+created_no_chk : (others : List (List ℕ)) (o : Options) (tables : List (List ℕ)) → plan_create others ≡ chk o tables → ⊥
+created_no_chk others o tables is = by (create_is (flags_in others) (names_in others) (chk o tables) is)
+  where
+    by : (chk o tables ≡ usage) ⊎ ((table : List ℕ) × (file : List ℕ) × (chk o tables ≡ create table file)) → ⊥
+    by (inl e) = cc
+    by (inr e) = let same = e.2 in cc
+
+created_no_dump : (others : List (List ℕ)) (table : List ℕ) → plan_create others ≡ dump table → ⊥
+created_no_dump others table is = by (create_is (flags_in others) (names_in others) (dump table) is)
+  where
+    by : (dump table ≡ usage) ⊎ ((t : List ℕ) × (file : List ℕ) × (dump table ≡ create t file)) → ⊥
+    by (inl e) = cc
+    by (inr e) = let same = e.2 in cc
+
+dumped_no_chk : (others : List (List ℕ)) (o : Options) (tables : List (List ℕ)) → plan_dump others ≡ chk o tables → ⊥
+dumped_no_chk others o tables is = by (dump_is (flags_in others) (names_in others) (chk o tables) is)
+  where
+    by : (chk o tables ≡ usage) ⊎ ((table : List ℕ) × (chk o tables ≡ dump table)) → ⊥
+    by (inl e) = cc
+    by (inr e) = let same = e.1 in cc
+
+dumped_no_create : (others : List (List ℕ)) (table file : List ℕ) → plan_dump others ≡ create table file → ⊥
+dumped_no_create others table file is = by (dump_is (flags_in others) (names_in others) (create table file) is)
+  where
+    by : (create table file ≡ usage) ⊎ ((t : List ℕ) × (create table file ≡ dump t)) → ⊥
+    by (inl e) = cc
+    by (inr e) = let same = e.1 in cc
+
+checked_no_create : (others : List (List ℕ)) (table file : List ℕ) → plan_chk others ≡ create table file → ⊥
+checked_no_create others table file is = by (chk_is others (create table file) is)
+  where
+    by : (create table file ≡ usage) ⊎ ((o : Options) × (tables : List (List ℕ)) × (create table file ≡ chk o tables)) → ⊥
+    by (inl e) = cc
+    by (inr e) = let same = e.2 in cc
+
+checked_no_dump : (others : List (List ℕ)) (table : List ℕ) → plan_chk others ≡ dump table → ⊥
+checked_no_dump others table is = by (chk_is others (dump table) is)
+  where
+    by : (dump table ≡ usage) ⊎ ((o : Options) × (tables : List (List ℕ)) × (dump table ≡ chk o tables)) → ⊥
+    by (inl e) = cc
+    by (inr e) = let same = e.2 in cc
+
+-- what words behind a command other than `chk` ask for, and behind one that is not `create` either
+abbrev last_plan : List ℕ → List (List ℕ) → Request
+last_plan command others = if bytes_eq command (codes "dump") then plan_dump others else usage
+
 abbrev other_plan : List ℕ → List (List ℕ) → Request
-other_plan command others = if bytes_eq command (codes "dump") then plan_dump others else usage
+other_plan command others = if bytes_eq command (codes "create") then plan_create others else last_plan command others
+
+-- which command words have
+data Command (command : List ℕ) : Type 0 where
+  is_chk : command ≡ codes "chk" → Command command
+  is_create : bytes_eq command (codes "chk") ≡ false → command ≡ codes "create" → Command command
+  is_dump : bytes_eq command (codes "chk") ≡ false → bytes_eq command (codes "create") ≡ false → command ≡ codes "dump" → Command command
+  is_none : bytes_eq command (codes "chk") ≡ false → bytes_eq command (codes "create") ≡ false → bytes_eq command (codes "dump") ≡ false → Command command
+
+command_of : (command : List ℕ) → Command command
+command_of command = by (cases_Bool (bytes_eq command (codes "chk"))) (cases_Bool (bytes_eq command (codes "create"))) (cases_Bool (bytes_eq command (codes "dump")))
+  where
+    by : (bytes_eq command (codes "chk") ≡ true) ⊎ (bytes_eq command (codes "chk") ≡ false) → (bytes_eq command (codes "create") ≡ true) ⊎ (bytes_eq command (codes "create") ≡ false) → (bytes_eq command (codes "dump") ≡ true) ⊎ (bytes_eq command (codes "dump") ≡ false) → Command command
+    by (inl a) b c = is_chk ((bytes_eq-Decides command (codes "chk")).0 a)
+    by (inr a) (inl b) c = is_create a ((bytes_eq-Decides command (codes "create")).0 b)
+    by (inr a) (inr b) (inl c) = is_dump a b ((bytes_eq-Decides command (codes "dump")).0 c)
+    by (inr a) (inr b) (inr c) = is_none a b c
+
+matches : (command word : List ℕ) → command ≡ word → bytes_eq command word ≡ true
+matches command word same = (bytes_eq-Decides command word).1 same
+
+chk_plan : (command : List ℕ) (others : List (List ℕ)) → command ≡ codes "chk" → plan (command ∷ others) ≡ plan_chk others
+chk_plan command others same = ap (λ b. if b then plan_chk others else other_plan command others) (matches command (codes "chk") same)
+
+create_plan : (command : List ℕ) (others : List (List ℕ)) → bytes_eq command (codes "chk") ≡ false → command ≡ codes "create" → plan (command ∷ others) ≡ plan_create others
+create_plan command others a same = ap (λ b. if b then plan_chk others else other_plan command others) a ∙ ap (λ b. if b then plan_create others else last_plan command others) (matches command (codes "create") same)
+
+dump_plan : (command : List ℕ) (others : List (List ℕ)) → bytes_eq command (codes "chk") ≡ false → bytes_eq command (codes "create") ≡ false → command ≡ codes "dump" → plan (command ∷ others) ≡ plan_dump others
+dump_plan command others a b same =
+    ap (λ k. if k then plan_chk others else other_plan command others) a
+    ∙ (ap (λ k. if k then plan_create others else last_plan command others) b ∙ ap (λ k. if k then plan_dump others else usage) (matches command (codes "dump") same))
+
+no_plan : (command : List ℕ) (others : List (List ℕ)) → bytes_eq command (codes "chk") ≡ false → bytes_eq command (codes "create") ≡ false → bytes_eq command (codes "dump") ≡ false → plan (command ∷ others) ≡ usage
+no_plan command others a b c =
+    ap (λ k. if k then plan_chk others else other_plan command others) a
+    ∙ (ap (λ k. if k then plan_create others else last_plan command others) b ∙ ap (λ k. if k then plan_dump others else usage) c)
 
 pub words_accepted : (words : List (List ℕ)) (o : Options) (tables : List (List ℕ)) → plan words ≡ chk o tables → AreChk words o tables
 words_accepted [] o tables is = absurd cc
-words_accepted (command ∷ others) o tables is = by_command (cases_Bool (bytes_eq command (codes "chk")))
+words_accepted (command ∷ others) o tables is = by (command_of command)
   where
-    by_dump : (b : Bool) → (if b then plan_dump others else usage) ≡ chk o tables → ⊥
-    by_dump true e = never_chk (flags_in others) (names_in others) o tables e
-    by_dump false e = cc
+    by : Command command → AreChk (command ∷ others) o tables
+    by (is_chk same) = subst (λ c. AreChk (c ∷ others) o tables) (sym same) (accepted others o tables (sym (chk_plan command others same) ∙ is))
+    by (is_create a same) = absurd (created_no_chk others o tables (sym (create_plan command others a same) ∙ is))
+    by (is_dump a b same) = absurd (dumped_no_chk others o tables (sym (dump_plan command others a b same) ∙ is))
+    by (is_none a b c) =
+        let e : usage ≡ chk o tables = sym (no_plan command others a b c) ∙ is in
+        absurd cc
 
-    by_command : (bytes_eq command (codes "chk") ≡ true) ⊎ (bytes_eq command (codes "chk") ≡ false) → AreChk (command ∷ others) o tables
-    by_command (inl same) = subst (λ c. AreChk (c ∷ others) o tables) (sym ((bytes_eq-Decides command (codes "chk")).0 same)) (accepted others o tables (sym (ap (λ b. if b then plan_chk others else other_plan command others) same) ∙ is))
-    by_command (inr other) = absurd (by_dump (bytes_eq command (codes "dump")) (sym (ap (λ b. if b then plan_chk others else other_plan command others) other) ∙ is))
+-- ---- the words of a creation
+
+both_hold : (a b : Bool) → (a && b) ≡ true → (a ≡ true) × (b ≡ true)
+both_hold true true e = (refl, refl)
+both_hold true false e = absurd cc
+both_hold false b e = absurd cc
+
+created_parts : (others : List (List ℕ)) (table file : List ℕ) (flags : List (Option Flag)) (names : List (List ℕ)) → flags_in others ≡ flags → names_in others ≡ names → create_of flags names ≡ create table file → AreCreate (codes "create" ∷ others) table file
+created_parts others table file [] [] a b is = absurd cc
+created_parts others table file [] (name ∷ []) a b is = absurd cc
+created_parts others table file [] (name ∷ (second ∷ [])) a b is = by (cases_Bool (is_name name && is_name second))
+  where
+    by : ((is_name name && is_name second) ≡ true) ⊎ ((is_name name && is_name second) ≡ false) → AreCreate (codes "create" ∷ others) table file
+    by (inl form) =
+        let e : create (table_name name) second ≡ create table file = sym (ap (λ c. if c then create (table_name name) second else usage) form) ∙ is in
+        let same : second ≡ file = cc in
+        let both = both_hold (is_name name) (is_name second) form in
+        record {
+          others = others;
+          command = refl;
+          no_option = a;
+          name = name;
+          named = b ∙ ap (λ f. name ∷ (f ∷ [])) same;
+          in_form = both.0;
+          file_in_form = subst (λ f. is_name f ≡ true) same both.1;
+          table_is = cc;
+        }
+    by (inr bad) =
+        let e : usage ≡ create table file = sym (ap (λ c. if c then create (table_name name) second else usage) bad) ∙ is in
+        absurd cc
+created_parts others table file [] (name ∷ (second ∷ (other ∷ names))) a b is = absurd cc
+created_parts others table file (f ∷ flags) names a b is = absurd cc
+
+pub words_created : (words : List (List ℕ)) (table file : List ℕ) → plan words ≡ create table file → AreCreate words table file
+words_created [] table file is = absurd cc
+words_created (command ∷ others) table file is = by (command_of command)
+  where
+    by : Command command → AreCreate (command ∷ others) table file
+    by (is_chk same) = absurd (checked_no_create others table file (sym (chk_plan command others same) ∙ is))
+    by (is_create a same) = subst (λ c. AreCreate (c ∷ others) table file) (sym same) (created_parts others table file (flags_in others) (names_in others) refl refl (sym (create_plan command others a same) ∙ is))
+    by (is_dump a b same) = absurd (dumped_no_create others table file (sym (dump_plan command others a b same) ∙ is))
+    by (is_none a b c) =
+        let e : usage ≡ create table file = sym (no_plan command others a b c) ∙ is in
+        absurd cc
 
 -- ---- the words of a dump
 
@@ -120,15 +256,14 @@ dumped_parts others table (f ∷ flags) names a b is = absurd cc
 
 pub words_dumped : (words : List (List ℕ)) (table : List ℕ) → plan words ≡ dump table → AreDump words table
 words_dumped [] table is = absurd cc
-words_dumped (command ∷ others) table is = by_command (cases_Bool (bytes_eq command (codes "chk"))) (cases_Bool (bytes_eq command (codes "dump")))
+words_dumped (command ∷ others) table is = by (command_of command)
   where
-    by_command : (bytes_eq command (codes "chk") ≡ true) ⊎ (bytes_eq command (codes "chk") ≡ false) → (bytes_eq command (codes "dump") ≡ true) ⊎ (bytes_eq command (codes "dump") ≡ false) → AreDump (command ∷ others) table
-    by_command (inl same) dumps = absurd (never_dump others table (sym (ap (λ b. if b then plan_chk others else other_plan command others) same) ∙ is))
-    by_command (inr other) (inl same) =
-        subst (λ c. AreDump (c ∷ others) table) (sym ((bytes_eq-Decides command (codes "dump")).0 same))
-        (dumped_parts others table (flags_in others) (names_in others) refl refl (sym (ap (λ b. if b then plan_chk others else other_plan command others) other ∙ ap (λ b. if b then plan_dump others else usage) same) ∙ is))
-    by_command (inr other) (inr none) =
-        let e : usage ≡ dump table = sym (ap (λ b. if b then plan_chk others else other_plan command others) other ∙ ap (λ b. if b then plan_dump others else usage) none) ∙ is in
+    by : Command command → AreDump (command ∷ others) table
+    by (is_chk same) = absurd (checked_no_dump others table (sym (chk_plan command others same) ∙ is))
+    by (is_create a same) = absurd (created_no_dump others table (sym (create_plan command others a same) ∙ is))
+    by (is_dump a b same) = subst (λ c. AreDump (c ∷ others) table) (sym same) (dumped_parts others table (flags_in others) (names_in others) refl refl (sym (dump_plan command others a b same) ∙ is))
+    by (is_none a b c) =
+        let e : usage ≡ dump table = sym (no_plan command others a b c) ∙ is in
         absurd cc
 
 -- which of the reasons holds of the words behind `chk`
@@ -155,6 +290,19 @@ why others none = by_parts (one_fails (not (is_empty (names_in others)) && list_
     by_parts (inl names) = by_names (one_fails (not (is_empty (names_in others))) _ names)
     by_parts (inr options) = by_flags (one_fails (list_all is_some (flags_in others)) _ options)
 
+-- which holds of the words behind `create`
+why_create : (others : List (List ℕ)) (flags : List (Option Flag)) (names : List (List ℕ)) → flags_in others ≡ flags → names_in others ≡ names → create_of flags names ≡ usage → AreRefused (codes "create" ∷ others)
+why_create others [] [] a b is = create_names others refl (λ e. omega (arith, e, ap (λ (l : List (List ℕ)). length l) b))
+why_create others [] (name ∷ []) a b is = create_names others refl (λ e. omega (arith, e, ap (λ (l : List (List ℕ)). length l) b))
+why_create others [] (name ∷ (file ∷ [])) a b is = by (is_name name) (is_name file) refl refl is
+  where
+    by : (c d : Bool) → is_name name ≡ c → is_name file ≡ d → (if c && d then create (table_name name) file else usage) ≡ usage → AreRefused (codes "create" ∷ others)
+    by true true one other e = absurd cc
+    by true false one other e = create_bad_name others refl (ap (list_all is_name) b ∙ (ap (λ k. k && (is_name file && true)) one ∙ ap (λ k. k && true) other))
+    by false d one other e = create_bad_name others refl (ap (list_all is_name) b ∙ ap (λ k. k && (is_name file && true)) one)
+why_create others [] (name ∷ (file ∷ (other ∷ names))) a b is = create_names others refl (λ e. omega (arith, e, ap (λ (l : List (List ℕ)). length l) b))
+why_create others (f ∷ flags) names a b is = create_option others refl (λ e. let k : f ∷ flags ≡ [] = sym a ∙ e in cc)
+
 -- which holds of the words behind `dump`
 why_dump : (others : List (List ℕ)) (flags : List (Option Flag)) (names : List (List ℕ)) → flags_in others ≡ flags → names_in others ≡ names → dump_of flags names ≡ usage → AreRefused (codes "dump" ∷ others)
 why_dump others [] [] a b is = dump_names others refl (λ e. omega (arith, e, ap (λ (l : List (List ℕ)). length l) b))
@@ -169,8 +317,8 @@ why_dump others [] (name ∷ (other ∷ names)) a b is = dump_names others refl 
 why_dump others (f ∷ flags) names a b is = dump_option others refl (λ e. let k : f ∷ flags ≡ [] = sym a ∙ e in cc)
 
 pub words_refused : (words : List (List ℕ)) → plan words ≡ usage → AreRefused words
-words_refused [] is = no_command (λ others e. cc) (λ others e. cc)
-words_refused (command ∷ others) is = by_command (cases_Bool (bytes_eq command (codes "chk"))) (cases_Bool (bytes_eq command (codes "dump")))
+words_refused [] is = no_command (λ others e. cc) (λ others e. cc) (λ others e. cc)
+words_refused (command ∷ others) is = by (command_of command)
   where
     not_refused : (b : Bool) → (if b then chk (options_in (flags_in others)) (map table_name (names_in others)) else usage) ≡ usage → b ≡ false
     not_refused true e = absurd cc
@@ -179,12 +327,11 @@ words_refused (command ∷ others) is = by_command (cases_Bool (bytes_eq command
     is_no : (word : List ℕ) → bytes_eq command word ≡ false → (rest : List (List ℕ)) → command ∷ others ≡ word ∷ rest → ⊥
     is_no word other rest e = let same : command ≡ word = cc in let both = (bytes_eq-Decides command word).1 same in let clash : true ≡ false = sym both ∙ other in cc
 
-    by_command : (bytes_eq command (codes "chk") ≡ true) ⊎ (bytes_eq command (codes "chk") ≡ false) → (bytes_eq command (codes "dump") ≡ true) ⊎ (bytes_eq command (codes "dump") ≡ false) → AreRefused (command ∷ others)
-    by_command (inl same) dumps = subst (λ c. AreRefused (c ∷ others)) (sym ((bytes_eq-Decides command (codes "chk")).0 same)) (why others (not_refused (are_accepted others) (sym (ap (λ b. if b then plan_chk others else other_plan command others) same) ∙ is)))
-    by_command (inr other) (inl same) =
-        subst (λ c. AreRefused (c ∷ others)) (sym ((bytes_eq-Decides command (codes "dump")).0 same))
-        (why_dump others (flags_in others) (names_in others) refl refl (sym (ap (λ b. if b then plan_chk others else other_plan command others) other ∙ ap (λ b. if b then plan_dump others else usage) same) ∙ is))
-    by_command (inr other) (inr none) = no_command (is_no (codes "chk") other) (is_no (codes "dump") none)
+    by : Command command → AreRefused (command ∷ others)
+    by (is_chk same) = subst (λ c. AreRefused (c ∷ others)) (sym same) (why others (not_refused (are_accepted others) (sym (chk_plan command others same) ∙ is)))
+    by (is_create a same) = subst (λ c. AreRefused (c ∷ others)) (sym same) (why_create others (flags_in others) (names_in others) refl refl (sym (create_plan command others a same) ∙ is))
+    by (is_dump a b same) = subst (λ c. AreRefused (c ∷ others)) (sym same) (why_dump others (flags_in others) (names_in others) refl refl (sym (dump_plan command others a b same) ∙ is))
+    by (is_none a b c) = no_command (is_no (codes "chk") a) (is_no (codes "create") b) (is_no (codes "dump") c)
 
 -- ---- words with a reason are refused
 
@@ -196,22 +343,37 @@ right_fails : (a b : Bool) → b ≡ false → (a && b) ≡ false
 right_fails true b e = e
 right_fails false b e = refl
 
-chk_is_chk : bytes_eq (codes "chk") (codes "chk") ≡ true
-chk_is_chk = (bytes_eq-Decides (codes "chk") (codes "chk")).1 refl
-
-dump_is_dump : bytes_eq (codes "dump") (codes "dump") ≡ true
-dump_is_dump = (bytes_eq-Decides (codes "dump") (codes "dump")).1 refl
-
-dump_is_no_chk : bytes_eq (codes "dump") (codes "chk") ≡ false
-dump_is_no_chk = refl
-
 not_accepted : (words others : List (List ℕ)) → words ≡ codes "chk" ∷ others → are_accepted others ≡ false → plan words ≡ usage
-not_accepted words others is none =
-    ap plan is ∙ (ap (λ b. if b then plan_chk others else other_plan (codes "chk") others) chk_is_chk ∙ ap (λ b. if b then chk (options_in (flags_in others)) (map table_name (names_in others)) else usage) none)
+not_accepted words others is none = ap plan is ∙ (chk_plan (codes "chk") others refl ∙ ap (λ b. if b then chk (options_in (flags_in others)) (map table_name (names_in others)) else usage) none)
+
+not_created : (words others : List (List ℕ)) → words ≡ codes "create" ∷ others → plan_create others ≡ usage → plan words ≡ usage
+not_created words others is none = ap plan is ∙ (create_plan (codes "create") others refl refl ∙ none)
 
 not_dumped : (words others : List (List ℕ)) → words ≡ codes "dump" ∷ others → plan_dump others ≡ usage → plan words ≡ usage
-not_dumped words others is none =
-    ap plan is ∙ (ap (λ b. if b then plan_chk others else other_plan (codes "dump") others) dump_is_no_chk ∙ (ap (λ b. if b then plan_dump others else usage) dump_is_dump ∙ none))
+not_dumped words others is none = ap plan is ∙ (dump_plan (codes "dump") others refl refl refl ∙ none)
+
+create_refused : (flags : List (Option Flag)) (names : List (List ℕ)) → flags ≢ [] → create_of flags names ≡ usage
+create_refused [] names some = absurd (some refl)
+create_refused (f ∷ flags) names some = refl
+
+create_counted : (flags : List (Option Flag)) (names : List (List ℕ)) → length names ≢ 2 → create_of flags names ≡ usage
+create_counted [] [] other = refl
+create_counted [] (name ∷ []) other = refl
+create_counted [] (name ∷ (file ∷ [])) other = absurd (other refl)
+create_counted [] (name ∷ (file ∷ (another ∷ names))) other = refl
+create_counted (f ∷ flags) names other = refl
+
+create_misnamed : (flags : List (Option Flag)) (names : List (List ℕ)) → list_all is_name names ≡ false → create_of flags names ≡ usage
+create_misnamed [] [] bad = refl
+create_misnamed [] (name ∷ []) bad = refl
+create_misnamed [] (name ∷ (file ∷ [])) bad = by (is_name name) (is_name file) bad
+  where
+    by : (c d : Bool) → (c && (d && true)) ≡ false → (if c && d then create (table_name name) file else usage) ≡ usage
+    by true true e = absurd cc
+    by true false e = refl
+    by false d e = refl
+create_misnamed [] (name ∷ (file ∷ (other ∷ names))) bad = refl
+create_misnamed (f ∷ flags) names bad = refl
 
 dump_refused : (flags : List (Option Flag)) (names : List (List ℕ)) → flags ≢ [] → dump_of flags names ≡ usage
 dump_refused [] names some = absurd (some refl)
@@ -237,19 +399,23 @@ twice_fails : (others : List (List ℕ)) → (at_most_one is_extend (flags_in ot
 twice_fails others none = rest_fails others (right_fails (at_most_one is_mode (flags_in others)) _ none)
 
 pub reasons_refuse : (words : List (List ℕ)) → AreRefused words → plan words ≡ usage
-reasons_refuse words (no_command none nothing) = by words none nothing
+reasons_refuse words (no_command checks creates dumps) = by words checks creates dumps
   where
-    by : (words : List (List ℕ)) → ((others : List (List ℕ)) → words ≢ codes "chk" ∷ others) → ((others : List (List ℕ)) → words ≢ codes "dump" ∷ others) → plan words ≡ usage
-    by [] none nothing = refl
-    by (command ∷ others) none nothing =
-        ap (λ b. if b then plan_chk others else other_plan command others) (false_from_ne_true _ (λ same. none others (ap (λ c. c ∷ others) ((bytes_eq-Decides command (codes "chk")).0 same))))
-        ∙ ap (λ b. if b then plan_dump others else usage) (false_from_ne_true _ (λ same. nothing others (ap (λ c. c ∷ others) ((bytes_eq-Decides command (codes "dump")).0 same))))
+    no_word : (command : List ℕ) (others : List (List ℕ)) (word : List ℕ) → ((rest : List (List ℕ)) → command ∷ others ≢ word ∷ rest) → bytes_eq command word ≡ false
+    no_word command others word none = false_from_ne_true _ (λ same. none others (ap (λ c. c ∷ others) ((bytes_eq-Decides command word).0 same)))
+
+    by : (words : List (List ℕ)) → ((others : List (List ℕ)) → words ≢ codes "chk" ∷ others) → ((others : List (List ℕ)) → words ≢ codes "create" ∷ others) → ((others : List (List ℕ)) → words ≢ codes "dump" ∷ others) → plan words ≡ usage
+    by [] checks creates dumps = refl
+    by (command ∷ others) checks creates dumps = no_plan command others (no_word command others (codes "chk") checks) (no_word command others (codes "create") creates) (no_word command others (codes "dump") dumps)
 reasons_refuse words (no_name others is none) = not_accepted words others is (left_fails _ (go_together (flags_in others)) (left_fails _ (list_all is_name (names_in others)) (ap not none)))
 reasons_refuse words (bad_name others is bad) = not_accepted words others is (left_fails _ (go_together (flags_in others)) (right_fails (not (is_empty (names_in others))) _ bad))
 reasons_refuse words (unknown_option others is unknown) = not_accepted words others is (flags_fail others (left_fails _ (at_most_one is_mode (flags_in others) && (at_most_one is_extend (flags_in others) && at_most_one is_force (flags_in others))) unknown))
 reasons_refuse words (two_modes others is two) = not_accepted words others is (rest_fails others (left_fails _ (at_most_one is_extend (flags_in others) && at_most_one is_force (flags_in others)) two))
 reasons_refuse words (extend_twice others is twice) = not_accepted words others is (twice_fails others (left_fails _ (at_most_one is_force (flags_in others)) twice))
 reasons_refuse words (force_twice others is twice) = not_accepted words others is (twice_fails others (right_fails (at_most_one is_extend (flags_in others)) _ twice))
+reasons_refuse words (create_option others is some) = not_created words others is (create_refused (flags_in others) (names_in others) some)
+reasons_refuse words (create_names others is other) = not_created words others is (create_counted (flags_in others) (names_in others) other)
+reasons_refuse words (create_bad_name others is bad) = not_created words others is (create_misnamed (flags_in others) (names_in others) bad)
 reasons_refuse words (dump_option others is some) = not_dumped words others is (dump_refused (flags_in others) (names_in others) some)
 reasons_refuse words (dump_names others is other) = not_dumped words others is (dump_counted (flags_in others) (names_in others) other)
 reasons_refuse words (dump_bad_name others name is named bad) = not_dumped words others is (ap (dump_of (flags_in others)) named ∙ dump_misnamed (flags_in others) name bad)

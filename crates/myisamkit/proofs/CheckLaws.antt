@@ -1,22 +1,21 @@
 -- What the turn of a table that is checked comes to.
-use Rattle.std.proofs.Common.{◌≡◌, ◌≢◌, ◌≤◌, ◌+◌, ℕ, Bool, true, false, List, [], ◌∷◌, ◌++◌, length, take, length-append, Option, Some, Result, Ok, Err, refl, sym, subst, ap, ◌∙◌, arith, inl, inr, append_assoc}
+use Rattle.std.proofs.Common.{◌≡◌, ◌≢◌, ◌≤◌, ◌+◌, ℕ, Bool, true, false, List, [], ◌∷◌, ◌++◌, length, take, length-append, Option, Some, Result, Ok, Err, refl, sym, subst, ap, ◌∙◌, arith, inr, append_assoc}
 use Rattle.std.specs.Prelude.{◌&&◌, OnOk, OnErr}
 use Rattle.std.proofs.lemmas.List.{take-append-le}
 use Rattle.std.proofs.Math.Seq.{take-append-add}
-use Rattle.myi_base.specs.Holding.{Holding, IfTold, Told}
+use Rattle.myi_base.specs.Holding.{Holding, IfTold}
 use Rattle.myi_base.specs.Output.{Appends, AppendsPart}
 use Rattle.myi_opening.specs.declared.fault.TableFault.{TableFault}
 use Rattle.myi_opening.specs.declared.fault.TableFault.TheVariants as fault
 use Rattle.myi_pair.specs.declared.finding.Finding.{Finding}
 use Rattle.myi_check.specs.Checking.{findings_in}
-use Rattle.myi_repair.specs.Names.{names_for}
 use Rattle.myisamkit.specs.declared.options.Options.{Options}
 use Rattle.myisamkit.specs.declared.status.Status.{Status}
 use Rattle.myisamkit.specs.declared.status.Status.TheVariants as status
 use Rattle.myisamkit.specs.declared.status.Stop.{Stop}
 use Rattle.myisamkit.specs.declared.status.Stop.TheVariants as stop
 use Rattle.myisamkit.proofs.TurnLaws.{repair_earlier}
-use Rattle.myisamkit.specs.Turns.{Turn, checked_text, checked_status, RepairStops, CheckStops, has_findings, checked_turn, check_turn_by, check_turn, goes_on, without_extend, recover_turn, RepairDone, RepairCutOff, CheckDone, CheckCutOff, CheckRecovers}
+use Rattle.myisamkit.specs.Turns.{checked_text, checked_status, RepairStops, CheckStops, has_findings, checked_turn, check_turn_by, check_turn, goes_on, without_extend, recover_turn, RepairDone, CheckDone, CheckCutOff, CheckRecovers}
 
 -- the status says whether something was found
 pub found_by : (r : Result (List Finding) TableFault) → checked_status r ≡ status.Findings → has_findings r ≡ true

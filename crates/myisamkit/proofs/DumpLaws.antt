@@ -1,11 +1,10 @@
 -- The words behind `dump`, read one after the other.
-use Rattle.std.proofs.Common.{◌≡◌, ◌⊎◌, ℕ, Bool, true, false, List, [], ◌∷◌, ◌++◌, Option, Some, None, length, map, drop, filter, refl, sym, ap, subst, ◌∙◌, inl, inr, arith}
-use Rattle.std.specs.Prelude.{◌&&◌, ◌||◌, not, is_none, nat_lt, ◌==◌, if◌then◌else◌}
+use Rattle.std.proofs.Common.{◌≡◌, ℕ, Bool, true, false, List, [], ◌∷◌, ◌++◌, Option, Some, None, map, drop, filter, refl, sym, ap, ◌∙◌}
+use Rattle.std.specs.Prelude.{◌&&◌, ◌||◌, not, is_none, if◌then◌else◌}
 use Rattle.std.specs.List.{flat_map}
-use Rattle.std.proofs.lemmas.Bool.{cases_Bool}
 use Rattle.myisamkit.specs.declared.options.Flag.{Flag}
 use Rattle.myisamkit.specs.Options.{letter_flag, long_flag}
-use Rattle.myisamkit.specs.Words.{Request, usage, dump, dump_of, is_end, is_option, is_name, is_long, names_table, flags_of, flags_in, names_in, before_end, after_end, table_name}
+use Rattle.myisamkit.specs.Words.{Request, usage, dump, dump_of, is_end, is_option, is_name, is_long, flags_of, flags_in, names_in, before_end, after_end, table_name}
 use Rattle.myisamkit.specs.Reading.{dump_left}
 use Rattle.myisamkit.proofs.WordLaws.{names_among, flags_among}
 
@@ -29,7 +28,7 @@ all_names name (word ∷ words) = by (is_none name && is_name word) (all_names (
     by false rest = refl
 
 -- an option is at least one
-has_flag : (word : List ℕ) → is_option word ≡ true → (f : Option Flag) × (flags : List (Option Flag)) × (flags_of word ≡ f ∷ flags)
+pub has_flag : (word : List ℕ) → is_option word ≡ true → (f : Option Flag) × (flags : List (Option Flag)) × (flags_of word ≡ f ∷ flags)
 has_flag [] option = absurd cc
 has_flag (a ∷ []) option = absurd cc
 has_flag (a ∷ (b ∷ bytes)) option = by (is_long (a ∷ (b ∷ bytes)))

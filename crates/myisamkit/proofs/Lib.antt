@@ -1,6 +1,8 @@
 pub mod OptionLaws
 pub mod WordLaws
 pub mod DumpLaws
+pub mod CreateWordLaws
+pub mod CreateLaws
 pub mod DumpTurnLaws
 pub mod SinkLaws
 pub mod OpenLaws

@@ -1,5 +1,5 @@
 -- A table that was opened by the names of its files.
-use Rattle.std.proofs.Common.{◌≡◌, ℕ, List, Result, Ok, sym, subst}
+use Rattle.std.proofs.Common.{◌≡◌, ℕ, List, Result, Ok, subst}
 use Rattle.myi_base.specs.Holding.{Holding}
 use Rattle.myi_defs.specs.declared.types.Defs.{Defs}
 use Rattle.myi_opening.specs.declared.fault.TableFault.{TableFault}

@@ -6,6 +6,11 @@ use Rattle.std.proofs.lemmas.Bool.{false_from_ne_true}
 use Rattle.std.proofs.lemmas.Slice.Eq.{bytes_eq-Decides}
 use Rattle.myi_base.specs.Holding.{Holding, Told}
 use Rattle.myi_pair.specs.RecoveredBytes.{new_data, new_index}
+use Rattle.myi_defs.specs.declared.types.Defs.{Defs}
+use Rattle.myi_defs.specs.EmptyTable.{empty_header}
+use Rattle.myi_create.specs.declared.fault.CreateFault.{CreateFault}
+use Rattle.myi_create.specs.Names as making
+use Rattle.myi_create.specs.Creating.{definitions_in}
 use Rattle.myi_repair.specs.declared.fault.RepairFault.{RepairFault}
 use Rattle.myi_repair.specs.Names.{FourNames, names_for}
 use Rattle.myi_repair.specs.Opening.{Table, table_in}
@@ -14,8 +19,9 @@ use Rattle.myisamkit.specs.declared.options.Mode.TheVariants.{Check, Recover, De
 use Rattle.myisamkit.specs.declared.options.Options.{Options}
 use Rattle.myisamkit.specs.declared.status.Status.{Status}
 use Rattle.myisamkit.specs.declared.status.Status.TheVariants as status
-use Rattle.myisamkit.specs.Words.{Request, usage, chk, dump}
+use Rattle.myisamkit.specs.Words.{Request, usage, chk, create, dump}
 use Rattle.myisamkit.specs.Turns.{replaced, repair_turn, without_extend, goes_on, check_turn_by, turn, turn_by, CheckCutOff, CutsTurnOff, CutsTurnOffBy, TurnDone, FailsInTurn, FailsInTurnBy}
+use Rattle.myisamkit.specs.Creates.{made, made_turn, CreateLeaves}
 use Rattle.myisamkit.specs.Runs.{TablesDone, CutsTablesOff, FailsInTables, TablesLeave, Leaves, IsApart, IsNoFileOf, KeepsOthers}
 
 pub other_name : (q name : List ℕ) → q ≢ name → bytes_eq q name ≡ false
@@ -98,9 +104,34 @@ tables_keep o now before after names status.Usage m n q apart leaves = done_keep
 tables_keep o now before after names status.Refused m n q apart leaves = done_keeps o now names m n q apart leaves
 tables_keep o now before after names status.Absent m n q apart leaves = done_keeps o now names m n q apart leaves
 
+made_keeps : (name header : List ℕ) (m : Holding) (q : List ℕ) → IsApart q (names_for name) → made (making.names_for name) header m q ≡ m q
+made_keeps name header m q apart = by_names (bytes_eq q (names_for name).rows) (bytes_eq q (names_for name).index) (bytes_eq q (names_for name).new_index) (other_name q (names_for name).rows apart.rows) (other_name q (names_for name).index apart.index) (other_name q (names_for name).new_index apart.new_index)
+  where
+    by_names : (a b c : Bool) → a ≡ false → b ≡ false → c ≡ false → (if a then Some [] else (if b then Some header else (if c then None else m q))) ≡ m q
+    by_names true b c rows index trees = absurd cc
+    by_names false true c rows index trees = absurd cc
+    by_names false false true rows index trees = absurd cc
+    by_names false false false rows index trees = refl
+
+turn_made_keeps : (name file : List ℕ) (r : Result Defs CreateFault) (m : Holding) (q : List ℕ) → IsApart q (names_for name) → (made_turn name file r m).files q ≡ m q
+turn_made_keeps name file (Err f) m q apart = refl
+turn_made_keeps name file (Ok d) m q apart = made_keeps name (empty_header d.raw) m q apart
+
+create_keeps : (name file : List ℕ) (s : Status) (m n : Holding) (q : List ℕ) → IsApart q (names_for name) → CreateLeaves name file s m n → n q ≡ m q
+create_keeps name file status.FileFault m n q apart left = left.others q apart.rows apart.index apart.new_index
+create_keeps name file status.Memory m n q apart (inl part) = part.others q apart.rows apart.index apart.new_index
+create_keeps name file status.Memory m n q apart (inr done) = ap (λ (h : Holding). h q) done.files ∙ turn_made_keeps name file (definitions_in file m) m q apart
+create_keeps name file status.SinkFault m n q apart left = ap (λ (h : Holding). h q) left.files ∙ turn_made_keeps name file (definitions_in file m) m q apart
+create_keeps name file status.Ok m n q apart left = ap (λ (h : Holding). h q) left.files ∙ turn_made_keeps name file (definitions_in file m) m q apart
+create_keeps name file status.Findings m n q apart left = ap (λ (h : Holding). h q) left.files ∙ turn_made_keeps name file (definitions_in file m) m q apart
+create_keeps name file status.Usage m n q apart left = ap (λ (h : Holding). h q) left.files ∙ turn_made_keeps name file (definitions_in file m) m q apart
+create_keeps name file status.Refused m n q apart left = ap (λ (h : Holding). h q) left.files ∙ turn_made_keeps name file (definitions_in file m) m q apart
+create_keeps name file status.Absent m n q apart left = ap (λ (h : Holding). h q) left.files ∙ turn_made_keeps name file (definitions_in file m) m q apart
+
 run_keeps : (request : Request) (now before after : ℕ) (s : Status) (m n : Holding) → Leaves request now before after s m n → KeepsOthers request m n
 run_keeps usage now before after s m n leaves q apart = ap (λ (h : Holding). h q) leaves
 run_keeps (chk o names) now before after s m n leaves q apart = tables_keep o now before after names s m n q apart leaves
+run_keeps (create name file) now before after s m n leaves q apart = create_keeps name file s m n q apart.0 leaves
 run_keeps (dump name) now before after s m n leaves q apart = ap (λ (h : Holding). h q) leaves
 
 -- whatever a run leaves, it leaves other files

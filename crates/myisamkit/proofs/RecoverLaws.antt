@@ -1,5 +1,5 @@
 -- What the status and the files of a run make of a table that can be repaired.
-use Rattle.std.proofs.Common.{◌≡◌, ◌≢◌, ◌⊎◌, ◌++◌, get_or, arith, ℕ, Bool, true, false, List, [], ◌∷◌, take, Option, Some, None, Ok, refl, sym, subst, ap, ◌∙◌, inl, inr}
+use Rattle.std.proofs.Common.{◌≡◌, ◌≢◌, ◌⊎◌, ◌++◌, get_or, arith, ℕ, Bool, true, false, List, [], ◌∷◌, take, Option, Some, None, Ok, refl, subst, ap, ◌∙◌, inl, inr}
 use Rattle.std.specs.Prelude.{codes, ◌||◌, if◌then◌else◌}
 use Rattle.std.specs.Str.{bytes_eq}
 use Rattle.std.proofs.lemmas.Slice.Eq.{bytes_eq-Decides}

@@ -21,7 +21,7 @@ use Rattle.myisamkit.specs.declared.options.Options.{Options}
 use Rattle.myisamkit.specs.Turns.{AreSound, replaced, repair_turn, without_extend, goes_on, RepairDone, RepairCutOff, CheckCutOff, CutsTurnOff, CutsTurnOffBy}
 
 -- what a name has that is none of these
-not_named : (q name : List ℕ) → bytes_eq q name ≡ false → q ≢ name
+pub not_named : (q name : List ℕ) → bytes_eq q name ≡ false → q ≢ name
 not_named q name other is = absurd (true_is_false (sym ((bytes_eq-Decides q name).1 is) ∙ other))
   where
     true_is_false : true ≡ false → ⊥

@@ -22,6 +22,17 @@ pub record AreChk (words : List (List ℕ)) (o : Options) (tables : List (List �
   pub force : o.force ≡ list_any is_force (flags_in others)
   pub silent : o.silent ≡ list_any is_silent (flags_in others)
 
+-- these words are `create` with this table and this file
+pub record AreCreate (words : List (List ℕ)) (table file : List ℕ) : Type 0 where
+  pub others : List (List ℕ)
+  pub command : words ≡ codes "create" ∷ others
+  pub no_option : flags_in others ≡ []
+  pub name : List ℕ
+  pub named : names_in others ≡ name ∷ file ∷ []
+  pub in_form : is_name name ≡ true
+  pub file_in_form : is_name file ≡ true
+  pub table_is : table ≡ table_name name
+
 -- these words are `dump` with this table
 pub record AreDump (words : List (List ℕ)) (table : List ℕ) : Type 0 where
   pub others : List (List ℕ)
@@ -34,13 +45,16 @@ pub record AreDump (words : List (List ℕ)) (table : List ℕ) : Type 0 where
 
 -- why words are refused: the command is none, or of the words behind it one of these holds
 pub data AreRefused (words : List (List ℕ)) : Type 0 where
-  no_command : ((others : List (List ℕ)) → words ≢ codes "chk" ∷ others) → ((others : List (List ℕ)) → words ≢ codes "dump" ∷ others) → AreRefused words
+  no_command : ((others : List (List ℕ)) → words ≢ codes "chk" ∷ others) → ((others : List (List ℕ)) → words ≢ codes "create" ∷ others) → ((others : List (List ℕ)) → words ≢ codes "dump" ∷ others) → AreRefused words
   no_name : (others : List (List ℕ)) → words ≡ codes "chk" ∷ others → is_empty (names_in others) ≡ true → AreRefused words
   bad_name : (others : List (List ℕ)) → words ≡ codes "chk" ∷ others → list_all is_name (names_in others) ≡ false → AreRefused words
   unknown_option : (others : List (List ℕ)) → words ≡ codes "chk" ∷ others → list_all is_some (flags_in others) ≡ false → AreRefused words
   two_modes : (others : List (List ℕ)) → words ≡ codes "chk" ∷ others → at_most_one is_mode (flags_in others) ≡ false → AreRefused words
   extend_twice : (others : List (List ℕ)) → words ≡ codes "chk" ∷ others → at_most_one is_extend (flags_in others) ≡ false → AreRefused words
   force_twice : (others : List (List ℕ)) → words ≡ codes "chk" ∷ others → at_most_one is_force (flags_in others) ≡ false → AreRefused words
+  create_option : (others : List (List ℕ)) → words ≡ codes "create" ∷ others → flags_in others ≢ [] → AreRefused words
+  create_names : (others : List (List ℕ)) → words ≡ codes "create" ∷ others → length (names_in others) ≢ 2 → AreRefused words
+  create_bad_name : (others : List (List ℕ)) → words ≡ codes "create" ∷ others → list_all is_name (names_in others) ≡ false → AreRefused words
   dump_option : (others : List (List ℕ)) → words ≡ codes "dump" ∷ others → flags_in others ≢ [] → AreRefused words
   dump_names : (others : List (List ℕ)) → words ≡ codes "dump" ∷ others → length (names_in others) ≢ 1 → AreRefused words
   dump_bad_name : (others : List (List ℕ)) (name : List ℕ) → words ≡ codes "dump" ∷ others → names_in others ≡ name ∷ [] → is_name name ≡ false → AreRefused words

@@ -1,5 +1,5 @@
 -- What a dump of a table prints and answers: its rows, where nothing is wrong with it.
-use Rattle.std.specs.Prelude.{◌≡◌, ℕ, false, List, [], ◌∷◌, ◌++◌, Result, Ok, Err}
+use Rattle.std.specs.Prelude.{ℕ, false, List, [], ◌∷◌, ◌++◌, Result, Ok, Err}
 use Rattle.myi_base.specs.Holding.{Holding}
 use Rattle.myi_opening.specs.declared.fault.TableFault.{TableFault}
 use Rattle.myi_opening.specs.Names.{rows_file, index_file}

@@ -14,6 +14,8 @@ pub mod Descriptions
 pub mod Statuses
 -- a table's turn in a run
 pub mod Turns
+-- what the making of a table says and leaves
+pub mod Creates
 -- what a dump of a table says
 pub mod Dumps
 -- what a run says and does: its tables one after the other

@@ -59,6 +59,14 @@ fault_line name repair.TooLong = refused_line name too_long
 fault_line name repair.File = []
 fault_line name repair.Memory = []
 
+-- a table was made
+abbrev pub created_line : List ℕ → List ℕ
+created_line name = name ++ codes ": created\n"
+
+-- a line of a text is the first that is not in its grammar
+abbrev pub text_line : List ℕ → ℕ → List ℕ
+text_line file n = file ++ (codes ": line " ++ (decimal n ++ codes "\n"))
+
 -- nothing was found wrong with a table
 abbrev pub ok_line : List ℕ → List ℕ
 ok_line name = name ++ codes ": ok\n"

@@ -1,5 +1,5 @@
 -- How words are read, one after the other, and the request that a plan is.
-use Rattle.std.specs.Prelude.{ℕ, Bool, ◌&&◌, is_none, true, false, List, [], ◌∷◌, Option, None, Some, option_and_then, option_map, if◌then◌else◌}
+use Rattle.std.specs.Prelude.{ℕ, Bool, ◌&&◌, ◌||◌, not, is_none, is_some, true, false, List, [], ◌∷◌, Option, None, Some, option_and_then, option_map, if◌then◌else◌}
 use Rattle.myisamkit.specs.declared.options.Mode.{Mode}
 use Rattle.myisamkit.specs.declared.options.Mode.TheVariants.{Check}
 use Rattle.myisamkit.specs.declared.options.Flag.{Flag}
@@ -71,3 +71,22 @@ dump_left ended name [] = name
 dump_left ended name (word ∷ words) =
     if names_table ended word then (if is_none name && is_name word then dump_left ended (Some word) words else None) else
     (if is_end word then dump_left true name words else None)
+
+-- the two names of these
+abbrev pub both_names : Option (List ℕ) → Option (List ℕ) → Option (List ℕ × List ℕ)
+both_names None file = None
+both_names (Some name) None = None
+both_names (Some name) (Some file) = Some (name, file)
+
+-- a name behind these, where one is missing and it is in form
+abbrev pub one_name_more : Option (List ℕ) → Option (List ℕ) → List ℕ → Option (Option (List ℕ) × Option (List ℕ))
+one_name_more name file word =
+    if is_some file || not (is_name word) then None else
+    (if is_some name then Some (name, Some word) else Some (Some word, file))
+
+-- the two names among the words behind `create`, behind words that named these, where the word -- came or not
+abbrev pub create_left : Bool → Option (List ℕ) → Option (List ℕ) → List (List ℕ) → Option (List ℕ × List ℕ)
+create_left ended name file [] = both_names name file
+create_left ended name file (word ∷ words) =
+    if names_table ended word then option_and_then (λ both. create_left ended both.0 both.1 words) (one_name_more name file word) else
+    (if is_end word then create_left true name file words else None)

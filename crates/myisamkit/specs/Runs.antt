@@ -1,6 +1,6 @@
 -- What a run says, answers and does, by what the words ask for and what the files hold: its tables have their turns one
 -- after the other, each on the files that the one before left.
-use Rattle.std.specs.Prelude.{◌≡◌, ◌≢◌, ◌⊎◌, ℕ, List, [], ◌∷◌, ◌++◌, Option}
+use Rattle.std.specs.Prelude.{◌≡◌, ◌≢◌, ◌⊎◌, ℕ, List, [], ◌∷◌, Option}
 use Rattle.myi_base.specs.Holding.{Holding, IfTold}
 use Rattle.myi_base.specs.Output.{Appends, AppendsPart}
 use Rattle.myi_repair.specs.Names.{FourNames, names_for}
@@ -9,9 +9,10 @@ use Rattle.myisamkit.specs.declared.status.Status.TheVariants as status
 use Rattle.myisamkit.specs.declared.status.Stop.{Stop}
 use Rattle.myisamkit.specs.declared.status.Stop.TheVariants as stop
 use Rattle.myisamkit.specs.declared.options.Options.{Options}
-use Rattle.myisamkit.specs.Words.{Request, usage, chk, dump}
+use Rattle.myisamkit.specs.Words.{Request, usage, chk, create, dump}
 use Rattle.myisamkit.specs.Statuses.{IsFault, worse}
 use Rattle.myisamkit.specs.Lines.{usage_line}
+use Rattle.myisamkit.specs.Creates.{create_turn, CreateLeaves}
 use Rattle.myisamkit.specs.Dumps.{dump_turn}
 use Rattle.myisamkit.specs.Turns.{Turn, then_turn, turn, MayFind, TurnRecovers, CutsTurnOff, FailsInTurn}
 
@@ -24,12 +25,14 @@ tables_run s o now (name ∷ names) m = then_turn (turn o now name m) (tables_ru
 abbrev pub run_of : Request → ℕ → Holding → Turn
 run_of usage now m = record { text = usage_line; status = status.Usage; files = m }
 run_of (chk o names) now m = tables_run status.Ok o now names m
+run_of (create name file) now m = create_turn name file m
 run_of (dump name) now m = dump_turn name m
 
 -- the answer may be that something was found
 abbrev pub MayFindAny : Request → Type 0
 MayFindAny usage = ⊥
 MayFindAny (chk o names) = MayFind o
+MayFindAny (create name file) = ⊥
 MayFindAny (dump name) = ⊥
 
 -- ---- the files
@@ -71,6 +74,7 @@ TablesLeave o now before after names status.Absent m n = TablesDone o now names 
 abbrev pub Leaves : Request → ℕ → ℕ → ℕ → Status → Holding → Holding → Type 0
 Leaves usage now before after s m n = n ≡ m
 Leaves (chk o names) now before after s m n = TablesLeave o now before after names s m n
+Leaves (create name file) now before after s m n = CreateLeaves name file s m n
 Leaves (dump name) now before after s m n = n ≡ m
 
 -- what was written is this text, or a front of it where a fault cut the run off
@@ -98,6 +102,7 @@ IsNoFileOf q (name ∷ names) = IsApart q (names_for name) × IsNoFileOf q names
 abbrev pub tables_of : Request → List (List ℕ)
 tables_of usage = []
 tables_of (chk o names) = names
+tables_of (create name file) = name ∷ []
 tables_of (dump name) = name ∷ []
 
 -- files that are none of a request's tables hold what they held

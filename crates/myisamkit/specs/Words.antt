@@ -8,10 +8,12 @@ use Rattle.myisamkit.specs.declared.options.Flag.{Flag}
 use Rattle.myisamkit.specs.declared.options.Options.{Options}
 use Rattle.myisamkit.specs.Options.{letter_flag, long_flag, go_together, options_in}
 
--- A command with its options and the names of its tables, or a refusal. `dump` prints one table.
+-- A command with its options and the names of its tables, or a refusal. `create` makes one table, by the text of a file, and
+-- `dump` prints one.
 pub data Request : Type 0 where
   usage : Request
   chk : Options → List (List ℕ) → Request
+  create : List ℕ → List ℕ → Request
   dump : List ℕ → Request
 
 -- ---- what a word is
@@ -79,6 +81,17 @@ are_accepted words = (not (is_empty (names_in words)) && list_all is_name (names
 abbrev pub plan_chk : List (List ℕ) → Request
 plan_chk words = if are_accepted words then chk (options_in (flags_in words)) (map table_name (names_in words)) else usage
 
+-- `create` has no options, one table and one file
+abbrev pub create_of : List (Option Flag) → List (List ℕ) → Request
+create_of [] [] = usage
+create_of [] (name ∷ []) = usage
+create_of [] (name ∷ (file ∷ [])) = if is_name name && is_name file then create (table_name name) file else usage
+create_of [] (name ∷ (file ∷ (other ∷ names))) = usage
+create_of (f ∷ flags) names = usage
+
+abbrev pub plan_create : List (List ℕ) → Request
+plan_create words = create_of (flags_in words) (names_in words)
+
 -- `dump` has no options and one table
 abbrev pub dump_of : List (Option Flag) → List (List ℕ) → Request
 dump_of [] [] = usage
@@ -91,7 +104,10 @@ plan_dump words = dump_of (flags_in words) (names_in words)
 
 abbrev pub plan : List (List ℕ) → Request
 plan [] = usage
-plan (command ∷ words) = if bytes_eq command (codes "chk") then plan_chk words else (if bytes_eq command (codes "dump") then plan_dump words else usage)
+plan (command ∷ words) =
+    if bytes_eq command (codes "chk") then plan_chk words else
+    (if bytes_eq command (codes "create") then plan_create words else
+    (if bytes_eq command (codes "dump") then plan_dump words else usage))
 
 -- the tables that the words behind a command name
 abbrev pub tables_named : List (String Global) → List (List ℕ)

@@ -2,13 +2,19 @@
 //! is proved with the crate.
 ghost use Rattle.std.specs.Prelude.{◌≡◌, ℕ, List};
 ghost use Rattle.myisamkit.specs.declared.options.Options.{Options};
-ghost use Rattle.myisamkit.specs.Words.{plan, chk, dump, usage};
-ghost use Rattle.myisamkit.specs.Asked.{AreChk, AreDump, AreRefused};
+ghost use Rattle.myisamkit.specs.Words.{plan, chk, create, dump, usage};
+ghost use Rattle.myisamkit.specs.Asked.{AreChk, AreCreate, AreDump, AreRefused};
 
 /// Words that are accepted have the command, exactly its options, and its tables in their order.
 pub fn accepted_words_are_a_command()
     ensures { (words : List (List ℕ)) (o : Options) (tables : List (List ℕ))
         → plan words ≡ chk o tables → AreChk words o tables }
+{}
+
+/// The words of a creation have the command, no option, one table and one file.
+pub fn creating_words_are_a_command()
+    ensures { (words : List (List ℕ)) (table file : List ℕ) → plan words ≡ create table file
+        → AreCreate words table file }
 {}
 
 /// The words of a dump have the command, no option, and one table.
@@ -19,7 +25,8 @@ pub fn dumping_words_are_a_command()
 
 /// Words are refused exactly where they have one of these reasons: no command that is known; behind
 /// `chk` no name, or one out of form, an option that is not known, two modes, or another option twice, but the
-/// silent one; behind `dump` an option, or other than one name in form.
+/// silent one; behind `create` an option, or other than two names in form; behind `dump` an option, or other than
+/// one name in form.
 pub fn refused_words_have_a_reason()
     ensures reason { (words : List (List ℕ)) → plan words ≡ usage → AreRefused words }
     ensures refused { (words : List (List ℕ)) → AreRefused words → plan words ≡ usage }

@@ -6,7 +6,7 @@
 //! run say, answer and do is defined over what the files hold before (`Turns`, `Runs`), and the files
 //! that a repair leaves over the bytes of the two files before it (`Rattle.myi_pair.specs`,
 //! `RecoveredBytes` and `Recovered`), what a check finds over the same bytes (`Findings`). Of the commands
-//! `chk` and `dump` are built.
+//! `chk`, `create` and `dump` are built.
 //!
 //! ```
 //! let mut words = Vec::new(alloc);
@@ -21,6 +21,7 @@
 #![tactic(auto)]
 
 mod check;
+mod create;
 mod describe;
 mod description;
 mod dump;
@@ -36,7 +37,8 @@ mod turn;
 mod words;
 
 pub use laws::{
-    accepted_words_are_a_command, dumping_words_are_a_command, refused_words_have_a_reason,
+    accepted_words_are_a_command, creating_words_are_a_command, dumping_words_are_a_command,
+    refused_words_have_a_reason,
 };
 pub use status::Status;
 pub use top::kit;

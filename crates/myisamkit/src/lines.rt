@@ -20,7 +20,7 @@ pub(crate) fn absent_line(alloc: Global, name: &str, file: TableFile) -> Result<
         string_bytes line ≡ spec.absent_line (file_of file name.now)) }
 {
     let file = file.of(alloc, name)?;
-    format!(in alloc; "{file}: absent\n")
+    no_file_line(alloc, file.as_str())
 }
 
 pub(crate) fn refused_line(alloc: Global, name: &str, reason: &str) -> Result<String, AllocError>
@@ -69,6 +69,24 @@ pub(crate) fn recovered_line(
     format!(in alloc;
         "{name}: recovered {kept} rows, dropped {repeats} repeats, data {old_length} to {new_length} bytes\n"
     )
+}
+
+pub(crate) fn created_line(alloc: Global, name: &str) -> Result<String, AllocError>
+    ensures { IfOk result (λ line. string_bytes line ≡ spec.created_line name.now) }
+{
+    format!(in alloc; "{name}: created\n")
+}
+
+pub(crate) fn text_line(alloc: Global, file: &str, number: u32) -> Result<String, AllocError>
+    ensures { IfOk result (λ line. string_bytes line ≡ spec.text_line file.now number) }
+{
+    format!(in alloc; "{file}: line {number}\n")
+}
+
+pub(crate) fn no_file_line(alloc: Global, file: &str) -> Result<String, AllocError>
+    ensures { IfOk result (λ line. string_bytes line ≡ spec.absent_line file.now) }
+{
+    format!(in alloc; "{file}: absent\n")
 }
 
 pub(crate) fn ok_line(alloc: Global, name: &str) -> Result<String, AllocError>

@@ -10,6 +10,7 @@ ghost use Rattle.myisamkit.specs.Runs.{run_of, MayFindAny, Leaves, KeepsOthers, 
 ghost use Rattle.myisamkit.specs.Recovers.{Recovers};
 ghost use Rattle.myisamkit.specs.Lines as spec;
 
+use crate::create::create_from_text;
 use crate::dump::dump_table;
 use crate::lines::usage_line;
 use crate::say::say;
@@ -106,6 +107,7 @@ fn run<F: Files, O: Sink>(
             Ok(Status::Usage)
         }
         Plan::Chk { options, words } => run_tables(alloc, files, out, &options, words, now),
+        Plan::Create(name, text) => create_from_text(alloc, files, out, name, text),
         Plan::Dump(name) => dump_table(alloc, files, out, name),
     }
 }

@@ -18,6 +18,8 @@ pub(crate) enum Plan<'a> {
         options: Options,
         words: &'a [String],
     },
+    /// A table of this name is made, by the text of the file of that name.
+    Create(&'a str, &'a str),
     /// The rows of the table of this name are printed.
     Dump(&'a str),
 }
@@ -38,6 +40,7 @@ pub(crate) fn read_words(words: &[String]) -> Plan<'_>
 {
     match words.split_first() {
         Some((command, others)) if command.as_str() == "chk" => plan_chk(others),
+        Some((command, others)) if command.as_str() == "create" => plan_create(others),
         Some((command, others)) if command.as_str() == "dump" => plan_dump(others),
         _ => Plan::Usage,
     }
@@ -50,6 +53,44 @@ fn plan_chk(words: &[String]) -> Plan<'_>
         Some(options) => Plan::Chk { options, words },
         None => Plan::Usage,
     }
+}
+
+fn plan_create(words: &[String]) -> Plan<'_>
+    ensures { asked result ≡ spec.plan_create (map (λ w. string_bytes w) words.now) }
+{
+    match two_names(words) {
+        Some((name, file)) => Plan::Create(table_name(name), file),
+        None => Plan::Usage,
+    }
+}
+
+// The two names among the words behind `create`, where they are in form and no other word stands beside them but one
+// that ends the options.
+fn two_names(words: &[String]) -> Option<(&str, &str)>
+    ensures { option_map (λ p. (p.0.now, p.1.now)) result
+        ≡ reading.create_left false None None (map (λ w. string_bytes w) words.now) }
+{
+    let mut name = None;
+    let mut file = None;
+    let mut ended = false;
+    for word in words {
+        let word = word.as_str();
+        if names_table(word, ended) {
+            if file.is_some() || !is_name(word) {
+                return None;
+            }
+            if name.is_some() {
+                file = Some(word);
+            } else {
+                name = Some(word);
+            }
+        } else if is_end(word) {
+            ended = true;
+        } else {
+            return None;
+        }
+    }
+    Some((name?, file?))
 }
 
 fn plan_dump(words: &[String]) -> Plan<'_>

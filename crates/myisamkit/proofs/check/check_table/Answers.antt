@@ -1,4 +1,4 @@
-use Rattle.std.proofs.Common.{rules, ◌≡◌, ◌∙◌, ap, sym, subst, List}
+use Rattle.std.proofs.Common.{rules, ◌∙◌, sym, subst}
 use Rattle.std.proofs.lemmas.Result.{IfErr-weaker}
 use denote.Enum.Bare.{same_true}
 use Rattle.myi_base.specs.Holding.{Told}

@@ -18,3 +18,6 @@ returns-in-Ok-clause-headline g c = recovers_told _ _ _ _ _ _ _ (λ m told. inr 
 pub returns-in-Err-clause-headline : goal.returns-in-Err-clause-headline
 returns-in-Err-clause-headline g c =
     subst (λ s. Told (g.F.Files.holds c.args.files.now) (g.F.Files.holds c.run.new.files) (Recovers (request_of c.args.words.now) c.args.now s)) (sym c.into.ensures) (recovers_told _ _ _ _ _ _ _ (λ m told. inl (stops_are_faults c.in-Err.stop)) c.in-Err.ensures.stops)
+
+pub returns-in-Ok-clause-usage : goal.returns-in-Ok-clause-usage
+returns-in-Ok-clause-usage g c = inr c.in-Ok.ensures.usage

@@ -20,3 +20,7 @@ returns-in-Chk-clause-status g c =
 pub returns-in-Dump-clause-part : goal.returns-in-Dump-clause-part
 returns-in-Dump-clause-part g c =
     subst (λ r. OnErr c.dump_table.result (IfTold (g.F.Files.holds c.args.files.now) (λ m. IfTold (g.O.Sink.written c.args.out.now) (AppendsPart (run_of r c.args.now m).text (g.O.Sink.written c.dump_table.new.out))))) c.in-Dump.ensures c.dump_table.ensures.part
+
+pub returns-in-Create-clause-part : goal.returns-in-Create-clause-part
+returns-in-Create-clause-part g c =
+    subst (λ r. OnErr c.create_from_text.result (IfTold (g.F.Files.holds c.args.files.now) (λ m. IfTold (g.O.Sink.written c.args.out.now) (AppendsPart (run_of r c.args.now m).text (g.O.Sink.written c.create_from_text.new.out))))) c.in-Create.ensures c.create_from_text.ensures.part

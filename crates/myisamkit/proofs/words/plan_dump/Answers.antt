@@ -1,6 +1,6 @@
-use Rattle.std.proofs.Common.{◌≡◌, ◌∙◌, Some, None, map, string_bytes, sym, ap}
+use Rattle.std.proofs.Common.{◌∙◌, map, string_bytes, sym, ap}
 use Rattle.std.specs.Prelude.{option_map}
-use Rattle.myisamkit.specs.Words.{dump, table_name}
+use Rattle.myisamkit.specs.Words.{dump}
 use Rattle.myisamkit.proofs.DumpLaws.{request_named, dump_asked}
 use Rattle.myisamkit.proofs.words.plan_dump.Goals as goal
 
