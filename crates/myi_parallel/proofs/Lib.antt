@@ -1,0 +1,4 @@
+pub mod DealLaws
+pub mod DealingLaws
+pub mod ShareLaws
+pub mod SortLaws
