@@ -19,3 +19,6 @@ pub use Rattle.myi_dellist.proofs.AppendedLemmas.{update-freeable, end-freeable}
 pub use Rattle.myi_dellist.proofs.RowLemmas.{update-holds, end-holds}
 -- put_rows_leave_the_rest
 pub use Rattle.myi_dellist.proofs.StandLemmas.{block-apart}
+-- rows_find_their_list
+pub use Rattle.myi_dellist.proofs.SoundLemmas.{never-bad}
+pub use Rattle.myi_dellist.proofs.PutRowLemmas.{long-placed}

@@ -157,7 +157,7 @@ unused_last : (P : Area → Type 0) (left : ℕ) (a : Area) (more : List Area) (
 unused_last P left a more true all = all
 unused_last P left a more false all = all
 
-unused_taken : (P : Area → Type 0) (len : ℕ) (first : Bool) (left : ℕ) (from : List Area) → AllByRecursion P from → AllByRecursion P (take_from len first left from).unused
+pub unused_taken : (P : Area → Type 0) (len : ℕ) (first : Bool) (left : ℕ) (from : List Area) → AllByRecursion P from → AllByRecursion P (take_from len first left from).unused
 unused_taken P len first left [] all = tt
 unused_taken P len first left (a ∷ areas) all = by_fits (fits left a.size) (unused_taken P len false (left - room len first a.size) areas all.1)
   where
@@ -169,7 +169,7 @@ unused_more : (P : Area → Type 0) (len : ℕ) (first : Bool) (left : ℕ) (fro
 unused_more P len first zero from all = all
 unused_more P len first (suc left) from all = unused_taken P len first (suc left) from all
 
-usable_freeable : (len : ℕ) (areas : List Area) → AllByRecursion (IsUsable len) areas → AllByRecursion IsFreeable areas
+pub usable_freeable : (len : ℕ) (areas : List Area) → AllByRecursion (IsUsable len) areas → AllByRecursion IsFreeable areas
 usable_freeable len [] all = tt
 usable_freeable len (a ∷ areas) all = (record { aligned = all.0.aligned; multiple = all.0.multiple; least = all.0.least; most = all.0.most }, usable_freeable len areas all.1)
 

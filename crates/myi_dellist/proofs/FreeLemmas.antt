@@ -58,9 +58,9 @@ one_frees l k at size m n head long place le r holes has may =
     let d = bytes_of l.name m in
     let one = r long in
     let plans = release-plans d a holes has.list may.behind in
-    let found = ap (λ (h : Option ℕ). plan_in d h at size) has.head ∙ plans.found in
-    let same = same_plan (plan_in d l.head at size) one.0 plans.plan one.1 found in
-    let bytes = one.2.here ∙ ap (λ (p : ReleasePlan). plan_bytes p at size d) same ∙ plans.bytes_are ∙ sym (short_bytes a holes d le) in
+    let found = ap (λ (h : Option ℕ). plan_in (hole_in d) h at size) has.head ∙ plans.found in
+    let same = same_plan (plan_in (hole_in d) l.head at size) one.0 plans.plan one.1 found in
+    let bytes = one.2.here ∙ ap (λ (p : ReleasePlan). plan_bytes p at size d) same ∙ plans.bytes_are d ∙ sym (short_bytes a holes d le) in
     let f : IsFreeable a = record { aligned = place.aligned; multiple = place.multiple; least = place.least; most = omega arith } in
     frees k a holes d (bytes_of l.name n) head (released_first a holes le) f (omega (arith, place.inside, long)) may has.list bytes
 
@@ -76,12 +76,12 @@ two_frees l k at size m n head long place lt most r holes has may =
     let stop : b.at + b.size ≡ at + size = omega arith in
     let none : hole_at (b.at + b.size) holes ≡ None → hole_in d (b.at + b.size) ≡ None = subst (λ (q : ℕ). hole_at q holes ≡ None → hole_in d q ≡ None) (sym stop) may.behind in
     let plans = release-plans d b holes has.list none in
-    let found = ap (λ (h : Option ℕ). plan_in d h b.at b.size) has.head ∙ plans.found in
-    let same = same_plan (plan_in d l.head b.at b.size) two.0 plans.plan two.1 found in
+    let found = ap (λ (h : Option ℕ). plan_in (hole_in d) h b.at b.size) has.head ∙ plans.found in
+    let same = same_plan (plan_in (hole_in d) l.head b.at b.size) two.0 plans.plan two.1 found in
     let c : Area = record { at = b.at; size = joined_size b.size plans.plan.joined } in
     let bytes = two.2.here ∙ ap (λ (p : ReleasePlan). two_bytes p at size d) same
     ∙ ap (λ (o : Option ℕ). put_first_bytes (front_part a) (Some (first_head c o)) (plan_bytes plans.plan b.at b.size d)) plans.next
-    ∙ ap (λ (x : List ℕ). put_first_bytes (front_part a) (Some (first_head c (first_or plans.rest None))) x) plans.bytes_are
+    ∙ ap (λ (x : List ℕ). put_first_bytes (front_part a) (Some (first_head c (first_or plans.rest None))) x) (plans.bytes_are d)
     ∙ put_second (front_part a) c plans.rest (release_one_bytes b holes d)
     ∙ ap (λ (hs : List Area). with_first (front_part a) hs (release_one_bytes b holes d)) (sym plans.shape)
     ∙ sym (long_bytes a holes d lt) in
@@ -121,11 +121,11 @@ long_part at size lt = ap (λ (b : Bool). if b then area at size else back_part 
     area : ℕ → ℕ → Area
     area at size = record { at = at; size = size }
 
-one_found : (l : ListState) (at size : ℕ) (m : Holding) (p : ReleasePlan) → size ≤ most_size → plan_in (bytes_of l.name m) l.head at size ≡ Ok p → FindsAll l (record { at = at; size = size }) m
-one_found l at size m p le e = (p, ap (λ (a : Area). plan_in (bytes_of l.name m) l.head a.at a.size) (short_part at size le) ∙ e)
+one_found : (l : ListState) (at size : ℕ) (m : Holding) (p : ReleasePlan) → size ≤ most_size → plan_in (hole_in (bytes_of l.name m)) l.head at size ≡ Ok p → FindsAll l (record { at = at; size = size }) m
+one_found l at size m p le e = (p, ap (λ (a : Area). plan_in (hole_in (bytes_of l.name m)) l.head a.at a.size) (short_part at size le) ∙ e)
 
-two_found : (l : ListState) (at size : ℕ) (m : Holding) (p : ReleasePlan) → most_size < size → plan_in (bytes_of l.name m) l.head (at + half_size) (size - half_size) ≡ Ok p → FindsAll l (record { at = at; size = size }) m
-two_found l at size m p lt e = (p, ap (λ (a : Area). plan_in (bytes_of l.name m) l.head a.at a.size) (long_part at size lt) ∙ e)
+two_found : (l : ListState) (at size : ℕ) (m : Holding) (p : ReleasePlan) → most_size < size → plan_in (hole_in (bytes_of l.name m)) l.head (at + half_size) (size - half_size) ≡ Ok p → FindsAll l (record { at = at; size = size }) m
+two_found l at size m p lt e = (p, ap (λ (a : Area). plan_in (hole_in (bytes_of l.name m)) l.head a.at a.size) (long_part at size lt) ∙ e)
 
 pub finds_one : (old new : Option Holding) (l : ListState) (name : List ℕ) (end : ℕ) (head : Option ℕ) (at size : ℕ) → IsOf l name end head → IfTold old (IsLong l) → size ≤ most_size → Told old new (ReleasesOne name end head at size) → IfTold old (FindsAll l (record { at = at; size = size }))
 finds_one old new l name end head at size o long le t m held =

@@ -10,6 +10,7 @@ pub mod LinkLemmas
 pub mod ReleasedLemmas
 pub mod HoleLemmas
 pub mod NeedLemmas
+pub mod SeenLemmas
 pub mod PlanLemmas
 pub mod FreeLemmas
 pub mod MergeLemmas
@@ -26,3 +27,8 @@ pub mod PlanningLemmas
 pub mod RestLemmas
 pub mod PutRowLemmas
 pub mod SoundLemmas
+pub mod SeveralLemmas
+pub mod OwnLemmas
+pub mod AgainLemmas
+pub mod PieceLemmas
+pub mod TallyLemmas

@@ -15,32 +15,33 @@ use Rattle.myi_dellist.specs.Merging.{if_joins, joins, size_with, list_past, byt
 use Rattle.myi_dellist.proofs.LinkLemmas.{part_split}
 use Rattle.myi_dellist.proofs.ReleaseLemmas.{taken_out}
 use Rattle.myi_dellist.proofs.ReleasedLemmas.{SplitsAt, found_splits, taken-off-leaves}
-use Rattle.myi_dellist.proofs.PlanLemmas.{the_head, the_link, link_is, off_is, split_behind}
+use Rattle.myi_dellist.proofs.SeenLemmas.{the_head, the_link}
+use Rattle.myi_dellist.proofs.PlanLemmas.{link_is, off_is, split_behind}
 use Rattle.myi_dellist.proofs.NeedLemmas.{behind_none}
 use Rattle.myi_dellist.proofs.FreeLemmas.{IsOf, moved}
 
 -- ---- step by step
 
-pub merge_none : (d : List ℕ) (head : Option ℕ) (at size : ℕ) (o : Option Head) → o ≡ hole_behind d at size → o ≡ None → merge_in d head at size ≡ Ok None
+pub merge_none : (d : List ℕ) (head : Option ℕ) (at size : ℕ) (o : Option Head) → o ≡ hole_behind (hole_in d) at size → o ≡ None → merge_in (hole_in d) head at size ≡ Ok None
 unfolding merge_in
-merge_none d head at size o e n = ap (merge_by d head) (sym e ∙ n)
+merge_none d head at size o e n = ap (merge_by (hole_in d) head) (sym e ∙ n)
 
-pub merge_some : (d : List ℕ) (head : Option ℕ) (at size : ℕ) (o : Option Head) (h : Head) → o ≡ hole_behind d at size → o ≡ Some h → merge_in d head at size ≡ some_linked (block_linked d head h)
+pub merge_some : (d : List ℕ) (head : Option ℕ) (at size : ℕ) (o : Option Head) (h : Head) → o ≡ hole_behind (hole_in d) at size → o ≡ Some h → merge_in (hole_in d) head at size ≡ some_linked (block_linked (hole_in d) head h)
 unfolding merge_in
-merge_some d head at size o h e s = ap (merge_by d head) (sym e ∙ s)
+merge_some d head at size o h e s = ap (merge_by (hole_in d) head) (sym e ∙ s)
 
 -- ---- in a file that has a list
 
 -- what a merge does with the list, where this is taken in
 pub record Finds (d : List ℕ) (holes : List Area) (a : Area) (o : Option Area) : Type 0 where
   pub joined : Option Linked
-  pub found : merge_in d (first_or holes None) a.at a.size ≡ Ok joined
+  pub found : merge_in (hole_in d) (first_or holes None) a.at a.size ≡ Ok joined
   pub size : joined_size a.size joined ≡ size_with a.size o
   pub head : head_past (first_or holes None) joined ≡ first_or (list_past holes o) None
   pub bytes : unlinked_bytes joined d ≡ bytes_past holes d o
   pub list : LeavesList (list_past holes o) d (bytes_past holes d o)
 
-unchanged : (d : List ℕ) (holes : List Area) (a : Area) → HasList d holes → None ≡ hole_behind d a.at a.size → Finds d holes a None
+unchanged : (d : List ℕ) (holes : List Area) (a : Area) → HasList d holes → None ≡ hole_behind (hole_in d) a.at a.size → Finds d holes a None
 unchanged d holes a l none = record {
   joined = None;
   found = merge_none d (first_or holes None) a.at a.size None none refl;
@@ -55,7 +56,7 @@ head_off [] h ys = refl
 head_off (x ∷ xs) h ys = refl
 
 split_finds : (d : List ℕ) (a h : Area) (xs ys : List Area) → h.at ≡ a.at + a.size → HasList d (xs ++ h ∷ ys) → (b : Bool) → nat_le (a.size + h.size) most_size ≡ b → (rest : List Area) → rest ≡ xs ++ ys → (bytes : List ℕ) → bytes ≡ without_block xs ys d
-    → (j : Option Linked) × (merge_in d (first_or (xs ++ h ∷ ys) None) a.at a.size ≡ Ok j) × (joined_size a.size j ≡ size_with a.size (if b then Some h else None)) × (head_past (first_or (xs ++ h ∷ ys) None) j ≡ first_or (if b then rest else xs ++ h ∷ ys) None) × (unlinked_bytes j d ≡ (if b then bytes else d)) × LeavesList (if b then rest else xs ++ h ∷ ys) d (if b then bytes else d)
+    → (j : Option Linked) × (merge_in (hole_in d) (first_or (xs ++ h ∷ ys) None) a.at a.size ≡ Ok j) × (joined_size a.size j ≡ size_with a.size (if b then Some h else None)) × (head_past (first_or (xs ++ h ∷ ys) None) j ≡ first_or (if b then rest else xs ++ h ∷ ys) None) × (unlinked_bytes j d ≡ (if b then bytes else d)) × LeavesList (if b then rest else xs ++ h ∷ ys) d (if b then bytes else d)
 split_finds d a h xs ys at l true t rest r bytes e =
     let parts = part_split d None None xs (h ∷ ys) l.linked in
     let seen = split_behind d a h (first_or ys None) (last_or xs None) at parts.1.0 ∙ ap (λ (b : Bool). if b then Some (the_head h (first_or ys None) (last_or xs None)) else None) t in
@@ -96,7 +97,7 @@ met_finds d holes a h l e = by_test (nat_le (a.size + h.size) most_size) refl
         let f = split_finds d a h (before (a.at + a.size) holes) (behind (a.at + a.size) holes) s.at (subst (λ (hs : List Area). HasList d hs) s.all l) true t (without h.at holes) rest_is (without_at h.at holes d) bytes_are in
         record {
           joined = f.0;
-          found = ap (λ (hs : List Area). merge_in d (first_or hs None) a.at a.size) s.all ∙ f.1;
+          found = ap (λ (hs : List Area). merge_in (hole_in d) (first_or hs None) a.at a.size) s.all ∙ f.1;
           size = f.2;
           head = ap (λ (hs : List Area). head_past (first_or hs None) f.0) s.all ∙ f.3;
           bytes = f.4;
@@ -106,7 +107,7 @@ met_finds d holes a h l e = by_test (nat_le (a.size + h.size) most_size) refl
         let f = split_finds d a h (before (a.at + a.size) holes) (behind (a.at + a.size) holes) s.at (subst (λ (hs : List Area). HasList d hs) s.all l) false t (without h.at holes) rest_is (without_at h.at holes d) bytes_are in
         record {
           joined = f.0;
-          found = ap (λ (hs : List Area). merge_in d (first_or hs None) a.at a.size) s.all ∙ f.1;
+          found = ap (λ (hs : List Area). merge_in (hole_in d) (first_or hs None) a.at a.size) s.all ∙ f.1;
           size = f.2;
           head = ap (λ (hs : List Area). head_past (first_or hs None) f.0) s.all ∙ f.3 ∙ ap (λ (hs : List Area). first_or hs None) (sym s.all);
           bytes = f.4;
@@ -118,7 +119,7 @@ unfolding joins
 merge-finds d holes a l none = by_found (hole_at (a.at + a.size) holes) refl
   where
     by_found : (o : Option Area) → hole_at (a.at + a.size) holes ≡ o → Finds d holes a (if_joins a.size o)
-    by_found None e = unchanged d holes a l (behind_none d a.at a.size (hole_in d (a.at + a.size)) refl (none e))
+    by_found None e = unchanged d holes a l (behind_none (hole_in d) a.at a.size (hole_in d (a.at + a.size)) refl (none e))
     by_found (Some h) e = met_finds d holes a h l e
 
 -- ---- in the words of a list
@@ -132,8 +133,8 @@ one_merges l k at size r m n head long one holes has may =
     let d = bytes_of l.name m in
     let o = one long in
     let f = merge-finds d holes a has.list may.behind in
-    let found = ap (λ (h : Option ℕ). merge_in d h at size) has.head ∙ f.found in
-    let same = same_joined (merge_in d l.head at size) o.0 f.joined o.1 found in
+    let found = ap (λ (h : Option ℕ). merge_in (hole_in d) h at size) has.head ∙ f.found in
+    let same = same_joined (merge_in (hole_in d) l.head at size) o.0 f.joined o.1 found in
     let bytes = o.4.here ∙ ap (λ (j : Option Linked). unlinked_bytes j d) same ∙ f.bytes in
     let first = head ∙ o.3 ∙ ap (λ (j : Option Linked). head_past l.head j) same ∙ ap (λ (h : Option ℕ). head_past h f.joined) has.head ∙ f.head in
     record {

@@ -13,24 +13,24 @@ use Rattle.myi_dellist.specs.declared.planning.Spare.{Spare}
 use Rattle.myi_dellist.specs.declared.planning.RestPlan.{RestPlan}
 use Rattle.myi_dellist.specs.Releasing.{most_size}
 use Rattle.myi_dellist.specs.Placing.{fits}
-use Rattle.myi_dellist.specs.Freeing.{same_link, block_named, without_prev, next_past, IsHoleIn, AreHolesIn, IsPlanIn, IsLinkable, AreLinkable}
+use Rattle.myi_dellist.specs.Freeing.{hole_in, same_link, block_named, without_prev, next_past, IsHoleIn, AreHolesIn, IsPlanIn, IsLinkable, AreLinkable}
 use Rattle.myi_dellist.specs.Merging.{merge_in}
 use Rattle.myi_dellist.specs.Planning.{is_taken, past_taken, link_past, first_by, first_past, rest_plan, rest_by, rest_in, last_size, last_piece, spare_of, with_rest, if_left, row_plan_by, row_plan_in, IsRestIn, IsReleasable}
 use Rattle.myi_dellist.proofs.SizeLemmas.{does-fit}
 
-pub rest_ok : (d : List ℕ) (head : Option ℕ) (ps : List Piece) (s : Spare) (next : Option Head) (j : Option Linked) → merge_in d head s.at s.size ≡ Ok j → rest_in d head ps s next ≡ Ok (record { at = s.at; size = s.size; plan = rest_plan ps s.last next j })
+pub rest_ok : (d : List ℕ) (head : Option ℕ) (ps : List Piece) (s : Spare) (next : Option Head) (j : Option Linked) → merge_in (hole_in d) head s.at s.size ≡ Ok j → rest_in d head ps s next ≡ Ok (record { at = s.at; size = s.size; plan = rest_plan ps s.last next j })
 unfolding rest_in
 rest_ok d head ps s next j e = ap (rest_by ps s next) e
 
-pub rest_err : (d : List ℕ) (head : Option ℕ) (ps : List Piece) (s : Spare) (next : Option Head) (p : ℕ) → merge_in d head s.at s.size ≡ Err p → rest_in d head ps s next ≡ Err p
+pub rest_err : (d : List ℕ) (head : Option ℕ) (ps : List Piece) (s : Spare) (next : Option Head) (p : ℕ) → merge_in (hole_in d) head s.at s.size ≡ Err p → rest_in d head ps s next ≡ Err p
 unfolding rest_in
 rest_err d head ps s next p e = ap (rest_by ps s next) e
 
-pub row_err : (d : List ℕ) (head : Option ℕ) (ps : List Piece) (left : ℕ) (h : Head) (p : ℕ) → block_named d (Some h.at) h.next ≡ Err p → row_plan_in d head ps left h ≡ Err p
+pub row_err : (d : List ℕ) (head : Option ℕ) (ps : List Piece) (left : ℕ) (h : Head) (p : ℕ) → block_named (hole_in d) (Some h.at) h.next ≡ Err p → row_plan_in d head ps left h ≡ Err p
 unfolding row_plan_in
 row_err d head ps left h p e = ap (row_plan_by d head ps left h) e
 
-pub row_filled : (d : List ℕ) (head : Option ℕ) (ps : List Piece) (left : ℕ) (h : Head) (next : Option Head) (size : ℕ) → size ≡ last_size left h.size → size ≡ h.size → block_named d (Some h.at) h.next ≡ Ok next → row_plan_in d head ps left h ≡ Ok (record { next = next; rest = None })
+pub row_filled : (d : List ℕ) (head : Option ℕ) (ps : List Piece) (left : ℕ) (h : Head) (next : Option Head) (size : ℕ) → size ≡ last_size left h.size → size ≡ h.size → block_named (hole_in d) (Some h.at) h.next ≡ Ok next → row_plan_in d head ps left h ≡ Ok (record { next = next; rest = None })
 unfolding row_plan_in
 row_filled d head ps left h next size is same e =
     ap (row_plan_by d head ps left h) e
@@ -41,7 +41,7 @@ pub record IsLeft (d : List ℕ) (head : Option ℕ) (ps qs : List Piece) (left 
   pub size_is : size ≡ last_size left h.size
   pub less : (size == h.size) ≡ false
   pub pieces : qs ≡ ps ++ last_piece left h ∷ []
-  pub named : block_named d (Some h.at) h.next ≡ Ok next
+  pub named : block_named (hole_in d) (Some h.at) h.next ≡ Ok next
 
 pub row_left : (d : List ℕ) (head : Option ℕ) (ps qs : List Piece) (left : ℕ) (h : Head) (size : ℕ) (next : Option Head) → IsLeft d head ps qs left h size next → row_plan_in d head ps left h ≡ with_rest next (rest_in d head qs (record { at = h.at + size; size = h.size - size; last = h.at }) next)
 unfolding row_plan_in

@@ -18,27 +18,27 @@ use Rattle.myi_frames.specs.declared.write.FrameSpec.{FrameSpec}
 use Rattle.myi_frames.specs.Writing.{written_block}
 use Rattle.myi_frames.proofs.CallerLemmas.{least-sized}
 use Rattle.myi_dellist.specs.RowBlocks.{blocks_as}
-use Rattle.myi_dellist.proofs.ReleaseLemmas.{all-without}
 use Rattle.myi_dellist.specs.Areas.{Area, bytes_below, IsApart, AreApart, AreInside, HaveBytes}
-use Rattle.myi_dellist.specs.Releasing.{most_size, hole_at, release, release_one, release_all, IsHole, joined, without}
+use Rattle.myi_dellist.specs.Releasing.{most_size, hole_at, release, release_one, release_all, IsHole}
 use Rattle.myi_dellist.specs.Placing.{Space, Placing, areas_of, taken_by, fits, Taking, take_last, take_one, take_from, take_more, append_from, end_behind, is_none, placed_by, place, place_of, next_place, specs_of}
-use Rattle.myi_dellist.specs.Standing.{hole_block, first_or, IsPart, HasList, with_prev, KeepsBut, release_one_bytes, before, behind}
+use Rattle.myi_dellist.specs.Standing.{hole_block, first_or, IsPart, HasList, with_prev, KeepsBut, release_one_bytes}
 use Rattle.myi_dellist.specs.Freeing.{hole_in, block_named, plan_bytes, IsHoleIn}
 use Rattle.myi_dellist.specs.FreeList.{ListState, HasHoles, IsLong, next_by}
 use Rattle.myi_dellist.specs.Merging.{merge_in}
 use Rattle.myi_dellist.specs.Taking.{Run, IsRun, TakesFull}
 use Rattle.myi_dellist.specs.Rows.{row_written, AreListedBehind, PutsRow, PutsNew}
 use Rattle.myi_dellist.specs.Planning.{is_taken, rest_plan, rest_in, last_size, last_piece, with_rest, row_plan_in, next_bytes, planned_bytes, head_by}
-use Rattle.myi_dellist.specs.Putting.{EndsBehind, EndsIn, PutsIn, Puts, ends_of}
+use Rattle.myi_dellist.specs.Putting.{EndsBehind, EndsIn, PutsIn, Puts, PutLong, ends_of}
 use Rattle.myi_dellist.proofs.AreaLemmas.{no_more, below-append, once-apart}
 use Rattle.myi_dellist.proofs.PlaceLemmas.{take_takes, append_ends, below-pieces}
 use Rattle.myi_dellist.proofs.LinkLemmas.{part_split, all_split, all_join}
 use Rattle.myi_dellist.proofs.FillLemmas.{IsDone, IsOpen, take_runs, first_behind, holes_usable}
 use Rattle.myi_dellist.proofs.FirstLemmas.{fill_bytes, hole_bytes, place-new}
 use Rattle.myi_dellist.proofs.TakenLemmas.{first-taken}
-use Rattle.myi_dellist.proofs.ReleasedLemmas.{release-one-stands, SplitsAt, found_splits, others-stay}
+use Rattle.myi_dellist.proofs.ReleasedLemmas.{release-one-stands, others-stay, far_of, apart_after}
 use Rattle.myi_dellist.proofs.FreeLemmas.{first_one, short_release}
-use Rattle.myi_dellist.proofs.PlanLemmas.{first_of, named_first}
+use Rattle.myi_dellist.proofs.SeenLemmas.{first_of}
+use Rattle.myi_dellist.proofs.PlanLemmas.{named_first}
 use Rattle.myi_dellist.proofs.StandLemmas.{AreAligned, stand, rest_keeps, no_shorter, no_longer, reaches_behind, list_stays, AreCrossed, cross_of, apart-once, append_aligned}
 use Rattle.myi_dellist.proofs.TakeLemmas.{take_more_of, IsNamed, named_block, named_nothing, first_join, last_join, some_is}
 use Rattle.myi_dellist.proofs.PlanningLemmas.{IsCut, last_cut}
@@ -70,7 +70,7 @@ front_of d prev (a ∷ areas) (h ∷ holes) link e p q =
     let f = front_of d (Some a.at) areas holes link next p.1 (subst (λ (n : ℕ). IsPart d (Some n) holes None) (sym at) q.1) in
     record { rest = f.rest; all = ap (λ (x : Area). x ∷ holes) (sym (area_is a h at size)) ∙ ap (λ (xs : List Area). a ∷ xs) f.all; next = f.next }
 
-nothing_behind : (rest : List Area) → first_or rest None ≡ None → rest ≡ []
+pub nothing_behind : (rest : List Area) → first_or rest None ≡ None → rest ≡ []
 nothing_behind [] e = refl
 nothing_behind (r ∷ rest) e = absurd cc
 
@@ -80,7 +80,7 @@ abbrev none_own : ℕ → Taking
 none_own len = record { pieces = []; left = len; spare = []; unused = [] }
 
 -- where a row goes, by what it takes of the list
-abbrev placed : Space → ℕ → List Piece → ℕ → List Area → List Area → Placing
+abbrev pub placed : Space → ℕ → List Piece → ℕ → List Area → List Area → Placing
 placed s len ps left spare unused = record {
   pieces = ps ++ append_from left len (is_none ps) left s.end;
   space = record { holes = release_all (spare ++ []) unused; end = end_behind s.end (append_from left len (is_none ps) left s.end) };
@@ -91,7 +91,7 @@ unfolding place
 place_is s zero some = absurd (omega arith)
 place_is s (suc n) some = refl
 
-place_by : (s : Space) (len : ℕ) (ps : List Piece) (left : ℕ) (spare unused : List Area) → 0 < len → (take_from len true len s.holes).pieces ≡ ps → (take_from len true len s.holes).left ≡ left → (take_from len true len s.holes).spare ≡ spare → (take_from len true len s.holes).unused ≡ unused → place s [] len ≡ placed s len ps left spare unused
+pub place_by : (s : Space) (len : ℕ) (ps : List Piece) (left : ℕ) (spare unused : List Area) → 0 < len → (take_from len true len s.holes).pieces ≡ ps → (take_from len true len s.holes).left ≡ left → (take_from len true len s.holes).spare ≡ spare → (take_from len true len s.holes).unused ≡ unused → place s [] len ≡ placed s len ps left spare unused
 place_by s len ps left spare unused some p l sp u =
     let t = take_from len true len s.holes in
     place_is s len some
@@ -122,26 +122,17 @@ taken_apart len holes qs spare unused sizes apart p sp u some =
         let ku = ap (bytes_below n) u in
         omega (arith, k, kp, ks, ku, below-append n (areas_of qs) (spare ++ unused), below-append n spare unused)
 
-apart_right : (xs ys : List Area) → AreApart (xs ++ ys) → AreApart ys
+pub apart_right : (xs ys : List Area) → AreApart (xs ++ ys) → AreApart ys
 apart_right [] ys a = a
 apart_right (x ∷ xs) ys a = apart_right xs ys a.1
 
-cross_right : (xs ys zs : List Area) → AreCrossed xs (ys ++ zs) → AreCrossed xs zs
+pub cross_right : (xs ys zs : List Area) → AreCrossed xs (ys ++ zs) → AreCrossed xs zs
 cross_right [] ys zs c = tt
 cross_right (x ∷ xs) ys zs c = ((all_split (IsApart x) ys zs c.0).1, cross_right xs ys zs c.1)
 
--- bytes that are apart from deleted blocks are apart from their headers
-far_of : (p n : ℕ) (holes : List Area) → AllByRecursion IsHole holes → AllByRecursion (IsApart (record { at = p; size = n })) holes → AllByRecursion (λ (a : Area). (p + n ≤ a.at) ⊎ (a.at + 20 ≤ p)) holes
-far_of p n [] sizes far = tt
-far_of p n (h ∷ holes) sizes far = (by_side far.0, far_of p n holes sizes.1 far.1)
-  where
-    by_side : IsApart (record { at = p; size = n }) h → (p + n ≤ h.at) ⊎ (h.at + 20 ≤ p)
-    by_side (inl le) = inl le
-    by_side (inr le) = inr (omega (arith, le, sizes.0.least))
-
 -- ---- the list ends before the row does
 
-taken_open : (len : ℕ) (areas : List Area) → 0 < len → AllByRecursion IsHole areas → 0 < (take_from len true len areas).left → ((take_from len true len areas).spare ≡ []) × ((take_from len true len areas).unused ≡ [])
+pub taken_open : (len : ℕ) (areas : List Area) → 0 < len → AllByRecursion IsHole areas → 0 < (take_from len true len areas).left → ((take_from len true len areas).spare ≡ []) × ((take_from len true len areas).unused ≡ [])
 taken_open len areas some sizes left = by_run (take_runs len true len areas some (omega arith) (holes_usable len areas sizes))
   where
     by_run : IsDone len true len (take_from len true len areas) ⊎ IsOpen len true len (take_from len true len areas) → ((take_from len true len areas).spare ≡ []) × ((take_from len true len areas).unused ≡ [])
@@ -175,6 +166,31 @@ behind_apart len end left holes ps some more sizes apart inside run p sp u =
         let e = append_ends left len (is_none ps) left end (omega arith) (inr more) in
         omega (arith, le, e.bytes n, e.bytes (n + 1), below-pieces n ps qs, below-pieces (n + 1) ps qs, same n, same (n + 1), no_more end n holes inside le, no_more end (n + 1) holes inside (omega (arith, le)))
 
+-- a row that takes the whole list
+pub record TakesAll (s : Space) (len : ℕ) (ps : List Piece) (left : ℕ) : Type 0 where
+  pub pieces : (take_from len true len s.holes).pieces ≡ ps
+  pub left_is : (take_from len true len s.holes).left ≡ left
+  pub spare : (take_from len true len s.holes).spare ≡ []
+  pub unused : (take_from len true len s.holes).unused ≡ []
+  pub is : place s [] len ≡ placed s len ps left [] []
+
+pub takes_all : (l : ListState) (len : ℕ) (d : List ℕ) (holes : List Area) (ps : List Piece) (t : Taken) → 0 < len → HasHoles l holes d → TakesFull d l.head len ps t → t.next ≡ None → TakesAll (record { holes = holes; end = l.end }) len ps t.left
+takes_all l len d holes ps t some has u none =
+    let s : Space = record { holes = holes; end = l.end } in
+    let link : u.link ≡ None = named_nothing d t.last u.link (u.names ∙ ap Ok none) in
+    let f = front_of d None u.areas holes u.link (u.fills.first ∙ has.head) u.fills.linked has.list.linked in
+    let same : holes ≡ u.areas = f.all ∙ ap (λ (xs : List Area). u.areas ++ xs) (nothing_behind f.rest (f.next ∙ link)) ∙ append-nil u.areas in
+    let pieces : (take_from len true len holes).pieces ≡ ps = ap (λ (hs : List Area). (take_from len true len hs).pieces) same ∙ u.fills.pieces in
+    let left : (take_from len true len holes).left ≡ t.left = ap (λ (hs : List Area). (take_from len true len hs).left) same ∙ u.fills.left_is in
+    let open_ = taken_open len holes some has.list.sizes (omega (arith, left, u.fills.some)) in
+    record { pieces = pieces; left_is = left; spare = open_.0; unused = open_.1; is = place_by s len ps t.left [] [] some pieces left open_.0 open_.1 }
+
+-- where the file would end is where the definition on lists says
+pub long-placed : (l : ListState) (holes : List Area) (d : List ℕ) (len limit : ℕ) → 0 < len → HasHoles l holes d → PutLong d l.head l.end limit len → limit ≤ (place (record { holes = holes; end = l.end }) [] len).space.end
+long-placed l holes d len limit some has p =
+    let k = takes_all l len d holes p.ps p.t some has p.takes p.none in
+    subst (λ (q : Placing). limit ≤ q.space.end) (sym k.is) p.long
+
 -- what stands before a row is put, and the list that it leaves
 pub record IsBefore (l k : ListState) (row d : List ℕ) (holes : List Area) (new : ListEnds) : Type 0 where
   pub is : k ≡ record l { head = new.head; end = new.end }
@@ -189,13 +205,7 @@ behind_is_row : (l k : ListState) (row d : List ℕ) (holes : List Area) (new : 
 behind_is_row l k row d holes new ps t b r u none head_is end_is =
     let len = length row in
     let s : Space = record { holes = holes; end = l.end } in
-    let link : u.link ≡ None = named_nothing d t.last u.link (u.names ∙ ap Ok none) in
-    let f = front_of d None u.areas holes u.link (u.fills.first ∙ b.has.head) u.fills.linked b.has.list.linked in
-    let same : holes ≡ u.areas = f.all ∙ ap (λ (xs : List Area). u.areas ++ xs) (nothing_behind f.rest (f.next ∙ link)) ∙ append-nil u.areas in
-    let pieces : (take_from len true len holes).pieces ≡ ps = ap (λ (hs : List Area). (take_from len true len hs).pieces) same ∙ u.fills.pieces in
-    let left : (take_from len true len holes).left ≡ t.left = ap (λ (hs : List Area). (take_from len true len hs).left) same ∙ u.fills.left_is in
-    let open_ = taken_open len holes b.some b.has.list.sizes (omega (arith, left, r.some)) in
-    let is = place_by s len ps t.left [] [] b.some pieces left open_.0 open_.1 in
+    let all = takes_all l len d holes ps t b.some b.has u none in
     let qs = ps ++ behind_pieces len ps t.left l.end in
     let to = end_behind l.end (behind_pieces len ps t.left l.end) in
     let fs = specs_of len qs in
@@ -203,10 +213,10 @@ behind_is_row l k row d holes new ps t b r u none head_is end_is =
     let ready = behind_ready len t.left l.end ps qs refl b.few r.run r.some r.inside (omega (arith, end_is, b.short)) in
     let le : taken_by qs ≤ len = omega (arith, ready.counts) in
     let inside = subst (λ (n : ℕ). AreInside n holes) b.long b.has.list.inside in
-    let apart = behind_apart len l.end t.left holes ps b.some r.some b.has.list.sizes b.has.list.apart inside r.run pieces open_.0 open_.1 in
+    let apart = behind_apart len l.end t.left holes ps b.some r.some b.has.list.sizes b.has.list.apart inside r.run all.pieces all.spare all.unused in
     let long : length (row_written qs row d) ≡ to = omega (arith, no_longer fs qs row d to ready.writable le (omega (arith, b.long, ends.grows)) (behind_inside len t.left l.end ps r.some r.inside), reaches_behind fs ps (behind_pieces len ps t.left l.end) row d l.end ready.writable le (omega (arith, b.long))) in
-    subst (λ (q : Placing). PutsRow k holes q row (next_by l.head l.end).0 d (row_written qs row d)) (sym is) (record {
-      place_is = new_place s len l.head (placed s len ps t.left [] []) b.some b.has.head is;
+    subst (λ (q : Placing). PutsRow k holes q row (next_by l.head l.end).0 d (row_written qs row d)) (sym all.is) (record {
+      place_is = new_place s len l.head (placed s len ps t.left [] []) b.some b.has.head all.is;
       holes_are = record { head = ap (λ (x : ListState). x.head) b.is ∙ head_is; list = record { linked = tt; sizes = tt; inside = tt; apart = tt; short = omega (arith, long, end_is, b.short) } };
       end_is = ap (λ (x : ListState). x.end) b.is ∙ end_is;
       long = long;
@@ -220,15 +230,15 @@ behind_is_row l k row d holes new ps t b r u none head_is end_is =
 -- ---- the row ends in a block of the list
 
 -- what the last block is cut into
-abbrev spare_by : Bool → ℕ → Area → List Area
+abbrev pub spare_by : Bool → ℕ → Area → List Area
 spare_by true left a = record { at = a.at + least_size left; size = a.size - least_size left } ∷ []
 spare_by false left a = []
 
-abbrev size_by : Bool → ℕ → ℕ → ℕ
+abbrev pub size_by : Bool → ℕ → ℕ → ℕ
 size_by b left size = if b then least_size left else size
 
 -- what a row takes, where its last block is this one
-record IsTaken (t : Taking) (ps : List Piece) (left : ℕ) (a : Area) (b : Bool) (rest : List Area) : Type 0 where
+pub record IsTaken (t : Taking) (ps : List Piece) (left : ℕ) (a : Area) (b : Bool) (rest : List Area) : Type 0 where
   pub pieces : t.pieces ≡ ps ++ record { at = a.at; size = size_by b left a.size; taken = left } ∷ []
   pub left_is : t.left ≡ 0
   pub spare : t.spare ≡ spare_by b left a
@@ -242,7 +252,7 @@ one_taken : (len : ℕ) (first : Bool) (left : ℕ) (a : Area) (rest : List Area
 one_taken len first left a rest b e t =
     subst (λ (x : Taking). IsTaken x [] left a b rest) (sym (ap (λ (c : Bool). take_one len first left a rest c (λ more. take_from len false more rest)) e ∙ ap (λ (c : Bool). take_last c left a rest) t)) (last_taken b left a rest)
 
-all_taken : (len : ℕ) (areas rest : List Area) (ps : List Piece) (left : ℕ) (a : Area) (b : Bool) → (take_from len true len areas).pieces ≡ ps → (take_from len true len areas).left ≡ left → 0 < left → fits left a.size ≡ true → nat_le (least_size left + 20) a.size ≡ b → IsTaken (take_from len true len (areas ++ a ∷ rest)) ps left a b rest
+pub all_taken : (len : ℕ) (areas rest : List Area) (ps : List Piece) (left : ℕ) (a : Area) (b : Bool) → (take_from len true len areas).pieces ≡ ps → (take_from len true len areas).left ≡ left → 0 < left → fits left a.size ≡ true → nat_le (least_size left + 20) a.size ≡ b → IsTaken (take_from len true len (areas ++ a ∷ rest)) ps left a b rest
 all_taken len areas rest ps left a b p l some e t =
     let u = take_from len true len areas in
     let m = take_more_of len true len areas (a ∷ rest) (omega (arith, l, some)) in
@@ -325,14 +335,14 @@ list_of l row d holes ps t h has u next =
 -- what is planned for what is left over
 pub record IsCutOff (d : List ℕ) (head : Option ℕ) (qs : List Piece) (left : ℕ) (h : Head) (next : Option Head) (plan : RowPlan) : Type 0 where
   pub joined : Option Linked
-  pub found : merge_in d head (h.at + least_size left) (h.size - least_size left) ≡ Ok joined
+  pub found : merge_in (hole_in d) head (h.at + least_size left) (h.size - least_size left) ≡ Ok joined
   pub plan_is : plan ≡ record { next = next; rest = Some (record { at = h.at + least_size left; size = h.size - least_size left; plan = rest_plan qs h.at next joined }) }
 
-same_row : (r : Result RowPlan ℕ) (p q : RowPlan) → r ≡ Ok p → r ≡ Ok q → p ≡ q
+pub same_row : (r : Result RowPlan ℕ) (p q : RowPlan) → r ≡ Ok p → r ≡ Ok q → p ≡ q
 same_row r p q e f = cc
 
-cut_off : (d : List ℕ) (head : Option ℕ) (ps : List Piece) (left : ℕ) (h : Head) (next : Option Head) (plan : RowPlan) → last_size left h.size ≡ least_size left → (least_size left == h.size) ≡ false → block_named d (Some h.at) h.next ≡ Ok next → row_plan_in d head ps left h ≡ Ok plan → IsCutOff d head (ps ++ last_piece left h ∷ []) left h next plan
-cut_off d head ps left h next plan size less named found = by_merge (merge_in d head (h.at + least_size left) (h.size - least_size left)) refl
+pub cut_off : (d : List ℕ) (head : Option ℕ) (ps : List Piece) (left : ℕ) (h : Head) (next : Option Head) (plan : RowPlan) → last_size left h.size ≡ least_size left → (least_size left == h.size) ≡ false → block_named (hole_in d) (Some h.at) h.next ≡ Ok next → row_plan_in d head ps left h ≡ Ok plan → IsCutOff d head (ps ++ last_piece left h ∷ []) left h next plan
+cut_off d head ps left h next plan size less named found = by_merge (merge_in (hole_in d) head (h.at + least_size left) (h.size - least_size left)) refl
   where
     qs : List Piece
     qs = ps ++ last_piece left h ∷ []
@@ -343,7 +353,7 @@ cut_off d head ps left h next plan size less named found = by_merge (merge_in d 
     is : row_plan_in d head ps left h ≡ with_rest next (rest_in d head qs (record { at = h.at + least_size left; size = h.size - least_size left; last = h.at }) next)
     is = Rattle.myi_dellist.proofs.PlanningLemmas.row_left d head ps qs left h (least_size left) next i
 
-    by_merge : (m : Result (Option Linked) ℕ) → merge_in d head (h.at + least_size left) (h.size - least_size left) ≡ m → IsCutOff d head qs left h next plan
+    by_merge : (m : Result (Option Linked) ℕ) → merge_in (hole_in d) head (h.at + least_size left) (h.size - least_size left) ≡ m → IsCutOff d head qs left h next plan
     by_merge (Ok j) e =
         let r = Rattle.myi_dellist.proofs.PlanningLemmas.rest_ok d head qs (record { at = h.at + least_size left; size = h.size - least_size left; last = h.at }) next j e in
         record { joined = j; found = e; plan_is = same_row (row_plan_in d head ps left h) plan (record { next = next; rest = Some (record { at = h.at + least_size left; size = h.size - least_size left; plan = rest_plan qs h.at next j }) }) found (is ∙ ap (with_rest next) r) }
@@ -386,18 +396,18 @@ spare_bytes true left h t = (omega (arith, leb-true _ _ t), tt)
 spare_bytes false left h t = tt
 
 -- what is known of a row whose last block is this one
-record IsEnded (l : ListState) (row d : List ℕ) (holes areas rest : List Area) (qs : List Piece) (left : ℕ) (h : Head) (b : Bool) : Type 0 where
+pub record IsEnded (l : ListState) (row d : List ℕ) (holes areas rest : List Area) (qs : List Piece) (left : ℕ) (h : Head) (b : Bool) : Type 0 where
   pub is : place (record { holes = holes; end = l.end }) [] (length row) ≡ record { pieces = qs; space = record { holes = release_all (spare_by b left (record { at = h.at; size = h.size }) ++ []) rest; end = l.end } }
   pub list : HasList d ((areas ++ record { at = h.at; size = h.size } ∷ []) ++ rest)
   pub apart : AreApart (spare_by b left (record { at = h.at; size = h.size }) ++ rest)
   pub whole : AreCrossed (areas_of qs) (spare_by b left (record { at = h.at; size = h.size }) ++ rest)
   pub cross : AreCrossed (areas_of qs) rest
   pub bytes : HaveBytes (areas_of qs)
-  pub named : block_named d (Some h.at) h.next ≡ Ok (first_of (Some h.at) rest)
+  pub named : block_named (hole_in d) (Some h.at) h.next ≡ Ok (first_of (Some h.at) rest)
   pub written : IsWritten row d qs rest (row_written qs row (with_prev rest None None d))
   pub size : last_size left h.size ≡ size_by b left h.size
 
-ended : (l k : ListState) (row d : List ℕ) (holes : List Area) (new : ListEnds) (ps : List Piece) (t : Taken) (h : Head) (areas rest : List Area) (b : Bool) → IsBefore l k row d holes new → new.end ≡ l.end → IsRun l.end (length row) ps t → t.next ≡ Some h → fits t.left h.size ≡ true → IsList l row d holes ps t h areas rest → nat_le (least_size t.left + 20) h.size ≡ b → IsEnded l row d holes areas rest (ps ++ last_piece t.left h ∷ []) t.left h b
+pub ended : (l k : ListState) (row d : List ℕ) (holes : List Area) (new : ListEnds) (ps : List Piece) (t : Taken) (h : Head) (areas rest : List Area) (b : Bool) → IsBefore l k row d holes new → new.end ≡ l.end → IsRun l.end (length row) ps t → t.next ≡ Some h → fits t.left h.size ≡ true → IsList l row d holes ps t h areas rest → nat_le (least_size t.left + 20) h.size ≡ b → IsEnded l row d holes areas rest (ps ++ last_piece t.left h ∷ []) t.left h b
 ended l k row d holes new ps t h areas rest b w end_is r next e x tb =
     let len = length row in
     let left : ℕ = t.left in
@@ -430,7 +440,7 @@ ended l k row d holes new ps t h areas rest b w end_is r next e x tb =
       whole = c.1;
       cross = cross;
       bytes = bytes;
-      named = ap (block_named d (Some h.at)) (sym x.next) ∙ named_first d (Some h.at) rest part;
+      named = ap (block_named (hole_in d) (Some h.at)) (sym x.next) ∙ named_first d (Some h.at) rest part;
       written = written_is row d zs rest qs list ready (aligned_join ps (last_piece left h ∷ []) r.aligned (i.place.aligned, tt)) inside c.0 cross;
       size = size;
     }
@@ -471,29 +481,6 @@ filled_row l k row d holes new ps t h plan areas rest w end_is x n found head =
 
 -- ---- the row's blocks stand when what is left over is released
 
-apart_one : (x s : Area) (rest : List Area) (o : Option Area) → hole_at (s.at + s.size) rest ≡ o → 0 < x.size → IsApart x s → AllByRecursion (IsApart x) rest → AllByRecursion (IsApart x) (joined s rest o)
-apart_one x s rest None e some f far = (f, far)
-apart_one x s rest (Some h) e some f far = by_test (nat_le (s.size + h.size) most_size)
-  where
-    t : SplitsAt (s.at + s.size) rest h
-    t = found_splits (s.at + s.size) rest h e
-
-    off : IsApart x h
-    off = (all_split (IsApart x) (before (s.at + s.size) rest) (h ∷ behind (s.at + s.size) rest) (subst (λ (hs : List Area). AllByRecursion (IsApart x) hs) t.all far)).1.0
-
-    by_sides : IsApart x s → IsApart x h → IsApart x (record { at = s.at; size = s.size + h.size })
-    by_sides (inl le) two = inl le
-    by_sides (inr le) (inr more) = inr (omega (arith, t.at, more))
-    by_sides (inr le) (inl no_room) = absurd (omega (arith, t.at, le, no_room, some))
-
-    by_test : (b : Bool) → AllByRecursion (IsApart x) (if b then record { at = s.at; size = s.size + h.size } ∷ without h.at rest else s ∷ rest)
-    by_test true = (by_sides f off, all-without (IsApart x) h.at rest far)
-    by_test false = (f, far)
-
-apart_after : (x s : Area) (rest : List Area) → 0 < x.size → IsApart x s → AllByRecursion (IsApart x) rest → AllByRecursion (IsApart x) (release_one s rest)
-unfolding release_one
-apart_after x s rest some f far = apart_one x s rest (hole_at (s.at + s.size) rest) refl some f far
-
 crossed_one : (s : Area) (rest xs : List Area) → HaveBytes xs → AreCrossed xs (s ∷ rest) → AreCrossed xs (release_one s rest)
 crossed_one s rest [] some c = tt
 crossed_one s rest (x ∷ xs) some c = (apart_after x s rest some.0 c.0.0 c.0.1, crossed_one s rest xs some.1 c.1)
@@ -505,6 +492,32 @@ blocks_stay (f ∷ fs) (p ∷ qs) row hs y e k sizes c all = (
   others-stay hs y e p.at (written_block f p.at p.size (take p.taken row)) k (far_of p.at p.size hs sizes c.0) all.0,
   blocks_stay fs qs (drop p.taken row) hs y e k sizes c.1 all.1,
 )
+
+-- what a row's last block leaves over, and what is on the list then
+pub spare-is : (l : ListState) (row d : List ℕ) (holes : List Area) (ps : List Piece) (t : Taken) (h : Head) (areas rest : List Area) (j : Option Linked) → HasHoles l holes d → IsHoleIn l.end h → 0 < t.left → IsList l row d holes ps t h areas rest → fits t.left h.size ≡ true → nat_le (least_size t.left + 20) h.size ≡ true → IsEnded l row d holes areas rest (ps ++ last_piece t.left h ∷ []) t.left h true → AreListedBehind holes holes d → merge_in (hole_in d) l.head (h.at + least_size t.left) (h.size - least_size t.left) ≡ Ok j → IsSpare d (record { at = h.at + least_size t.left; size = h.size - least_size t.left }) (areas ++ record { at = h.at; size = h.size } ∷ []) rest h.at (ps ++ last_piece t.left h ∷ []) j
+spare-is l row d holes ps t h areas rest j has i more x e tb n listed found =
+    let len = length row in
+    let left : ℕ = t.left in
+    let a : Area = record { at = h.at; size = h.size } in
+    let zs = areas ++ a ∷ [] in
+    let qs = ps ++ last_piece left h ∷ [] in
+    let s : Area = record { at = h.at + least_size left; size = h.size - least_size left } in
+    let le = leb-true _ _ tb in
+    let sizes = all_split IsHole zs rest n.list.sizes in
+    let stop : h.at + h.size ≡ s.at + s.size = omega (arith, le) in
+    let tz = all_taken len areas [] ps left a true x.pieces x.left_is more e tb in
+    let places : (take_from len true len zs).pieces ≡ qs = tz.pieces ∙ ap (λ (m : ℕ). ps ++ record { at = h.at; size = m; taken = left } ∷ []) (sym n.size) in
+    let P : Area → Type 0 = λ b. hole_at (b.at + b.size) holes ≡ None → hole_in d (b.at + b.size) ≡ None in
+    let here : P a = (all_split P areas (a ∷ []) (all_split P zs rest (subst (λ (hs : List Area). AllByRecursion P hs) x.all listed)).0).1.0 in
+    record {
+      list = n.list;
+      last_is = last_join areas a None;
+      away = none_at a rest (omega (arith, i.place.least)) sizes.1 (cross_last areas a rest (cross_of zs rest n.list.apart).1);
+      free = none_taken qs rest n.bytes (hole_bytes rest sizes.1) n.cross;
+      taken = λ g m. ap (is_taken (s.at + s.size)) (sym places) ∙ taken_places len true len zs (s.at + s.size) g tz.unused m;
+      behind = λ none. ap (hole_in d) (sym stop) ∙ here (ap (λ (q : ℕ). hole_at q holes) stop ∙ ap (hole_at (s.at + s.size)) x.all ∙ none);
+      found = ap (λ (o : Option ℕ). merge_in (hole_in d) o s.at s.size) (sym (has.head ∙ ap (λ (hs : List Area). first_or hs None) x.all)) ∙ found;
+    }
 
 cut_row : (l k : ListState) (row d : List ℕ) (holes : List Area) (new : ListEnds) (ps : List Piece) (t : Taken) (h : Head) (plan : RowPlan) (areas rest : List Area) → IsBefore l k row d holes new → new.end ≡ l.end → IsHoleIn l.end h → 0 < t.left → IsList l row d holes ps t h areas rest → fits t.left h.size ≡ true → nat_le (least_size t.left + 20) h.size ≡ true → IsEnded l row d holes areas rest (ps ++ last_piece t.left h ∷ []) t.left h true → AreListedBehind holes holes d → row_plan_in d l.head ps t.left h ≡ Ok plan → new.head ≡ head_by plan.next plan.rest → PutsRow k holes (place (record { holes = holes; end = l.end }) [] (length row)) row (next_by l.head l.end).0 d (planned_bytes plan (ps ++ last_piece t.left h ∷ []) row d)
 cut_row l k row d holes new ps t h plan areas rest w end_is i more x e tb n listed found head =
@@ -520,21 +533,8 @@ cut_row l k row d holes new ps t h plan areas rest w end_is i more x e tb n list
     let less : (least_size left == h.size) ≡ false = Rattle.myi_dellist.proofs.PlanningLemmas.not_same (least_size left) h.size (λ same. omega (arith, le, same)) in
     let cut = cut_off d l.head ps left h next plan n.size less n.named found in
     let y = row_written qs row (with_prev rest None None d) in
-    let sizes = all_split IsHole zs rest n.list.sizes in
     let stop : h.at + h.size ≡ s.at + s.size = omega (arith, le) in
-    let tz = all_taken len areas [] ps left a true x.pieces x.left_is more e tb in
-    let places : (take_from len true len zs).pieces ≡ qs = tz.pieces ∙ ap (λ (m : ℕ). ps ++ record { at = h.at; size = m; taken = left } ∷ []) (sym n.size) in
-    let P : Area → Type 0 = λ b. hole_at (b.at + b.size) holes ≡ None → hole_in d (b.at + b.size) ≡ None in
-    let here : P a = (all_split P areas (a ∷ []) (all_split P zs rest (subst (λ (hs : List Area). AllByRecursion P hs) x.all listed)).0).1.0 in
-    let spare : IsSpare d s zs rest h.at qs cut.joined = record {
-      list = n.list;
-      last_is = last_join areas a None;
-      away = none_at a rest (omega (arith, i.place.least)) sizes.1 (cross_last areas a rest (cross_of zs rest n.list.apart).1);
-      free = none_taken qs rest n.bytes (hole_bytes rest sizes.1) n.cross;
-      taken = λ g m. ap (is_taken (s.at + s.size)) (sym places) ∙ taken_places len true len zs (s.at + s.size) g tz.unused m;
-      behind = λ none. ap (hole_in d) (sym stop) ∙ here (ap (λ (q : ℕ). hole_at q holes) stop ∙ ap (hole_at (s.at + s.size)) x.all ∙ none);
-      found = ap (λ (o : Option ℕ). merge_in d o s.at s.size) (sym (w.has.head ∙ ap (λ (hs : List Area). first_or hs None) x.all)) ∙ cut.found;
-    } in
+    let spare = spare-is l row d holes ps t h areas rest cut.joined w.has i more x e tb n listed cut.found in
     let is_hole : IsHole s = record { aligned = omega (arith, i.place.aligned, least.multiple); multiple = omega (arith, i.place.multiple, least.multiple, le); least = omega (arith, le); most = omega (arith, i.most, i.place.multiple, least.multiple) } in
     let inside : s.at + s.size ≤ length y = omega (arith, stop, i.place.inside, n.written.long, w.long) in
     let stands = release-one-stands y s rest is_hole inside n.apart.0 n.written.list in

@@ -111,6 +111,40 @@ pub release-one-stands : (d : List ℕ) (a : Area) (holes : List Area) → IsHol
 unfolding release_one_bytes release_one
 release-one-stands d a holes k inside far l = bytes_stand d a holes (hole_at (a.at + a.size) holes) refl k inside far l
 
+-- ---- what is apart from an area and from the list
+
+-- bytes that are apart from deleted blocks are apart from their headers
+pub far_of : (p n : ℕ) (holes : List Area) → AllByRecursion IsHole holes → AllByRecursion (IsApart (record { at = p; size = n })) holes → AllByRecursion (λ (a : Area). (p + n ≤ a.at) ⊎ (a.at + 20 ≤ p)) holes
+far_of p n [] sizes far = tt
+far_of p n (h ∷ holes) sizes far = (by_side far.0, far_of p n holes sizes.1 far.1)
+  where
+    by_side : IsApart (record { at = p; size = n }) h → (p + n ≤ h.at) ⊎ (h.at + 20 ≤ p)
+    by_side (inl le) = inl le
+    by_side (inr le) = inr (omega (arith, le, sizes.0.least))
+
+apart_one : (x s : Area) (rest : List Area) (o : Option Area) → hole_at (s.at + s.size) rest ≡ o → 0 < x.size → IsApart x s → AllByRecursion (IsApart x) rest → AllByRecursion (IsApart x) (joined s rest o)
+apart_one x s rest None e some f far = (f, far)
+apart_one x s rest (Some h) e some f far = by_test (nat_le (s.size + h.size) most_size)
+  where
+    t : SplitsAt (s.at + s.size) rest h
+    t = found_splits (s.at + s.size) rest h e
+
+    off : IsApart x h
+    off = (all_split (IsApart x) (before (s.at + s.size) rest) (h ∷ behind (s.at + s.size) rest) (subst (λ (hs : List Area). AllByRecursion (IsApart x) hs) t.all far)).1.0
+
+    by_sides : IsApart x s → IsApart x h → IsApart x (record { at = s.at; size = s.size + h.size })
+    by_sides (inl le) two = inl le
+    by_sides (inr le) (inr more) = inr (omega (arith, t.at, more))
+    by_sides (inr le) (inl no_room) = absurd (omega (arith, t.at, le, no_room, some))
+
+    by_test : (b : Bool) → AllByRecursion (IsApart x) (if b then record { at = s.at; size = s.size + h.size } ∷ without h.at rest else s ∷ rest)
+    by_test true = (by_sides f off, all-without (IsApart x) h.at rest far)
+    by_test false = (f, far)
+
+pub apart_after : (x s : Area) (rest : List Area) → 0 < x.size → IsApart x s → AllByRecursion (IsApart x) rest → AllByRecursion (IsApart x) (release_one s rest)
+unfolding release_one
+apart_after x s rest some f far = apart_one x s rest (hole_at (s.at + s.size) rest) refl some f far
+
 -- ---- as two
 
 pub part_apart : (a b : Area) (holes : List Area) → a.at ≤ b.at → b.at + b.size ≤ a.at + a.size → AllByRecursion (IsApart a) holes → AllByRecursion (IsApart b) holes

@@ -1,22 +1,24 @@
 -- What a row's last block leaves over is released as the definitions on lists say.
-use Rattle.std.proofs.Common.{◌≡◌, ℕ, ◌+◌, ◌<◌, inl, inr, Bool, true, false, List, [], ◌∷◌, ◌++◌, Option, Some, None, Result, Ok, Err, refl, sym, ap, subst, ◌∙◌, arith, append_assoc}
+use Rattle.std.proofs.Common.{◌≡◌, ℕ, ◌+◌, ◌<◌, inl, inr, Bool, true, false, List, [], ◌∷◌, ◌++◌, length, Option, Some, None, Result, Ok, Err, refl, sym, ap, subst, ◌∙◌, arith, append_assoc}
 use Rattle.std.specs.Prelude.{◌==◌, nat_le, if◌then◌else◌}
 use Rattle.std.specs.Option.{option_map}
 use Rattle.std.specs.List.{AllByRecursion}
 use Rattle.std.proofs.lemmas.Bool.{eq-eqb, eqb-true}
+use Rattle.std.proofs.lemmas.List.{length-append}
 use Rattle.myi_frames.specs.declared.head.Head.{Head}
 use Rattle.myi_dellist.specs.declared.linked.Linked.{Linked}
 use Rattle.myi_dellist.specs.declared.linked.ReleasePlan.{ReleasePlan}
 use Rattle.myi_dellist.specs.declared.pieces.Piece.{Piece}
 use Rattle.myi_dellist.specs.Areas.{Area, IsApart, AreApart}
-use Rattle.myi_dellist.specs.Releasing.{most_size, hole_at, without, IsHole}
+use Rattle.myi_dellist.specs.Releasing.{most_size, hole_at, without, joined, release_one, IsHole}
 use Rattle.myi_dellist.specs.Standing.{hole_block, first_or, last_or, IsPart, HasList, with_first, without_block, before, behind, without_at, joined_bytes, release_one_bytes}
 use Rattle.myi_dellist.specs.Freeing.{hole_in, same_link, block_linked, linked_by, block_before, block_named, if_short, hole_behind, without_prev, taken_off_bytes, put_first_bytes, plan_bytes}
 use Rattle.myi_dellist.specs.Merging.{merge_by, some_linked, merge_in}
-use Rattle.myi_dellist.specs.Planning.{is_taken, past_taken, link_past, first_past, rest_plan}
+use Rattle.myi_dellist.specs.Planning.{is_taken, past_taken, link_past, first_past, rest_plan, alone_by}
 use Rattle.myi_dellist.proofs.LinkLemmas.{part_split, all_split, apart_split}
 use Rattle.myi_dellist.proofs.ReleasedLemmas.{SplitsAt, found_splits, both}
-use Rattle.myi_dellist.proofs.PlanLemmas.{the_head, first_of, last_head, last_of, the_link, link_is, off_is, put_is, none_before, past_is, split_behind}
+use Rattle.myi_dellist.proofs.SeenLemmas.{the_head, first_of, last_head, last_of, the_link}
+use Rattle.myi_dellist.proofs.PlanLemmas.{link_is, off_is, put_is, none_before, past_is, split_behind}
 use Rattle.myi_dellist.proofs.MergeLemmas.{merge_none, merge_some}
 use Rattle.myi_dellist.proofs.TakeLemmas.{head_at}
 
@@ -102,7 +104,7 @@ same_joined : (r : Result (Option Linked) ℕ) (j k : Option Linked) → r ≡ O
 same_joined r j k e f = cc
 
 -- one that is joined stands there
-joined_at : (d : List ℕ) (head : Option ℕ) (at size : ℕ) (l : Linked) → merge_in d head at size ≡ Ok (Some l) → hole_in d (at + size) ≡ Some l.hole
+joined_at : (d : List ℕ) (head : Option ℕ) (at size : ℕ) (l : Linked) → merge_in (hole_in d) head at size ≡ Ok (Some l) → hole_in d (at + size) ≡ Some l.hole
 unfolding merge_in hole_behind block_linked
 joined_at d head at size l e = by_hole (hole_in d (at + size)) refl e
   where
@@ -111,11 +113,11 @@ joined_at d head at size l e = by_hole (hole_in d (at + size)) refl e
     by_links g (Ok b) (Err p) e = absurd cc
     by_links g (Err p) c e = absurd cc
 
-    by_short : (g : Head) (b : Bool) → merge_by d head (if b then Some g else None) ≡ Ok (Some l) → Some g ≡ Some l.hole
-    by_short g true e = by_links g (block_before d head g) (block_named d (Some g.at) g.next) e
+    by_short : (g : Head) (b : Bool) → merge_by (hole_in d) head (if b then Some g else None) ≡ Ok (Some l) → Some g ≡ Some l.hole
+    by_short g true e = by_links g (block_before (hole_in d) head g) (block_named (hole_in d) (Some g.at) g.next) e
     by_short g false e = absurd cc
 
-    by_hole : (o : Option Head) → hole_in d (at + size) ≡ o → merge_by d head (if_short size o) ≡ Ok (Some l) → o ≡ Some l.hole
+    by_hole : (o : Option Head) → hole_in d (at + size) ≡ o → merge_by (hole_in d) head (if_short size o) ≡ Ok (Some l) → o ≡ Some l.hole
     by_hole None s e = absurd cc
     by_hole (Some g) s e = by_short g (nat_le (size + g.size) most_size) e
 
@@ -137,19 +139,22 @@ pub record IsSpare (d : List ℕ) (s : Area) (zs rest : List Area) (last : ℕ) 
   pub free : AllByRecursion (λ (r : Area). is_taken r.at qs ≡ false) rest
   pub taken : (h : Area) → hole_at (s.at + s.size) zs ≡ Some h → is_taken (s.at + s.size) qs ≡ true
   pub behind : hole_at (s.at + s.size) (zs ++ rest) ≡ None → hole_in d (s.at + s.size) ≡ None
-  pub found : merge_in d (first_or (zs ++ rest) None) s.at s.size ≡ Ok j
+  pub found : merge_in (hole_in d) (first_or (zs ++ rest) None) s.at s.size ≡ Ok j
 
 abbrev plan_of : List Piece → ℕ → List Area → Option Linked → ReleasePlan
 plan_of qs last rest j = rest_plan qs last (first_of (Some last) rest) j
 
-alone_bytes : (s : Area) (last : ℕ) (rest : List Area) (x : List ℕ) → plan_bytes (record { joined = None; first = without_prev (first_of (Some last) rest) }) s.at s.size x ≡ with_first s rest x
+-- one that joins nothing
+abbrev alone_plan : ℕ → List Area → ReleasePlan
+alone_plan last rest = record { joined = None; first = without_prev (first_of (Some last) rest) }
+
+alone_bytes : (s : Area) (last : ℕ) (rest : List Area) (x : List ℕ) → plan_bytes (alone_plan last rest) s.at s.size x ≡ with_first s rest x
 alone_bytes s last rest x = ap (λ (o : Option Head). put_first_bytes s o x) (alone_first last rest) ∙ put_is s rest x
 
-none_joined : (d : List ℕ) (s : Area) (zs rest : List Area) (last : ℕ) (qs : List Piece) (j : Option Linked) (x : List ℕ) → IsSpare d s zs rest last qs j → hole_at (s.at + s.size) rest ≡ None → plan_bytes (plan_of qs last rest j) s.at s.size x ≡ with_first s rest x
-none_joined d s zs rest last qs None x i e = alone_bytes s last rest x
-none_joined d s zs rest last qs (Some l) x i e =
-    ap (λ (b : Bool). plan_bytes (if b then record { joined = None; first = without_prev (first_of (Some last) rest) } else record { joined = Some (link_past last l); first = first_past (first_of (Some last) rest) (link_past last l) }) s.at s.size x) (by_zs (hole_at (s.at + s.size) zs) refl)
-    ∙ alone_bytes s last rest x
+none_plan : (d : List ℕ) (s : Area) (zs rest : List Area) (last : ℕ) (qs : List Piece) (j : Option Linked) → IsSpare d s zs rest last qs j → hole_at (s.at + s.size) rest ≡ None → plan_of qs last rest j ≡ alone_plan last rest
+none_plan d s zs rest last qs None i e = refl
+none_plan d s zs rest last qs (Some l) i e =
+    ap (λ (b : Bool). if b then alone_plan last rest else record { joined = Some (link_past last l); first = first_past (first_of (Some last) rest) (link_past last l) }) (by_zs (hole_at (s.at + s.size) zs) refl)
   where
     here : hole_in d (s.at + s.size) ≡ Some l.hole
     here = joined_at d (first_or (zs ++ rest) None) s.at s.size l i.found
@@ -158,9 +163,13 @@ none_joined d s zs rest last qs (Some l) x i e =
     by_zs None f = let no_hole = i.behind (in_first (s.at + s.size) zs rest e f) in let two : None ≡ Some l.hole = sym no_hole ∙ here in absurd cc
     by_zs (Some h) f = ap (λ (p : ℕ). is_taken p qs) (head_at d (s.at + s.size) l.hole here) ∙ i.taken h f
 
-some_joined : (d : List ℕ) (s : Area) (zs xs : List Area) (h : Area) (ys : List Area) (last : ℕ) (qs : List Piece) (j : Option Linked) (x : List ℕ) → IsSpare d s zs (xs ++ h ∷ ys) last qs j → h.at ≡ s.at + s.size → (b : Bool) → nat_le (s.size + h.size) most_size ≡ b
-    → plan_bytes (plan_of qs last (xs ++ h ∷ ys) j) s.at s.size x ≡ (if b then with_first (both s h) (xs ++ ys) (without_block xs ys x) else with_first s (xs ++ h ∷ ys) x)
-some_joined d s zs xs h ys last qs j x i at b t = by_test b t
+-- one that joins a block of the list, where both together are not too long
+abbrev split_plan : Bool → ℕ → List Area → Area → List Area → ReleasePlan
+split_plan true last xs h ys = record { joined = Some (the_link xs h ys); first = first_of None (xs ++ ys) }
+split_plan false last xs h ys = alone_plan last (xs ++ h ∷ ys)
+
+some_plan : (d : List ℕ) (s : Area) (zs xs : List Area) (h : Area) (ys : List Area) (last : ℕ) (qs : List Piece) (j : Option Linked) → IsSpare d s zs (xs ++ h ∷ ys) last qs j → h.at ≡ s.at + s.size → (b : Bool) → nat_le (s.size + h.size) most_size ≡ b → plan_of qs last (xs ++ h ∷ ys) j ≡ split_plan b last xs h ys
+some_plan d s zs xs h ys last qs j i at b t = by_test b t
   where
     all : zs ++ (xs ++ h ∷ ys) ≡ (zs ++ xs) ++ h ∷ ys
     all = sym (append_assoc zs xs (h ∷ ys))
@@ -171,13 +180,13 @@ some_joined d s zs xs h ys last qs j x i at b t = by_test b t
     head : Option ℕ
     head = first_or ((zs ++ xs) ++ h ∷ ys) None
 
-    found : merge_in d head s.at s.size ≡ Ok j
-    found = ap (λ (hs : List Area). merge_in d (first_or hs None) s.at s.size) (sym all) ∙ i.found
+    found : merge_in (hole_in d) head s.at s.size ≡ Ok j
+    found = ap (λ (hs : List Area). merge_in (hole_in d) (first_or hs None) s.at s.size) (sym all) ∙ i.found
 
     the : Head
     the = the_head h (first_or ys None) (last_or (zs ++ xs) None)
 
-    behind_is : hole_behind d s.at s.size ≡ (if nat_le (s.size + h.size) most_size then Some the else None)
+    behind_is : hole_behind (hole_in d) s.at s.size ≡ (if nat_le (s.size + h.size) most_size then Some the else None)
     behind_is = split_behind d s h (first_or ys None) (last_or (zs ++ xs) None) at (part_split d None None (zs ++ xs) (h ∷ ys) list.linked).1.0
 
     parts : AllByRecursion IsHole xs × AreApart xs
@@ -186,24 +195,26 @@ some_joined d s zs xs h ys last qs j x i at b t = by_test b t
         let aparts = apart_split zs (xs ++ h ∷ ys) i.list.apart in
         ((all_split IsHole xs (h ∷ ys) sizes.1).0, (apart_split xs (h ∷ ys) aparts.1).0)
 
-    by_test : (b : Bool) → nat_le (s.size + h.size) most_size ≡ b → plan_bytes (plan_of qs last (xs ++ h ∷ ys) j) s.at s.size x ≡ (if b then with_first (both s h) (xs ++ ys) (without_block xs ys x) else with_first s (xs ++ h ∷ ys) x)
+    by_test : (b : Bool) → nat_le (s.size + h.size) most_size ≡ b → plan_of qs last (xs ++ h ∷ ys) j ≡ split_plan b last xs h ys
     by_test false t =
-        let none : j ≡ None = same_joined (merge_in d head s.at s.size) j None found (merge_none d head s.at s.size None (sym (behind_is ∙ ap (λ (b : Bool). if b then Some the else None) t)) refl) in
-        ap (λ (k : Option Linked). plan_bytes (plan_of qs last (xs ++ h ∷ ys) k) s.at s.size x) none ∙ alone_bytes s last (xs ++ h ∷ ys) x
+        let none : j ≡ None = same_joined (merge_in (hole_in d) head s.at s.size) j None found (merge_none d head s.at s.size None (sym (behind_is ∙ ap (λ (b : Bool). if b then Some the else None) t)) refl) in
+        ap (λ (k : Option Linked). plan_of qs last (xs ++ h ∷ ys) k) none
     by_test true t =
         let link = the_link (zs ++ xs) h ys in
-        let is : j ≡ Some link = same_joined (merge_in d head s.at s.size) j (Some link) found
+        let is : j ≡ Some link = same_joined (merge_in (hole_in d) head s.at s.size) j (Some link) found
         (merge_some d head s.at s.size (Some the) the (sym (behind_is ∙ ap (λ (b : Bool). if b then Some the else None) t)) refl ∙ ap some_linked (link_is d (zs ++ xs) h ys list.linked)) in
         let free = (all_split (λ (r : Area). is_taken r.at qs ≡ false) xs (h ∷ ys) i.free).1.0 in
         let away = (all_split (λ (r : Area). (r.at == last) ≡ false) xs (h ∷ ys) i.away).0 in
         let next = first_of (Some last) (xs ++ h ∷ ys) in
         let past = link_after last zs xs h ys i.last_is away in
-        ap (λ (k : Option Linked). plan_bytes (plan_of qs last (xs ++ h ∷ ys) k) s.at s.size x) is
-        ∙ ap (λ (b : Bool). plan_bytes (if b then record { joined = None; first = without_prev next } else record { joined = Some (link_past last link); first = first_past next (link_past last link) }) s.at s.size x) free
-        ∙ ap (λ (l : Linked). plan_bytes (record { joined = Some l; first = first_past next l }) s.at s.size x) past
-        ∙ ap (λ (o : Option Head). plan_bytes (record { joined = Some (the_link xs h ys); first = o }) s.at s.size x) (first_after last xs h ys parts.0 parts.1)
-        ∙ put_is (both s h) (xs ++ ys) (taken_off_bytes (the_link xs h ys) x)
-        ∙ ap (with_first (both s h) (xs ++ ys)) (off_is x xs h ys)
+        ap (λ (k : Option Linked). plan_of qs last (xs ++ h ∷ ys) k) is
+        ∙ ap (λ (b : Bool). if b then alone_plan last (xs ++ h ∷ ys) else record { joined = Some (link_past last link); first = first_past next (link_past last link) }) free
+        ∙ ap (λ (l : Linked). record { joined = Some l; first = first_past next l }) past
+        ∙ ap (λ (o : Option Head). record { joined = Some (the_link xs h ys); first = o }) (first_after last xs h ys parts.0 parts.1)
+
+split_bytes : (s : Area) (last : ℕ) (xs : List Area) (h : Area) (ys : List Area) (x : List ℕ) (b : Bool) → plan_bytes (split_plan b last xs h ys) s.at s.size x ≡ (if b then with_first (both s h) (xs ++ ys) (without_block xs ys x) else with_first s (xs ++ h ∷ ys) x)
+split_bytes s last xs h ys x true = put_is (both s h) (xs ++ ys) (taken_off_bytes (the_link xs h ys) x) ∙ ap (with_first (both s h) (xs ++ ys)) (off_is x xs h ys)
+split_bytes s last xs h ys x false = alone_bytes s last (xs ++ h ∷ ys) x
 
 pub rest_released : (d : List ℕ) (s : Area) (zs rest : List Area) (last : ℕ) (qs : List Piece) (j : Option Linked) (x : List ℕ) → IsSpare d s zs rest last qs j → plan_bytes (plan_of qs last rest j) s.at s.size x ≡ release_one_bytes s rest x
 unfolding release_one_bytes
@@ -213,7 +224,7 @@ rest_released d s zs rest last qs j x i = by_found (hole_at (s.at + s.size) rest
     q = s.at + s.size
 
     by_found : (o : Option Area) → hole_at (s.at + s.size) rest ≡ o → plan_bytes (plan_of qs last rest j) s.at s.size x ≡ joined_bytes s rest x o
-    by_found None e = none_joined d s zs rest last qs j x i e
+    by_found None e = ap (λ (p : ReleasePlan). plan_bytes p s.at s.size x) (none_plan d s zs rest last qs j i e) ∙ alone_bytes s last rest x
     by_found (Some h) e = by_test (nat_le (s.size + h.size) most_size) refl
       where
         t : SplitsAt (s.at + s.size) rest h
@@ -234,5 +245,36 @@ rest_released d s zs rest last qs j x i = by_found (hole_at (s.at + s.size) rest
         by_test : (b : Bool) → nat_le (s.size + h.size) most_size ≡ b → plan_bytes (plan_of qs last rest j) s.at s.size x ≡ (if b then with_first (both s h) (without h.at rest) (without_at h.at rest x) else with_first s rest x)
         by_test b w =
             ap (λ (hs : List Area). plan_bytes (plan_of qs last hs j) s.at s.size x) t.all
-            ∙ some_joined d s zs xs h ys last qs j x (subst (λ (hs : List Area). IsSpare d s zs hs last qs j) t.all i) t.at b w
+            ∙ ap (λ (p : ReleasePlan). plan_bytes p s.at s.size x) (some_plan d s zs xs h ys last qs j (subst (λ (hs : List Area). IsSpare d s zs hs last qs j) t.all i) t.at b w)
+            ∙ split_bytes s last xs h ys x b
             ∙ same b
+
+-- ---- how many blocks that makes
+
+-- the list has one more, unless what is left over is joined
+pub rest_counts : (d : List ℕ) (s : Area) (zs rest : List Area) (last : ℕ) (qs : List Piece) (j : Option Linked) → IsSpare d s zs rest last qs j → length (release_one s rest) ≡ length rest + alone_by (rest_plan qs last (first_of (Some last) rest) j).joined
+unfolding release_one
+rest_counts d s zs rest last qs j i = by_found (hole_at (s.at + s.size) rest) refl
+  where
+    by_found : (o : Option Area) → hole_at (s.at + s.size) rest ≡ o → length (joined s rest o) ≡ length rest + alone_by (plan_of qs last rest j).joined
+    by_found None e = omega (arith, ap (λ (p : ReleasePlan). alone_by p.joined) (none_plan d s zs rest last qs j i e))
+    by_found (Some h) e = by_test (nat_le (s.size + h.size) most_size) refl
+      where
+        t : SplitsAt (s.at + s.size) rest h
+        t = found_splits (s.at + s.size) rest h e
+
+        xs : List Area
+        xs = before (s.at + s.size) rest
+
+        ys : List Area
+        ys = Rattle.myi_dellist.specs.Standing.behind (s.at + s.size) rest
+
+        plan : (b : Bool) → nat_le (s.size + h.size) most_size ≡ b → alone_by (plan_of qs last rest j).joined ≡ alone_by (split_plan b last xs h ys).joined
+        plan b w = ap (λ (hs : List Area). alone_by (plan_of qs last hs j).joined) t.all ∙ ap (λ (p : ReleasePlan). alone_by p.joined) (some_plan d s zs xs h ys last qs j (subst (λ (hs : List Area). IsSpare d s zs hs last qs j) t.all i) t.at b w)
+
+        by_test : (b : Bool) → nat_le (s.size + h.size) most_size ≡ b → length (if b then record { at = s.at; size = s.size + h.size } ∷ without h.at rest else s ∷ rest) ≡ length rest + alone_by (plan_of qs last rest j).joined
+        by_test true w =
+            let whole : length rest ≡ length xs + length (h ∷ ys) = ap (λ (hs : List Area). length hs) t.all ∙ length-append xs (h ∷ ys) in
+            let less : length (without h.at rest) ≡ length xs + length ys = ap (λ (hs : List Area). length hs) (ap (λ (q : ℕ). without q rest) t.at ∙ t.rest) ∙ length-append xs ys in
+            omega (arith, whole, less, plan true w)
+        by_test false w = omega (arith, plan false w)

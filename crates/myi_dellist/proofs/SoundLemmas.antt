@@ -17,7 +17,8 @@ use Rattle.myi_dellist.specs.Planning.{last_size, last_piece, with_rest, row_pla
 use Rattle.myi_dellist.specs.Putting.{PlanBad, PutBad}
 use Rattle.myi_dellist.proofs.LinkLemmas.{part_split, part_join, all_split}
 use Rattle.myi_dellist.proofs.MergeLemmas.{merge-finds}
-use Rattle.myi_dellist.proofs.PlanLemmas.{first_of, named_first}
+use Rattle.myi_dellist.proofs.SeenLemmas.{first_of}
+use Rattle.myi_dellist.proofs.PlanLemmas.{named_first}
 use Rattle.myi_dellist.proofs.TakeLemmas.{IsNamed, named_block, first_join, last_join}
 use Rattle.myi_dellist.proofs.PlanningLemmas.{IsLeft, not_same, rest_ok, row_filled, row_left}
 use Rattle.myi_dellist.proofs.PutRowLemmas.{IsFront, front_of}
@@ -29,8 +30,8 @@ meets_none : (d : List ℕ) (head : Option ℕ) (holes : List Area) (len at : �
 meets_none d head holes len at has list m =
     let f = front_of d None m.areas holes m.link (m.fills.first ∙ has) m.fills.linked list.linked in
     let part = (part_split d None None m.areas f.rest (subst (λ (hs : List Area). IsPart d None hs None) f.all list.linked)).1 in
-    let named = ap (block_named d (last_or m.areas None)) (sym f.next) ∙ named_first d (last_or m.areas None) f.rest part in
-    not_both (block_named d (last_or m.areas None) m.link) (first_of (last_or m.areas None) f.rest) at named m.bad
+    let named = ap (block_named (hole_in d) (last_or m.areas None)) (sym f.next) ∙ named_first d (last_or m.areas None) f.rest part in
+    not_both (block_named (hole_in d) (last_or m.areas None) m.link) (first_of (last_or m.areas None) f.rest) at named m.bad
 
 plans_none : (d : List ℕ) (head : Option ℕ) (holes : List Area) (len at : ℕ) → head ≡ first_or holes None → HasList d holes → AreListedBehind holes holes d → PlanBad d head len at → ⊥
 plans_none d head holes len at has list listed p = by_test (nat_le (least_size left + 20) h.size) refl
@@ -54,10 +55,10 @@ plans_none d head holes len at has list listed p = by_test (nat_le (least_size l
     f = front_of d None zs holes p.hole.next (first_join p.takes.areas (a ∷ []) p.hole.next ∙ ap (first_or p.takes.areas) (sym n.link_is) ∙ p.takes.fills.first ∙ has)
         (part_join d None p.hole.next p.takes.areas (a ∷ []) (subst (IsPart d None p.takes.areas) n.link_is p.takes.fills.linked) (n.stands, tt)) list.linked
 
-    named : block_named d (Some p.hole.at) p.hole.next ≡ Ok (first_of (Some p.hole.at) f.rest)
+    named : block_named (hole_in d) (Some p.hole.at) p.hole.next ≡ Ok (first_of (Some p.hole.at) f.rest)
     named =
         let part = (part_split d None None zs f.rest (subst (λ (hs : List Area). IsPart d None hs None) f.all list.linked)).1 in
-        ap (block_named d (Some p.hole.at)) (sym f.next) ∙ named_first d (Some p.hole.at) f.rest (subst (λ (o : Option ℕ). IsPart d o f.rest None) (last_join p.takes.areas a None) part)
+        ap (block_named (hole_in d) (Some p.hole.at)) (sym f.next) ∙ named_first d (Some p.hole.at) f.rest (subst (λ (o : Option ℕ). IsPart d o f.rest None) (last_join p.takes.areas a None) part)
 
     here : hole_at (p.hole.at + p.hole.size) holes ≡ None → hole_in d (p.hole.at + p.hole.size) ≡ None
     here =
@@ -77,7 +78,7 @@ plans_none d head holes len at has list listed p = by_test (nat_le (least_size l
         let s : Area = record { at = h.at + least_size left; size = h.size - least_size left } in
         let stop : h.at + h.size ≡ s.at + s.size = omega (arith, le) in
         let m = merge-finds d holes s list (subst (λ (q : ℕ). hole_at q holes ≡ None → hole_in d q ≡ None) stop here) in
-        let found : merge_in d head s.at s.size ≡ Ok m.joined = ap (λ (o : Option ℕ). merge_in d o s.at s.size) has ∙ m.found in
+        let found : merge_in (hole_in d) head s.at s.size ≡ Ok m.joined = ap (λ (o : Option ℕ). merge_in (hole_in d) o s.at s.size) has ∙ m.found in
         let r = rest_ok d head qs (record { at = s.at; size = s.size; last = h.at }) next m.joined found in
         not_both (row_plan_in d head p.ps left h) _ at (row_left d head p.ps qs left h (least_size left) next i ∙ ap (with_rest next) r) p.bad
 

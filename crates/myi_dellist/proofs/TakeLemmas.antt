@@ -117,7 +117,7 @@ head_at d p h e = by_block (block_of d p) refl e
     by_block None s e = absurd cc
     by_block (Some b) s e = by_kind b s (is_deleted b.kind) e
 
-pub named_block : (d : List ℕ) (prev link : Option ℕ) (h : Head) → block_named d prev link ≡ Ok (Some h) → IsNamed d prev link h
+pub named_block : (d : List ℕ) (prev link : Option ℕ) (h : Head) → block_named (hole_in d) prev link ≡ Ok (Some h) → IsNamed d prev link h
 unfolding block_named
 named_block d prev None h e = absurd cc
 named_block d prev (Some p) h e = by_hole (hole_in d p) refl e
@@ -138,7 +138,7 @@ named_block d prev (Some p) h e = by_hole (hole_in d p) refl e
     by_hole None s e = absurd cc
     by_hole (Some g) s e = by_says g s (names_prev prev g) refl e
 
-pub named_nothing : (d : List ℕ) (prev link : Option ℕ) → block_named d prev link ≡ Ok None → link ≡ None
+pub named_nothing : (d : List ℕ) (prev link : Option ℕ) → block_named (hole_in d) prev link ≡ Ok None → link ≡ None
 unfolding block_named
 named_nothing d prev None e = refl
 named_nothing d prev (Some p) e = by_hole (hole_in d p) e
@@ -241,24 +241,24 @@ takes_next d head len ps qs t h taken s less u =
     let m = subst (λ (o : Option ℕ). IsNamed d o u.link h) u.last n in
     (u.areas ++ a ∷ [], fills_next d head len ps qs t h taken u.areas u.link s less m u.fills, sym (last_join u.areas a None))
 
-pub takes_on : (d : List ℕ) (head : Option ℕ) (len : ℕ) (ps qs : List Piece) (t : Taken) (h : Head) (taken : ℕ) (next : Option Head) → IsStep len ps qs t h taken → taken < t.left → TakesFull d head len ps t → block_named d (Some h.at) h.next ≡ Ok next → TakesFull d head len qs (record { left = t.left - taken; last = Some h.at; next = next })
+pub takes_on : (d : List ℕ) (head : Option ℕ) (len : ℕ) (ps qs : List Piece) (t : Taken) (h : Head) (taken : ℕ) (next : Option Head) → IsStep len ps qs t h taken → taken < t.left → TakesFull d head len ps t → block_named (hole_in d) (Some h.at) h.next ≡ Ok next → TakesFull d head len qs (record { left = t.left - taken; last = Some h.at; next = next })
 takes_on d head len ps qs t h taken next s less u names =
     let n = takes_next d head len ps qs t h taken s less u in
     record { areas = n.0; link = h.next; fills = n.1; last = n.2; names = names }
 
-pub takes_first : (d : List ℕ) (head : Option ℕ) (len : ℕ) (ps : List Piece) (next : Option Head) → 0 < len → ps ≡ [] → block_named d None head ≡ Ok next → TakesFull d head len ps (record { left = len; last = None; next = next })
+pub takes_first : (d : List ℕ) (head : Option ℕ) (len : ℕ) (ps : List Piece) (next : Option Head) → 0 < len → ps ≡ [] → block_named (hole_in d) None head ≡ Ok next → TakesFull d head len ps (record { left = len; last = None; next = next })
 takes_first d head len ps next some none names = record { areas = []; link = head; fills = record { first = refl; linked = tt; pieces = sym none; left_is = refl; some = some }; last = refl; names = names }
 
 pub run_first : (end len : ℕ) (ps : List Piece) (next : Option Head) → 0 < len → ps ≡ [] → IfSome next (IsHoleIn end) → IsRun end len ps (record { left = len; last = None; next = next })
 run_first end len ps next some none n = subst (λ (xs : List Piece). IsRun end len xs (record { left = len; last = None; next = next })) (sym none) (record { run = refl; some = some; less = omega arith; inside = tt; aligned = tt; next = n })
 
-pub bad_first : (d : List ℕ) (head : Option ℕ) (len p : ℕ) → 0 < len → block_named d None head ≡ Err p → MeetsBad d head len p
+pub bad_first : (d : List ℕ) (head : Option ℕ) (len p : ℕ) → 0 < len → block_named (hole_in d) None head ≡ Err p → MeetsBad d head len p
 bad_first d head len p some e = record { ps = []; left = len; areas = []; link = head; fills = record { first = refl; linked = tt; pieces = refl; left_is = refl; some = some }; bad = e }
 
-pub bad_next : (d : List ℕ) (head : Option ℕ) (len : ℕ) (ps qs : List Piece) (t : Taken) (h : Head) (taken : ℕ) → IsStep len ps qs t h taken → taken < t.left → TakesFull d head len ps t → (p : ℕ) → block_named d (Some h.at) h.next ≡ Err p → MeetsBad d head len p
+pub bad_next : (d : List ℕ) (head : Option ℕ) (len : ℕ) (ps qs : List Piece) (t : Taken) (h : Head) (taken : ℕ) → IsStep len ps qs t h taken → taken < t.left → TakesFull d head len ps t → (p : ℕ) → block_named (hole_in d) (Some h.at) h.next ≡ Err p → MeetsBad d head len p
 bad_next d head len ps qs t h taken s less u p e =
     let n = takes_next d head len ps qs t h taken s less u in
-    record { ps = qs; left = t.left - taken; areas = n.0; link = h.next; fills = n.1; bad = ap (λ (o : Option ℕ). block_named d o h.next) (sym n.2) ∙ e }
+    record { ps = qs; left = t.left - taken; areas = n.0; link = h.next; fills = n.1; bad = ap (λ (o : Option ℕ). block_named (hole_in d) o h.next) (sym n.2) ∙ e }
 
 -- what a read that is refused tells
 pub bad_found : {T U : Type 0} (x : Result U FreeFault) (f : FreeFault) (old : Option Holding) (P : Holding → Type 0) (r : Holding → Result T ℕ) (Q : ℕ → Holding → Type 0) → x ≡ Err f → IfTold old (λ m. P m → Answers {T = T} (Err f) (r m)) → ((m : Holding) → old ≡ Some m → P m → (p : ℕ) → r m ≡ Err p → Q p m) → IfErr x (λ f. IfDamaged f (λ p. IfTold old (λ m. P m → Q p m)))

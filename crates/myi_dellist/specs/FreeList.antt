@@ -51,8 +51,8 @@ read_part a = if nat_le a.size most_size then a else back_part a
 
 -- each block that a release reads is what the list needs there
 abbrev pub FindsAll : ListState → Area → Holding → Type 0
-FindsAll l a m = (p : ReleasePlan) × (plan_in (bytes_of l.name m) l.head (read_part a).at (read_part a).size ≡ Ok p)
+FindsAll l a m = (p : ReleasePlan) × (plan_in (hole_in (bytes_of l.name m)) l.head (read_part a).at (read_part a).size ≡ Ok p)
 
 -- the first that is not stands at this place
 abbrev pub FindsBad : ListState → Area → ℕ → Holding → Type 0
-FindsBad l a at m = plan_in (bytes_of l.name m) l.head (read_part a).at (read_part a).size ≡ Err at
+FindsBad l a at m = plan_in (hole_in (bytes_of l.name m)) l.head (read_part a).at (read_part a).size ≡ Err at

@@ -52,20 +52,20 @@ given (Ok h) = Ok (Some h)
 given (Err p) = Err p
 
 -- The block before one on the list names it as the next. Only the head of the list has none before it.
-abbrev pub before_by : List ℕ → Option ℕ → ℕ → Option ℕ → Result (Option Head) ℕ
-before_by d head at None = if same_link head (Some at) then Ok None else Err at
-before_by d head at (Some p) = given (if_says (names_next (Some at)) p (hole_in d p))
+abbrev pub before_by : (ℕ → Option Head) → Option ℕ → ℕ → Option ℕ → Result (Option Head) ℕ
+before_by seen head at None = if same_link head (Some at) then Ok None else Err at
+before_by seen head at (Some p) = given (if_says (names_next (Some at)) p (seen p))
 
-unfoldable pub block_before : List ℕ → Option ℕ → Head → Result (Option Head) ℕ
-block_before d head h = before_by d head h.at h.prev
+unfoldable pub block_before : (ℕ → Option Head) → Option ℕ → Head → Result (Option Head) ℕ
+block_before seen head h = before_by seen head h.at h.prev
 
 -- The block at a place that a link names, if it names one, names this one before it.
-abbrev pub named_by : List ℕ → Option ℕ → Option ℕ → Result (Option Head) ℕ
-named_by d prev None = Ok None
-named_by d prev (Some p) = given (if_says (names_prev prev) p (hole_in d p))
+abbrev pub named_by : (ℕ → Option Head) → Option ℕ → Option ℕ → Result (Option Head) ℕ
+named_by seen prev None = Ok None
+named_by seen prev (Some p) = given (if_says (names_prev prev) p (seen p))
 
-unfoldable pub block_named : List ℕ → Option ℕ → Option ℕ → Result (Option Head) ℕ
-block_named d prev link = named_by d prev link
+unfoldable pub block_named : (ℕ → Option Head) → Option ℕ → Option ℕ → Result (Option Head) ℕ
+block_named seen prev link = named_by seen prev link
 
 -- how an answer of the code shows such a result: what has another cause says nothing of it
 abbrev pub Answers : {T : Type 0} → Result T FreeFault → Result T ℕ → Type 0
@@ -147,16 +147,16 @@ linked_by h (Ok b) (Ok c) = Ok (record { before = b; hole = h; behind = c })
 linked_by h (Ok b) (Err p) = Err p
 linked_by h (Err p) r = Err p
 
-unfoldable pub block_linked : List ℕ → Option ℕ → Head → Result Linked ℕ
-block_linked d head h = linked_by h (block_before d head h) (block_named d (Some h.at) h.next)
+unfoldable pub block_linked : (ℕ → Option Head) → Option ℕ → Head → Result Linked ℕ
+block_linked seen head h = linked_by h (block_before seen head h) (block_named seen (Some h.at) h.next)
 
 -- the deleted block behind an area, where one deleted block may be as long as both
 abbrev pub if_short : ℕ → Option Head → Option Head
 if_short size None = None
 if_short size (Some h) = if nat_le (size + h.size) most_size then Some h else None
 
-unfoldable pub hole_behind : List ℕ → ℕ → ℕ → Option Head
-hole_behind d at size = if_short size (hole_in d (at + size))
+unfoldable pub hole_behind : (ℕ → Option Head) → ℕ → ℕ → Option Head
+hole_behind seen at size = if_short size (seen (at + size))
 
 abbrev pub without_prev : Option Head → Option Head
 without_prev None = None
@@ -172,28 +172,28 @@ past b hole (Ok f) = Ok (next_past b hole f)
 past b hole (Err p) = Err p
 
 -- the first block of the list once a block is taken off it
-abbrev pub first_by : List ℕ → Option ℕ → Linked → Option Head → Result (Option Head) ℕ
-first_by d head l None = Ok (without_prev l.behind)
-first_by d head l (Some b) = past b l.hole (block_named d None head)
+abbrev pub first_by : (ℕ → Option Head) → Option ℕ → Linked → Option Head → Result (Option Head) ℕ
+first_by seen head l None = Ok (without_prev l.behind)
+first_by seen head l (Some b) = past b l.hole (block_named seen None head)
 
-unfoldable pub first_without : List ℕ → Option ℕ → Linked → Result (Option Head) ℕ
-first_without d head l = first_by d head l l.before
+unfoldable pub first_without : (ℕ → Option Head) → Option ℕ → Linked → Result (Option Head) ℕ
+first_without seen head l = first_by seen head l l.before
 
 abbrev pub with_joined : Option Linked → Result (Option Head) ℕ → Result ReleasePlan ℕ
 with_joined joined (Ok first) = Ok (record { joined = joined; first = first })
 with_joined joined (Err p) = Err p
 
-abbrev pub plan_linked : List ℕ → Option ℕ → Result Linked ℕ → Result ReleasePlan ℕ
-plan_linked d head (Ok l) = with_joined (Some l) (first_without d head l)
-plan_linked d head (Err p) = Err p
+abbrev pub plan_linked : (ℕ → Option Head) → Option ℕ → Result Linked ℕ → Result ReleasePlan ℕ
+plan_linked seen head (Ok l) = with_joined (Some l) (first_without seen head l)
+plan_linked seen head (Err p) = Err p
 
-abbrev pub plan_by : List ℕ → Option ℕ → Option Head → Result ReleasePlan ℕ
-plan_by d head None = with_joined None (block_named d None head)
-plan_by d head (Some h) = plan_linked d head (block_linked d head h)
+abbrev pub plan_by : (ℕ → Option Head) → Option ℕ → Option Head → Result ReleasePlan ℕ
+plan_by seen head None = with_joined None (block_named seen None head)
+plan_by seen head (Some h) = plan_linked seen head (block_linked seen head h)
 
 -- what a release finds, or the place of the first block that is not what the list needs there
-unfoldable pub plan_in : List ℕ → Option ℕ → ℕ → ℕ → Result ReleasePlan ℕ
-plan_in d head at size = plan_by d head (hole_behind d at size)
+unfoldable pub plan_in : (ℕ → Option Head) → Option ℕ → ℕ → ℕ → Result ReleasePlan ℕ
+plan_in seen head at size = plan_by seen head (hole_behind seen at size)
 
 -- ---- what it writes
 
@@ -237,7 +237,7 @@ plan_bytes p at size d = put_first_bytes (record { at = at; size = joined_size s
 
 -- the file holds what a release of an area writes, by what it found
 abbrev pub ReleasesOne : List ℕ → ℕ → Option ℕ → ℕ → ℕ → Holding → Holding → Type 0
-ReleasesOne name end head at size m n = length (bytes_of name m) ≡ end → (p : ReleasePlan) × (plan_in (bytes_of name m) head at size ≡ Ok p) × Becomes name (plan_bytes p at size (bytes_of name m)) m n
+ReleasesOne name end head at size m n = length (bytes_of name m) ≡ end → (p : ReleasePlan) × (plan_in (hole_in (bytes_of name m)) head at size ≡ Ok p) × Becomes name (plan_bytes p at size (bytes_of name m)) m n
 
 -- ---- a release of a longer area, as two
 
@@ -253,4 +253,4 @@ two_bytes p at size d =
     (plan_bytes p (at + half_size) (size - half_size) d)
 
 abbrev pub ReleasesTwo : List ℕ → ℕ → Option ℕ → ℕ → ℕ → Holding → Holding → Type 0
-ReleasesTwo name end head at size m n = length (bytes_of name m) ≡ end → (p : ReleasePlan) × (plan_in (bytes_of name m) head (at + half_size) (size - half_size) ≡ Ok p) × Becomes name (two_bytes p at size (bytes_of name m)) m n
+ReleasesTwo name end head at size m n = length (bytes_of name m) ≡ end → (p : ReleasePlan) × (plan_in (hole_in (bytes_of name m)) head (at + half_size) (size - half_size) ≡ Ok p) × Becomes name (two_bytes p at size (bytes_of name m)) m n

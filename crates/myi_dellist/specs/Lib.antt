@@ -22,3 +22,7 @@ pub mod Rows
 pub mod Taking
 pub mod Planning
 pub mod Putting
+-- several releases, planned before anything is written
+pub mod Several
+-- a row in the place of another
+pub mod Replacing

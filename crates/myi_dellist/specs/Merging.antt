@@ -7,7 +7,7 @@ use Rattle.myi_dellist.specs.declared.links.Merged.{Merged}
 use Rattle.myi_dellist.specs.Areas.{Area}
 use Rattle.myi_dellist.specs.Releasing.{most_size, hole_at, without}
 use Rattle.myi_dellist.specs.Standing.{KeepsBut, without_at}
-use Rattle.myi_dellist.specs.Freeing.{block_linked, hole_behind, joined_size, unlinked_bytes, Becomes}
+use Rattle.myi_dellist.specs.Freeing.{hole_in, block_linked, hole_behind, joined_size, unlinked_bytes, Becomes}
 use Rattle.myi_dellist.specs.FreeList.{ListState, HasHoles, MayRelease}
 
 -- ---- on lists
@@ -48,13 +48,13 @@ abbrev pub some_linked : Result Linked ℕ → Result (Option Linked) ℕ
 some_linked (Ok l) = Ok (Some l)
 some_linked (Err p) = Err p
 
-abbrev pub merge_by : List ℕ → Option ℕ → Option Head → Result (Option Linked) ℕ
-merge_by d head None = Ok None
-merge_by d head (Some h) = some_linked (block_linked d head h)
+abbrev pub merge_by : (ℕ → Option Head) → Option ℕ → Option Head → Result (Option Linked) ℕ
+merge_by seen head None = Ok None
+merge_by seen head (Some h) = some_linked (block_linked seen head h)
 
 -- the deleted block that is taken in, with those beside it, or the place of the first block that is not what the list needs
-unfoldable pub merge_in : List ℕ → Option ℕ → ℕ → ℕ → Result (Option Linked) ℕ
-merge_in d head at size = merge_by d head (hole_behind d at size)
+unfoldable pub merge_in : (ℕ → Option Head) → Option ℕ → ℕ → ℕ → Result (Option Linked) ℕ
+merge_in seen head at size = merge_by seen head (hole_behind seen at size)
 
 -- the head of the list once a block is taken off it
 abbrev pub head_by : Option ℕ → Option ℕ → Option Head → Option ℕ
@@ -67,7 +67,7 @@ head_past head (Some l) = head_by head l.hole.next l.before
 
 -- the file holds what taking a block off the list writes, and the answer says how long both are and where the list begins
 abbrev pub MergesOne : List ℕ → ℕ → Option ℕ → ℕ → ℕ → Merged → Holding → Holding → Type 0
-MergesOne name end head at size r m n = length (bytes_of name m) ≡ end → (j : Option Linked) × (merge_in (bytes_of name m) head at size ≡ Ok j) × (r.size ≡ joined_size size j) × (r.head ≡ head_past head j) × Becomes name (unlinked_bytes j (bytes_of name m)) m n
+MergesOne name end head at size r m n = length (bytes_of name m) ≡ end → (j : Option Linked) × (merge_in (hole_in (bytes_of name m)) head at size ≡ Ok j) × (r.size ≡ joined_size size j) × (r.head ≡ head_past head j) × Becomes name (unlinked_bytes j (bytes_of name m)) m n
 
 -- ---- what the call does
 
@@ -83,8 +83,8 @@ Merges l k a whole m n = (holes : List Area) → HasHoles l holes (bytes_of l.na
 
 -- each block that the call reads is what the list needs there
 abbrev pub MergeFinds : ListState → Area → Holding → Type 0
-MergeFinds l a m = (j : Option Linked) × (merge_in (bytes_of l.name m) l.head a.at a.size ≡ Ok j)
+MergeFinds l a m = (j : Option Linked) × (merge_in (hole_in (bytes_of l.name m)) l.head a.at a.size ≡ Ok j)
 
 -- the first that is not stands at this place
 abbrev pub MergeFindsBad : ListState → Area → ℕ → Holding → Type 0
-MergeFindsBad l a at m = merge_in (bytes_of l.name m) l.head a.at a.size ≡ Err at
+MergeFindsBad l a at m = merge_in (hole_in (bytes_of l.name m)) l.head a.at a.size ≡ Err at

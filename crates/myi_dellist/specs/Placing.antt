@@ -27,6 +27,11 @@ abbrev pub taken_by : List Piece → ℕ
 taken_by [] = 0
 taken_by (p ∷ ps) = p.taken + taken_by ps
 
+-- how many bytes these have together
+abbrev pub sizes_of : List Piece → ℕ
+sizes_of [] = 0
+sizes_of (p ∷ ps) = p.size + sizes_of ps
+
 -- ---- blocks that are taken; the row has `len` bytes, of which so many are left
 
 -- how many row bytes a block of this size takes where it is not the last, as the first block and behind it

@@ -13,7 +13,7 @@ use Rattle.myi_dellist.specs.declared.planning.RestPlan.{RestPlan}
 use Rattle.myi_dellist.specs.declared.planning.RowPlan.{RowPlan}
 use Rattle.myi_dellist.specs.Releasing.{most_size}
 use Rattle.myi_dellist.specs.Standing.{with_head}
-use Rattle.myi_dellist.specs.Freeing.{same_link, block_named, without_prev, next_past, area_at, plan_bytes, IsHoleIn, IsPlanIn, IsLinkable, AreLinkable}
+use Rattle.myi_dellist.specs.Freeing.{hole_in, same_link, block_named, without_prev, next_past, area_at, plan_bytes, IsHoleIn, IsPlanIn, IsLinkable, AreLinkable}
 use Rattle.myi_dellist.specs.Merging.{merge_in}
 use Rattle.myi_dellist.specs.Rows.{row_written}
 
@@ -53,7 +53,7 @@ rest_by ps s next (Err p) = Err p
 
 -- what that release finds, or the place of the first block that is not what the list needs
 unfoldable pub rest_in : List ℕ → Option ℕ → List Piece → Spare → Option Head → Result RestPlan ℕ
-rest_in d head ps s next = rest_by ps s next (merge_in d head s.at s.size)
+rest_in d head ps s next = rest_by ps s next (merge_in (hole_in d) head s.at s.size)
 
 -- ---- a row's last block
 
@@ -82,7 +82,7 @@ row_plan_by d head ps left h (Err p) = Err p
 
 -- what a row that ends in this block finds behind the blocks that it fills
 unfoldable pub row_plan_in : List ℕ → Option ℕ → List Piece → ℕ → Head → Result RowPlan ℕ
-row_plan_in d head ps left h = row_plan_by d head ps left h (block_named d (Some h.at) h.next)
+row_plan_in d head ps left h = row_plan_by d head ps left h (block_named (hole_in d) (Some h.at) h.next)
 
 -- ---- what it found can be written
 
@@ -122,3 +122,12 @@ abbrev pub head_by : Option Head → Option RestPlan → Option ℕ
 head_by next (Some r) = Some r.at
 head_by None None = None
 head_by (Some h) None = Some h.at
+
+-- how many deleted blocks are on the list that were not: what is left over, where it is joined with none
+abbrev pub alone_by : Option Linked → ℕ
+alone_by None = 1
+alone_by (Some l) = 0
+
+abbrev pub more_by : Option RestPlan → ℕ
+more_by None = 0
+more_by (Some r) = alone_by r.plan.joined

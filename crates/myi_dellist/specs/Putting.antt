@@ -10,7 +10,7 @@ use Rattle.myi_dellist.specs.Placing.{append_from, end_behind, is_none, fits}
 use Rattle.myi_dellist.specs.Taking.{IsRun, TakesFull, MeetsBad}
 use Rattle.myi_dellist.specs.FreeList.{ListState}
 use Rattle.myi_dellist.specs.Rows.{most_end, row_written}
-use Rattle.myi_dellist.specs.Planning.{last_piece, row_plan_in, planned_bytes, head_by}
+use Rattle.myi_dellist.specs.Planning.{last_piece, row_plan_in, planned_bytes, head_by, more_by}
 
 -- the list ends before the row does, and the rest goes behind the file's end
 pub record EndsBehind (end : ℕ) (ps : List Piece) (t : Taken) (row : List ℕ) (new : ListEnds) (d e : List ℕ) : Type 0 where
@@ -40,6 +40,34 @@ pub record PutsIn (name : List ℕ) (l : ListEnds) (row : List ℕ) (new : ListE
 
 abbrev pub Puts : List ℕ → ListEnds → List ℕ → ListEnds → Holding → Holding → Type 0
 Puts name l row new m n = OthersStay name m n × (length (bytes_of name m) ≡ l.end → PutsIn name l row new m n)
+
+-- ---- how many blocks that takes and leaves
+
+-- the list ends before the row does: it takes all of it
+pub record CountsBehind (end len : ℕ) (ps : List Piece) (t : Taken) (qs : List Piece) (taken more : ℕ) : Type 0 where
+  pub none : t.next ≡ None
+  pub pieces : qs ≡ ps ++ append_from t.left len (is_none ps) t.left end
+  pub taken_is : taken ≡ length ps
+  pub more_is : more ≡ 0
+
+-- the row ends in a block of the list
+pub record CountsIn (d : List ℕ) (head : Option ℕ) (ps : List Piece) (t : Taken) (qs : List Piece) (taken more : ℕ) : Type 0 where
+  pub hole : Head
+  pub next_is : t.next ≡ Some hole
+  pub fits_in : fits t.left hole.size ≡ true
+  pub plan : RowPlan
+  pub found : row_plan_in d head ps t.left hole ≡ Ok plan
+  pub pieces : qs ≡ ps ++ last_piece t.left hole ∷ []
+  pub taken_is : taken ≡ length qs
+  pub more_is : more ≡ more_by plan.rest
+
+-- a row of so many bytes in these blocks takes so many of the list, and leaves so many more on it
+pub record PutCounts (d : List ℕ) (l : ListEnds) (len : ℕ) (qs : List Piece) (taken more : ℕ) : Type 0 where
+  pub ps : List Piece
+  pub t : Taken
+  pub run : IsRun l.end len ps t
+  pub takes : TakesFull d l.head len ps t
+  pub ends : CountsBehind l.end len ps t qs taken more ⊎ CountsIn d l.head ps t qs taken more
 
 -- ---- what refuses it
 

@@ -1,5 +1,5 @@
 -- Rows that are put into a data file: what stands in the file and on its deleted list then.
-use Rattle.std.specs.Prelude.{◌≡◌, ℕ, ◌+◌, ◌%◌, ◌^◌, ◌<◌, ◌≤◌, min, Bool, true, false, List, [], ◌∷◌, ◌++◌, length, take, drop, Some, None}
+use Rattle.std.specs.Prelude.{◌≡◌, ℕ, ◌+◌, ◌-◌, ◌%◌, ◌^◌, ◌<◌, ◌≤◌, min, Bool, true, false, List, [], ◌∷◌, ◌++◌, length, take, drop, Some, None}
 use Rattle.std.specs.List.{AllByRecursion}
 use Rattle.myi_base.specs.Holding.{Holding, bytes_of, overwritten}
 use Rattle.myi_frames.specs.declared.write.FrameSpec.{FrameSpec}
@@ -7,10 +7,11 @@ use Rattle.myi_frames.specs.Block.{block_of}
 use Rattle.myi_frames.specs.Writing.{block_bytes, whole_spec, start_spec, middle_spec, end_spec}
 use Rattle.myi_dellist.specs.declared.fault.FreeFault.{FreeFault}
 use Rattle.myi_dellist.specs.declared.fault.FreeFault.TheVariants as fault
+use Rattle.myi_dellist.specs.declared.rows.Put.{Put}
 use Rattle.myi_dellist.specs.declared.pieces.Piece.{Piece}
 use Rattle.myi_dellist.specs.Areas.{Area, IsApart}
 use Rattle.myi_dellist.specs.Releasing.{hole_at}
-use Rattle.myi_dellist.specs.Placing.{areas_of, Placing, place, place_at_end, place_of, specs_of}
+use Rattle.myi_dellist.specs.Placing.{areas_of, sizes_of, Placing, place, place_at_end, place_of, specs_of}
 use Rattle.myi_dellist.specs.RowBlocks.{row_blocks}
 use Rattle.myi_dellist.specs.Freeing.{hole_in, Becomes}
 use Rattle.myi_dellist.specs.FreeList.{ListState, HasHoles}
@@ -103,3 +104,19 @@ AreListedBehind areas holes d = AllByRecursion (λ a. hole_at (a.at + a.size) ho
 -- a row is put into a file whose blocks fill it, where it is to go
 abbrev pub PutsNew : ListState → ListState → List ℕ → ℕ → Holding → Holding → Type 0
 PutsNew l k row at m n = (holes : List Area) → l.end % 4 ≡ 0 → HasHoles l holes (bytes_of l.name m) → AreListedBehind holes holes (bytes_of l.name m) → PutsRow k holes (place (record { holes = holes; end = l.end }) [] (length row)) row at (bytes_of l.name m) (bytes_of l.name n)
+
+-- ---- how many blocks that makes
+
+-- A row that was put has so many blocks, of so many bytes (as far as the type of the number goes). It took so many deleted blocks,
+-- and so many are on the list that were not.
+pub record Tallies (holes : List Area) (p : Placing) (put : Put) : Type 0 where
+  pub blocks : put.blocks ≡ length p.pieces
+  pub bytes : put.bytes ≡ min (sizes_of p.pieces) (2 ^ 64 - 1)
+  pub holes_are : length p.space.holes + put.taken ≡ length holes + put.more
+  pub few : put.more ≤ 1
+
+abbrev pub TalliesNew : ListState → ℕ → Put → Holding → Type 0
+TalliesNew l len put m = (holes : List Area) → l.end % 4 ≡ 0 → HasHoles l holes (bytes_of l.name m) → AreListedBehind holes holes (bytes_of l.name m) → Tallies holes (place (record { holes = holes; end = l.end }) [] len) put
+
+abbrev pub TalliesAtEnd : ListState → ℕ → Put → Type 0
+TalliesAtEnd l len put = (holes : List Area) → Tallies holes (place_at_end (record { holes = holes; end = l.end }) len) put

@@ -7,7 +7,7 @@ use Rattle.myi_dellist.specs.Areas.{Area, AreInside}
 use Rattle.myi_dellist.specs.Releasing.{half_size, most_size}
 use Rattle.myi_dellist.specs.Placing.{areas_of, room, take_from}
 use Rattle.myi_dellist.specs.Standing.{first_or, last_or, IsPart}
-use Rattle.myi_dellist.specs.Freeing.{block_named, IsHoleIn}
+use Rattle.myi_dellist.specs.Freeing.{hole_in, block_named, IsHoleIn}
 
 -- a block that is not the last one of its row: it is filled
 pub record IsFull (len : ℕ) (first : Bool) (left : ℕ) (p : Piece) : Type 0 where
@@ -47,7 +47,7 @@ pub record TakesFull (d : List ℕ) (head : Option ℕ) (len : ℕ) (ps : List P
   pub link : Option ℕ
   pub fills : Fills d head len ps t.left areas link
   pub last : t.last ≡ last_or areas None
-  pub names : block_named d t.last link ≡ Ok t.next
+  pub names : block_named (hole_in d) t.last link ≡ Ok t.next
 
 -- the block behind such blocks is not one that names the last of them
 pub record MeetsBad (d : List ℕ) (head : Option ℕ) (len at : ℕ) : Type 0 where
@@ -56,4 +56,4 @@ pub record MeetsBad (d : List ℕ) (head : Option ℕ) (len at : ℕ) : Type 0 w
   pub areas : List Area
   pub link : Option ℕ
   pub fills : Fills d head len ps left areas link
-  pub bad : block_named d (last_or areas None) link ≡ Err at
+  pub bad : block_named (hole_in d) (last_or areas None) link ≡ Err at

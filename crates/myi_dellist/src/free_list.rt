@@ -3,8 +3,8 @@
 //! The links stand in the file; a `FreeList` keeps where the list begins and where the file ends.
 use crate::fault::FreeFault;
 use crate::links::{merge_one, release_one, release_two};
-use crate::pieces::Piece;
-use crate::rows::{FileEnd, put_at_end, put_row};
+use crate::pieces::{Piece, sizes_of};
+use crate::rows::{FileEnd, Put, put_at_end, put_row};
 use crate::taking::ListEnds;
 use myi_frames::MOST_SIZE;
 use myi_io::Files;
@@ -68,7 +68,7 @@ impl FreeList {
     ghost use Rattle.myi_dellist.specs.FreeList.{next_by, Releases, IsLong, FindsAll, FindsBad};
     ghost use Rattle.myi_dellist.specs.Merging.{Merges, MergeFinds, MergeFindsBad};
     ghost use Rattle.myi_dellist.specs.Putting.{Puts, ends_of, PutFindsBad, PutIsLong};
-    ghost use Rattle.myi_dellist.specs.Rows.{most_end, end_with, IfFull, IsNotDamaged, PutsAtEnd, PutsBehind, PutsNew};
+    ghost use Rattle.myi_dellist.specs.Rows.{most_end, end_with, IfFull, IsNotDamaged, PutsAtEnd, PutsBehind, PutsNew, TalliesAtEnd, TalliesNew};
 
     /// The deleted list of the file of a name, by the place of its first block and the file's length.
     pub fn new(
@@ -105,7 +105,60 @@ impl FreeList {
         }
     }
 
-    /// Puts a row at the file's end, whatever is deleted, and answers its place. `Full` comes exactly where
+    /// The place of the first deleted block. It takes no memory.
+    pub fn head(&self) -> Option<u64>
+        ensures { result ≡ self.now.head }
+    {
+        self.head
+    }
+
+    /// Where the file ends. It takes no memory.
+    pub fn end(&self) -> u64
+        ensures { result ≡ self.now.end }
+    {
+        self.end
+    }
+
+    /// Puts a row at the file's end, whatever is deleted, and answers what that did. `Full` comes exactly where
+    /// the end would not stay below its limit, or where no file can end there, and then nothing is changed.
+    pub fn put_at_end<F: Files>(&mut self, files: &mut F, packed: &[u8]) -> Result<Put, FreeFault>
+        requires writable { IsTrue F.writable }
+        requires some { 0 < length packed.now }
+        requires few { length packed.now < 2 ^ 32 }
+        requires long { IfTold (F.holds files.old) (IsLong self.old) }
+        ensures ok { IfOk result (λ put. Told (F.holds files.old) (F.holds files.new)
+            (PutsAtEnd self.old self.new packed.now put.at)) }
+        ensures tallies { IfOk result (TalliesAtEnd self.old (length packed.now)) }
+        ensures puts { OnOk result (Told (F.holds files.old) (F.holds files.new)
+            (PutsBehind self.old packed.now)) }
+        ensures others { Told (F.holds files.old) (F.holds files.new) (OthersStay self.old.name) }
+        ensures place { IfOk result (λ put. put.at ≡ self.old.end) }
+        ensures end { OnOk result
+            (self.new ≡ record self.old { end = end_with self.old (length packed.now) }) }
+        ensures room { OnOk result (end_with self.old (length packed.now) < most_end self.old) }
+        ensures full { IfErr result (λ f. IfFull f
+            (most_end self.old ≤ end_with self.old (length packed.now))) }
+        ensures unchanged { IfErr result (λ f. IfFull f (F.holds files.new ≡ F.holds files.old)) }
+        ensures found { IfErr result IsNotDamaged }
+        ensures list { OnErr result (self.new ≡ self.old) }
+        ensures cause { HasCause File (F.faults files.old) (F.faults files.new) result }
+    {
+        let at = self.end;
+        let end = FileEnd {
+            at,
+            below: self.limits.end_below,
+        };
+        self.end = put_at_end(files, &self.name, &mut self.pieces, packed, &end)?;
+        Ok(Put {
+            at,
+            blocks: self.pieces.len() as u64,
+            bytes: sizes_of(&self.pieces),
+            taken: 0,
+            more: 0,
+        })
+    }
+
+    /// Puts a row at the file's end, whatever is deleted, and answers its place: `put_at_end`. `Full` comes exactly where
     /// the end would not stay below its limit, or where no file can end there, and then nothing is changed.
     pub fn write_row_at_end<F: Files>(
         &mut self,
@@ -132,17 +185,60 @@ impl FreeList {
         ensures list { OnErr result (self.new ≡ self.old) }
         ensures cause { HasCause File (F.faults files.old) (F.faults files.new) result }
     {
-        let at = self.end;
-        let end = FileEnd {
-            at,
-            below: self.limits.end_below,
-        };
-        self.end = put_at_end(files, &self.name, &mut self.pieces, packed, &end)?;
-        Ok(at)
+        let put = self.put_at_end(files, packed)?;
+        Ok(put.at)
     }
 
     /// Puts a row into the deleted blocks from the head of the list, as many as it takes, and behind the
-    /// end what they do not hold, and answers its place. What the last block leaves over is released. All
+    /// end what they do not hold, and answers what that did. What the last block leaves over is released. All
+    /// that is read is read before anything is written: `Damaged` comes exactly where a block that is read
+    /// is not what the list needs there, and then `Full` exactly where the end would not stay below its
+    /// limit, or where no file can end there; then nothing is changed.
+    pub fn put<F: Files>(&mut self, files: &mut F, packed: &[u8]) -> Result<Put, FreeFault>
+        requires writable { IsTrue F.writable }
+        requires some { 0 < length packed.now }
+        requires few { length packed.now < 2 ^ 32 }
+        requires long { IfTold (F.holds files.old) (IsLong self.old) }
+        ensures ok { IfOk result (λ put. Told (F.holds files.old) (F.holds files.new)
+            (PutsNew self.old self.new packed.now put.at)) }
+        ensures tallies { IfOk result (λ put. IfTold (F.holds files.old)
+            (TalliesNew self.old (length packed.now) put)) }
+        ensures puts { OnOk result (Told (F.holds files.old) (F.holds files.new)
+            (Puts self.old.name (ends_of self.old) packed.now (ends_of self.new))) }
+        ensures others { Told (F.holds files.old) (F.holds files.new) (OthersStay self.old.name) }
+        ensures place { IfOk result (λ put. put.at ≡ (next_by self.old.head self.old.end).0) }
+        ensures state { self.new ≡ record self.old { head = self.new.head; end = self.new.end } }
+        ensures room { OnOk result (self.new.end < most_end self.old) }
+        ensures damaged { IfErr result (λ f. IfDamaged f (λ p. IfTold (F.holds files.old)
+            (PutFindsBad self.old (length packed.now) p))) }
+        ensures full { IfErr result (λ f. IfFull f (IfTold (F.holds files.old)
+            (PutIsLong self.old (length packed.now)))) }
+        ensures unchanged { IfErr result (λ f. IfDamaged f (λ p.
+            F.holds files.new ≡ F.holds files.old)) }
+        ensures refused { IfErr result (λ f. IfFull f (F.holds files.new ≡ F.holds files.old)) }
+        ensures list { OnErr result (self.new ≡ self.old) }
+        ensures cause { HasCause File (F.faults files.old) (F.faults files.new) result }
+    {
+        let (at, _) = self.place();
+        let list = ListEnds {
+            head: self.head,
+            end: self.end,
+        };
+        let end_below = self.limits.end_below;
+        let new = put_row(files, &self.name, list, &mut self.pieces, packed, end_below)?;
+        self.head = new.list.head;
+        self.end = new.list.end;
+        Ok(Put {
+            at,
+            blocks: self.pieces.len() as u64,
+            bytes: sizes_of(&self.pieces),
+            taken: new.taken,
+            more: new.more,
+        })
+    }
+
+    /// Puts a row into the deleted blocks from the head of the list, as many as it takes, and behind the
+    /// end what they do not hold, and answers its place: `put`. What the last block leaves over is released. All
     /// that is read is read before anything is written: `Damaged` comes exactly where a block that is read
     /// is not what the list needs there, and then `Full` exactly where the end would not stay below its
     /// limit, or where no file can end there; then nothing is changed.
@@ -169,16 +265,8 @@ impl FreeList {
         ensures list { OnErr result (self.new ≡ self.old) }
         ensures cause { HasCause File (F.faults files.old) (F.faults files.new) result }
     {
-        let (at, _) = self.place();
-        let list = ListEnds {
-            head: self.head,
-            end: self.end,
-        };
-        let end_below = self.limits.end_below;
-        let new = put_row(files, &self.name, list, &mut self.pieces, packed, end_below)?;
-        self.head = new.head;
-        self.end = new.end;
-        Ok(at)
+        let put = self.put(files, packed)?;
+        Ok(put.at)
     }
 
     /// Releases an area: it is joined with the deleted block directly behind it, where both together are

@@ -2,7 +2,7 @@
 //! Each is the contract of a function that does nothing, so that it is proved with the crate and stands
 //! for the crates above.
 ghost use Rattle.std.specs.Prelude.{◌≡◌, ◌⊎◌, ℕ, ◌+◌, ◌%◌, ◌^◌, ◌<◌, ◌≤◌, ◌++◌, List, [], ◌∷◌, length, Option, Some, None, Ok};
-ghost use Rattle.std.specs.List.{AllByRecursion};
+ghost use Rattle.std.specs.List.{AllByRecursion, flat_map};
 ghost use Rattle.myi_base.specs.Holding.{overwritten};
 ghost use Rattle.myi_frames.specs.Block.{Block, block_of};
 ghost use Rattle.myi_dellist.specs.Areas.{Area, below, bytes_below, Tile, IsApart, AreApart, AreInside, Holds, HaveBytes};
@@ -10,15 +10,18 @@ ghost use Rattle.myi_dellist.specs.Releasing.{release, release_all, IsHole, IsFr
 ghost use Rattle.myi_dellist.specs.Placing.{Space, areas_of, taken_by, place, update, place_at_end, specs_of, place_of, next_place, AreWritable};
 ghost use Rattle.myi_dellist.specs.Standing.{HasList, KeepsBut, LeavesList, first_or, with_prev, without_block, release_one_bytes, release_bytes};
 ghost use Rattle.myi_dellist.specs.declared.linked.ReleasePlan.{ReleasePlan};
-ghost use Rattle.myi_dellist.specs.Freeing.{plan_in, plan_bytes};
+ghost use Rattle.myi_dellist.specs.Freeing.{hole_in, plan_in, plan_bytes};
 ghost use Rattle.myi_dellist.specs.FreeList.{ListState, HasHoles, MayRelease};
-ghost use Rattle.myi_dellist.specs.Putting.{PutBad};
+ghost use Rattle.myi_frames.specs.declared.head.Head.{Head};
+ghost use Rattle.myi_dellist.specs.Several.{heads_in, heads_written, release_ones, release_ones_bytes, parts_of, MayReleaseAll};
+ghost use Rattle.myi_dellist.specs.Putting.{PutBad, PutLong};
 ghost use Rattle.myi_dellist.specs.declared.linked.Linked.{Linked};
 ghost use Rattle.myi_dellist.specs.Freeing.{unlinked_bytes};
 ghost use Rattle.myi_dellist.specs.Merging.{merged_size, merged, merged_bytes, merge_in, head_past};
 ghost use Rattle.myi_dellist.specs.Order.{in_order, Follow};
 ghost use Rattle.myi_dellist.specs.RowBlocks.{row_blocks, HoldRow};
-ghost use Rattle.myi_dellist.specs.Rows.{KeepsApart, AreListedBehind};
+ghost use Rattle.myi_dellist.specs.Rows.{KeepsApart, PutsRow, AreListedBehind};
+ghost use Rattle.myi_dellist.specs.Replacing.{FitsInOwn, own_bytes};
 
 /// Areas tile a file, by the count of bytes below each place, exactly where no byte belongs to two of
 /// them, none to one behind the end, and each byte below it to one.
@@ -103,8 +106,38 @@ pub fn lists_stand_in_files()
 /// writes is what the definitions on lists say; so it never finds such a file damaged.
 pub fn releases_find_their_list()
     ensures { (d : List ℕ) (a : Area) (holes : List Area) → HasList d holes → MayRelease a holes d
-        → (p : ReleasePlan) × (plan_in d (first_or holes None) a.at a.size ≡ Ok p)
+        → (p : ReleasePlan) × (plan_in (hole_in d) (first_or holes None) a.at a.size ≡ Ok p)
         × (plan_bytes p a.at a.size d ≡ release_one_bytes a holes d) }
+{}
+
+/// Areas that are released one after another, where all is read before anything is written: in a file
+/// that has a list each block that is read is what the list needs there, and the headers that are written
+/// leave the list that the definitions on lists say. What is apart from the list and from the areas
+/// stays.
+pub fn several_releases_find_their_list()
+    ensures found { (d : List ℕ) (areas holes : List Area) → HasList d holes
+        → MayReleaseAll areas holes d
+        → (heads : List Head) × (heads_in (hole_in d) (first_or holes None) areas ≡ Ok heads)
+        × ((e : List ℕ) → heads_written heads e ≡ release_ones_bytes areas holes e) }
+    ensures list { (d : List ℕ) (areas holes : List Area) → HasList d holes
+        → MayReleaseAll areas holes d → AreInside (length d) areas
+        → HasList (release_ones_bytes areas holes d) (release_ones areas holes) }
+    ensures keeps { (d : List ℕ) (areas holes : List Area) → HasList d holes
+        → MayReleaseAll areas holes d → AreInside (length d) areas
+        → KeepsApart (areas ++ holes) d (release_ones_bytes areas holes d) }
+    ensures parts { (areas holes : List Area)
+        → release_ones (flat_map parts_of areas) holes ≡ release_all areas holes }
+{}
+
+/// A row that ends in a block of the row in whose place it is put stands in that row's blocks. Exactly
+/// its blocks are written, and the headers of deleted blocks that releases of what it leaves of the old
+/// ones write, which are planned from the file as it stood: so all can be read before anything is written.
+pub fn rows_fit_into_their_own_blocks()
+    ensures { (l k : ListState) (row d : List ℕ) (a : Area) (own holes : List Area)
+        (heads : List Head) → FitsInOwn l k row d (a ∷ own) holes heads
+        → PutsRow k ((a ∷ own) ++ holes)
+        (update (record { holes = holes; end = l.end }) (a ∷ own) (length row)) row a.at d
+        (own_bytes row (a ∷ own) heads d) }
 {}
 
 /// An area that takes in the deleted block behind it has that block's bytes then, and the list has them
@@ -120,7 +153,7 @@ pub fn merged_areas_take_bytes()
 /// what the list needs there, and what is written leaves the list without that block.
 pub fn merges_find_their_list()
     ensures { (d : List ℕ) (a : Area) (holes : List Area) → HasList d holes → MayRelease a holes d
-        → (j : Option Linked) × (merge_in d (first_or holes None) a.at a.size ≡ Ok j)
+        → (j : Option Linked) × (merge_in (hole_in d) (first_or holes None) a.at a.size ≡ Ok j)
         × (head_past (first_or holes None) j ≡ first_or (merged a holes) None)
         × (unlinked_bytes j d ≡ merged_bytes a holes d)
         × LeavesList (merged a holes) d (merged_bytes a holes d) }
@@ -187,8 +220,12 @@ pub fn put_rows_leave_the_rest()
 {}
 
 /// In a file that has a list, where each deleted block directly behind one of the list is on it, each
-/// block that is read for a row that is put is what the list needs there: none is found damaged.
+/// block that is read for a row that is put is what the list needs there: none is found damaged. And where
+/// the list ends before the row does, the file would end where the definition on lists says.
 pub fn rows_find_their_list()
-    ensures { (l : ListState) (holes : List Area) (d : List ℕ) (len at : ℕ) → HasHoles l holes d
+    ensures long { (l : ListState) (holes : List Area) (d : List ℕ) (len limit : ℕ) → 0 < len
+        → HasHoles l holes d → PutLong d l.head l.end limit len
+        → limit ≤ (place (record { holes = holes; end = l.end }) [] len).space.end }
+    ensures sound { (l : ListState) (holes : List Area) (d : List ℕ) (len at : ℕ) → HasHoles l holes d
         → AreListedBehind holes holes d → PutBad d l.head len at → ⊥ }
 {}

@@ -17,11 +17,16 @@
 //!
 //! `FreeList` is the list of one file, by its head and the file's end. `place` says where the next row
 //! goes, and `write_row` puts one there: into the deleted blocks from the head, then behind the end;
-//! `write_row_at_end` puts it behind the end, whatever is deleted. `release` gives an area to the list,
+//! `write_row_at_end` puts it behind the end, whatever is deleted; `put` and `put_at_end` are the same calls,
+//! and answer also how many blocks came and went (`Put`). `release` gives an area to the list,
 //! `merge_next` takes the deleted block behind a free area off it. All that a call reads is read before it
 //! writes, so that a block that is not what the list needs leaves all as it was. `specs/Taking` says what a
 //! row takes of the list, `specs/Planning` what is written beside it, `specs/Putting` both together, and
-//! `specs/Rows` what stands in the file then. A row is not yet put in the place of another.
+//! `specs/Rows` what stands in the file then.
+//!
+//! A row is not yet put in the place of another. The laws say how: `specs/Several` what releases one
+//! after another find where all is read before anything is written, and `specs/Replacing` what a row
+//! leaves of the blocks of the row in whose place it is put.
 #![tactic(auto)]
 
 mod fault;
@@ -41,6 +46,8 @@ pub use laws::{
     appended_rows_tile, lists_stand_in_files, merged_areas_take_bytes, merges_find_their_list,
     placed_blocks_can_be_released, placed_blocks_can_be_written, placed_rows_are_chains,
     placed_rows_tile, put_rows_leave_the_rest, released_areas_are_deleted,
-    releases_find_their_list, rows_find_their_list, rows_have_their_places,
-    taken_blocks_leave_their_list, tiling_is_counting, tiling_is_following,
+    releases_find_their_list, rows_find_their_list, rows_fit_into_their_own_blocks,
+    rows_have_their_places, several_releases_find_their_list, taken_blocks_leave_their_list,
+    tiling_is_counting, tiling_is_following,
 };
+pub use rows::Put;

@@ -148,7 +148,7 @@ fn block_before<F: Files>(
     hole: &Head,
 ) -> Result<Option<Head>, FreeFault>
     ensures told { IfTold (F.holds files.old) (λ m. length (bytes_of name.now m) ≡ end
-        → Answers result (block_before (bytes_of name.now m) head hole.now)) }
+        → Answers result (block_before (hole_in (bytes_of name.now m)) head hole.now)) }
     ensures hole { IfOk result (λ before. IfSome before (IsHoleIn end)) }
     ensures holds { F.holds files.new ≡ F.holds files.old }
     ensures room { IfErr result IsNotFull }
@@ -173,7 +173,7 @@ pub(crate) fn block_named<F: Files>(
     link: Option<u64>,
 ) -> Result<Option<Head>, FreeFault>
     ensures told { IfTold (F.holds files.old) (λ m. length (bytes_of name.now m) ≡ end
-        → Answers result (block_named (bytes_of name.now m) prev link)) }
+        → Answers result (block_named (hole_in (bytes_of name.now m)) prev link)) }
     ensures hole { IfOk result (λ named. IfSome named (IsHoleIn end)) }
     ensures holds { F.holds files.new ≡ F.holds files.old }
     ensures room { IfErr result IsNotFull }
@@ -196,7 +196,7 @@ fn link<F: Files>(
 ) -> Result<Linked, FreeFault>
     requires { IsHoleIn end hole }
     ensures told { IfTold (F.holds files.old) (λ m. length (bytes_of name.now m) ≡ end
-        → Answers result (block_linked (bytes_of name.now m) head hole)) }
+        → Answers result (block_linked (hole_in (bytes_of name.now m)) head hole)) }
     ensures holes { IfOk result (AreHolesIn end) }
     ensures same { IfOk result (λ l. l.hole ≡ hole) }
     ensures holds { F.holds files.new ≡ F.holds files.old }
@@ -224,7 +224,7 @@ fn hole_behind<F: Files>(
     requires most { size < 2 ^ 24 }
     ensures told { IfOk result (λ hole. IfTold (F.holds files.old) (λ m.
         length (bytes_of name.now m) ≡ end
-        → hole ≡ hole_behind (bytes_of name.now m) at size)) }
+        → hole ≡ hole_behind (hole_in (bytes_of name.now m)) at size)) }
     ensures hole { IfOk result (λ hole. IfSome hole (IsHoleIn end)) }
     ensures short { IfOk result (λ hole. IfSome hole (λ h. size + h.size ≤ most_size)) }
     ensures holds { F.holds files.new ≡ F.holds files.old }
@@ -249,7 +249,7 @@ fn first_without<F: Files>(
 ) -> Result<Option<Head>, FreeFault>
     requires { AreHolesIn end linked.now }
     ensures told { IfTold (F.holds files.old) (λ m. length (bytes_of name.now m) ≡ end
-        → Answers result (first_without (bytes_of name.now m) head linked.now)) }
+        → Answers result (first_without (hole_in (bytes_of name.now m)) head linked.now)) }
     ensures hole { IfOk result (λ first. IfSome first (IsHoleIn end)) }
     ensures holds { F.holds files.new ≡ F.holds files.old }
     ensures room { IfErr result IsNotFull }
@@ -301,7 +301,7 @@ pub(crate) fn plan_release<F: Files>(
     requires inside { at + size ≤ end }
     requires most { size < 2 ^ 24 }
     ensures told { IfTold (F.holds files.old) (λ m. length (bytes_of name.now m) ≡ end
-        → Answers result (plan_in (bytes_of name.now m) head at size)) }
+        → Answers result (plan_in (hole_in (bytes_of name.now m)) head at size)) }
     ensures holes { IfOk result (IsPlanIn end size) }
     ensures holds { F.holds files.new ≡ F.holds files.old }
     ensures room { IfErr result IsNotFull }
@@ -334,7 +334,7 @@ pub(crate) fn plan_merge<F: Files>(
     requires inside { at + size ≤ end }
     requires most { size < 2 ^ 24 }
     ensures told { IfTold (F.holds files.old) (λ m. length (bytes_of name.now m) ≡ end
-        → Answers result (merge_in (bytes_of name.now m) head at size)) }
+        → Answers result (merge_in (hole_in (bytes_of name.now m)) head at size)) }
     ensures holes { IfOk result (λ joined. IfSome joined (AreHolesIn end)) }
     ensures short { IfOk result (λ joined. IfSome joined (λ l. size + l.hole.size ≤ most_size)) }
     ensures holds { F.holds files.new ≡ F.holds files.old }

@@ -6,7 +6,7 @@ ghost use Rattle.myi_frames.specs.Block.{IsPointer, IsPlace};
 ghost use Rattle.myi_dellist.specs.declared.fault.FreeFault.TheVariants.{File};
 ghost use Rattle.myi_dellist.specs.Releasing.{most_size, half_size};
 ghost use Rattle.myi_dellist.specs.Standing.{with_head};
-ghost use Rattle.myi_dellist.specs.Freeing.{IsLinkable, AreLinkable, CutsOff, IsNotFull, IfDamaged, Becomes, ReleasesOne, ReleasesTwo, plan_in, before_bytes, behind_bytes, taken_off_bytes, put_first_bytes, place_at, joined_size, unlinked_bytes};
+ghost use Rattle.myi_dellist.specs.Freeing.{hole_in, IsLinkable, AreLinkable, CutsOff, IsNotFull, IfDamaged, Becomes, ReleasesOne, ReleasesTwo, plan_in, before_bytes, behind_bytes, taken_off_bytes, put_first_bytes, place_at, joined_size, unlinked_bytes};
 ghost use Rattle.myi_dellist.specs.Planning.{next_bytes};
 ghost use Rattle.myi_dellist.specs.Merging.{head_past, merge_in, MergesOne};
 
@@ -215,7 +215,7 @@ pub(crate) fn release_one<F: Files>(
         (ReleasesOne name.now end head at size)) }
     ensures damaged { IfErr result (λ f. IfDamaged f (λ p.
         IfTold (F.holds files.old) (λ m. length (bytes_of name.now m) ≡ end
-        → plan_in (bytes_of name.now m) head at size ≡ Err p))) }
+        → plan_in (hole_in (bytes_of name.now m)) head at size ≡ Err p))) }
     ensures unchanged { IfErr result (λ f. IfDamaged f (λ p.
         F.holds files.new ≡ F.holds files.old)) }
     ensures others { Told (F.holds files.old) (F.holds files.new) (OthersStay name.now) }
@@ -246,7 +246,7 @@ pub(crate) fn release_two<F: Files>(
         (ReleasesTwo name.now end head at size)) }
     ensures damaged { IfErr result (λ f. IfDamaged f (λ p.
         IfTold (F.holds files.old) (λ m. length (bytes_of name.now m) ≡ end
-        → plan_in (bytes_of name.now m) head (at + half_size) (size - half_size) ≡ Err p))) }
+        → plan_in (hole_in (bytes_of name.now m)) head (at + half_size) (size - half_size) ≡ Err p))) }
     ensures unchanged { IfErr result (λ f. IfDamaged f (λ p.
         F.holds files.new ≡ F.holds files.old)) }
     ensures others { Told (F.holds files.old) (F.holds files.new) (OthersStay name.now) }
@@ -300,7 +300,7 @@ pub(crate) fn merge_one<F: Files>(
     ensures most { IfOk result (λ merged. merged.size ≤ most_size) }
     ensures damaged { IfErr result (λ f. IfDamaged f (λ p.
         IfTold (F.holds files.old) (λ m. length (bytes_of name.now m) ≡ end
-        → merge_in (bytes_of name.now m) head at size ≡ Err p))) }
+        → merge_in (hole_in (bytes_of name.now m)) head at size ≡ Err p))) }
     ensures unchanged { IfErr result (λ f. IfDamaged f (λ p.
         F.holds files.new ≡ F.holds files.old)) }
     ensures others { Told (F.holds files.old) (F.holds files.new) (OthersStay name.now) }

@@ -1,7 +1,7 @@
 //! The blocks of a row as they are planned: their places, their sizes, and how many row bytes each takes.
-ghost use Rattle.std.specs.Prelude.{◌≡◌, ◌≤◌, ◌<◌, ◌+◌, ◌^◌, ◌++◌, Bool, true, IfOk, IfErr, OnErr};
+ghost use Rattle.std.specs.Prelude.{◌≡◌, ◌≤◌, ◌<◌, ◌+◌, ◌-◌, ◌^◌, ◌++◌, min, Bool, true, IfOk, IfErr, OnErr};
 ghost use Rattle.myi_dellist.specs.declared.fault.FreeFault.TheVariants.{Full};
-ghost use Rattle.myi_dellist.specs.Placing.{room, append_from, end_behind, is_none};
+ghost use Rattle.myi_dellist.specs.Placing.{room, sizes_of, append_from, end_behind, is_none};
 ghost use Rattle.myi_dellist.specs.Rows.{IfFull, IsRefused};
 
 use crate::fault::FreeFault;
@@ -27,6 +27,19 @@ pub(crate) fn room(len: u32, first: bool, size: u32) -> u32
     } else {
         middle_room(size)
     }
+}
+
+/// How many bytes blocks have together.
+pub(crate) fn sizes_of(pieces: &[Piece]) -> u64
+    ensures { result ≡ min (sizes_of pieces.now) (2 ^ 64 - 1) }
+{
+    let mut bytes = 0u64;
+    let mut left = pieces;
+    while let Some((piece, behind)) = left.split_first() {
+        bytes = bytes.saturating_add(piece.size as u64);
+        left = behind;
+    }
+    bytes
 }
 
 /// The place behind a block, where the file's end may be there.

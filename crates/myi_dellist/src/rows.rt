@@ -8,8 +8,8 @@ ghost use Rattle.myi_dellist.specs.Placing.{areas_of, append_from, end_behind, i
 ghost use Rattle.myi_dellist.specs.Freeing.{Becomes, CutsOff, IfDamaged};
 ghost use Rattle.myi_dellist.specs.Taking.{Run};
 ghost use Rattle.myi_dellist.specs.Rows.{row_written, IfFull, IsNotDamaged};
-ghost use Rattle.myi_dellist.specs.Planning.{rest_bytes, head_by, IsReleasable};
-ghost use Rattle.myi_dellist.specs.Putting.{Puts, PutBad, PutLong};
+ghost use Rattle.myi_dellist.specs.Planning.{rest_bytes, head_by, more_by, IsReleasable};
+ghost use Rattle.myi_dellist.specs.Putting.{Puts, PutCounts, PutBad, PutLong};
 
 use crate::fault::FreeFault;
 use crate::links::{put_first, take_joined, write_first};
@@ -21,6 +21,30 @@ use myi_io::Files;
 
 /// No file is longer than places reach.
 const PLACES: u128 = 1 << 64;
+
+/// What putting a row did.
+#[derive(Clone, Copy, Debug, PartialEq, Eq)]
+pub struct Put {
+    /// The row's place.
+    pub at: u64,
+    /// How many blocks it has.
+    pub blocks: u64,
+    /// How many bytes these have.
+    pub bytes: u64,
+    /// How many deleted blocks it took.
+    pub taken: u64,
+    /// How many deleted blocks are on the list that were not: what its last block left over, if that is
+    /// joined with none.
+    pub more: u64,
+}
+
+/// The list once a row was put, how many of its blocks the row took, and how many are on it that were not.
+#[derive(Clone, Copy)]
+pub(crate) struct Placed {
+    pub list: ListEnds,
+    pub taken: u64,
+    pub more: u64,
+}
 
 /// Where a file ends, and the place that its end stays below.
 #[derive(Clone, Copy)]
@@ -49,6 +73,8 @@ fn put_behind<F: Files>(
         (row_written (pieces.old.items
         ++ append_from left (length packed.now) (is_none pieces.old.items) left end.now.at)
         packed.now (bytes_of name.now m)) m n)) }
+    ensures pieces { OnOk result (pieces.new.items ≡ pieces.old.items
+        ++ append_from left (length packed.now) (is_none pieces.old.items) left end.now.at) }
     ensures others { Told (F.holds files.old) (F.holds files.new) (OthersStay name.now) }
     ensures end { IfOk result (λ r. r ≡ end_behind end.now.at
         (append_from left (length packed.now) (is_none pieces.old.items) left end.now.at)) }
@@ -79,6 +105,8 @@ pub(crate) fn put_at_end<F: Files>(
     ensures ok { OnOk result (Told (F.holds files.old) (F.holds files.new) (λ m n. Becomes name.now
         (row_written (append_from (length packed.now) (length packed.now) true (length packed.now)
         end.now.at) packed.now (bytes_of name.now m)) m n)) }
+    ensures pieces { OnOk result (pieces.new.items ≡ append_from (length packed.now)
+        (length packed.now) true (length packed.now) end.now.at) }
     ensures others { Told (F.holds files.old) (F.holds files.new) (OthersStay name.now) }
     ensures end { IfOk result (λ r. r ≡ end_behind end.now.at (append_from (length packed.now)
         (length packed.now) true (length packed.now) end.now.at)) }
@@ -125,7 +153,21 @@ fn head_by(plan: &RowPlan) -> Option<u64>
     }
 }
 
-/// Puts a row into the blocks of the list, and behind the end what they do not hold; answers the list then.
+/// How many deleted blocks are on the list that were not, once a row was put.
+fn more_by(plan: &RowPlan) -> u64
+    ensures { result ≡ more_by plan.now.rest }
+{
+    let Some(rest) = plan.rest else {
+        return 0;
+    };
+    match rest.plan.joined {
+        None => 1,
+        Some(_) => 0,
+    }
+}
+
+/// Puts a row into the blocks of the list, and behind the end what they do not hold; answers the list then,
+/// and how many blocks came and went.
 pub(crate) fn put_row<F: Files>(
     files: &mut F,
     name: &str,
@@ -133,15 +175,18 @@ pub(crate) fn put_row<F: Files>(
     pieces: &mut Vec<Piece>,
     packed: &[u8],
     end_below: u128,
-) -> Result<ListEnds, FreeFault>
+) -> Result<Placed, FreeFault>
     requires writable { IsTrue F.writable }
     requires some { 0 < length packed.now }
     requires few { length packed.now < 2 ^ 32 }
     requires end { list.end < end_below }
     ensures ok { IfOk result (λ new. Told (F.holds files.old) (F.holds files.new)
-        (Puts name.now list packed.now new)) }
+        (Puts name.now list packed.now new.list)) }
+    ensures counts { IfOk result (λ new. IfTold (F.holds files.old) (λ m.
+        length (bytes_of name.now m) ≡ list.end → PutCounts (bytes_of name.now m) list
+        (length packed.now) pieces.new.items new.taken new.more)) }
     ensures others { Told (F.holds files.old) (F.holds files.new) (OthersStay name.now) }
-    ensures room { IfOk result (λ new. new.end < min end_below (2 ^ 64)) }
+    ensures room { IfOk result (λ new. new.list.end < min end_below (2 ^ 64)) }
     ensures damaged { IfErr result (λ f. IfDamaged f (λ p. IfTold (F.holds files.old) (λ m.
         length (bytes_of name.now m) ≡ list.end
         → PutBad (bytes_of name.now m) list.head (length packed.now) p))) }
@@ -156,23 +201,34 @@ pub(crate) fn put_row<F: Files>(
 {
     pieces.clear();
     let taken = take_full(files, name, &list, pieces, packed.len() as u32)?;
+    let filled = pieces.len() as u64;
     let Some(hole) = taken.next else {
         let limit = FileEnd {
             at: list.end,
             below: end_below,
         };
         let to = put_behind(files, name, pieces, packed, taken.left, &limit)?;
-        return Ok(ListEnds {
+        let new = ListEnds {
             head: None,
             end: to,
+        };
+        return Ok(Placed {
+            list: new,
+            taken: filled,
+            more: 0,
         });
     };
     let plan = plan_last(files, name, &list, pieces, taken.left, &hole)?;
     write_first(files, name, plan.next)?;
     write_pieces(files, name, pieces, packed)?;
     write_rest(files, name, plan.rest)?;
-    Ok(ListEnds {
+    let new = ListEnds {
         head: head_by(&plan),
         end: list.end,
+    };
+    Ok(Placed {
+        list: new,
+        taken: pieces.len() as u64,
+        more: more_by(&plan),
     })
 }

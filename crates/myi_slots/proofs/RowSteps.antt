@@ -23,13 +23,13 @@ use Rattle.myi_state.specs.State.{StoredRow, TableState, row_areas, put_row, row
 use Rattle.myi_state.specs.Changes.{Change, insert, delete, update, no_row, full, Changed, with_row, without_row, with_values, accepted, if_absent, lacks_row, step}
 use Rattle.myi_state.specs.Sound.{IsSlot}
 use Rattle.myi_state.specs.Numbers.{total_bytes, counts_of}
-use Rattle.myi_state.proofs.CallerLemmas.{row-refused, slot-some}
+use Rattle.myi_state.proofs.CallerLemmas.{row-refused, slot-some, state-few, same-counts, put-rows, put-areas, gone-rows, gone-areas}
 use Rattle.myi_slots.specs.SlotBytes.{hole_in, hole_bytes, is_row, row_there, is_slot, slot_number}
 use Rattle.myi_slots.specs.SlotFile.{SlotFile, IsFileOf, Steps, Fills, LacksHole, IsLink, filled_counts, freed_counts, IsFound, IsReply}
 use Rattle.myi_slots.proofs.StandLemmas.{static-of, few-slots, number-fits, head-is}
 use Rattle.myi_slots.proofs.ChangeLemmas.{again_static, back_static, insert-stands, update-stands, delete-stands, own-of}
 use Rattle.myi_slots.proofs.FoundLemmas.{IsThere, row-there, no-row-there, head-there, slot-is, holes-known}
-use Rattle.myi_slots.proofs.CountLemmas.{state-few, row-filled, row-freed, same-counts, put-rows, put-areas, gone-rows, gone-areas}
+use Rattle.myi_slots.proofs.CountLemmas.{row-filled, row-freed}
 use Rattle.myi_slots.proofs.StepLemmas.{step-done, step-full, bytes-written, stepped, end-of, head-of, inserted_state}
 
 -- the spelling of a static row is as long as a slot
@@ -85,7 +85,7 @@ fill-steps f g values at p bytes m n sound static fit packed head here room writ
     let place : next_place s.space.holes s.space.end ≡ at = ap (λ (hs : List Area). next_place hs s.space.end) h.is ∙ h.there in
     let stands = insert-stands d s x values sound static fit sized k.stands in
     let q = static-of d t _ static stands in
-    let few = state-few d t sound q.state q.slots in
+    let few = state-few d t sound q.state in
     let end = filled_end d s values at static h in
     let short : t.space.end ≤ 2 ^ 40 = omega (arith, (few-slots d f.counts.length static room).0, end, end-of f s m k) in
     let r : StoredRow = record { at = h.first.at; values = values; blocks = h.first ∷ [] } in
@@ -218,7 +218,7 @@ delete-steps f g at m n sound static is room written object s k =
     let short : t.space.end ≤ 2 ^ 40 = omega (arith, few.0, end, long) in
     let holes : t.space.holes ≡ own.area ∷ s.space.holes = ap (λ (c : Changed). c.state.space.holes) done ∙ ap (λ (bs : List Area). bs ++ s.space.holes) own.is in
     let one : length r.0.blocks ≡ 1 = ap (λ (bs : List Area). length bs) own.is in
-    let numbers = row-freed s t r.0 own.area at d.slot_length (state-few d t sound q.state q.slots) short r.1 (ap (λ (c : Changed). c.state.rows) done) one holes own.there own.size end in
+    let numbers = row-freed s t r.0 own.area at d.slot_length (state-few d t sound q.state) short r.1 (ap (λ (c : Changed). c.state.rows) done) one holes own.there own.size end in
     let held : bytes_of f.name n ≡ overwritten at (hole_bytes d.slot_length d.rec_ref (first_or s.space.holes None)) x = bytes-written f.name (hole_bytes d.slot_length d.rec_ref f.counts.dellink) at m n written ∙ ap (λ (o : Option ℕ). overwritten at (hole_bytes d.slot_length d.rec_ref o) x) (head-of f s m k) in
     stepped f g (delete at) s t at (accepted d s (delete at)).at (overwritten at (hole_bytes d.slot_length d.rec_ref (first_or s.space.holes None)) x) (freed_counts d.slot_length at f.counts) m n
     (step-done d s (delete at) f.counts.length (ap (λ (o : Option StoredRow). if_absent at o) r.1) (end ∙ sym long) room) (ap (λ (c : Changed). c.at) done) object (ap (λ (c : Counts). freed_counts d.slot_length at c) k.counts ∙ sym numbers) held stands

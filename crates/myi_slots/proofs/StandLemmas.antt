@@ -1,6 +1,6 @@
 -- A static data file that stands for a state, and what it stands for once a slot is written.
 use Rattle.std.proofs.Common.{◌≡◌, ℕ, ◌+◌, ◌-◌, ◌*◌, ◌/◌, ◌%◌, ◌^◌, ◌<◌, ◌≤◌, ◌⊎◌, inl, inr, Bool, true, false, List, [], ◌∷◌, ◌++◌, length, Option, Some, None, refl, sym, ap, subst, ◌∙◌, arith}
-use Rattle.std.specs.Prelude.{◌==◌, nat_le, nat_lt, ◌&&◌, if◌then◌else◌}
+use Rattle.std.specs.Prelude.{◌==◌, nat_le, nat_lt, ◌&&◌}
 use Rattle.std.specs.List.{AllByRecursion}
 use Rattle.std.proofs.lemmas.Bool.{leb-true, ltb-true, ne_eqb}
 use Rattle.std.proofs.Math.Nat.{add-mod_right, lt-div-mul-add, div-lt_iff_lt-mul, zero-mod, mod-add-div'}
@@ -15,14 +15,14 @@ use Rattle.myi_pack.specs.Unpacking.{row_of}
 use Rattle.myi_pack.specs.Spelling.{spelling, fits}
 use Rattle.myi_pack.proofs.CallerLemmas.{row-reads}
 use Rattle.myi_dellist.specs.Areas.{Area, Tile, HaveBytes, IsApart, AreApart, AreInside}
-use Rattle.myi_dellist.specs.Order.{put_in, in_order, Follow}
+use Rattle.myi_dellist.specs.Order.{in_order, Follow}
 use Rattle.myi_dellist.specs.Standing.{first_or}
 use Rattle.myi_dellist.proofs.CallerLemmas.{tiles-follow, tile-apart, tile-inside}
 use Rattle.myi_state.specs.State.{StoredRow, TableState, row_areas, Taken}
 use Rattle.myi_state.specs.Changes.{with_row}
 use Rattle.myi_state.specs.Sound.{IsSlot, AreOneSlot, AreBlocks, AreHoles, IsRow, IsState}
 use Rattle.myi_state.specs.Standing.{slot_bytes, StandsInSlot, RowStands, HolesStand, named_slot, next_in_slot, ListSlots, StandsFor}
-use Rattle.myi_state.proofs.CallerLemmas.{put-all, in-order-all, apart-across, state-bytes}
+use Rattle.myi_state.proofs.CallerLemmas.{put-all, in-order-all, order-back, apart-across, state-bytes}
 use Rattle.myi_slots.specs.SlotBytes.{slot_number, hole_bytes}
 use Rattle.myi_slots.proofs.SlotLemmas.{written-slot, InSlots, rows-other, holes-other, hole-first, hole-number, length-hole}
 
@@ -121,18 +121,6 @@ sized_follow size end p (a ∷ areas) m all f =
     let next : (p + a.size) % size ≡ 0 = ap (λ (n : ℕ). (p + n) % size) all.0 ∙ add-mod_right p size ∙ m in
     (ap (λ (q : ℕ). q % size) f.0 ∙ m, sized_follow size end (p + a.size) areas next all.1 f.1)
 
-put_back : (P : Area → Type 0) (a : Area) (areas : List Area) → AllByRecursion P (put_in a areas) → P a × AllByRecursion P areas
-put_back P a [] all = all
-put_back P a (b ∷ areas) all = by_test (nat_le a.at b.at) all (put_back P a areas)
-  where
-    by_test : (t : Bool) → AllByRecursion P (if t then a ∷ b ∷ areas else b ∷ put_in a areas) → (AllByRecursion P (put_in a areas) → P a × AllByRecursion P areas) → P a × AllByRecursion P (b ∷ areas)
-    by_test true all ih = all
-    by_test false all ih = let t = ih all.1 in (t.0, (all.0, t.1))
-
-order_back : (P : Area → Type 0) (areas : List Area) → AllByRecursion P (in_order areas) → AllByRecursion P areas
-order_back P [] all = tt
-order_back P (a ∷ areas) all = let t = put_back P a (in_order areas) all in (t.0, order_back P areas t.1)
-
 abbrev pub AreMultiples : ℕ → List Area → Type 0
 AreMultiples size areas = AllByRecursion (λ (a : Area). a.at % size ≡ 0) areas
 
@@ -156,7 +144,7 @@ multiples d s x sound k =
     let all = row_areas s.rows ++ s.space.holes in
     let follow = tiles-follow s.space.end all (state-bytes d s sound k.state) k.state.tile in
     let slots = all-slots d.slot_length s.rows s.space.holes k.slots k.holes in
-    order_back (λ (a : Area). a.at % d.slot_length ≡ 0) all (sized_follow d.slot_length s.space.end 0 (in_order all) (zero-mod d.slot_length) (in-order-all (IsSlot d.slot_length) all slots) follow)
+    order-back (λ (a : Area). a.at % d.slot_length ≡ 0) all (sized_follow d.slot_length s.space.end 0 (in_order all) (zero-mod d.slot_length) (in-order-all (IsSlot d.slot_length) all slots) follow)
 
 -- ---- numbers of slots
 

@@ -16,11 +16,11 @@ use Rattle.myi_state.specs.State.{StoredRow, TableState, Taken, next_slot, slot_
 use Rattle.myi_state.specs.Changes.{Change, insert, insert_at_end, full, Changed, Step, with_row, accepted, refusal, lacks_row, first_of_two, if_long, step_by, step}
 use Rattle.myi_state.specs.Numbers.{counts_of}
 use Rattle.myi_state.specs.Standing.{StandsFor}
-use Rattle.myi_state.proofs.CallerLemmas.{room-refused, none-refused}
+use Rattle.myi_state.proofs.CallerLemmas.{room-refused, none-refused, state-few}
 use Rattle.myi_slots.specs.SlotFile.{SlotFile, IsFileOf, Steps, appended_counts}
-use Rattle.myi_slots.proofs.StandLemmas.{static-of, few-slots}
+use Rattle.myi_slots.proofs.StandLemmas.{few-slots}
 use Rattle.myi_slots.proofs.ChangeLemmas.{next_static, behind_static, append-stands}
-use Rattle.myi_slots.proofs.CountLemmas.{state-few, row-appended}
+use Rattle.myi_slots.proofs.CountLemmas.{row-appended}
 
 -- ---- any step
 
@@ -64,7 +64,7 @@ append-steps f g values at bytes m n sound static fit sized packed here room wri
     let end : (accepted d s (insert_at_end values)).state.space.end ≡ f.counts.length + length bytes = ap (λ (q : Changed). q.state.space.end) done ∙ omega (arith, long, size) in
     let t = (accepted d s (insert_at_end values)).state in
     let stands = append-stands d s x values sound static fit sized k.stands in
-    let few = state-few d t sound (static-of d t _ static stands).state (static-of d t _ static stands).slots in
+    let few = state-few d t sound stands.state in
     let short : t.space.end ≤ 2 ^ 40 = omega (arith, (few-slots d (f.counts.length + length bytes) static room).0, end) in
     let r : StoredRow = record { at = s.space.end; values = values; blocks = record { at = s.space.end; size = d.slot_length } ∷ [] } in
     let numbers = row-appended s t r d.slot_length few short (ap (λ (q : Changed). q.state.rows) done) refl (ap (λ (q : Changed). q.state.space.holes) done) (ap (λ (q : Changed). q.state.space.end) done) in

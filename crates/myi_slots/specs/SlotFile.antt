@@ -1,4 +1,5 @@
--- The data file of a static table that changes: what an object on it keeps, and what its calls do.
+-- The data file of a table that changes: what an object on it keeps, and what its calls do; and of a static table, when there is
+-- room, and which numbers a change makes.
 use Rattle.std.specs.Prelude.{◌≡◌, ◌+◌, ◌-◌, ◌^◌, min, ℕ, Bool, true, false, List, length, Option, Some, None, Result, Ok, Err}
 use Rattle.myi_base.specs.Holding.{Holding, bytes_of}
 use Rattle.myi_defs.specs.declared.types.Defs.{Defs}
@@ -11,6 +12,8 @@ use Rattle.myi_state.specs.Numbers.{counts_of}
 use Rattle.myi_state.specs.Standing.{StandsFor}
 use Rattle.myi_header.specs.declared.state.State.{State}
 use Rattle.myi_slots.specs.SlotBytes.{is_slot, is_row, hole_in}
+use Rattle.myi_dellist.specs.declared.fault.FreeFault.{FreeFault}
+use Rattle.myi_dellist.specs.declared.fault.FreeFault.TheVariants as free
 use Rattle.myi_slots.specs.declared.fault.DataFault.{DataFault}
 use Rattle.myi_slots.specs.declared.fault.DataFault.TheVariants as fault
 
@@ -140,6 +143,13 @@ IfRefused fault.Full P = P
 IfRefused (fault.Damaged at) P = P
 IfRefused fault.File P = Unit {0}
 IfRefused fault.Memory P = Unit {0}
+
+-- how a refusal of the deleted list is told
+abbrev pub data_fault : FreeFault → DataFault
+data_fault free.Full = fault.Full
+data_fault (free.Damaged at) = fault.Damaged at
+data_fault free.File = fault.File
+data_fault free.Memory = fault.Memory
 
 -- a call was cut off by a failed file call or for want of memory
 abbrev pub CutsOff : DataFault → Type 0

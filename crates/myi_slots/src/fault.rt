@@ -1,5 +1,6 @@
 //! Why a call on a data file did not do its work.
 
+use myi_dellist::FreeFault;
 use myi_io::FileErr;
 use std::alloc::AllocError;
 use thiserror::Error;
@@ -13,7 +14,7 @@ pub enum DataFault {
     /// The file would become longer than row pointers reach. Nothing was changed.
     #[error("the table is full")]
     Full,
-    /// The slot at this place is not what the list of deleted slots needs. Nothing was changed.
+    /// What stands at this place is not what the deleted list or a row needs there. Nothing was changed.
     #[error("the data file is damaged at {at}")]
     Damaged { at: u64 },
     /// A file call failed. The files' count of faults rose.
@@ -46,5 +47,21 @@ impl From<AllocError> for DataFault {
 
     fn from(_: AllocError) -> Self {
         DataFault::Memory
+    }
+}
+
+impl From<FreeFault> for DataFault {
+    ghost use Rattle.std.specs.Prelude.{◌≡◌};
+    ghost use Rattle.myi_slots.specs.SlotFile.{data_fault};
+
+    ghost from_gives = { λ e f. f ≡ data_fault e };
+
+    fn from(fault: FreeFault) -> Self {
+        match fault {
+            FreeFault::Full => DataFault::Full,
+            FreeFault::Damaged { at } => DataFault::Damaged { at },
+            FreeFault::File => DataFault::File,
+            FreeFault::Memory => DataFault::Memory,
+        }
     }
 }

@@ -13,7 +13,13 @@ pub use Rattle.myi_state.proofs.KeptLemmas.{history-replayed}
 -- These serve proofs about files: what the areas of a state are.
 pub use Rattle.myi_state.proofs.RowLemmas.{below-both, below-rising, put-all, without-all, found-is}
 pub use Rattle.myi_state.proofs.KeptLemmas.{others-tile, slot-some}
-pub use Rattle.myi_state.proofs.TakenLemmas.{in-order-all}
+pub use Rattle.myi_state.proofs.TakenLemmas.{in-order-all, order-back}
 pub use Rattle.myi_state.proofs.CellLemmas.{apart-across}
 pub use Rattle.myi_state.proofs.ReadLemmas.{state-bytes}
 pub use Rattle.myi_state.proofs.ShownLemmas.{static-begins}
+pub use Rattle.myi_state.proofs.TakenLemmas.{TakesSpace, IsAligned, next-takes, behind-takes, none-own}
+pub use Rattle.myi_state.proofs.KeptLemmas.{state-aligned}
+pub use Rattle.myi_state.proofs.CellLemmas.{ranges-apart, free-of-none}
+pub use Rattle.myi_state.proofs.StandingLemmas.{chain-ranges}
+-- These serve proofs about numbers.
+pub use Rattle.myi_state.proofs.CountLemmas.{same-counts, put-rows, put-areas, gone-rows, gone-areas, areas-few, bytes-inside, halves-of, AreFew, state-few}

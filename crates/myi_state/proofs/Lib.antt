@@ -6,4 +6,5 @@ pub mod ShownLemmas
 pub mod ReadLemmas
 pub mod StandingLemmas
 pub mod StateLemmas
+pub mod CountLemmas
 pub mod CallerLemmas

@@ -90,9 +90,9 @@ items_static d x static = rw static refl
 
 -- ---- dynamic tables
 
-chain_ranges : (bs : List Block) → map range_of_area (map area_of_block bs) ≡ ranges bs
-chain_ranges [] = refl
-chain_ranges (b ∷ bs) = ap (λ (xs : List Range). range_of b ∷ xs) (chain_ranges bs)
+pub chain-ranges : (bs : List Block) → map range_of_area (map area_of_block bs) ≡ ranges bs
+chain-ranges [] = refl
+chain-ranges (b ∷ bs) = ap (λ (xs : List Range). range_of b ∷ xs) (chain-ranges bs)
 
 block_row : (d : Defs) (x : List ℕ) → IsReading (block_of x) (length x) → FindsChains x → (r : StoredRow) → StandsInBlocks d x r → Shows (shown_block x) d r
 block_row d x reads finds r s =
@@ -101,7 +101,7 @@ block_row d x reads finds r s =
       met = row_at r.at s.chain;
       at = refl;
       values = s.packs;
-      ranges_are = sym (chain_ranges s.chain) ∙ ap (λ (xs : List Area). map range_of_area xs) s.blocks;
+      ranges_are = sym (chain-ranges s.chain) ∙ ap (λ (xs : List Area). map range_of_area xs) s.blocks;
       head = w.head;
       more = w.more;
       is = w.is;

@@ -49,8 +49,8 @@ place_first : (ps : List Piece) (p : ℕ) → place_of ps ≡ Some p → first_o
 place_first [] p e = absurd cc
 place_first (x ∷ ps) p e = e
 
-none_own : (s : Space) (len : ℕ) → update s [] len ≡ place s [] len
-none_own s len = by_len (nat_lt len (2 ^ 24))
+pub none-own : (s : Space) (len : ℕ) → update s [] len ≡ place s [] len
+none-own s len = by_len (nat_lt len (2 ^ 24))
   where
     by_len : (b : Bool) → place s (if b then [] else flat_map own_parts []) len ≡ place s [] len
     by_len true = refl
@@ -83,7 +83,7 @@ end_takes size s len some aligned holes = record {
 pub next-takes : (f : RowFormat) (size : ℕ) (s : Space) (len : ℕ) → 0 < len → IsAligned f s.end → AreHoles f size s.holes → TakesSpace f size (next_place s.holes s.end) s [] (take_next f size s len)
 next-takes Static size s len some aligned holes = slot_takes size s.holes s.end holes
 next-takes Dynamic size s len some aligned holes =
-    let none = none_own s len in
+    let none = none-own s len in
     let at = ap (λ q. place_of q.pieces) none ∙ place-new s len some in
     subst (λ q. TakesSpace Dynamic size (next_place s.holes s.end) s [] (taken_of q)) none
     (any_size len size (next_place s.holes s.end) s [] (taken_of (update s [] len)) (blocks_take s [] len (next_place s.holes s.end) some aligned tt holes at))
@@ -133,6 +133,19 @@ put-in-all P a (b ∷ areas) h all = by_test (nat_le a.at b.at) (put-in-all P a 
 pub in-order-all : (P : Area → Type 0) (areas : List Area) → AllByRecursion P areas → AllByRecursion P (in_order areas)
 in-order-all P [] all = tt
 in-order-all P (a ∷ areas) all = put-in-all P a (in_order areas) all.0 (in-order-all P areas all.1)
+
+-- and what holds of the sorted ones holds of all
+put_back : (P : Area → Type 0) (a : Area) (areas : List Area) → AllByRecursion P (put_in a areas) → P a × AllByRecursion P areas
+put_back P a [] all = all
+put_back P a (b ∷ areas) all = by_test (nat_le a.at b.at) all (put_back P a areas)
+  where
+    by_test : (t : Bool) → AllByRecursion P (if t then a ∷ b ∷ areas else b ∷ put_in a areas) → (AllByRecursion P (put_in a areas) → P a × AllByRecursion P areas) → P a × AllByRecursion P (b ∷ areas)
+    by_test true all ih = all
+    by_test false all ih = let t = ih all.1 in (t.0, (all.0, t.1))
+
+pub order-back : (P : Area → Type 0) (areas : List Area) → AllByRecursion P (in_order areas) → AllByRecursion P areas
+order-back P [] all = tt
+order-back P (a ∷ areas) all = let t = put_back P a (in_order areas) all in (t.0, order-back P areas t.1)
 
 -- a multiple of 4 with a byte
 pub record IsFours (a : Area) : Type 0 where

@@ -1,7 +1,7 @@
 use Rattle.std.proofs.Common.{ℕ, ◌+◌, ◌-◌, ◌∙◌, ◌++◌, ◌∷◌, [], Some, Err, ap, arith}
 use Rattle.std.proofs.lemmas.Result.{err_from_is_err_and}
 use Rattle.myi_base.specs.Holding.{bytes_of}
-use Rattle.myi_dellist.specs.Freeing.{block_named}
+use Rattle.myi_dellist.specs.Freeing.{hole_in, block_named}
 use Rattle.myi_dellist.specs.Planning.{rest_in}
 use Rattle.myi_dellist.proofs.NeedLemmas.{err_any}
 use Rattle.myi_dellist.proofs.PlanningLemmas.{IsLeft, row_err, row_filled, row_rest, row_rest_err, spare_place, not_same}
@@ -12,7 +12,7 @@ returns-in_err-next-clause-told g c m held long =
     let d = bytes_of c.args.name.now m in
     let h = c.args.hole.now in
     let e = err_from_is_err_and c.from_residual-in_err-next.result c.from_residual-in_err-next.ensures.1 in
-    err_any c.from_residual-in_err-next.result c.in_err-next.field-0.0 (block_named d (Some h.at) h.next) _ (e.1 ∙ ap Err e.2) (λ p f. row_err d c.args.list.now.head c.args.pieces.now.items c.args.left h p f) (c.in_err-next.ensures.told m held long)
+    err_any c.from_residual-in_err-next.result c.in_err-next.field-0.0 (block_named (hole_in d) (Some h.at) h.next) _ (e.1 ∙ ap Err e.2) (λ p f. row_err d c.args.list.now.head c.args.pieces.now.items c.args.left h p f) (c.in_err-next.ensures.told m held long)
 
 pub returns-then-size-hole-clause-told : goal.returns-then-size-hole-clause-told
 returns-then-size-hole-clause-told g c m held long =

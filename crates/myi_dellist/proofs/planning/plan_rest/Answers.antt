@@ -2,7 +2,7 @@ use Rattle.std.proofs.Common.{◌∙◌, Ok, Err, sym, ap, subst}
 use Rattle.std.proofs.lemmas.Result.{err_from_is_err_and}
 use Rattle.myi_base.specs.Holding.{bytes_of}
 use Rattle.myi_dellist.specs.declared.linked.ReleasePlan.{ReleasePlan}
-use Rattle.myi_dellist.specs.Freeing.{IsPlanIn}
+use Rattle.myi_dellist.specs.Freeing.{hole_in, IsPlanIn}
 use Rattle.myi_dellist.specs.Merging.{merge_in}
 use Rattle.myi_dellist.proofs.NeedLemmas.{err_any}
 use Rattle.myi_dellist.proofs.PlanningLemmas.{rest_ok, rest_err, rest_holes}
@@ -13,7 +13,7 @@ returns-in_err-joined-clause-told g c m held long =
     let d = bytes_of c.args.name.now m in
     let s = c.args.spare.now in
     let e = err_from_is_err_and c.from_residual.result c.from_residual.ensures.1 in
-    err_any c.from_residual.result c.in_err-joined.field-0.0 (merge_in d c.args.list.now.head s.at s.size) _ (e.1 ∙ ap Err e.2) (λ p f. rest_err d c.args.list.now.head c.args.pieces.now s c.args.next p f) (c.in_err-joined.ensures.told m held long)
+    err_any c.from_residual.result c.in_err-joined.field-0.0 (merge_in (hole_in d) c.args.list.now.head s.at s.size) _ (e.1 ∙ ap Err e.2) (λ p f. rest_err d c.args.list.now.head c.args.pieces.now s c.args.next p f) (c.in_err-joined.ensures.told m held long)
 
 pub returns-clause-told : goal.returns-clause-told
 returns-clause-told g c m held long = rest_ok (bytes_of c.args.name.now m) c.args.list.now.head c.args.pieces.now c.args.spare.now c.args.next c.in_ok-joined.joined (c.in_ok-joined.ensures.told m held long)

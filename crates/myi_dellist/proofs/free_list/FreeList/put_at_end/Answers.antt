@@ -3,7 +3,7 @@ use Rattle.myi_dellist.specs.Placing.{end_behind}
 use Rattle.myi_dellist.specs.FreeList.{ListState}
 use Rattle.myi_dellist.specs.Rows.{end_with}
 use Rattle.myi_dellist.proofs.AtEndLemmas.{end_pieces, puts_end}
-use Rattle.myi_dellist.proofs.free_list.FreeList.write_row_at_end.Goals as goal
+use Rattle.myi_dellist.proofs.free_list.FreeList.put_at_end.Goals as goal
 
 pub returns-clause-ok : goal.returns-clause-ok
 returns-clause-ok g c =

@@ -1,0 +1,5 @@
+pub mod StandLemmas
+pub mod PutLemmas
+pub mod CountLemmas
+pub mod StepLemmas
+pub mod ResultLemmas

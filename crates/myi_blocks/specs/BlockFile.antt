@@ -1,0 +1,47 @@
+-- The data file of a dynamic table that changes: the deleted list in it, what refuses a row, and which numbers a change makes. What
+-- an object on it keeps, and what a step is, is that of every data file that changes.
+use Rattle.std.specs.Prelude.{◌≡◌, ◌+◌, ◌-◌, ◌^◌, min, ℕ, true, [], Option}
+use Rattle.myi_base.specs.Holding.{Holding, bytes_of}
+use Rattle.myi_defs.specs.declared.types.Defs.{Defs}
+use Rattle.myi_defs.specs.Addressable.{is_addressable}
+use Rattle.myi_dellist.specs.declared.rows.Put.{Put}
+use Rattle.myi_dellist.specs.Placing.{place_at_end}
+use Rattle.myi_dellist.specs.FreeList.{ListState}
+use Rattle.myi_dellist.specs.Putting.{PutBad, PutLong}
+use Rattle.myi_state.specs.declared.counts.Counts.{Counts}
+use Rattle.myi_slots.specs.SlotFile.{SlotFile, risen}
+
+-- the place that the end of a file stays below, so that row pointers reach all of it
+abbrev pub end_limit : Defs → ℕ
+end_limit d = min (2 ^ 40 + 1) (256 ^ d.rec_ref - 1)
+
+-- the deleted list of the file
+abbrev pub list_in : SlotFile → ListState
+list_in f = record { name = f.name; head = f.counts.dellink; end = f.counts.length; end_below = end_limit f.defs }
+
+-- where the list's file may end: row pointers reach a file that ends below its limit
+abbrev pub HasLimit : Defs → ListState → Type 0
+HasLimit d l = is_addressable d l.end ≡ true → l.end_below ≡ end_limit d
+
+-- where the file ends with a row of so many bytes behind its end
+abbrev pub end_with : SlotFile → ℕ → ℕ
+end_with f len = (place_at_end (record { holes = []; end = f.counts.length }) len).space.end
+
+-- a block that is read for a row of so many bytes is not what the list needs at this place
+abbrev pub FindsBad : SlotFile → ℕ → ℕ → Holding → Type 0
+FindsBad f len at m = PutBad (bytes_of f.name m) f.counts.dellink len at
+
+-- the list ends before a row of so many bytes does, and row pointers would not reach the whole file
+abbrev pub LacksRoom : SlotFile → ℕ → Holding → Type 0
+LacksRoom f len m = PutLong (bytes_of f.name m) f.counts.dellink f.counts.length (end_limit f.defs) len
+
+-- the numbers behind a row that was put; a count that would pass the end of its type stays there
+abbrev pub counts_with : Put → ℕ → Option ℕ → Counts → Counts
+counts_with put end head c = record {
+  records = risen c.records 1;
+  del = risen c.del put.more - put.taken;
+  split = risen c.split put.blocks;
+  empty = risen c.empty (end - c.length) - put.bytes;
+  length = end;
+  dellink = head;
+}

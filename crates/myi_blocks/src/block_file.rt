@@ -1,0 +1,277 @@
+//! `BlockFile`: the data file of a dynamic table that changes.
+ghost use Rattle.std.specs.Prelude.{◌≡◌, ◌<◌, true};
+ghost use Rattle.myi_defs.specs.declared.types.RowFormat.TheVariants.{Dynamic};
+ghost use Rattle.myi_defs.specs.Addressable.{is_addressable};
+ghost use Rattle.myi_blocks.specs.BlockFile.{end_limit};
+
+use crate::numbers::{Tally, end_limit, with_row};
+use myi_defs::Defs;
+use myi_dellist::{FreeList, Limits, Put};
+use myi_header::State;
+use myi_io::Files;
+use myi_pack::{Row, pack};
+use myi_slots::DataFault;
+use myi_state::Counts;
+use std::alloc::{AllocError, Global};
+use std::marker::Model;
+
+/// The data file of a dynamic table, by the name of the file.
+pub struct BlockFile {
+    list: FreeList,
+    defs: Defs,
+    tally: Tally,
+}
+
+impl Drop for BlockFile {
+    fn drop(self) {
+        let BlockFile {
+            list: _,
+            defs: _,
+            tally: _,
+        } = self;
+    }
+}
+
+impl Model for BlockFile {
+    ghost use Rattle.std.specs.Prelude.{◌≡◌};
+    ghost use Rattle.myi_defs.specs.Sound.{IsSound};
+    ghost use Rattle.myi_defs.specs.declared.types.RowFormat.TheVariants.{Dynamic};
+    ghost use Rattle.myi_slots.specs.SlotFile.{SlotFile};
+    ghost use Rattle.myi_blocks.specs.BlockFile.{HasLimit};
+
+    ghost Value = { SlotFile };
+
+    ghost view = { λ s. record {
+      name = s.list.name;
+      defs = s.defs;
+      counts = record {
+        records = s.tally.records;
+        del = s.tally.del;
+        split = s.tally.split;
+        empty = s.tally.empty;
+        length = s.list.end;
+        dellink = s.list.head;
+      };
+    } };
+
+    ghost invariant = { λ s. IsSound s.defs × (s.defs.format ≡ Dynamic) × HasLimit s.defs s.list };
+}
+
+/// The place that the end of a file stays below: row pointers reach all of a file that ends before it, if they
+/// reach all of this one.
+fn limit_of(defs: &Defs, end: u64) -> u128
+    requires { defs.now.format ≡ Dynamic }
+    ensures above { end < result }
+    ensures limit { is_addressable defs.now end ≡ true → result ≡ end_limit defs.now }
+{
+    if !defs.addressable(end) {
+        return end as u128 + 1;
+    }
+    end_limit(defs.rec_ref) as u128
+}
+
+impl BlockFile {
+    ghost use Rattle.std.specs.Prelude.{◌≡◌, ◌⊎◌, ◌<◌, ◌^◌, true, false, is_some, unwrap_or, length, IfOk, IfErr, OnOk, OnErr, IsTrue};
+    ghost use Rattle.myi_base.specs.Holding.{IfTold, Told, OthersStay, bytes_of};
+    ghost use Rattle.myi_base.specs.Causes.{HasCause};
+    ghost use Rattle.myi_defs.specs.declared.types.RowFormat.TheVariants.{Dynamic};
+    ghost use Rattle.myi_defs.specs.Sound.{IsSound};
+    ghost use Rattle.myi_pack.specs.Spelling.{spelling, fits};
+    ghost use Rattle.myi_dellist.specs.Rows.{PutsNew, PutsAtEnd, TalliesNew, TalliesAtEnd};
+    ghost use Rattle.myi_state.specs.Changes.{insert, insert_at_end};
+    ghost use Rattle.myi_slots.specs.declared.fault.DataFault.TheVariants.{File};
+    ghost use Rattle.myi_slots.specs.SlotFile.{IsLong, Steps, Refuses, IfRefused, ByCause, Never, counts_in, is_reached, risen};
+    ghost use Rattle.myi_blocks.specs.BlockFile.{list_in, end_with, FindsBad, LacksRoom, counts_with};
+
+    /// The data file of that name, with these definitions of a dynamic table and this state.
+    pub fn new(
+        alloc: Global,
+        name: &str,
+        defs: &Defs,
+        state: &State,
+    ) -> Result<BlockFile, AllocError>
+        requires sound { IsSound defs.now }
+        requires format { defs.now.format ≡ Dynamic }
+        ensures { IfOk result (λ file. file ≡ record {
+          name = name.now;
+          defs = defs.now;
+          counts = counts_in state.now;
+        }) }
+    {
+        let end = state.data_file_length;
+        let limits = Limits {
+            end_below: limit_of(defs, end),
+        };
+        Ok(BlockFile {
+            list: FreeList::new(alloc, name, state.dellink, end, limits)?,
+            defs: defs.copy()?,
+            tally: Tally {
+                records: state.records,
+                del: state.del,
+                split: state.split,
+                empty: state.empty,
+            },
+        })
+    }
+
+    /// The numbers that the table's state is to have. It takes no memory.
+    pub fn counts(&self) -> Counts
+        ensures { result ≡ self.now.counts }
+    {
+        Counts {
+            records: self.tally.records,
+            del: self.tally.del,
+            split: self.tally.split,
+            empty: self.tally.empty,
+            length: self.list.end(),
+            dellink: self.list.head(),
+        }
+    }
+
+    /// Whether a block is deleted, so that the next row goes there. It takes no memory.
+    pub fn holes(&self) -> bool
+        ensures { result ≡ is_some self.now.counts.dellink }
+    {
+        self.list.head().is_some()
+    }
+
+    /// Puts a row of these bytes where it is to go.
+    fn put<F: Files>(&mut self, files: &mut F, packed: &[u8]) -> Result<Put, DataFault>
+        requires writable { IsTrue F.writable }
+        requires some { 0 < length packed.now }
+        requires few { length packed.now < 2 ^ 32 }
+        requires long { IfTold (F.holds files.old) (IsLong self.old) }
+        ensures sound { IsSound self.old.defs }
+        ensures format { self.old.defs.format ≡ Dynamic }
+        ensures ok { IfOk result (λ put. Told (F.holds files.old) (F.holds files.new)
+            (PutsNew (list_in self.old) (list_in self.new) packed.now put.at)) }
+        ensures tallies { IfOk result (λ put. IfTold (F.holds files.old)
+            (TalliesNew (list_in self.old) (length packed.now) put)) }
+        ensures counted { IfOk result (λ put. self.new ≡ record self.old {
+          counts = counts_with put self.new.counts.length self.new.counts.dellink self.old.counts;
+        }) }
+        ensures others { Told (F.holds files.old) (F.holds files.new) (OthersStay self.old.name) }
+        ensures place { IfOk result (λ put.
+            put.at ≡ unwrap_or self.old.counts.dellink self.old.counts.length) }
+        ensures room { OnOk result (is_reached self.new.counts.length self.old ≡ true) }
+        ensures causes { IfErr result (ByCause Never
+            ((is_reached self.old.counts.length self.old ≡ false)
+            ⊎ IfTold (F.holds files.old) (LacksRoom self.old (length packed.now)))
+            (λ p. IfTold (F.holds files.old) (FindsBad self.old (length packed.now) p))) }
+        ensures unchanged { IfErr result (λ f. IfRefused f
+            (F.holds files.new ≡ F.holds files.old)) }
+        ensures same { OnErr result (self.new ≡ self.old) }
+        ensures cause { HasCause File (F.faults files.old) (F.faults files.new) result }
+    {
+        let before = self.list.end();
+        if !self.defs.addressable(before) {
+            return Err(DataFault::Full);
+        }
+        let put = self.list.put(files, packed)?;
+        let grown = self.list.end().saturating_sub(before);
+        self.tally = with_row(self.tally, put, grown);
+        Ok(put)
+    }
+
+    /// Puts a row of these bytes behind the end.
+    fn append<F: Files>(&mut self, files: &mut F, packed: &[u8]) -> Result<Put, DataFault>
+        requires writable { IsTrue F.writable }
+        requires some { 0 < length packed.now }
+        requires few { length packed.now < 2 ^ 32 }
+        requires long { IfTold (F.holds files.old) (IsLong self.old) }
+        ensures sound { IsSound self.old.defs }
+        ensures format { self.old.defs.format ≡ Dynamic }
+        ensures ok { IfOk result (λ put. Told (F.holds files.old) (F.holds files.new)
+            (PutsAtEnd (list_in self.old) (list_in self.new) packed.now put.at)) }
+        ensures tallies { IfOk result (TalliesAtEnd (list_in self.old) (length packed.now)) }
+        ensures counted { IfOk result (λ put. self.new ≡ record self.old {
+          counts = counts_with put self.new.counts.length self.new.counts.dellink self.old.counts;
+        }) }
+        ensures others { Told (F.holds files.old) (F.holds files.new) (OthersStay self.old.name) }
+        ensures place { IfOk result (λ put. put.at ≡ self.old.counts.length) }
+        ensures room { OnOk result (is_reached self.new.counts.length self.old ≡ true) }
+        ensures causes { IfErr result (ByCause Never
+            (is_reached (end_with self.old (length packed.now)) self.old ≡ false) Never) }
+        ensures unchanged { IfErr result (λ f. IfRefused f
+            (F.holds files.new ≡ F.holds files.old)) }
+        ensures same { OnErr result (self.new ≡ self.old) }
+        ensures cause { HasCause File (F.faults files.old) (F.faults files.new) result }
+    {
+        let before = self.list.end();
+        if !self.defs.addressable(before) {
+            return Err(DataFault::Full);
+        }
+        let put = self.list.put_at_end(files, packed)?;
+        let grown = self.list.end().saturating_sub(before);
+        self.tally = with_row(self.tally, put, grown);
+        Ok(put)
+    }
+
+    /// Puts a new row into the deleted blocks from the head of the list, and behind the end what they do not
+    /// hold, and answers its position. `Full` comes exactly where row pointers would not reach the whole
+    /// file, `Damaged` exactly where a block that is read is not what the list needs there. Both change
+    /// nothing.
+    pub fn insert<F: Files>(&mut self, files: &mut F, row: &Row) -> Result<u64, DataFault>
+        requires writable { IsTrue F.writable }
+        requires fits { IsTrue (fits self.old.defs row.now) }
+        requires long { IfTold (F.holds files.old) (IsLong self.old) }
+        ensures ok { IfOk result (λ at. Told (F.holds files.old) (F.holds files.new)
+            (Steps (insert row.now) self.old self.new at)) }
+        ensures refused { IfErr result (λ f. IfTold (F.holds files.old)
+            (Refuses (insert row.now) self.old f)) }
+        ensures puts { IfOk result (λ at. Told (F.holds files.old) (F.holds files.new)
+            (PutsNew (list_in self.old) (list_in self.new) (spelling self.old.defs row.now) at)) }
+        ensures others { Told (F.holds files.old) (F.holds files.new) (OthersStay self.old.name) }
+        ensures place { IfOk result (λ at.
+            at ≡ unwrap_or self.old.counts.dellink self.old.counts.length) }
+        ensures room { OnOk result (is_reached self.new.counts.length self.old ≡ true) }
+        ensures object { self.new ≡ record self.old { counts = self.new.counts } }
+        ensures records { OnOk result
+            (self.new.counts.records ≡ risen self.old.counts.records 1) }
+        ensures causes { IfErr result (ByCause Never
+            ((is_reached self.old.counts.length self.old ≡ false)
+            ⊎ IfTold (F.holds files.old)
+            (LacksRoom self.old (length (spelling self.old.defs row.now))))
+            (λ p. IfTold (F.holds files.old)
+            (FindsBad self.old (length (spelling self.old.defs row.now)) p))) }
+        ensures unchanged { IfErr result (λ f. IfRefused f
+            (F.holds files.new ≡ F.holds files.old)) }
+        ensures same { OnErr result (self.new ≡ self.old) }
+        ensures cause { HasCause File (F.faults files.old) (F.faults files.new) result }
+    {
+        let packed = pack(self.defs.raw.allocator(), &self.defs, row)?;
+        let put = self.put(files, packed.as_slice())?;
+        Ok(put.at)
+    }
+
+    /// Puts a new row behind the end, whatever is deleted, and answers its position. `Full` comes exactly
+    /// where row pointers would not reach the whole file, and changes nothing.
+    pub fn insert_at_end<F: Files>(&mut self, files: &mut F, row: &Row) -> Result<u64, DataFault>
+        requires writable { IsTrue F.writable }
+        requires fits { IsTrue (fits self.old.defs row.now) }
+        requires long { IfTold (F.holds files.old) (IsLong self.old) }
+        ensures ok { IfOk result (λ at. Told (F.holds files.old) (F.holds files.new)
+            (Steps (insert_at_end row.now) self.old self.new at)) }
+        ensures refused { IfErr result (λ f. IfTold (F.holds files.old)
+            (Refuses (insert_at_end row.now) self.old f)) }
+        ensures puts { IfOk result (λ at. Told (F.holds files.old) (F.holds files.new)
+            (PutsAtEnd (list_in self.old) (list_in self.new) (spelling self.old.defs row.now) at)) }
+        ensures others { Told (F.holds files.old) (F.holds files.new) (OthersStay self.old.name) }
+        ensures place { IfOk result (λ at. at ≡ self.old.counts.length) }
+        ensures room { OnOk result (is_reached self.new.counts.length self.old ≡ true) }
+        ensures object { self.new ≡ record self.old { counts = self.new.counts } }
+        ensures records { OnOk result
+            (self.new.counts.records ≡ risen self.old.counts.records 1) }
+        ensures causes { IfErr result (ByCause Never
+            (is_reached (end_with self.old (length (spelling self.old.defs row.now))) self.old
+            ≡ false) Never) }
+        ensures unchanged { IfErr result (λ f. IfRefused f
+            (F.holds files.new ≡ F.holds files.old)) }
+        ensures same { OnErr result (self.new ≡ self.old) }
+        ensures cause { HasCause File (F.faults files.old) (F.faults files.new) result }
+    {
+        let packed = pack(self.defs.raw.allocator(), &self.defs, row)?;
+        let put = self.append(files, packed.as_slice())?;
+        Ok(put.at)
+    }
+}

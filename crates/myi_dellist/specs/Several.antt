@@ -1,0 +1,104 @@
+-- Areas that are released one after another, where all is read before anything is written: what is seen of a deleted block is
+-- what the releases before it will write there, and else what stands in the file.
+use Rattle.std.specs.Prelude.{◌≡◌, ℕ, ◌+◌, ◌==◌, nat_le, if◌then◌else◌, List, [], ◌∷◌, ◌++◌, Option, Some, None, Result, Ok, Err}
+use Rattle.std.specs.List.{AllByRecursion}
+use Rattle.myi_frames.specs.declared.head.Head.{Head}
+use Rattle.myi_dellist.specs.declared.linked.Linked.{Linked}
+use Rattle.myi_dellist.specs.declared.linked.ReleasePlan.{ReleasePlan}
+use Rattle.myi_dellist.specs.Areas.{Area, AreApart}
+use Rattle.myi_dellist.specs.Releasing.{most_size, hole_at, front_part, back_part, release_one, IsHole}
+use Rattle.myi_dellist.specs.Standing.{with_head, release_one_bytes}
+use Rattle.myi_dellist.specs.Freeing.{hole_in, plan_in, area_at, place_at, joined_size, first_head}
+
+-- ---- what is seen
+
+-- a block that will be written is seen so
+abbrev pub put_over : Head → (ℕ → Option Head) → ℕ → Option Head
+put_over h seen p = if h.at == p then Some h else seen p
+
+-- blocks that will be written one after another
+abbrev pub over : List Head → (ℕ → Option Head) → (ℕ → Option Head)
+over [] seen = seen
+over (h ∷ heads) seen = over heads (put_over h seen)
+
+-- no deleted block is seen at this place, where there is one
+abbrev pub hide : Option ℕ → (ℕ → Option Head) → (ℕ → Option Head)
+hide None seen = seen
+hide (Some q) seen = λ p. if q == p then None else seen p
+
+-- ---- the headers that a release writes, in their order
+
+-- the block before one that is taken off names the next, and the one behind it names the one before
+abbrev pub before_heads : Head → Option Head → List Head
+before_heads hole None = []
+before_heads hole (Some b) = record b { next = hole.next } ∷ []
+
+abbrev pub behind_heads : Head → Option Head → List Head
+behind_heads hole None = []
+behind_heads hole (Some b) = record b { prev = hole.prev } ∷ []
+
+abbrev pub joined_heads : Option Linked → List Head
+joined_heads None = []
+joined_heads (Some l) = before_heads l.hole l.before ++ behind_heads l.hole l.behind
+
+-- the first block names the area before it
+abbrev pub first_heads : ℕ → Option Head → List Head
+first_heads at None = []
+first_heads at (Some f) = record f { prev = Some at } ∷ []
+
+abbrev pub plan_heads : Area → ReleasePlan → List Head
+plan_heads a p = joined_heads p.joined ++ (first_head (record { at = a.at; size = joined_size a.size p.joined }) (place_at p.first) ∷ first_heads a.at p.first)
+
+-- ---- several releases
+
+abbrev pub with_heads : List Head → Result (List Head) ℕ → Result (List Head) ℕ
+with_heads heads (Ok more) = Ok (heads ++ more)
+with_heads heads (Err p) = Err p
+
+abbrev pub heads_by : Area → (List Head → Result (List Head) ℕ) → Result ReleasePlan ℕ → Result (List Head) ℕ
+heads_by a go (Ok plan) = with_heads (plan_heads a plan) (go (plan_heads a plan))
+heads_by a go (Err p) = Err p
+
+-- the place of the next area that is released
+abbrev pub next_of : List Area → Option ℕ
+next_of [] = None
+next_of (a ∷ areas) = Some a.at
+
+-- The headers that releases of these areas write, or the place of the first block that is not what the list needs. The area that
+-- is released next is not deleted yet, whatever its bytes are.
+abbrev pub heads_in : (ℕ → Option Head) → Option ℕ → List Area → Result (List Head) ℕ
+heads_in seen head [] = Ok []
+heads_in seen head (a ∷ areas) = heads_by a (λ heads. heads_in (over heads seen) (Some a.at) areas) (plan_in (hide (next_of areas) seen) head a.at a.size)
+
+-- the file's bytes once headers of deleted blocks are written
+abbrev pub heads_written : List Head → List ℕ → List ℕ
+heads_written [] d = d
+heads_written (h ∷ heads) d = heads_written heads (with_head (area_at h) h.next h.prev d)
+
+-- ---- on lists
+
+-- the list, and the file's bytes, after areas were released that deleted blocks can be
+abbrev pub release_ones : List Area → List Area → List Area
+release_ones [] holes = holes
+release_ones (a ∷ areas) holes = release_ones areas (release_one a holes)
+
+abbrev pub release_ones_bytes : List Area → List Area → List ℕ → List ℕ
+release_ones_bytes [] holes d = d
+release_ones_bytes (a ∷ areas) holes d = release_ones_bytes areas (release_one a holes) (release_one_bytes a holes d)
+
+-- a longer area is released as two, the later part first
+abbrev pub parts_of : Area → List Area
+parts_of a = if nat_le a.size most_size then a ∷ [] else back_part a ∷ front_part a ∷ []
+
+-- ---- areas that may be released
+
+-- behind each of these, where no block of the list and none of the areas before it begins, no deleted block is seen
+abbrev pub AreClear : (ℕ → Option Head) → List Area → List Area → Type 0
+AreClear seen holes [] = Unit {0}
+AreClear seen holes (a ∷ areas) = (hole_at (a.at + a.size) holes ≡ None → hide (next_of areas) seen (a.at + a.size) ≡ None) × AreClear seen (a ∷ holes) areas
+
+-- they have no byte of one another or of a deleted block, and a deleted block directly behind one of them is on the list
+pub record MayReleaseAll (areas holes : List Area) (d : List ℕ) : Type 0 where
+  pub sizes : AllByRecursion IsHole areas
+  pub apart : AreApart (areas ++ holes)
+  pub clear : AreClear (hole_in d) holes areas
