@@ -6,7 +6,6 @@
 
 mod rows;
 mod scans;
-mod untold;
 
 use case_lines::{Calls, Fault, Words};
 use std::io;

@@ -4,8 +4,7 @@
 //! meets one of the faults that the line lists.
 ghost use Rattle.std.specs.Prelude.{◌≡◌, ◌<◌, ◌+◌, ◌-◌, true, IfOk};
 
-use crate::untold::Untold;
-use case_lines::{Fault, Words, number, push_word, yes_or_no};
+use case_lines::{Fault, Untold, Words, number, push_word, yes_or_no};
 use myi_chain::{Item, Piece, ScanFault};
 use myi_data::{DataFile, DataScan};
 use myi_header::stored_state;
