@@ -7,6 +7,7 @@
 mod caches;
 mod files;
 mod pairs;
+mod searches;
 mod trees;
 
 use case_lines::{Calls, Fault, Words};
@@ -18,6 +19,9 @@ struct TheCalls;
 impl Calls for TheCalls {
     fn answer(&self, words: &Words, name: &str, args: &[&str]) -> Option<Result<String, Fault>> {
         if let Some(answer) = trees::answer(words, name, args) {
+            return Some(answer);
+        }
+        if let Some(answer) = searches::answer(words, name, args) {
             return Some(answer);
         }
         if let Some(answer) = caches::answer(words, name, args) {

@@ -64,8 +64,8 @@ fn are_sized(place: Place, pairs: &PairList) -> bool
     true
 }
 
-// A tree that has no root yet.
-fn unrooted(block_length: &str, rec_ref: &str) -> Result<Place, Fault>
+/// A tree that has no root yet.
+pub(crate) fn unrooted(block_length: &str, rec_ref: &str) -> Result<Place, Fault>
     ensures { IfOk result IsPlaced }
 {
     let place = Place {
@@ -81,9 +81,9 @@ fn unrooted(block_length: &str, rec_ref: &str) -> Result<Place, Fault>
 }
 
 /// An index file, the cache of its pages and the room behind them.
-struct Index {
-    files: MemFiles,
-    cache: KeyCache,
+pub(crate) struct Index {
+    pub(crate) files: MemFiles,
+    pub(crate) cache: KeyCache,
     room: Room,
 }
 
@@ -97,7 +97,12 @@ impl Drop for Index {
     }
 }
 
-fn index_of(alloc: Global, bytes: Vec<u8>, faults: Vec<u64>) -> Result<Index, AllocError> {
+/// The index file of these bytes, where the file calls of these numbers fail.
+pub(crate) fn index_of(
+    alloc: Global,
+    bytes: Vec<u8>,
+    faults: Vec<u64>,
+) -> Result<Index, AllocError> {
     let given = vec![in alloc; (String::from_str(alloc, NAME)?, bytes)]?;
     let setup = CacheSetup {
         blocks: 64,
@@ -114,7 +119,8 @@ fn index_of(alloc: Global, bytes: Vec<u8>, faults: Vec<u64>) -> Result<Index, Al
     })
 }
 
-fn of_tree(fault: TreeFault) -> Fault {
+/// Want of memory, or a fault that no line may have.
+pub(crate) fn of_tree(fault: TreeFault) -> Fault {
     match fault {
         TreeFault::Memory => Fault::Memory,
         TreeFault::Damaged { .. } | TreeFault::File => Fault::Unread,

@@ -1,0 +1,117 @@
+//! Searches in trees of an index file, whose first page stands at 1024.
+ghost use Rattle.myi_btree.specs.Sizes.{IsPlaced};
+
+use crate::trees::{Index, index_of, of_tree, unrooted};
+use case_lines::{Fault, Words, key_of_code, number, place, push_word, sides};
+use myi_btree::{Place, TreeFault};
+use myi_keylist::Pair;
+use myi_keys::KeyVal;
+use std::alloc::Global;
+
+// The pair that a word `CODE:ROW` says, and None for `-`.
+fn pair_of(words: &Words, word: &str) -> Result<Option<Pair>, Fault> {
+    if word == "-" {
+        return Ok(None);
+    }
+    let (code, row) = sides(word, ':')?;
+    let row = number(row)?;
+    let key = key_of_code(words, code)?;
+    Ok(Some(Pair { key, row }))
+}
+
+fn found(
+    alloc: Global,
+    index: &mut Index,
+    place: &Place,
+    key: &KeyVal,
+) -> Result<Option<u64>, TreeFault>
+    requires { IsPlaced place.now }
+{
+    let Index { files, cache, .. } = index;
+    cache.flush(files)?;
+    myi_search::find(alloc, place, files, cache, key)
+}
+
+fn next_pair(
+    alloc: Global,
+    index: &mut Index,
+    place: &Place,
+    after: Option<&Pair>,
+) -> Result<Option<Pair>, TreeFault>
+    requires { IsPlaced place.now }
+{
+    let Index { files, cache, .. } = index;
+    cache.flush(files)?;
+    myi_search::next_after(alloc, place, files, cache, after)
+}
+
+fn push_fault(out: &mut String, fault: TreeFault) -> Result<(), Fault> {
+    match fault {
+        TreeFault::Damaged { at } => Ok(write!(out, "damaged {at}")?),
+        fault => Err(of_tree(fault)),
+    }
+}
+
+// Appends how many pages the cache was asked for.
+fn push_asked(out: &mut String, index: &Index) -> Result<(), Fault> {
+    let asked = index.cache.counters().read_requests;
+    Ok(write!(out, " asked {asked}")?)
+}
+
+/// `find LENGTH POINTER ROOT CODE BYTES`: the least row of a key among the pairs of the tree with that root in
+/// an index file, and how many pages the cache was asked for.
+fn find(words: &Words, args: &[&str]) -> Result<String, Fault> {
+    let [block_length, rec_ref, root, code, bytes] = args else {
+        return Err(Fault::Unread);
+    };
+    let alloc = words.alloc();
+    let place = Place {
+        root: place(*root)?,
+        ..unrooted(*block_length, *rec_ref)?
+    };
+    let key = key_of_code(words, *code)?;
+    let mut index = index_of(alloc, words.bytes(*bytes)?, Vec::new(alloc))?;
+    let mut out = String::new(alloc);
+    match found(alloc, &mut index, &place, &key) {
+        Ok(Some(row)) => write!(out, "{row}")?,
+        Ok(None) => out.push_str("none")?,
+        Err(fault) => push_fault(&mut out, fault)?,
+    }
+    push_asked(&mut out, &index)?;
+    Ok(out)
+}
+
+/// `next LENGTH POINTER ROOT AFTER BYTES`: the least pair of that tree above `CODE:ROW`, or the least one, and
+/// how many pages the cache was asked for.
+fn next(words: &Words, args: &[&str]) -> Result<String, Fault> {
+    let [block_length, rec_ref, root, after, bytes] = args else {
+        return Err(Fault::Unread);
+    };
+    let alloc = words.alloc();
+    let place = Place {
+        root: place(*root)?,
+        ..unrooted(*block_length, *rec_ref)?
+    };
+    let after = pair_of(words, *after)?;
+    let mut index = index_of(alloc, words.bytes(*bytes)?, Vec::new(alloc))?;
+    let mut out = String::new(alloc);
+    match next_pair(alloc, &mut index, &place, after.as_ref()) {
+        Ok(Some(pair)) => {
+            push_word(&mut out, pair.key.code())?;
+            write!(out, ":{}", pair.row)?;
+        }
+        Ok(None) => out.push_str("none")?,
+        Err(fault) => push_fault(&mut out, fault)?,
+    }
+    push_asked(&mut out, &index)?;
+    Ok(out)
+}
+
+/// The answer to a call of this module, and None where the name is no such call.
+pub fn answer(words: &Words, name: &str, args: &[&str]) -> Option<Result<String, Fault>> {
+    match name {
+        "find" => Some(find(words, args)),
+        "next" => Some(next(words, args)),
+        _ => None,
+    }
+}

@@ -1,0 +1,11 @@
+pub mod CallerLemmas
+pub mod Lists
+pub mod Serving
+pub mod CodeLaws
+pub mod Inserted
+pub mod SeekLaws
+pub mod TreeLaws
+pub mod PathLaws
+pub mod DownLaws
+pub mod ToldLaws
+pub mod LeastLaws

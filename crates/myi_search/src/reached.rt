@@ -1,0 +1,98 @@
+//! What a search has read so far.
+ghost use Rattle.std.specs.Prelude.{◌≡◌, ◌++◌, take, [], Some, None, OnOk};
+ghost use Rattle.myi_search.specs.Passing.{best_of, HasCode, row_with};
+
+use myi_keylist::Pair;
+use myi_keypage::PageItem;
+use myi_keys::{KeyVal, compare_codes};
+use std::alloc::{AllocError, Global};
+
+/// The code of the key that was read last, and the pair that was reached last.
+pub(crate) struct Reached {
+    pub(crate) code: Vec<u8>,
+    /// The code of that pair's key.
+    pub(crate) best: Vec<u8>,
+    /// Its row, and None where no pair was reached.
+    pub(crate) row: Option<u64>,
+}
+
+impl Drop for Reached {
+    fn drop(self) {
+        let Reached {
+            code: _,
+            best: _,
+            row: _,
+        } = self;
+    }
+}
+
+impl Reached {
+    /// Nothing yet.
+    pub(crate) fn new(alloc: Global) -> Reached
+        ensures { result.row ≡ None }
+    {
+        Reached {
+            code: Vec::new(alloc),
+            best: Vec::new(alloc),
+            row: None,
+        }
+    }
+
+    /// Before the first key of a page.
+    pub(crate) fn begin_page(&mut self)
+        ensures code { self.new.code.items ≡ [] }
+        ensures best { self.new.best ≡ self.old.best }
+        ensures row { self.new.row ≡ self.old.row }
+    {
+        self.code.clear();
+    }
+
+    /// Reads the code of an item's key, of which it keeps a front.
+    pub(crate) fn read(&mut self, item: &PageItem) -> Result<(), AllocError>
+        ensures code { OnOk result
+            (self.new.code.items ≡ take item.now.prefix self.old.code.items ++ item.now.rest.now) }
+        ensures best { self.new.best ≡ self.old.best }
+        ensures row { self.new.row ≡ self.old.row }
+    {
+        self.code.truncate(item.prefix);
+        self.code.extend_from_slice(item.rest)
+    }
+
+    /// Reaches the pair of the key that was read last.
+    pub(crate) fn reach(&mut self, row: u64) -> Result<(), AllocError>
+        ensures code { self.new.code ≡ self.old.code }
+        ensures best { OnOk result (self.new.best.items ≡ self.old.code.items) }
+        ensures row { OnOk result (self.new.row ≡ Some row) }
+    {
+        self.best.clear();
+        self.best.extend_from_slice(&self.code)?;
+        self.row = Some(row);
+        Ok(())
+    }
+
+    /// The row of the pair that was reached last, where it has this key.
+    pub(crate) fn row_of(&self, key: &KeyVal) -> Option<u64>
+        ensures { result ≡ row_with key.now (best_of self.now) }
+    {
+        if compare_codes(&self.best, key.code()).is_eq() {
+            self.row
+        } else {
+            None
+        }
+    }
+
+    /// The pair that was reached last. It takes no memory.
+    pub(crate) fn into_pair(self) -> Option<Pair>
+        requires { HasCode self }
+        ensures { result ≡ best_of self }
+    {
+        let Reached { code: _, best, row } = self;
+        match row {
+            Some(row) => Some(Pair {
+                key: KeyVal::of_code(best),
+                row,
+            }),
+            None => None,
+        }
+    }
+}
