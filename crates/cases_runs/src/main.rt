@@ -9,16 +9,20 @@ mod short;
 
 use case_lines::{Calls, Fault, Words};
 use std::io;
+use std::thread::Threads;
 
 /// The runs of the top call.
-struct TheCalls;
+#[derive(Drop)]
+struct TheCalls<'a, R> {
+    rt: &'a R,
+}
 
-impl Calls for TheCalls {
+impl<'a, R: Threads + Sync> Calls for TheCalls<'a, R> {
     fn answer(&self, words: &Words, name: &str, args: &[&str]) -> Option<Result<String, Fault>> {
-        runs::answer(words, name, args)
+        runs::answer(self.rt, words, name, args)
     }
 }
 
 fn main(rt: HostRuntime) -> io::Result<()> {
-    case_lines::run(&rt, rt.alloc(), &TheCalls)
+    case_lines::run(&rt, rt.alloc(), &TheCalls { rt: &rt })
 }

@@ -6,10 +6,12 @@ use case_lines::{Fault, Words, halves, number, push_files};
 use myi_io::{Files, MemSink};
 use myisamkit::{Status, kit};
 use std::str;
+use std::thread::Threads;
 
 /// What a run prints and answers, whose output fails at these writes: the status, what is printed, the count of
 /// faults.
-fn answered<F: Files>(
+fn answered<R: Threads + Sync, F: Files>(
+    rt: &R,
     words: &Words,
     now: &str,
     files: &mut F,
@@ -21,7 +23,7 @@ fn answered<F: Files>(
     let now = number(now)?;
     let mut sink = MemSink::new(words.alloc(), words.numbers(write_faults)?)?;
     let asked = words.texts(asked)?;
-    let status = kit(words.alloc(), &asked, files, &mut sink, now);
+    let status = kit(rt, words.alloc(), &asked, files, &mut sink, now);
     if status == Status::Memory {
         return Err(Fault::Memory);
     }
@@ -33,20 +35,20 @@ fn answered<F: Files>(
 
 /// `kit NOW FAULTS WRITE_FAULTS FILE.. -- WORD..`: the status, what is printed, the count of faults, and what the
 /// files hold.
-fn run(words: &Words, args: &[&str]) -> Result<String, Fault> {
+fn run<R: Threads + Sync>(rt: &R, words: &Words, args: &[&str]) -> Result<String, Fault> {
     let [now, faults, write_faults, others @ ..] = args else {
         return Err(Fault::Unread);
     };
     let (given, asked) = halves(others)?;
     let mut files = words.files(given, *faults)?;
-    let mut out = answered(words, *now, &mut files, *write_faults, asked)?;
+    let mut out = answered(rt, words, *now, &mut files, *write_faults, asked)?;
     push_files(&mut out, &files, given)?;
     Ok(out)
 }
 
 /// `kit_short NOW NAME LENGTH FILE.. -- WORD..`: the same over files that tell nothing, of which the one of that
 /// name says that it has so many bytes.
-fn run_short(words: &Words, args: &[&str]) -> Result<String, Fault> {
+fn run_short<R: Threads + Sync>(rt: &R, words: &Words, args: &[&str]) -> Result<String, Fault> {
     let [now, name, length, others @ ..] = args else {
         return Err(Fault::Unread);
     };
@@ -56,16 +58,21 @@ fn run_short(words: &Words, args: &[&str]) -> Result<String, Fault> {
         name: String::from_str(words.alloc(), *name)?,
         length: number(*length)?,
     };
-    let mut out = answered(words, *now, &mut files, "-", asked)?;
+    let mut out = answered(rt, words, *now, &mut files, "-", asked)?;
     push_files(&mut out, &files.files, given)?;
     Ok(out)
 }
 
 /// The answer to a call of this module, and None where the name is no such call.
-pub fn answer(words: &Words, name: &str, args: &[&str]) -> Option<Result<String, Fault>> {
+pub fn answer<R: Threads + Sync>(
+    rt: &R,
+    words: &Words,
+    name: &str,
+    args: &[&str],
+) -> Option<Result<String, Fault>> {
     match name {
-        "kit" => Some(run(words, args)),
-        "kit_short" => Some(run_short(words, args)),
+        "kit" => Some(run(rt, words, args)),
+        "kit_short" => Some(run_short(rt, words, args)),
         _ => None,
     }
 }

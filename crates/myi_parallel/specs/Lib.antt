@@ -2,7 +2,7 @@
 
 -- the tree of a key that is asked for
 pub mod Asked
--- what is asked for of a list of keys
+-- what is asked for of a list of keys, and of those of a table
 pub mod KeyPairs
 -- the pages of trees that are laid
 pub mod LaidTrees

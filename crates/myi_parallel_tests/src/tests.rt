@@ -3,8 +3,11 @@ ghost use Rattle.std.specs.Prelude.{◌≡◌, All, length, IfOk};
 ghost use Rattle.myi_btree.specs.Sizes.{IsPlaced, AreSized};
 
 use myi_btree::{Laid, Place};
+use myi_defs::parse_text;
+use myi_io::MemFiles;
 use myi_keylist::PairList;
-use myi_parallel::{KeyGate, KeyPairs, lay_all};
+use myi_parallel::{KeyGate, KeyPairs, OpenGate, Workers, lay_all, parallel_recover};
+use myi_repair::recover;
 use std::alloc::{AllocError, Global};
 use std::sync::atomic::{AtomicU64, Ordering};
 use std::test::Fail;
@@ -12,6 +15,14 @@ use std::thread::Threads;
 
 // A worker that waits for another one gives up after so many turns.
 const TURNS: u32 = 100_000_000;
+
+const MOMENT: u64 = 1_700_000_000;
+
+// A table of three rows with two keys, by its creating text, and its data file.
+const TEXT: &[u8] =
+    b"rows static\nfield normal 1\nfield normal 4\nfield normal 4\nkey unique\nseg long_int 1 4 0 0 0\nkey plain\nseg long_int 5 4 0 0 0\n";
+
+const ROWS: &[u8] = b"\xFF\x03\0\0\0\x14\0\0\0\xFF\x01\0\0\0\x1E\0\0\0\xFF\x02\0\0\0\x0A\0\0\0";
 
 // Holds each key until two were called.
 #[derive(Drop)]
@@ -73,14 +84,76 @@ fn lay_two<R: Threads + Sync>(
 // Where the second key began only when the first one is done, the first one would give up.
 #[test]
 fn two_workers_run_at_the_same_time(rt: HostRuntime) -> Result<(), Fail> {
-    let gate = Meeting {
-        called: AtomicU64::new(0),
-        met: AtomicU64::new(0),
-        done: AtomicU64::new(0),
-    };
+    let gate = new_gate();
     let laid = lay_two(&rt, rt.alloc(), &gate)?;
     assert_eq!(rt; laid.len(), 2);
     assert_eq!(rt; gate.met.load(Ordering::SeqCst), 2);
     assert_eq!(rt; gate.done.load(Ordering::SeqCst), 2);
+    Ok(())
+}
+
+fn new_gate() -> Meeting {
+    Meeting {
+        called: AtomicU64::new(0),
+        met: AtomicU64::new(0),
+        done: AtomicU64::new(0),
+    }
+}
+
+// The files of the table `a`.
+fn table(alloc: Global) -> Result<MemFiles, Fail> {
+    let defs = match parse_text(alloc, TEXT) {
+        Ok(defs) => defs,
+        Err(fault) => return Err(Fail::new(fault)),
+    };
+    let index = Vec::from_slice(alloc, defs.raw.as_slice())?;
+    let given = vec![in alloc;
+        (String::from_str(alloc, "a.MYI")?, index),
+        (
+            String::from_str(alloc, "a.MYD")?,
+            Vec::from_slice(alloc, ROWS)?
+        ),
+    ]?;
+    Ok(MemFiles::new(alloc, given, Vec::new(alloc))?)
+}
+
+// Whether both have the same files of the table.
+fn are_same(one: &MemFiles, other: &MemFiles) -> bool {
+    ["a.MYI", "a.MYD", "a.TMI", "a.TMD"]
+        .iter()
+        .all(|name| one.get(*name) == other.get(*name))
+}
+
+#[test]
+fn two_workers_of_a_repair_run_at_the_same_time(rt: HostRuntime) -> Result<(), Fail> {
+    let gate = new_gate();
+    let mut files = table(rt.alloc())?;
+    let workers = Workers {
+        rt: &rt,
+        count: 2,
+        gate: &gate,
+    };
+    let said = parallel_recover(rt.alloc(), &mut files, "a", false, MOMENT, &workers);
+    assert!(rt; said.is_ok());
+    assert_eq!(rt; gate.met.load(Ordering::SeqCst), 2);
+    assert_eq!(rt; gate.done.load(Ordering::SeqCst), 2);
+    Ok(())
+}
+
+#[test]
+fn each_number_of_workers_leaves_the_same_files(rt: HostRuntime) -> Result<(), Fail> {
+    let mut plain = table(rt.alloc())?;
+    let said = recover(rt.alloc(), &mut plain, "a", false, MOMENT);
+    for count in [1, 2, 3, 64] {
+        let mut files = table(rt.alloc())?;
+        let workers = Workers {
+            rt: &rt,
+            count,
+            gate: &OpenGate,
+        };
+        let told = parallel_recover(rt.alloc(), &mut files, "a", false, MOMENT, &workers);
+        assert_eq!(rt; told, said);
+        assert!(rt; are_same(&files, &plain));
+    }
     Ok(())
 }

@@ -10,3 +10,5 @@ pub mod TreeLaws
 pub mod GatherLaws
 pub mod RepairLaws
 pub mod GiantLaws
+pub mod MovedLaws
+pub mod CallerLemmas

@@ -1,6 +1,6 @@
 -- The new index file that is finished is the one of a table of the rows that were gathered.
-use Rattle.std.proofs.Common.{◌≡◌, ℕ, suc, ◌+◌, ◌-◌, ◌*◌, ◌^◌, ◌<◌, Bool, List, [], ◌∷◌, ◌++◌, length, drop, Option, refl, sym, ap, subst, ◌∙◌, arith, length-append, Some}
-use Rattle.std.specs.Prelude.{map}
+use Rattle.std.proofs.Common.{◌≡◌, ℕ, suc, ◌+◌, ◌-◌, ◌*◌, ◌^◌, ◌<◌, Bool, List, [], ◌∷◌, ◌++◌, length, drop, Option, refl, sym, ap, subst, ◌∙◌, arith, length-append, Some, None, inl, inr}
+use Rattle.std.specs.Prelude.{map, Result, Ok, Err}
 use Rattle.std.proofs.lemmas.List.{append-nil, take_all, length-map}
 use Rattle.myi_base.specs.Holding.{Holding, bytes_of, resized, overwritten}
 use Rattle.myi_defs.specs.declared.types.Defs.{Defs}
@@ -29,9 +29,11 @@ use Rattle.myi_repair.specs.declared.report.Report.{Report}
 use Rattle.myi_repair.specs.declared.gathering.Gathered.{Gathered}
 use Rattle.myi_repair.specs.Names.{FourNames, names_for, Holds, KeepsBoth}
 use Rattle.myi_repair.specs.Gathering.{IsOfRows, IsGathered, Gathers}
-use Rattle.myi_repair.specs.Repaired.{LeavesRepaired, Completes}
+use Rattle.myi_repair.specs.declared.fault.RepairFault.{RepairFault}
+use Rattle.myi_repair.specs.Opening.{Table, table_in}
+use Rattle.myi_repair.specs.Repaired.{LeavesRepaired, OldOrNewOf, OldOrNew, Completes, CompletesPart, KeepsOrTakesRows}
 use Rattle.myi_repair.specs.Building.{trees_of, Builds}
-use Rattle.myi_repair.specs.Finishing.{state_set, finished_index, IsWhole, Finishes, FinishesPart}
+use Rattle.myi_repair.specs.Finishing.{state_set, finished_index, IsWhole, Finishes, FinishesPart, FinishesAlone}
 use Rattle.myi_repair.proofs.FilesLaws.{resized_none, whole_before}
 use Rattle.myi_rowkeys.proofs.CallerLemmas.{length-numbers}
 
@@ -140,3 +142,32 @@ repaired name t extend now g said m n o named are header early gathers same comp
       time = early;
     } in
     (g.defs, d, gathered.1, record { holds = done extend d is; recovered = recovered g.defs extend d now can; report = same ∙ is.report })
+
+-- where both files stay they are the old ones
+pub kept_both : (name : List ℕ) (t : FourNames) (extend : Bool) (now : ℕ) (m n : Holding) → t ≡ names_for name → KeepsBoth t m n → OldOrNew name extend now m n
+kept_both name t extend now m n named keeps = by (table_in (names_for name) m) (subst (λ u. KeepsBoth u m n) named keeps)
+  where
+    by : (table : Result Table RepairFault) → KeepsBoth (names_for name) m n → OldOrNewOf name extend now table m n
+    by (Err f) both = both
+    by (Ok t) both = inl both
+
+-- and what was gathered and completed in part leaves old ones or whole new ones
+pub kept_or_whole : (name : List ℕ) (t : FourNames) (extend : Bool) (now : ℕ) (g : Gathered) (m n o : Holding) → t ≡ names_for name → Gathers t extend g m n → KeepsBoth t m n → CompletesPart t g now n o → OldOrNew name extend now m o
+kept_or_whole name t extend now g m n o named gathers both part =
+    let gathered : Gathers (names_for name) extend g m n = subst (λ u. Gathers u extend g m n) named gathers in
+    let keeps : KeepsBoth (names_for name) m n = subst (λ u. KeepsBoth u m n) named both in
+    let whole : CompletesPart (names_for name) g now n o = subst (λ u. CompletesPart u g now n o) named part in
+    let d : List ℕ = gathered.0 in
+    subst (λ (table : Result Table RepairFault). OldOrNewOf name extend now table m o) (sym gathered.1) (whole_before (names_for name) (new_data g.defs extend d) (new_index g.defs extend d now) m n o keeps (whole extend d gathered.2))
+
+-- Putting trees changes neither file, nor the working data file; and finishing leaves the data file, or gives it what that held.
+pub rows_kept_or_taken : (t : FourNames) (g : Gathered) (roots : List (Option ℕ)) (end now : ℕ) (m n o : Holding) → n t.new_rows ≡ m t.new_rows → KeepsBoth t m n → FinishesPart t g roots end now n o → FinishesAlone t g roots end now n o → KeepsOrTakesRows t m o
+rows_kept_or_taken t g roots end now m n o rows both part alone = by (n t.new_rows) refl
+  where
+    taken : (d x : List ℕ) → n t.new_rows ≡ Some d → IsWhole t d x n o → KeepsOrTakesRows t m o
+    taken d x is (inl same) = inl (same.rows ∙ both.rows)
+    taken d x is (inr new) = inr (d, sym rows ∙ is, new.rows)
+
+    by : (there : Option (List ℕ)) → n t.new_rows ≡ there → KeepsOrTakesRows t m o
+    by None is = inl ((alone is).rows ∙ both.rows)
+    by (Some d) is = taken d _ is (part d is)

@@ -1,13 +1,13 @@
 -- The trees, one after the other.
-use Rattle.std.proofs.Common.{◌≡◌, ℕ, zero, suc, ◌+◌, ◌-◌, ◌*◌, ◌%◌, ◌^◌, ◌<◌, ◌≤◌, List, [], ◌∷◌, ◌++◌, length, get_or, drop, Option, Some, unwrap_or, sym, ap, subst, ◌∙◌, arith, append_assoc, drop-cons}
+use Rattle.std.proofs.Common.{◌≡◌, ℕ, zero, suc, ◌+◌, ◌-◌, ◌*◌, ◌%◌, ◌^◌, ◌<◌, ◌≤◌, List, [], ◌∷◌, ◌++◌, length, get_or, drop, Option, Some, unwrap_or, refl, sym, ap, subst, ◌∙◌, arith, append_assoc, drop-cons}
 use Rattle.std.specs.Prelude.{map, IsPermutation, All}
 use Rattle.std.specs.List.{AllByRecursion}
 use Rattle.std.proofs.Math.ListN.{get_or-map}
 use Rattle.std.proofs.lemmas.List.{length-map, append-nil, drop_all, get_or_default}
-use Rattle.std.proofs.lemmas.List.Elements.{All-push}
+use Rattle.std.proofs.lemmas.List.Elements.{All-push, All-nil}
 use Rattle.std.proofs.lemmas.List.Sorted.{All-permutation}
 use Rattle.std.proofs.lemmas.List.Elements.{All-from_recursion, recursion_from_All}
-use Rattle.myi_base.specs.Holding.{Holding, bytes_of, Cuts, OthersStay}
+use Rattle.myi_base.specs.Holding.{Holding, bytes_of, overwritten, Cuts, OthersStay}
 use Rattle.myi_defs.specs.declared.types.Defs.{Defs}
 use Rattle.myi_header.specs.StateOf.{IsPlace}
 use Rattle.myi_header.specs.Layout.{first_page_of}
@@ -27,7 +27,7 @@ use Rattle.myi_keylist.specs.PairOrder.{sorted}
 use Rattle.myi_pair.specs.Trees.{place_of, block_of_key}
 use Rattle.myi_pair.specs.RebuiltBytes.{LaidTrees, laid_trees, pages_then}
 use Rattle.myi_btree.specs.TreePages.{tree_pages, tree_end, with_tree, CanBeLaid, HasBehind}
-use Rattle.myi_btree.proofs.CallerLemmas.{tree_behind}
+use Rattle.myi_btree.proofs.CallerLemmas.{tree_behind, tree_long, over_behind}
 use Rattle.myi_keylist.proofs.CallerLemmas.{sorted_permutes}
 use Rattle.myi_repair.specs.Building.{trees_of, LaysTrees}
 use Rattle.myi_rowkeys.proofs.CallerLemmas.{length-numbers}
@@ -104,6 +104,23 @@ module _ (d : Defs) (lists : List (List Pair)) (i end : ℕ) (ps : List Pair) (i
           far : (p : ℕ) → p + 1024 < 2 ^ 64 → ◌≡◌ {A = Option ℕ} (Some p) (Some (2 ^ 64 - 1)) → ⊥
           far p low same = let e : p ≡ 2 ^ 64 - 1 = ap (λ o. unwrap_or o 0) same in omega arith
 
+  -- the bytes of the next tree behind those of the trees before it
+  all_next : (next : ℕ) (bytes : List ℕ) → next ≡ tree_end (place_of d (i + 1)) end (sorted ps) → bytes ++ (rest_of d lists i end).bytes ≡ (trees_of d lists).bytes
+      → (bytes ++ tree_pages (place_of d (i + 1)) end (sorted ps)) ++ (rest_of d lists (i + 1) next).bytes ≡ (trees_of d lists).bytes
+  all_next next bytes ended all =
+      append_assoc bytes (tree_pages (place_of d (i + 1)) end (sorted ps)) (rest_of d lists (i + 1) next).bytes ∙ ap (λ e. bytes ++ (tree_pages (place_of d (i + 1)) end (sorted ps) ++ (rest_of d lists (i + 1) e).bytes)) ended ∙ ap (λ t. bytes ++ t.bytes) (sym rest_here) ∙ all
+
+  -- they are written behind them
+  pub holds_next : (next : ℕ) (file : List ℕ) → CanBeLaid (place_of d (i + 1)) end (sorted ps) → next ≡ tree_end (place_of d (i + 1)) end (sorted ps) → HoldsTo d lists i end file
+      → HoldsTo d lists (i + 1) next (overwritten end (tree_pages (place_of d (i + 1)) end (sorted ps)) file)
+  holds_next next file can ended held =
+      let pages : List ℕ = tree_pages (place_of d (i + 1)) end (sorted ps) in
+      record {
+        bytes = held.bytes ++ pages;
+        behind = subst (λ e. HasBehind (first_page_of d) e (held.bytes ++ pages) (overwritten end pages file)) (tree_long (place_of d (i + 1)) end (sorted ps) can ∙ sym ended) (over_behind (first_page_of d) end held.bytes file pages held.behind);
+        all = all_next next held.bytes ended held.all;
+      }
+
   pub lays_next : (next : ℕ) (old now new : Caching) (m n o : Holding) → CanBeLaid (place_of d (i + 1)) end (sorted ps) → next ≡ tree_end (place_of d (i + 1)) end (sorted ps) → now.name ≡ old.name → (CanLay now n end → Lays (place_of d (i + 1)) end (laid_at (place_of d (i + 1)) end (sorted ps)) now new n o)
       → LaysTo d lists i end old now m n → LaysTo d lists (i + 1) next old new m o
   lays_next next old now new m n o can ended named lays was begin =
@@ -121,7 +138,7 @@ module _ (d : Defs) (lists : List (List Pair)) (i end : ℕ) (ps : List Pair) (i
               bytes = held.bytes ++ tree_pages (place_of d (i + 1)) end (sorted ps);
               behind = subst (λ file. HasBehind (first_page_of d) next (held.bytes ++ tree_pages (place_of d (i + 1)) end (sorted ps)) file) (sym laid.contents)
                   (subst (λ e. HasBehind (first_page_of d) e (held.bytes ++ tree_pages (place_of d (i + 1)) end (sorted ps)) (with_tree (place_of d (i + 1)) end (sorted ps) (contents now n))) (sym ended) (tree_behind (place_of d (i + 1)) end (sorted ps) can (first_page_of d) held.bytes (contents now n) held.behind));
-              all = append_assoc held.bytes (tree_pages (place_of d (i + 1)) end (sorted ps)) (rest_of d lists (i + 1) next).bytes ∙ ap (λ e. held.bytes ++ (tree_pages (place_of d (i + 1)) end (sorted ps) ++ (rest_of d lists (i + 1) e).bytes)) ended ∙ ap (λ t. held.bytes ++ t.bytes) (sym rest_here) ∙ held.all;
+              all = all_next next held.bytes ended held.all;
             },
       )
 
@@ -139,15 +156,30 @@ laid_all d lists i end roots all keys laid =
     let none = rest_none d lists i end all keys in
     (sym (append-nil roots) ∙ ap (λ t. roots ++ t.roots) (sym none) ∙ laid.all_roots, ap (λ t. t.end) (sym none) ∙ laid.last)
 
+-- the bytes of all trees
+pub holds_all : (d : Defs) (lists : List (List Pair)) (i end : ℕ) (file : List ℕ) → i ≡ length lists → length lists ≡ length d.keys → end ≡ (trees_of d lists).end → HoldsTo d lists i end file → HasBehind (first_page_of d) (trees_of d lists).end (trees_of d lists).bytes file
+holds_all d lists i end file all keys ended held =
+    let none = rest_none d lists i end all keys in
+    let bytes : held.bytes ≡ (trees_of d lists).bytes = sym (append-nil held.bytes) ∙ ap (λ t. held.bytes ++ t.bytes) (sym none) ∙ held.all in
+    subst (λ b. HasBehind (first_page_of d) (trees_of d lists).end b file) bytes (subst (λ e. HasBehind (first_page_of d) e held.bytes file) ended held.behind)
+
 pub lays_all : (d : Defs) (lists : List (List Pair)) (i end : ℕ) (old now : Caching) (m n : Holding) → i ≡ length lists → length lists ≡ length d.keys → end ≡ (trees_of d lists).end → LaysTo d lists i end old now m n → LaysTrees d lists old now m n
 lays_all d lists i end old now m n all keys ended lays begin empty =
     let now_is = lays begin in
-    let held = now_is.2 empty in
-    let none = rest_none d lists i end all keys in
-    let bytes : held.bytes ≡ (trees_of d lists).bytes = sym (append-nil held.bytes) ∙ ap (λ t. held.bytes ++ t.bytes) (sym none) ∙ held.all in
-    (now_is.0.current, subst (λ b. HasBehind (first_page_of d) (trees_of d lists).end b (contents now n)) bytes (subst (λ e. HasBehind (first_page_of d) e held.bytes (contents now n)) ended held.behind))
+    (now_is.0.current, holds_all d lists i end (contents now n) all keys ended (now_is.2 empty))
 
 -- ---- an empty file
+
+-- no tree was written yet
+pub holds_none : (d : Defs) (lists : List (List Pair)) (file : List ℕ) → length file ≡ 0 → HoldsTo d lists 0 (first_page_of d) file
+holds_none d lists file none = record {
+  bytes = [];
+  behind = record { behind = drop_all (first_page_of d) file (omega (arith, none)); long = omega arith; short = omega (arith, none) };
+  all = refl;
+}
+
+pub laid_none : (d : Defs) (lists : List (List Pair)) → first_page_of d % 1024 ≡ 0 → AreLaidTo d lists 0 (first_page_of d) []
+laid_none d lists whole = record { all_roots = refl; last = refl; whole = whole; places = All-nil IsPlace }
 
 -- pages may be put from anywhere on in the file of a cache that keeps none
 pub begins : (cache : Caching) (first : ℕ) (m : Holding) → (pages_of cache) ≡ [] → IsCurrent cache m → CanLay cache m first

@@ -20,6 +20,8 @@ pub mod Repaired
 pub mod Giant
 -- pairs that can be laid
 pub mod Sized
+-- trees that are laid in memory
+pub mod LaidInMemory
 -- what serves private contracts
 
 -- the rows that came so far

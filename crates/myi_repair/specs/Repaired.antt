@@ -1,5 +1,5 @@
 -- What a repair leaves of a table's files.
-use Rattle.std.specs.Prelude.{◌≡◌, ℕ, Bool, List, Result, Ok, Err}
+use Rattle.std.specs.Prelude.{◌≡◌, ◌⊎◌, ℕ, Bool, List, Some, Result, Ok, Err}
 use Rattle.myi_base.specs.Holding.{Holding}
 use Rattle.myi_defs.specs.declared.types.Defs.{Defs}
 use Rattle.myi_pair.specs.RecoveredBytes.{new_data, new_index}
@@ -36,3 +36,7 @@ Completes t g now m n = (extend : Bool) (d : List ℕ) → IsGathered t extend d
 
 abbrev pub CompletesPart : FourNames → Gathered → ℕ → Holding → Holding → Type 0
 CompletesPart t g now m n = (extend : Bool) (d : List ℕ) → IsGathered t extend d g m → IsWhole t (new_data g.defs extend d) (new_index g.defs extend d now) m n
+
+-- the data file is the old one, or what the working data file was
+abbrev pub KeepsOrTakesRows : FourNames → Holding → Holding → Type 0
+KeepsOrTakesRows t m n = (n t.rows ≡ m t.rows) ⊎ ((d : List ℕ) × (m t.new_rows ≡ Some d) × (n t.rows ≡ Some d))

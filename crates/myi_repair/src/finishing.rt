@@ -53,7 +53,8 @@ pub fn finish<F: Files>(
     finish_table(files, &table, gathered, roots, index_length, now)
 }
 
-/// The same for the table of these files, whose working files are gone after a refusal.
+/// The same for the table of these files, whose working files are taken away after a refusal, each as far
+/// as that succeeds.
 pub(crate) fn finish_table<F: Files>(
     files: &mut F,
     table: &TableFiles,

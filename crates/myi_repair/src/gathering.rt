@@ -89,7 +89,7 @@ pub fn gather<F: Files>(
 }
 
 /// The same for the table of these files.
-pub(crate) fn gather_table<F: Files>(
+pub fn gather_table<F: Files>(
     alloc: Global,
     files: &mut F,
     table: &TableFiles,

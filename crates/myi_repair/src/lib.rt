@@ -7,12 +7,12 @@
 //! `recover` is made of three parts: `gather` reads the rows and writes them into the working data file,
 //! as if none repeated another, and where some do, it writes those that are kept again; it answers the
 //! pairs of their keys. The trees are built in the working index file; `finish` writes the header and
-//! gives both working files the names of the old ones.
+//! gives both working files the names of the old ones. Where the trees are laid in memory, by whomever,
+//! `complete_laid` puts them into the working index file and finishes.
 //!
 //! ```
-//! match recover(alloc, files, name, options.extend, now) {
-//!     Ok(report) => Ok((Status::Ok, success_line(alloc, options, name, report)?)),
-//!     Err(fault) => not_repaired(alloc, name, fault),
+//! if options.mode != (Mode::Recover { parallel: true }) {
+//!     return recover(host.alloc, files, name, options.extend, now);
 //! }
 //! ```
 //!
@@ -24,6 +24,7 @@ mod fault;
 mod finishing;
 mod gathering;
 mod giant;
+mod laid;
 mod laws;
 mod names;
 mod new_rows;
@@ -36,8 +37,11 @@ mod writing;
 
 pub use fault::RepairFault;
 pub use finishing::finish;
-pub use gathering::{Gathered, gather};
-pub use laws::laid_trees_are_finished;
+pub use gathering::{Gathered, gather, gather_table};
+pub use laid::complete_laid;
+pub use laws::{completed_tables_are_repaired, laid_trees_are_finished, names_of_files_are_apart};
+pub use names::TableFiles;
 pub use repair::recover;
 pub use report::Report;
+pub use trees::place_of;
 pub use writing::put_row;

@@ -1,17 +1,16 @@
 //! `TableFiles`: the names of a table's two files and of their working files.
-ghost use Rattle.std.specs.Prelude.{IsTrue};
 
 use myi_io::Files;
 use std::alloc::{AllocError, Global};
 
 /// The names of a table's files.
-pub(crate) struct TableFiles {
-    pub(crate) rows: String,
-    pub(crate) index: String,
+pub struct TableFiles {
+    pub rows: String,
+    pub index: String,
     /// The new data file, until it is whole.
-    pub(crate) new_rows: String,
+    pub new_rows: String,
     /// The new index file, until it is whole.
-    pub(crate) new_index: String,
+    pub new_index: String,
 }
 
 impl Drop for TableFiles {
@@ -31,7 +30,8 @@ impl TableFiles {
     ghost use Rattle.myi_repair.specs.Faults.{RoseAtMost};
     ghost use Rattle.myi_repair.specs.Names.{names_of, names_for, AreApart, KeepsBut, KeepsBoth, working_left};
 
-    pub(crate) fn of(alloc: Global, name: &str) -> Result<TableFiles, AllocError>
+    /// The names of the files of a table of this name.
+    pub fn of(alloc: Global, name: &str) -> Result<TableFiles, AllocError>
         ensures { IfOk result (λ t. names_of t ≡ names_for name.now) }
     {
         Ok(TableFiles {

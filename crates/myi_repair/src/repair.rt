@@ -49,7 +49,7 @@ pub fn recover<F: Files>(
 }
 
 // Builds the trees of what was gathered, and puts the new files in the place of the old ones. After a refusal
-// the working files are gone.
+// the working files are taken away, each as far as that succeeds.
 fn complete<F: Files>(
     alloc: Global,
     files: &mut F,

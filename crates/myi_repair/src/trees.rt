@@ -47,10 +47,21 @@ impl Drop for Trees {
 }
 
 impl Trees {
-    ghost use Rattle.std.specs.Prelude.{◌≡◌, ◌<◌, ◌^◌, [], ◌∷◌, ◌++◌, OnOk};
+    ghost use Rattle.std.specs.Prelude.{◌≡◌, ◌<◌, ◌^◌, [], ◌∷◌, ◌++◌, IfOk, OnOk};
 
-    // Adds a tree with that root, whose pages end there.
-    fn push(&mut self, root: Option<u64>, end: u64) -> Result<(), AllocError>
+    /// No tree yet, and memory for so many; the first page will stand there.
+    pub(crate) fn new(alloc: Global, count: usize, end: u64) -> Result<Trees, AllocError>
+        ensures roots { IfOk result (λ trees. trees.roots.items ≡ []) }
+        ensures end { IfOk result (λ trees. trees.end ≡ end) }
+    {
+        Ok(Trees {
+            roots: Vec::with_capacity(alloc, count)?,
+            end,
+        })
+    }
+
+    /// Adds a tree with that root, whose pages end there.
+    pub(crate) fn push(&mut self, root: Option<u64>, end: u64) -> Result<(), AllocError>
         ensures roots { OnOk result (self.new.roots.items ≡ self.old.roots.items ++ root ∷ []) }
         ensures end { OnOk result (self.new.end ≡ end) }
         ensures fits { end < 2 ^ 64 }
@@ -113,10 +124,7 @@ fn lay_trees<F: Files>(
         end: first_page(defs),
         free: Sequence::new(Vec::new(alloc)),
     };
-    let mut trees = Trees {
-        roots: Vec::with_capacity(alloc, pairs.len())?,
-        end: room.end,
-    };
+    let mut trees = Trees::new(alloc, pairs.len(), room.end)?;
     for pairs in pairs {
         let place = place_of(defs, trees.roots.len() + 1);
         let root = build_tree(alloc, files, cache, place, &mut room, pairs)?;
@@ -125,8 +133,8 @@ fn lay_trees<F: Files>(
     Ok(trees)
 }
 
-// How the pages of the key of that number are made.
-fn place_of(defs: &Defs, key: usize) -> Place
+/// How the pages of the key of that number are made.
+pub fn place_of(defs: &Defs, key: usize) -> Place
     requires { IsKeyNumber defs.now key }
     ensures { result ≡ place_of defs.now key }
 {

@@ -5,6 +5,7 @@ use myisamkit::{Status, kit};
 use std::alloc::{AllocError, Global};
 use std::process::Abort;
 use std::test::Fail;
+use std::thread::Threads;
 
 const MOMENT: u64 = 1_700_000_000;
 
@@ -70,14 +71,19 @@ fn files(alloc: Global, pair: &Pair, fail: &[u64]) -> Result<MemFiles, AllocErro
     MemFiles::new(alloc, given, Vec::from_slice(alloc, fail)?)
 }
 
-// Repairs the table; the status, and whether something was printed.
-fn repair(alloc: Global, files: &mut MemFiles) -> Result<(Status, bool), AllocError> {
+// Repairs the table in this mode; the status, and whether something was printed.
+fn repair<R: Threads + Sync>(
+    rt: &R,
+    alloc: Global,
+    mode: &str,
+    files: &mut MemFiles,
+) -> Result<(Status, bool), AllocError> {
     let mut words = Vec::new(alloc);
-    for word in ["chk", "--recover", "a"] {
+    for word in ["chk", mode, "a"] {
         words.push(String::from_str(alloc, word)?)?;
     }
     let mut out = MemSink::new(alloc, Vec::new(alloc))?;
-    let status = kit(alloc, &words, files, &mut out, MOMENT);
+    let status = kit(rt, alloc, &words, files, &mut out, MOMENT);
     Ok((status, !out.written().is_empty()))
 }
 
@@ -95,17 +101,20 @@ fn has_no_working_files(files: &MemFiles) -> bool {
 }
 
 // A repair whose call of this number fails, if there is such a call: whether there is.
-fn fails_well(
-    rt: &impl Abort,
+fn fails_well<R: Abort + Threads + Sync>(
+    rt: &R,
     alloc: Global,
+    mode: &str,
     old: &Pair,
     new: &Pair,
     call: u64,
 ) -> Result<bool, Fail> {
     let mut files = files(alloc, old, &[call])?;
-    let (status, printed) = repair(alloc, &mut files)?;
+    let (status, printed) = repair(rt, alloc, mode, &mut files)?;
     if files.fault_count() == 0 {
         assert_eq!(rt; status, Status::Ok);
+        let found = pair_of(&files);
+        assert!(rt; found.data == new.data && found.index == new.index);
         return Ok(false);
     }
     assert_eq!(rt; status, Status::FileFault, "at {call}");
@@ -113,7 +122,7 @@ fn fails_well(
     assert_eq!(rt; files.fault_count(), 1, "at {call}");
     assert!(rt; is_old_or_new(&files, old, new), "at {call}");
     assert!(rt; has_no_working_files(&files), "at {call}");
-    let (again, _) = repair(alloc, &mut files)?;
+    let (again, _) = repair(rt, alloc, mode, &mut files)?;
     assert_eq!(rt; again, Status::Ok, "after {call}");
     let found = pair_of(&files);
     assert!(rt;
@@ -123,27 +132,38 @@ fn fails_well(
     Ok(true)
 }
 
+// A repair of this table in this mode, each of its calls failing in turn. What it leaves where none fails are the
+// files of the other mode.
+fn each_call_fails_well<R: Abort + Threads + Sync>(
+    rt: &R,
+    alloc: Global,
+    mode: &str,
+    table: &Table,
+) -> Result<(), Fail> {
+    let index = index(alloc, table.text)?;
+    let old = Pair {
+        index: &index,
+        data: table.rows,
+    };
+    let mut undisturbed = files(alloc, &old, &[])?;
+    let (status, printed) = repair(rt, alloc, "--recover", &mut undisturbed)?;
+    assert!(rt; status == Status::Ok && printed && has_no_working_files(&undisturbed));
+    let new = pair_of(&undisturbed);
+    for call in 1..=MOST_CALLS {
+        if !fails_well(rt, alloc, mode, &old, &new, call)? {
+            return Ok(());
+        }
+    }
+    assert!(rt; false, "more calls than expected");
+    Ok(())
+}
+
 #[test]
 fn a_call_that_fails_leaves_old_files_or_new_ones(rt: HostRuntime) -> Result<(), Fail> {
-    let alloc = rt.alloc();
     for table in &TABLES {
-        let index = index(alloc, table.text)?;
-        let old = Pair {
-            index: &index,
-            data: table.rows,
-        };
-        let mut undisturbed = files(alloc, &old, &[])?;
-        let (status, printed) = repair(alloc, &mut undisturbed)?;
-        assert!(rt; status == Status::Ok && printed && has_no_working_files(&undisturbed));
-        let new = pair_of(&undisturbed);
-        let mut done = false;
-        for call in 1..=MOST_CALLS {
-            if !fails_well(&rt, alloc, &old, &new, call)? {
-                done = true;
-                break;
-            }
+        for mode in ["--recover", "--parallel-recover"] {
+            each_call_fails_well(&rt, rt.alloc(), mode, table)?;
         }
-        assert!(rt; done);
     }
     Ok(())
 }

@@ -50,7 +50,7 @@ turn_keeps o now name m q apart = by_mode o.mode
     by_check true = repair_keeps (without_extend o) now name (table_in (names_for name) m) m q apart
 
     by_mode : (mode : Mode) → (turn_by mode o now name m).files q ≡ m q
-    by_mode Recover = repair_keeps o now name (table_in (names_for name) m) m q apart
+    by_mode (Recover parallel) = repair_keeps o now name (table_in (names_for name) m) m q apart
     by_mode Check = by_check (goes_on o name m)
     by_mode Describe = refl
 
@@ -63,7 +63,7 @@ cut_keeps o now told before after name m n q apart cut = by_mode o.mode cut
     by_check true cut = cut.others q apart.rows apart.index apart.new_rows apart.new_index
 
     by_mode : (mode : Mode) → CutsTurnOffBy mode o now told before after name m n → n q ≡ m q
-    by_mode Recover cut = cut.others q apart.rows apart.index apart.new_rows apart.new_index
+    by_mode (Recover parallel) cut = cut.others q apart.rows apart.index apart.new_rows apart.new_index
     by_mode Check cut = by_check (goes_on o name m) cut
     by_mode Describe cut = ap (λ (h : Holding). h q) cut
 
@@ -75,7 +75,7 @@ fail_keeps o now name m n q apart fails = by_mode o.mode fails
     by_done done = ap (λ (h : Holding). h q) done.files ∙ turn_keeps o now name m q apart
 
     by_mode : (mode : Mode) → FailsInTurnBy mode o now name m n → n q ≡ m q
-    by_mode Recover done = by_done done
+    by_mode (Recover parallel) done = by_done done
     by_mode Check (inl same) = ap (λ (h : Holding). h q) same
     by_mode Check (inr done) = by_done done
     by_mode Describe same = ap (λ (h : Holding). h q) same

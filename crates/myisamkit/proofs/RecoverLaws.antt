@@ -55,9 +55,9 @@ sound_after name defs extend d now m n e y files made =
     ∙ ap Ok (none_where_clean again e y made.rebuilt.definitions made.rebuilt.clean)
 
 -- the table had its turn
-repaired : (o : Options) (now : ℕ) (name : List ℕ) (defs : Defs) (d : List ℕ) (m n : Holding) → o.mode ≡ Recover → IsTable (names_for name) defs d m → n ≡ (turn o now name m).files → TurnRecovers o now name m → IsRepaired o now name defs d m n
+repaired : (o : Options) (now : ℕ) (name : List ℕ) (defs : Defs) (d : List ℕ) (m n : Holding) (parallel : Bool) → o.mode ≡ Recover parallel → IsTable (names_for name) defs d m → n ≡ (turn o now name m).files → TurnRecovers o now name m → IsRepaired o now name defs d m n
 unfolding turn TurnRecovers
-repaired o now name defs d m n mode table files recovers = record {
+repaired o now name defs d m n parallel mode table files recovers = record {
   files = placed;
   recovered = made;
   sound = sound_after name defs o.extend d now m n (new_data defs o.extend d) (new_index defs o.extend d now) placed made;
@@ -70,39 +70,39 @@ repaired o now name defs d m n mode table files recovers = record {
     made = (subst (λ k. TurnRecoversBy k o now name m) mode recovers defs d table).0
 
 -- its status, where nothing cuts the run off
-status_of : (o : Options) (now : ℕ) (name : List ℕ) (defs : Defs) (d : List ℕ) (m : Holding) → o.mode ≡ Recover → IsTable (names_for name) defs d m → (turn o now name m).status ≡ status.Ok
+status_of : (o : Options) (now : ℕ) (name : List ℕ) (defs : Defs) (d : List ℕ) (m : Holding) (parallel : Bool) → o.mode ≡ Recover parallel → IsTable (names_for name) defs d m → (turn o now name m).status ≡ status.Ok
 unfolding turn
-status_of o now name defs d m mode table = ap (λ k. (turn_by k o now name m).status) mode ∙ ap (λ t. (repair_turn o now name t m).status) table
+status_of o now name defs d m parallel mode table = ap (λ k. (turn_by k o now name m).status) mode ∙ ap (λ t. (repair_turn o now name t m).status) table
 
 -- and so it had where the output failed in it
-failed : (o : Options) (now : ℕ) (name : List ℕ) (m n : Holding) → o.mode ≡ Recover → FailsInTurn o now name m n → TurnDone o now name m n
+failed : (o : Options) (now : ℕ) (name : List ℕ) (m n : Holding) (parallel : Bool) → o.mode ≡ Recover parallel → FailsInTurn o now name m n → TurnDone o now name m n
 unfolding FailsInTurn
-failed o now name m n mode fails = subst (λ k. FailsInTurnBy k o now name m n) mode fails
+failed o now name m n parallel mode fails = subst (λ k. FailsInTurnBy k o now name m n) mode fails
 
-ends : (o : Options) (now before after : ℕ) (name : List ℕ) (defs : Defs) (d : List ℕ) (s : Status) (m n : Holding) → o.mode ≡ Recover → IsTable (names_for name) defs d m
+ends : (o : Options) (now before after : ℕ) (name : List ℕ) (defs : Defs) (d : List ℕ) (s : Status) (m n : Holding) (parallel : Bool) → o.mode ≡ Recover parallel → IsTable (names_for name) defs d m
     → IsFault s ⊎ (s ≡ status.Ok) → Leaves (chk o (name ∷ [])) now before after s m n
     → (s ≡ status.FileFault) ⊎ ((s ≡ status.Memory) ⊎ (((s ≡ status.Ok) ⊎ (s ≡ status.SinkFault)) × IsRepaired o now name defs d m n))
-ends o now before after name defs d status.FileFault m n mode table is left = inl refl
-ends o now before after name defs d status.Memory m n mode table is left = inr (inl refl)
-ends o now before after name defs d status.SinkFault m n mode table is (inl fails) = let done = failed o now name m n mode fails in inr (inr (inr refl, repaired o now name defs d m n mode table done.files done.recovers))
-ends o now before after name defs d status.SinkFault m n mode table is (inr none) = absurd none.1
-ends o now before after name defs d status.Ok m n mode table is left = inr (inr (inl refl, repaired o now name defs d m n mode table left.1 left.0))
-ends o now before after name defs d status.Findings m n mode table (inl f) left = absurd f
-ends o now before after name defs d status.Findings m n mode table (inr e) left = absurd cc
-ends o now before after name defs d status.Usage m n mode table (inl f) left = absurd f
-ends o now before after name defs d status.Usage m n mode table (inr e) left = absurd cc
-ends o now before after name defs d status.Refused m n mode table (inl f) left = absurd f
-ends o now before after name defs d status.Refused m n mode table (inr e) left = absurd cc
-ends o now before after name defs d status.Absent m n mode table (inl f) left = absurd f
-ends o now before after name defs d status.Absent m n mode table (inr e) left = absurd cc
+ends o now before after name defs d status.FileFault m n parallel mode table is left = inl refl
+ends o now before after name defs d status.Memory m n parallel mode table is left = inr (inl refl)
+ends o now before after name defs d status.SinkFault m n parallel mode table is (inl fails) = let done = failed o now name m n parallel mode fails in inr (inr (inr refl, repaired o now name defs d m n parallel mode table done.files done.recovers))
+ends o now before after name defs d status.SinkFault m n parallel mode table is (inr none) = absurd none.1
+ends o now before after name defs d status.Ok m n parallel mode table is left = inr (inr (inl refl, repaired o now name defs d m n parallel mode table left.1 left.0))
+ends o now before after name defs d status.Findings m n parallel mode table (inl f) left = absurd f
+ends o now before after name defs d status.Findings m n parallel mode table (inr e) left = absurd cc
+ends o now before after name defs d status.Usage m n parallel mode table (inl f) left = absurd f
+ends o now before after name defs d status.Usage m n parallel mode table (inr e) left = absurd cc
+ends o now before after name defs d status.Refused m n parallel mode table (inl f) left = absurd f
+ends o now before after name defs d status.Refused m n parallel mode table (inr e) left = absurd cc
+ends o now before after name defs d status.Absent m n parallel mode table (inl f) left = absurd f
+ends o now before after name defs d status.Absent m n parallel mode table (inr e) left = absurd cc
 
 recovers : (request : Request) (now before after : ℕ) (s : Status) (m n : Holding) → IsOrFault (run_of request now m).status s → Leaves request now before after s m n → Recovers request now s m n
-recovers request now before after s m n is left o name defs d asked mode table =
-    ends o now before after name defs d s m n mode table (ok (subst (λ r. IsOrFault (run_of r now m).status s) asked is)) (subst (λ r. Leaves r now before after s m n) asked left)
+recovers request now before after s m n is left o parallel name defs d asked mode table =
+    ends o now before after name defs d s m n parallel mode table (ok (subst (λ r. IsOrFault (run_of r now m).status s) asked is)) (subst (λ r. Leaves r now before after s m n) asked left)
   where
     ok : IsOrFault (worse status.Ok (turn o now name m).status) s → IsFault s ⊎ (s ≡ status.Ok)
     ok (inl f) = inl f
-    ok (inr e) = inr (e ∙ ap (worse status.Ok) (status_of o now name defs d m mode table))
+    ok (inr e) = inr (e ∙ ap (worse status.Ok) (status_of o now name defs d m parallel mode table))
 
 -- a run
 pub recovers_told : (request : Request) (now before after : ℕ) (s : Status) (old new : Option Holding) → IfTold old (λ m. IsOrFault (run_of request now m).status s) → Told old new (Leaves request now before after s) → Told old new (Recovers request now s)

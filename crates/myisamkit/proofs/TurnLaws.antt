@@ -60,7 +60,7 @@ cut_earlier o now told before at after name m n later cut = by_mode o.mode cut
     by_check true cut = repair_earlier (without_extend o) now told before at after name m n later cut
 
     by_mode : (mode : Mode) → CutsTurnOffBy mode o now told at after name m n → CutsTurnOffBy mode o now told before after name m n
-    by_mode Recover cut = repair_earlier o now told before at after name m n later cut
+    by_mode (Recover parallel) cut = repair_earlier o now told before at after name m n later cut
     by_mode Check cut = by_check (goes_on o name m) cut
     by_mode Describe cut = cut
 

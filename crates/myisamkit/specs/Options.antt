@@ -8,25 +8,27 @@ use Rattle.myisamkit.specs.declared.options.Flag.{Flag}
 use Rattle.myisamkit.specs.declared.options.Flag.TheVariants as flag
 use Rattle.myisamkit.specs.declared.options.Options.{Options}
 
--- what a letter says: c, r, d, e, f, s
+-- what a letter says: c, r, p, d, e, f, s
 abbrev pub letter_flag : ℕ → Option Flag
 letter_flag letter =
     if letter == 99 then Some (flag.Mode Check) else
-    (if letter == 114 then Some (flag.Mode Recover) else
+    (if letter == 114 then Some (flag.Mode (Recover false)) else
+    (if letter == 112 then Some (flag.Mode (Recover true)) else
     (if letter == 100 then Some (flag.Mode Describe) else
     (if letter == 101 then Some flag.Extend else
     (if letter == 102 then Some flag.Force else
-    (if letter == 115 then Some flag.Silent else None)))))
+    (if letter == 115 then Some flag.Silent else None))))))
 
 -- what a long option says, by its name
 abbrev pub long_flag : List ℕ → Option Flag
 long_flag name =
     if bytes_eq name (codes "check") then Some (flag.Mode Check) else
-    (if bytes_eq name (codes "recover") then Some (flag.Mode Recover) else
+    (if bytes_eq name (codes "recover") then Some (flag.Mode (Recover false)) else
+    (if bytes_eq name (codes "parallel-recover") then Some (flag.Mode (Recover true)) else
     (if bytes_eq name (codes "description") then Some (flag.Mode Describe) else
     (if bytes_eq name (codes "extend-check") then Some flag.Extend else
     (if bytes_eq name (codes "force") then Some flag.Force else
-    (if bytes_eq name (codes "silent") then Some flag.Silent else None)))))
+    (if bytes_eq name (codes "silent") then Some flag.Silent else None))))))
 
 -- Below, a list of options has None where one is not known.
 

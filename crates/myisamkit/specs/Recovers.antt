@@ -1,5 +1,5 @@
 -- What a repair of one table that can be repaired comes to, with its status.
-use Rattle.std.specs.Prelude.{◌≡◌, ◌⊎◌, ℕ, List, [], ◌∷◌}
+use Rattle.std.specs.Prelude.{◌≡◌, ◌⊎◌, ℕ, Bool, List, [], ◌∷◌}
 use Rattle.myi_base.specs.Holding.{Holding}
 use Rattle.myi_defs.specs.declared.types.Defs.{Defs}
 use Rattle.myi_pair.specs.RecoveredBytes.{new_data, new_index}
@@ -23,7 +23,7 @@ pub record IsRepaired (o : Options) (now : ℕ) (name : List ℕ) (defs : Defs) 
   pub sound : Finds name [] n
 
 -- A table that can be repaired, by a readable header and a data file within reach of its row pointers, is repaired, but with
--- these two statuses; the output may fail afterwards.
+-- these two statuses; the output may fail afterwards. So it is whether its trees are laid side by side or not.
 abbrev pub Recovers : Request → ℕ → Status → Holding → Holding → Type 0
-Recovers request now s m n = (o : Options) (name : List ℕ) (defs : Defs) (d : List ℕ) → request ≡ chk o (name ∷ []) → o.mode ≡ Recover → IsTable (names_for name) defs d m
+Recovers request now s m n = (o : Options) (parallel : Bool) (name : List ℕ) (defs : Defs) (d : List ℕ) → request ≡ chk o (name ∷ []) → o.mode ≡ Recover parallel → IsTable (names_for name) defs d m
     → (s ≡ status.FileFault) ⊎ ((s ≡ status.Memory) ⊎ (((s ≡ status.Ok) ⊎ (s ≡ status.SinkFault)) × IsRepaired o now name defs d m n))

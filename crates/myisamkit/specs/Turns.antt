@@ -178,10 +178,10 @@ described_status (Ok t) = status.Ok
 abbrev pub describe_turn : Options → List ℕ → Holding → Turn
 describe_turn o name m = record { text = described_text o name (opening.table_in (index_file name) (rows_file name) m); status = described_status (opening.table_in (index_file name) (rows_file name) m); files = m }
 
--- ---- all modes
+-- ---- all modes: whether trees are laid side by side makes no difference
 
 abbrev pub turn_by : Mode → Options → ℕ → List ℕ → Holding → Turn
-turn_by Recover o now name m = recover_turn o now name m
+turn_by (Recover parallel) o now name m = recover_turn o now name m
 turn_by Check o now name m = check_turn o now name m
 turn_by Describe o now name m = describe_turn o name m
 
@@ -190,7 +190,7 @@ unfoldable pub turn : Options → ℕ → List ℕ → Holding → Turn
 turn o now name m = turn_by o.mode o now name m
 
 abbrev pub TurnRecoversBy : Mode → Options → ℕ → List ℕ → Holding → Type 0
-TurnRecoversBy Recover o now name m = IsRecovered o now name m
+TurnRecoversBy (Recover parallel) o now name m = IsRecovered o now name m
 TurnRecoversBy Check o now name m = CheckRecovers (goes_on o name m) o now name m
 TurnRecoversBy Describe o now name m = Unit {0}
 
@@ -199,7 +199,7 @@ unfoldable pub TurnRecovers : Options → ℕ → List ℕ → Holding → Type 
 TurnRecovers o now name m = TurnRecoversBy o.mode o now name m
 
 abbrev pub CutsTurnOffBy : Mode → Options → ℕ → ℕ → ℕ → ℕ → List ℕ → Holding → Holding → Type 0
-CutsTurnOffBy Recover o now told before after name m n = RepairCutOff o now told before after name m n
+CutsTurnOffBy (Recover parallel) o now told before after name m n = RepairCutOff o now told before after name m n
 CutsTurnOffBy Check o now told before after name m n = CheckCutOff (goes_on o name m) o now told before after name m n
 CutsTurnOffBy Describe o now told before after name m n = n ≡ m
 
@@ -215,7 +215,7 @@ pub record TurnDone (o : Options) (now : ℕ) (name : List ℕ) (m n : Holding) 
 -- the output failed in a turn: a repair is done before its line is written, but the lines on what a check found are written
 -- before a repair begins
 abbrev pub FailsInTurnBy : Mode → Options → ℕ → List ℕ → Holding → Holding → Type 0
-FailsInTurnBy Recover o now name m n = TurnDone o now name m n
+FailsInTurnBy (Recover parallel) o now name m n = TurnDone o now name m n
 FailsInTurnBy Check o now name m n = (n ≡ m) ⊎ TurnDone o now name m n
 FailsInTurnBy Describe o now name m n = n ≡ m
 

@@ -9,6 +9,7 @@ ghost use Rattle.myisamkit.specs.Lines as spec;
 ghost use Rattle.myisamkit.specs.Turns.{check_turn, checked_text, checked_status, unless_silent};
 ghost use Rattle.myisamkit.specs.Turns.{CheckDone, CheckStops};
 
+use crate::host::Host;
 use crate::lines::{finding_lines, ok_line};
 use crate::options::Options;
 use crate::recover::{not_worked_on, recover_table};
@@ -17,11 +18,12 @@ use crate::status::{Status, Stop};
 use myi_check::check;
 use myi_io::{Files, Sink};
 use std::alloc::{AllocError, Global};
+use std::thread::Threads;
 
 /// Checks a table and says what was found. Where something was, and a repair is forced, the table is
 /// repaired then.
-pub(crate) fn check_table<F: Files, O: Sink>(
-    alloc: Global,
+pub(crate) fn check_table<R: Threads + Sync, F: Files, O: Sink>(
+    host: &Host<'_, R>,
     files: &mut F,
     out: &mut O,
     options: &Options,
@@ -45,11 +47,11 @@ pub(crate) fn check_table<F: Files, O: Sink>(
     ensures file { HasCause Stop.File (F.faults files.old) (F.faults files.new) result }
     ensures sink { HasCause Stop.Sink (O.faults out.old) (O.faults out.new) result }
 {
-    let (status, text) = look(alloc, files, options, name)?;
+    let (status, text) = look(host.alloc, files, options, name)?;
     say(out, text.as_str())?;
     if status == Status::Findings && options.force {
         let options = options.without_extend();
-        return recover_table(alloc, files, out, &options, name, now);
+        return recover_table(host, files, out, &options, name, now);
     }
     Ok(status)
 }

@@ -14,7 +14,7 @@
 //!     words.push(String::from_str(alloc, word)?)?;
 //! }
 //! let mut out = MemSink::new(alloc, Vec::new(alloc))?;
-//! let status = kit(alloc, &words, &mut files, &mut out, MOMENT);
+//! let status = kit(rt, alloc, &words, &mut files, &mut out, MOMENT);
 //! ```
 //!
 //! `crates/myi_tests/src/failing_calls.rt` runs it, over `MemFiles`.
@@ -25,6 +25,7 @@ mod create;
 mod describe;
 mod description;
 mod dump;
+mod host;
 mod laws;
 mod lines;
 mod options;

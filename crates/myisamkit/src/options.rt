@@ -9,7 +9,8 @@ ghost use Rattle.myisamkit.specs.Turns.{without_extend};
 #[derive(Clone, Copy, Debug, PartialEq, Eq)]
 pub(crate) enum Mode {
     Check,
-    Recover,
+    /// The trees are laid by workers side by side, or one after the other; the files are the same either way.
+    Recover { parallel: bool },
     Describe,
 }
 
@@ -108,7 +109,8 @@ pub(crate) fn letter_flag(letter: u8) -> Option<Flag>
 {
     match letter {
         b'c' => Some(Flag::Mode(Mode::Check)),
-        b'r' => Some(Flag::Mode(Mode::Recover)),
+        b'r' => Some(Flag::Mode(Mode::Recover { parallel: false })),
+        b'p' => Some(Flag::Mode(Mode::Recover { parallel: true })),
         b'd' => Some(Flag::Mode(Mode::Describe)),
         b'e' => Some(Flag::Extend),
         b'f' => Some(Flag::Force),
@@ -123,7 +125,8 @@ pub(crate) fn long_flag(name: &str) -> Option<Flag>
 {
     match name {
         "check" => Some(Flag::Mode(Mode::Check)),
-        "recover" => Some(Flag::Mode(Mode::Recover)),
+        "recover" => Some(Flag::Mode(Mode::Recover { parallel: false })),
+        "parallel-recover" => Some(Flag::Mode(Mode::Recover { parallel: true })),
         "description" => Some(Flag::Mode(Mode::Describe)),
         "extend-check" => Some(Flag::Extend),
         "force" => Some(Flag::Force),

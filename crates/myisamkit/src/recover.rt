@@ -5,23 +5,32 @@ ghost use Rattle.myi_base.specs.Output.{Appends, AppendsPart};
 ghost use Rattle.myi_base.specs.Causes.{HasCause};
 ghost use Rattle.myi_repair.specs.Opening.{CutsOff};
 ghost use Rattle.myi_repair.specs.Faults as repair;
+ghost use Rattle.myi_repair.specs.Names.{names_for};
+ghost use Rattle.myi_repair.specs.Outcome.{Ends};
+ghost use Rattle.myi_repair.specs.Repaired.{LeavesRepaired, OldOrNew};
 ghost use Rattle.myisamkit.specs.Stops.{status_of_stop};
 ghost use Rattle.myisamkit.specs.Statuses.{IsFault, faults_told};
 ghost use Rattle.myisamkit.specs.Lines as spec;
 ghost use Rattle.myisamkit.specs.Turns.{recover_turn, fault_status, unless_silent};
 ghost use Rattle.myisamkit.specs.Turns.{RepairDone, RepairCutOff, RepairStops};
 
+use crate::host::Host;
 use crate::lines::{absent_line, reason_of, recovered_line, refused_line};
-use crate::options::Options;
+use crate::options::{Mode, Options};
 use crate::say::say;
 use crate::status::{Status, Stop};
 use myi_io::{Files, Sink};
+use myi_parallel::{OpenGate, Workers, parallel_recover};
 use myi_repair::{RepairFault, Report, recover};
 use std::alloc::{AllocError, Global};
+use std::thread::Threads;
+
+/// How many workers lay trees side by side.
+const WORKERS: u8 = 4;
 
 /// Repairs a table, if it can be repaired, and says so.
-pub(crate) fn recover_table<F: Files, O: Sink>(
-    alloc: Global,
+pub(crate) fn recover_table<R: Threads + Sync, F: Files, O: Sink>(
+    host: &Host<'_, R>,
     files: &mut F,
     out: &mut O,
     options: &Options,
@@ -45,14 +54,14 @@ pub(crate) fn recover_table<F: Files, O: Sink>(
     ensures file { HasCause Stop.File (F.faults files.old) (F.faults files.new) result }
     ensures sink { HasCause Stop.Sink (O.faults out.old) (O.faults out.new) result }
 {
-    let (status, line) = repair(alloc, files, options, name, now)?;
+    let (status, line) = repair(host, files, options, name, now)?;
     say(out, line.as_str())?;
     Ok(status)
 }
 
 // Repairs a table, if it can be repaired, and answers the status and the line.
-fn repair<F: Files>(
-    alloc: Global,
+fn repair<R: Threads + Sync, F: Files>(
+    host: &Host<'_, R>,
     files: &mut F,
     options: &Options,
     name: &str,
@@ -76,10 +85,40 @@ fn repair<F: Files>(
     ensures sink { IfErr result (λ stop. stop ≢ Stop.Sink) }
     ensures cause { HasCause Stop.File (F.faults files.old) (F.faults files.new) result }
 {
-    match recover(alloc, files, name, options.extend, now) {
-        Ok(report) => Ok((Status::Ok, success_line(alloc, options, name, report)?)),
-        Err(fault) => not_worked_on(alloc, name, fault),
+    match recover_as_asked(host, files, options, name, now) {
+        Ok(report) => {
+            let line = success_line(host.alloc, options, name, report)?;
+            Ok((Status::Ok, line))
+        }
+        Err(fault) => not_worked_on(host.alloc, name, fault),
     }
+}
+
+// Repairs a table with its trees laid side by side where that is asked for, and else one after the other.
+fn recover_as_asked<R: Threads + Sync, F: Files>(
+    host: &Host<'_, R>,
+    files: &mut F,
+    options: &Options,
+    name: &str,
+    now: u64,
+) -> Result<Report, RepairFault>
+    requires { IsTrue F.writable }
+    ensures repaired { IfOk result (λ said. Told (F.holds files.old) (F.holds files.new)
+        (LeavesRepaired name.now options.now.extend now said)) }
+    ensures files { Told (F.holds files.old) (F.holds files.new)
+        (OldOrNew name.now options.now.extend now) }
+    ensures ends { Ends (names_for name.now) (F.holds files.old) (F.holds files.new)
+        (F.faults files.old) (F.faults files.new) result }
+{
+    if options.mode != (Mode::Recover { parallel: true }) {
+        return recover(host.alloc, files, name, options.extend, now);
+    }
+    let workers = Workers {
+        rt: host.rt,
+        count: WORKERS,
+        gate: &OpenGate,
+    };
+    parallel_recover(host.alloc, files, name, options.extend, now, &workers)
 }
 
 // The line on a table that was repaired, where such a line is wanted.

@@ -8,16 +8,17 @@ ghost use Rattle.myisamkit.specs.Statuses.{IsFault};
 ghost use Rattle.myisamkit.specs.Turns.{MayFind};
 ghost use Rattle.myisamkit.specs.Runs.{tables_run, TablesDone, TablesStop};
 
+use crate::host::Host;
 use crate::options::Options;
 use crate::status::{Status, Stop};
 use crate::turn::run_table;
 use crate::words::{is_end, names_table, table_name};
 use myi_io::{Files, Sink};
-use std::alloc::Global;
+use std::thread::Threads;
 
 /// Gives each table that the words name its turn, and answers the greatest status.
-pub(crate) fn run_tables<F: Files, O: Sink>(
-    alloc: Global,
+pub(crate) fn run_tables<R: Threads + Sync, F: Files, O: Sink>(
+    host: &Host<'_, R>,
     files: &mut F,
     out: &mut O,
     options: &Options,
@@ -56,7 +57,7 @@ pub(crate) fn run_tables<F: Files, O: Sink>(
             ended = ended || is_end(word);
             continue;
         }
-        let table = run_table(alloc, files, out, options, table_name(word), now)?;
+        let table = run_table(host, files, out, options, table_name(word), now)?;
         status = status.worse(table);
     }
     Ok(status)

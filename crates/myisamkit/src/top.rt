@@ -12,6 +12,7 @@ ghost use Rattle.myisamkit.specs.Lines as spec;
 
 use crate::create::create_from_text;
 use crate::dump::dump_table;
+use crate::host::Host;
 use crate::lines::usage_line;
 use crate::say::say;
 use crate::status::{Status, Stop};
@@ -19,10 +20,12 @@ use crate::tables::run_tables;
 use crate::words::{Plan, read_words};
 use myi_io::{Files, Sink};
 use std::alloc::Global;
+use std::thread::Threads;
 
 /// Does what the words ask for, prints what it did, and answers how it went. `words` are the words
-/// after the program's name; `now` is the moment, in seconds since 1970.
-pub fn kit<F: Files, O: Sink>(
+/// after the program's name; `now` is the moment, in seconds since 1970. Workers run on threads of `rt`.
+pub fn kit<R: Threads + Sync, F: Files, O: Sink>(
+    rt: &R,
     alloc: Global,
     words: &[String],
     files: &mut F,
@@ -66,14 +69,15 @@ pub fn kit<F: Files, O: Sink>(
     ensures file { result ≡ Status.FileFault → Rose (F.faults files.old) (F.faults files.new) }
     ensures sink { result ≡ Status.SinkFault → Rose (O.faults out.old) (O.faults out.new) }
 {
-    match run(alloc, words, files, out, now) {
+    let host = Host { rt, alloc };
+    match run(&host, words, files, out, now) {
         Ok(status) => status,
         Err(stop) => stop.into(),
     }
 }
 
-fn run<F: Files, O: Sink>(
-    alloc: Global,
+fn run<R: Threads + Sync, F: Files, O: Sink>(
+    host: &Host<'_, R>,
     words: &[String],
     files: &mut F,
     out: &mut O,
@@ -106,8 +110,8 @@ fn run<F: Files, O: Sink>(
             say(out, usage_line())?;
             Ok(Status::Usage)
         }
-        Plan::Chk { options, words } => run_tables(alloc, files, out, &options, words, now),
-        Plan::Create(name, text) => create_from_text(alloc, files, out, name, text),
-        Plan::Dump(name) => dump_table(alloc, files, out, name),
+        Plan::Chk { options, words } => run_tables(host, files, out, &options, words, now),
+        Plan::Create(name, text) => create_from_text(host.alloc, files, out, name, text),
+        Plan::Dump(name) => dump_table(host.alloc, files, out, name),
     }
 }

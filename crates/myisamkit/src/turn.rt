@@ -8,16 +8,17 @@ ghost use Rattle.myisamkit.specs.Turns.{turn, MayFind, TurnDone, TurnStops};
 
 use crate::check::check_table;
 use crate::describe::describe_table;
+use crate::host::Host;
 use crate::options::{Mode, Options};
 use crate::recover::recover_table;
 use crate::status::{Status, Stop};
 use myi_io::{Files, Sink};
-use std::alloc::Global;
+use std::thread::Threads;
 
 /// Gives a table its turn.
 #[tactic(auto, unfolding(crate::specs::Turns::turn, crate::specs::Turns::TurnRecovers, crate::specs::Turns::CutsTurnOff, crate::specs::Turns::FailsInTurn))]
-pub(crate) fn run_table<F: Files, O: Sink>(
-    alloc: Global,
+pub(crate) fn run_table<R: Threads + Sync, F: Files, O: Sink>(
+    host: &Host<'_, R>,
     files: &mut F,
     out: &mut O,
     options: &Options,
@@ -42,8 +43,8 @@ pub(crate) fn run_table<F: Files, O: Sink>(
     ensures sink { HasCause Stop.Sink (O.faults out.old) (O.faults out.new) result }
 {
     match options.mode {
-        Mode::Recover => recover_table(alloc, files, out, options, name, now),
-        Mode::Describe => describe_table(alloc, files, out, options, name),
-        Mode::Check => check_table(alloc, files, out, options, name, now),
+        Mode::Recover { .. } => recover_table(host, files, out, options, name, now),
+        Mode::Describe => describe_table(host.alloc, files, out, options, name),
+        Mode::Check => check_table(host, files, out, options, name, now),
     }
 }

@@ -9,4 +9,4 @@ returns-in_ok-success_line-in-Ok-clause-done g c = repair_done _ _ _ _ _ _ c.in-
 
 pub returns-in-Err-clause-off : goal.returns-in-Err-clause-off
 returns-in-Err-clause-off g c =
-    IfErr-weaker c.not_worked_on.result _ _ (λ s told. repair_cut _ _ _ _ _ _ _ _ c.in-Err.ensures.files c.in-Err.ensures.ends.others (λ more rose. c.in-Err.ensures.ends.cleared more (subst (λ n. repair.RoseAtMost (n + more) (g.F.Files.faults c.args.files.now) (g.F.Files.faults c.recover.new.files)) told rose))) c.not_worked_on.ensures.told
+    IfErr-weaker c.not_worked_on.result _ _ (λ s told. repair_cut _ _ _ _ _ _ _ _ c.in-Err.ensures.files c.in-Err.ensures.ends.others (λ more rose. c.in-Err.ensures.ends.cleared more (subst (λ n. repair.RoseAtMost (n + more) (g.F.Files.faults c.args.files.now) (g.F.Files.faults c.recover_as_asked.new.files)) told rose))) c.not_worked_on.ensures.told

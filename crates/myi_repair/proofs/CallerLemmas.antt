@@ -1,0 +1,11 @@
+-- What the crates above cite: the laws of src/laws.rt as lemmas, and how facts of the parts of a call make one of the call.
+-- The latter hold of any fact and any answer, which no clause can say.
+
+-- names_of_files_are_apart
+pub use Rattle.myi_repair.proofs.FilesLaws.{apart_of}
+-- completed_tables_are_repaired
+pub use Rattle.myi_repair.proofs.RepairLaws.{repaired, kept_both, kept_or_whole}
+-- two facts of one step, and of what an Ok holds
+pub use Rattle.myi_repair.proofs.FilesLaws.{told_and, both_ok}
+-- how a call ends
+pub use Rattle.myi_repair.proofs.EndLaws.{cut_off_ends, cut_off_later}
