@@ -34,7 +34,7 @@ impl Drop for Listed {
 }
 
 // Of the words HEAD LIMIT FAULTS BYTES.
-fn listed(words: &Words, args: &[&str]) -> Result<Listed, Fault> {
+fn opened(words: &Words, args: &[&str]) -> Result<Listed, Fault> {
     let [head, limit, faults, bytes] = args else {
         return Err(Fault::Unread);
     };
@@ -200,7 +200,7 @@ fn list(words: &Words, args: &[&str]) -> Result<String, Fault> {
     let [head, limit, faults, bytes, calls @ ..] = args else {
         return Err(Fault::Unread);
     };
-    let mut listed = listed(words, &[*head, *limit, *faults, *bytes])?;
+    let mut listed = opened(words, &[*head, *limit, *faults, *bytes])?;
     let mut out = String::new(words.alloc());
     for call in calls {
         push_call(&mut out, words, &mut listed, *call)?;

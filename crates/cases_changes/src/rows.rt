@@ -11,7 +11,6 @@ use myi_header::{State, stored_state};
 use myi_io::{Files, MemFiles};
 use myi_pack::{Row, fits};
 use myi_slots::{DataFault, StaticFile};
-use myi_state::Counts;
 use std::alloc::AllocError;
 
 /// The name of the data file.
@@ -75,7 +74,7 @@ fn row(words: &Words, defs: &Defs, values: &str) -> Result<Row, Fault>
 }
 
 // Makes a call, and writes its answer.
-fn push_call(
+fn push_answer(
     out: &mut String,
     words: &Words,
     defs: &Defs,
@@ -85,7 +84,6 @@ fn push_call(
 ) -> Result<(), Fault>
     requires sound { IsSound defs.now }
     requires same { file.old.defs ≡ defs.now }
-    ensures same { IfOk result (λ _. file.new.defs ≡ defs.now) }
 {
     let (name, args) = sides(call, ':')?;
     match name {
@@ -102,6 +100,30 @@ fn push_call(
     }
 }
 
+// Makes a call on the file of a table with this state, and keeps its numbers then.
+fn push_call(
+    out: &mut String,
+    words: &Words,
+    defs: &Defs,
+    files: &mut Untold,
+    state: &mut State,
+    call: &str,
+) -> Result<(), Fault>
+    requires sound { IsSound defs.now }
+    requires format { defs.now.format ≡ Static }
+{
+    let mut file = StaticFile::new(words.alloc(), NAME, defs, state)?;
+    push_answer(out, words, defs, files, &mut file, call)?;
+    let counts = file.counts();
+    state.records = counts.records;
+    state.del = counts.del;
+    state.split = counts.split;
+    state.empty = counts.empty;
+    state.data_file_length = counts.length;
+    state.dellink = counts.dellink;
+    Ok(())
+}
+
 fn is_static(format: RowFormat) -> bool
     ensures { result ≡ true → format ≡ Static }
 {
@@ -112,7 +134,7 @@ fn is_static(format: RowFormat) -> bool
 }
 
 // The state that the words RECORDS,DEL,SPLIT,EMPTY and DELLINK say, of a data file of that length.
-fn state(
+fn state_of(
     words: &Words,
     defs: &Defs,
     numbers: &str,
@@ -143,17 +165,10 @@ fn stored(words: &Words, faults: &str, bytes: Vec<u8>) -> Result<Untold, Fault> 
     Ok(Untold { files })
 }
 
-fn push_counts(out: &mut String, counts: Counts) -> Result<(), AllocError> {
-    let Counts {
-        records,
-        del,
-        split,
-        empty,
-        length,
-        dellink,
-    } = counts;
-    let dellink = PlaceText(dellink);
-    write!(out, "{records},{del},{split},{empty},{length} {dellink}")
+fn push_numbers(out: &mut String, state: &State) -> Result<(), AllocError> {
+    write!(out, "{},{},{},", state.records, state.del, state.split)?;
+    let dellink = PlaceText(state.dellink);
+    write!(out, "{},{} {dellink}", state.empty, state.data_file_length)
 }
 
 /// `rows DEFINITIONS FAULTS RECORDS,DEL,SPLIT,EMPTY DELLINK BYTES CALL..`: what each call on the data file of a static
@@ -165,18 +180,17 @@ fn rows(words: &Words, args: &[&str]) -> Result<String, Fault> {
     };
     let defs = words.definitions(*defs)?;
     let bytes = words.bytes(*bytes)?;
-    let state = state(words, &defs, *numbers, *dellink, bytes.len() as u64)?;
+    let mut state = state_of(words, &defs, *numbers, *dellink, bytes.len() as u64)?;
     let mut files = stored(words, *faults, bytes)?;
     let mut out = String::new(words.alloc());
     if !is_static(defs.format) {
         return Err(Fault::Unread);
     }
-    let mut file = StaticFile::new(words.alloc(), NAME, &defs, &state)?;
     for call in calls {
-        push_call(&mut out, words, &defs, &mut files, &mut file, *call)?;
+        push_call(&mut out, words, &defs, &mut files, &mut state, *call)?;
         out.push_str("; ")?;
     }
-    push_counts(&mut out, file.counts())?;
+    push_numbers(&mut out, &state)?;
     write!(out, "; faults {}; ", files.fault_count())?;
     push_file(&mut out, &files.files, NAME)?;
     Ok(out)

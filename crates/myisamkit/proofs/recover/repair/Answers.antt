@@ -4,8 +4,8 @@ use Rattle.myi_repair.specs.Faults as repair
 use Rattle.myisamkit.proofs.TurnLaws.{repair_done, repair_cut}
 use Rattle.myisamkit.proofs.recover.repair.Goals as goal
 
-pub returns-in_ok-success_line-in-Ok-clause-done : goal.returns-in_ok-success_line-in-Ok-clause-done
-returns-in_ok-success_line-in-Ok-clause-done g c = repair_done _ _ _ _ _ _ c.in-Ok.ensures.repaired c.in-Ok.ensures.ends.others
+pub returns-in_ok-line-in-Ok-clause-done : goal.returns-in_ok-line-in-Ok-clause-done
+returns-in_ok-line-in-Ok-clause-done g c = repair_done _ _ _ _ _ _ c.in-Ok.ensures.repaired c.in-Ok.ensures.ends.others
 
 pub returns-in-Err-clause-off : goal.returns-in-Err-clause-off
 returns-in-Err-clause-off g c =
