@@ -3,6 +3,7 @@
 
 use myi_io::{FileErr, Gathering, RealFiles, RealSink};
 use myisamkit::{Status, kit};
+use std::io::ErrorKind;
 use std::process::ExitCode;
 use std::rt::{Clock, Env};
 use std::{env, io};
@@ -24,6 +25,9 @@ fn main(rt: HostRuntime) -> ExitCode {
     let alloc = rt.alloc();
     let words = match words(&rt) {
         Ok(words) => words,
+        Err(error) if error.kind() == ErrorKind::OutOfMemory => {
+            return ExitCode::from(Status::Memory.number());
+        }
         Err(_) => Vec::new(alloc),
     };
     let mut files = Gathering::new(alloc, RealFiles::new(&rt));

@@ -38,9 +38,24 @@ pub fn lay_all<R: Threads + Sync, W: KeyGate>(
     ensures { IfOk result (λ laid. AreLaid (asked_from 1 keys.items) laid.items) }
 {
     let count = keys.len();
-    let mut shares = deal(alloc, keys, workers as usize)?;
+    let mut shares = deal(alloc, keys, busy_workers(workers, count))?;
     work(rt, alloc, &mut shares, gate);
     collect(alloc, shares, count)
+}
+
+// How many workers are put to work: no more than there are keys, but one.
+fn busy_workers(workers: u8, keys: usize) -> usize
+    requires { 0 < workers }
+    ensures { 0 < result }
+{
+    let workers = workers as usize;
+    if keys == 0 {
+        1
+    } else if keys < workers {
+        keys
+    } else {
+        workers
+    }
 }
 
 // Has all workers lay their trees.

@@ -1,0 +1,9 @@
+pub mod ValueLemmas
+pub mod FormLemmas
+pub mod WordLemmas
+pub mod RowLemmas
+pub mod BoundLemmas
+pub mod LineLemmas
+pub mod ScriptLemmas
+pub mod ReadingLemmas
+pub mod SoundLemmas
