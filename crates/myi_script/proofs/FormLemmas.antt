@@ -1,6 +1,6 @@
 -- What contents the values of a form have, and that the values of a key segment can be weighed.
-use Rattle.std.proofs.Common.{◌≡◌, ℕ, ◌+◌, ◌-◌, ◌^◌, ◌<◌, ◌≤◌, ◌==◌, List, [], ◌∷◌, ◌++◌, length, replicate, Option, Some, None, Bool, true, false, cond, refl, ap, sym, ◌∙◌, arith, subst, length-append, inl, inr}
-use Rattle.std.specs.Prelude.{MatchBool, IfSome, IsSome}
+use Rattle.std.proofs.Common.{◌≡◌, ℕ, ◌-◌, ◌^◌, ◌<◌, ◌≤◌, List, ◌++◌, length, replicate, Some, Bool, true, false, cond, refl, ap, sym, ◌∙◌, arith, subst, length-append, inl, inr}
+use Rattle.std.specs.Prelude.{MatchBool, IsSome}
 use Rattle.std.proofs.lemmas.List.{length-replicate}
 use Rattle.std.proofs.lemmas.Bool.Decides.{nat_tests, leb_tells}
 use Rattle.myi_base.proofs.CallerLemmas.{length-low_num_bytes}

@@ -1,10 +1,9 @@
 -- What is read as a row is one, and each row is read.
-use Rattle.std.proofs.Common.{◌≡◌, ℕ, List, [], ◌∷◌, ◌++◌, Option, Some, None, Bool, true, false, cond, refl, ap, sym, ◌∙◌, subst}
+use Rattle.std.proofs.Common.{◌≡◌, ℕ, List, [], ◌∷◌, Option, Some, None, Bool, true, false, cond, refl, ap, sym, ◌∙◌, subst}
 use Rattle.std.specs.Prelude.{option_and_then}
 use Rattle.myi_defs.specs.declared.types.Defs.{Defs}
 use Rattle.myi_pack.specs.Spelling.{fits}
 use Rattle.myi_script.specs.declared.form.Form.{Form}
-use Rattle.myi_script.specs.Values.{IsValue}
 use Rattle.myi_script.specs.Grammar.{row_forms, AreValues, IsRow}
 use Rattle.myi_script.specs.Reading.{goes_on, value_of, next_value, before_values, then_values, values_of, fitting_row, row_of}
 use Rattle.myi_script.proofs.ValueLemmas.{value_sound, value_back}

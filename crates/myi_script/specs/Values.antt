@@ -1,5 +1,5 @@
 -- Values in scripts, this project's own: which contents a field or a key segment can have, and how they are written.
-use Rattle.std.specs.Prelude.{◌≡◌, ℕ, ◌+◌, ◌-◌, ◌*◌, ◌/◌, ◌%◌, ◌^◌, ◌<◌, ◌≤◌, Bool, true, false, ◌==◌, nat_lt, nat_le, if◌then◌else◌, List, [], ◌∷◌, ◌++◌, length, replicate, Option, Some, None, MatchBool}
+use Rattle.std.specs.Prelude.{◌≡◌, ℕ, ◌+◌, ◌-◌, ◌/◌, ◌%◌, ◌^◌, ◌<◌, ◌≤◌, Bool, true, false, ◌==◌, nat_lt, nat_le, if◌then◌else◌, List, [], ◌∷◌, ◌++◌, length, replicate, Option, Some, None, MatchBool}
 use Rattle.std.specs.List.{AllByRecursion, flat_map}
 use Rattle.myi_base.specs.Numbers.{low_num_bytes}
 use Rattle.myi_defs.specs.declared.types.FieldKind.{FieldKind}

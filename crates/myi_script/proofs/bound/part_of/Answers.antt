@@ -1,5 +1,4 @@
-use Rattle.std.proofs.Common.{◌≡◌, ◌∙◌, ap, sym, Some, length, ◌≤◌}
-use Rattle.myi_keys.specs.Weights.{weights}
+use Rattle.std.proofs.Common.{◌≡◌, ◌∙◌, ap, sym, Some}
 use Rattle.myi_script.specs.Values.{segment_form}
 use Rattle.myi_script.specs.Reading.{value_of}
 use Rattle.myi_script.proofs.FormLemmas.{segment_is_form, value_weighs, value_short}

@@ -1,9 +1,9 @@
-use Rattle.std.proofs.Common.{◌≡◌, ◌∙◌, ap, sym, subst, Some, None, All, ◌∷◌, [], ◌++◌, List, length, arith, length-append, refl}
+use Rattle.std.proofs.Common.{◌∙◌, ap, sym, subst, All, ◌∷◌, [], List, length, arith, length-append, refl}
 use Rattle.std.proofs.lemmas.List.Elements.{All-push}
 use Rattle.myi_keys.specs.declared.values.KeySeg.{KeySeg}
 use Rattle.std.specs.Prelude.{IfSome, Option}
 use Rattle.myi_keys.specs.Limits.{IsSeg}
-use Rattle.myi_script.proofs.ReadingLemmas.{part_none, part_unread, part_more, parts_whole}
+use Rattle.myi_script.proofs.ReadingLemmas.{part_none, part_more}
 use Rattle.myi_script.proofs.bound.parts_of.Goals as goal
 
 pub returns-in_default-clause-value : goal.returns-in_default-clause-value

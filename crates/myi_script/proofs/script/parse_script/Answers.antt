@@ -1,4 +1,4 @@
-use Rattle.std.proofs.Common.{◌≡◌, ◌==◌, map, ap, sym, Ok, Err, ◌∙◌}
+use Rattle.std.proofs.Common.{◌==◌, map, ap, sym, Ok, Err, ◌∙◌}
 use Rattle.std.specs.List.{slice_split}
 use Rattle.myi_script.proofs.ScriptLemmas.{found, refused}
 use Rattle.myi_script.proofs.SoundLemmas.{have_segments}

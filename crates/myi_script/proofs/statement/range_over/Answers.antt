@@ -1,5 +1,5 @@
-use Rattle.std.proofs.Common.{◌≡◌, ◌∙◌, sym, refl}
-use Rattle.myi_script.proofs.ReadingLemmas.{from_none, to_none, over_all, over_more}
+use Rattle.std.proofs.Common.{◌∙◌, sym, refl}
+use Rattle.myi_script.proofs.ReadingLemmas.{from_none, to_none}
 use Rattle.myi_script.proofs.statement.range_over.Goals as goal
 
 pub returns-in_default : goal.returns-in_default

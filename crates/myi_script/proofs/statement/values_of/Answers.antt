@@ -1,9 +1,8 @@
-use Rattle.std.proofs.Common.{◌≡◌, ◌∙◌, ◌<◌, sym, refl, subst, length, ap, List, Some, get_or}
+use Rattle.std.proofs.Common.{◌∙◌, ◌<◌, sym, refl, subst, length, List}
 use Rattle.std.proofs.lemmas.List.Elements.{All-get_or}
 use Rattle.myi_defs.specs.declared.types.Field.{Field}
 use Rattle.myi_defs.specs.Sound.{IsLengthOf}
-use Rattle.myi_script.specs.Values.{IsForm}
-use Rattle.myi_script.proofs.ReadingLemmas.{no_field, value_none, value_unread, value_more_row, values_whole}
+use Rattle.myi_script.proofs.ReadingLemmas.{value_none}
 use Rattle.myi_script.proofs.FormLemmas.{field_is_form}
 use Rattle.myi_script.proofs.statement.values_of.Goals as goal
 

@@ -1,6 +1,5 @@
 use Rattle.std.proofs.Common.{◌≡◌, ◌≤◌, ◌+◌, ◌-◌, ◌==◌, not, length, drop}
 use Rattle.std.specs.List.{prefix_len}
-use Rattle.myi_script.specs.Reading.{goes_on}
 use Rattle.myi_script.proofs.words.before.Given as goal
 
 abbrev pub invariant-loop-at : goal.invariant-loop-at

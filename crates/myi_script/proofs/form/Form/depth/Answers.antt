@@ -1,4 +1,4 @@
-use Rattle.std.proofs.Common.{◌≡◌, ◌+◌, ◌/◌, ◌^◌, ap, Some, inl, inr}
+use Rattle.std.proofs.Common.{ap, Some, inl, inr}
 use Rattle.myi_script.proofs.form.Form.depth.Goals as goal
 
 pub returns-in-Signed : goal.returns-in-Signed

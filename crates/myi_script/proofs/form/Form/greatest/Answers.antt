@@ -1,4 +1,4 @@
-use Rattle.std.proofs.Common.{◌≡◌, ◌-◌, ◌/◌, ◌^◌, ap, arith, Some}
+use Rattle.std.proofs.Common.{ap, arith, Some}
 use Rattle.myi_script.proofs.form.Form.greatest.Goals as goal
 
 pub returns-in-Signed-clause-value : goal.returns-in-Signed-clause-value
