@@ -29,7 +29,8 @@ fn kind(word: &str) -> Result<StepKind, Fault> {
     }
 }
 
-fn lock_word(kind: LockKind) -> &'static str {
+/// The word for a lock.
+pub(crate) fn lock_word(kind: LockKind) -> &'static str {
     match kind {
         LockKind::Read => "read",
         LockKind::ReadLocal => "local",
