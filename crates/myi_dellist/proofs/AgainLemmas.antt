@@ -32,11 +32,11 @@ aligned_of [] f = tt
 aligned_of (p ∷ ps) f = (f.0.aligned, aligned_of ps f.1)
 
 -- the list begins with what was released last
-head_is : (areas holes : List Area) → head_after (first_or holes None) areas ≡ first_or (release_ones areas holes) None
+pub head_is : (areas holes : List Area) → head_after (first_or holes None) areas ≡ first_or (release_ones areas holes) None
 head_is [] holes = refl
 head_is (a ∷ areas) holes = ap (λ (o : Option ℕ). head_after o areas) (sym (first_one a holes)) ∙ head_is areas (release_one a holes)
 
-same_heads : (r : Result (List Head) ℕ) (xs ys : List Head) → r ≡ Ok xs → r ≡ Ok ys → xs ≡ ys
+pub same_heads : (r : Result (List Head) ℕ) (xs ys : List Head) → r ≡ Ok xs → r ≡ Ok ys → xs ≡ ys
 same_heads r xs ys e f = cc
 
 -- the blocks of the row stand when areas are released that are apart from them

@@ -22,3 +22,6 @@ pub use Rattle.myi_dellist.proofs.StandLemmas.{block-apart}
 -- rows_find_their_list
 pub use Rattle.myi_dellist.proofs.SoundLemmas.{never-bad}
 pub use Rattle.myi_dellist.proofs.PutRowLemmas.{long-placed}
+-- standing_rows_are_found
+pub use Rattle.myi_dellist.proofs.FreedRowLemmas.{freed-sound}
+pub use Rattle.myi_dellist.proofs.RewriteLemmas.{rewrite-sound, rewrite-long}

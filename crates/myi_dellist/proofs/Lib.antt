@@ -32,3 +32,10 @@ pub mod OwnLemmas
 pub mod AgainLemmas
 pub mod PieceLemmas
 pub mod TallyLemmas
+pub mod SightLemmas
+pub mod ChainLemmas
+pub mod FreedLemmas
+pub mod FreedRowLemmas
+pub mod BeyondLemmas
+pub mod ReplaceLemmas
+pub mod RewriteLemmas

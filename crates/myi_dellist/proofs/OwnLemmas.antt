@@ -43,7 +43,7 @@ parts_below n a rest = by_test (nat_le a.size most_size) refl
     by_test true t = refl
     by_test false t = let long = leb-false _ _ t in omega (arith, long)
 
-all_below : (n : ℕ) (areas : List Area) → bytes_below n (flat_map parts_of areas) ≡ bytes_below n areas
+pub all_below : (n : ℕ) (areas : List Area) → bytes_below n (flat_map parts_of areas) ≡ bytes_below n areas
 all_below n [] = refl
 all_below n (a ∷ areas) = omega (arith, parts_below n a (flat_map parts_of areas), all_below n areas)
 
@@ -60,7 +60,7 @@ hole_parts a rest f more = by_test (nat_le a.size most_size) refl
           (record { aligned = f.aligned; multiple = omega arith; least = omega arith; most = omega arith }, more),
         )
 
-all_holes : (areas : List Area) → AllByRecursion IsFreeable areas → AllByRecursion IsHole (flat_map parts_of areas)
+pub all_holes : (areas : List Area) → AllByRecursion IsFreeable areas → AllByRecursion IsHole (flat_map parts_of areas)
 all_holes [] all = tt
 all_holes (a ∷ areas) all = hole_parts a (flat_map parts_of areas) all.0 (all_holes areas all.1)
 
@@ -126,7 +126,7 @@ abbrev pub AreSeenBehind : List ℕ → List Area → List Area → Type 0
 AreSeenBehind d holes [] = Unit {0}
 AreSeenBehind d holes (a ∷ areas) = IsSeenBehind d holes a areas × AreSeenBehind d holes areas
 
-listed_own : (d : List ℕ) (holes own : List Area) → AreListedBehind own holes d → AreSeenBehind d holes own
+pub listed_own : (d : List ℕ) (holes own : List Area) → AreListedBehind own holes d → AreSeenBehind d holes own
 listed_own d holes [] h = tt
 listed_own d holes (a ∷ own) h = (inl h.0, listed_own d holes own h.1)
 
@@ -183,7 +183,7 @@ hide_none (Some q) s p e = by_test (q == p)
 hide_next : (o : Option ℕ) (s : ℕ → Option Head) (p : ℕ) → o ≡ Some p → hide o s p ≡ None
 hide_next o s p e = ap (λ (x : Option ℕ). hide x s p) e ∙ ap (λ (b : Bool). if b then None else s p) (eq-eqb p p refl)
 
-seen_clear : (d : List ℕ) (holes now : List Area) (areas : List Area) → ((q : ℕ) → hole_at q now ≡ None → hole_at q holes ≡ None) → AreSeenBehind d holes areas → AreClear (hole_in d) now (flat_map parts_of areas)
+pub seen_clear : (d : List ℕ) (holes now : List Area) (areas : List Area) → ((q : ℕ) → hole_at q now ≡ None → hole_at q holes ≡ None) → AreSeenBehind d holes areas → AreClear (hole_in d) now (flat_map parts_of areas)
 seen_clear d holes now [] imp h = tt
 seen_clear d holes now (a ∷ areas) imp h = by_test (nat_le a.size most_size) refl h.0 (λ xs go. seen_clear d holes xs areas go h.1)
   where
@@ -262,7 +262,7 @@ apart_one_part x a rest far more = by_test (nat_le a.size most_size) refl
     by_test true t = (far, more)
     by_test false t = let long = leb-false _ _ t in (sub_apart x a (back_part a) (omega arith) (omega arith) far, (sub_apart x a (front_part a) (omega arith) (omega arith) far, more))
 
-apart_parts : (x : Area) (areas : List Area) → AllByRecursion (IsApart x) areas → AllByRecursion (IsApart x) (flat_map parts_of areas)
+pub apart_parts : (x : Area) (areas : List Area) → AllByRecursion (IsApart x) areas → AllByRecursion (IsApart x) (flat_map parts_of areas)
 apart_parts x [] far = tt
 apart_parts x (a ∷ areas) far = apart_one_part x a (flat_map parts_of areas) far.0 (apart_parts x areas far.1)
 

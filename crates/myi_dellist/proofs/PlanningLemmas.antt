@@ -158,7 +158,7 @@ rest_holes end size ps last next (Some l) i a s = by_test (is_taken l.hole.at ps
       first = first_in end next (link_past last l) (link_past last l).before i (link_in end last l a);
     }
 
-linkable : (end : ℕ) (h : Head) → end < 2 ^ 64 → IsHoleIn end h → IsLinkable h
+pub linkable : (end : ℕ) (h : Head) → end < 2 ^ 64 → IsHoleIn end h → IsLinkable h
 linkable end h lt i = record { place = omega (arith, i.place.inside, i.place.least); least = i.place.least; most = i.most; next = i.next; prev = i.prev }
 
 pub if_linkable : (end : ℕ) (o : Option Head) → end < 2 ^ 64 → IfSome o (IsHoleIn end) → IfSome o IsLinkable

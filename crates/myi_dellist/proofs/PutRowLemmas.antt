@@ -20,7 +20,7 @@ use Rattle.myi_frames.proofs.CallerLemmas.{least-sized}
 use Rattle.myi_dellist.specs.RowBlocks.{blocks_as}
 use Rattle.myi_dellist.specs.Areas.{Area, bytes_below, IsApart, AreApart, AreInside, HaveBytes}
 use Rattle.myi_dellist.specs.Releasing.{most_size, hole_at, release, release_one, release_all, IsHole}
-use Rattle.myi_dellist.specs.Placing.{Space, Placing, areas_of, taken_by, fits, Taking, take_last, take_one, take_from, take_more, append_from, end_behind, is_none, placed_by, place, place_of, next_place, specs_of}
+use Rattle.myi_dellist.specs.Placing.{Space, Placing, areas_of, taken_by, fits, Taking, take_last, take_one, take_from, take_more, append_from, end_behind, is_none, last_pieces, placed_by, IsUsable, place, place_of, next_place, specs_of}
 use Rattle.myi_dellist.specs.Standing.{hole_block, first_or, IsPart, HasList, with_prev, KeepsBut, release_one_bytes}
 use Rattle.myi_dellist.specs.Freeing.{hole_in, block_named, plan_bytes, IsHoleIn}
 use Rattle.myi_dellist.specs.FreeList.{ListState, HasHoles, IsLong, next_by}
@@ -28,11 +28,11 @@ use Rattle.myi_dellist.specs.Merging.{merge_in}
 use Rattle.myi_dellist.specs.Taking.{Run, IsRun, TakesFull}
 use Rattle.myi_dellist.specs.Rows.{row_written, AreListedBehind, PutsRow, PutsNew}
 use Rattle.myi_dellist.specs.Planning.{is_taken, rest_plan, rest_in, last_size, last_piece, with_rest, row_plan_in, next_bytes, planned_bytes, head_by}
-use Rattle.myi_dellist.specs.Putting.{EndsBehind, EndsIn, PutsIn, Puts, PutLong, ends_of}
+use Rattle.myi_dellist.specs.Putting.{EndsBehind, EndsIn, PutsIn, Puts, PutLong, LongBy, ends_of}
 use Rattle.myi_dellist.proofs.AreaLemmas.{no_more, below-append, once-apart}
 use Rattle.myi_dellist.proofs.PlaceLemmas.{take_takes, append_ends, below-pieces}
 use Rattle.myi_dellist.proofs.LinkLemmas.{part_split, all_split, all_join}
-use Rattle.myi_dellist.proofs.FillLemmas.{IsDone, IsOpen, take_runs, first_behind, holes_usable}
+use Rattle.myi_dellist.proofs.FillLemmas.{IsDone, IsOpen, take_runs, first_behind, first_is, holes_usable}
 use Rattle.myi_dellist.proofs.FirstLemmas.{fill_bytes, hole_bytes, place-new}
 use Rattle.myi_dellist.proofs.TakenLemmas.{first-taken}
 use Rattle.myi_dellist.proofs.ReleasedLemmas.{release-one-stands, others-stay, far_of, apart_after}
@@ -40,7 +40,7 @@ use Rattle.myi_dellist.proofs.FreeLemmas.{first_one, short_release}
 use Rattle.myi_dellist.proofs.SeenLemmas.{first_of}
 use Rattle.myi_dellist.proofs.PlanLemmas.{named_first}
 use Rattle.myi_dellist.proofs.StandLemmas.{AreAligned, stand, rest_keeps, no_shorter, no_longer, reaches_behind, list_stays, AreCrossed, cross_of, apart-once, append_aligned}
-use Rattle.myi_dellist.proofs.TakeLemmas.{take_more_of, IsNamed, named_block, named_nothing, first_join, last_join, some_is}
+use Rattle.myi_dellist.proofs.TakeLemmas.{IsMore, take_more_of, IsNamed, named_block, named_nothing, first_join, last_join, some_is}
 use Rattle.myi_dellist.proofs.PlanningLemmas.{IsCut, last_cut}
 use Rattle.myi_dellist.proofs.AtEndLemmas.{IsReady, behind_pieces, behind_fill, behind_inside, behind_ready, in_fill, in_inside, in_ready}
 use Rattle.myi_dellist.proofs.RestLemmas.{none_at, IsSpare, rest_released}
@@ -86,37 +86,81 @@ placed s len ps left spare unused = record {
   space = record { holes = release_all (spare ++ []) unused; end = end_behind s.end (append_from left len (is_none ps) left s.end) };
 }
 
-place_is : (s : Space) (len : ℕ) → 0 < len → place s [] len ≡ placed s len (take_from len true len s.holes).pieces (take_from len true len s.holes).left (take_from len true len s.holes).spare (take_from len true len s.holes).unused
-unfolding place
-place_is s zero some = absurd (omega arith)
-place_is s (suc n) some = refl
+-- blocks of its own that a row fills, beside what is deleted
+pub record IsBegun (len end : ℕ) (own holes : List Area) : Type 0 where
+  pub usable : AllByRecursion (IsUsable len) own
+  pub inside : AreInside end own
+  pub apart : AreApart (own ++ holes)
+  pub some : 0 < (take_from len true len own).left
 
-pub place_by : (s : Space) (len : ℕ) (ps : List Piece) (left : ℕ) (spare unused : List Area) → 0 < len → (take_from len true len s.holes).pieces ≡ ps → (take_from len true len s.holes).left ≡ left → (take_from len true len s.holes).spare ≡ spare → (take_from len true len s.holes).unused ≡ unused → place s [] len ≡ placed s len ps left spare unused
-place_by s len ps left spare unused some p l sp u =
-    let t = take_from len true len s.holes in
-    place_is s len some
+-- a row that has none yet
+pub none_begun : (len end : ℕ) (holes : List Area) → 0 < len → AreApart holes → IsBegun len end [] holes
+none_begun len end holes some apart = record { usable = tt; inside = tt; apart = apart; some = some }
+
+usable_all : (len end : ℕ) (own holes : List Area) → IsBegun len end own holes → AllByRecursion IsHole holes → AllByRecursion (IsUsable len) (own ++ holes)
+usable_all len end own holes b sizes = all_join (IsUsable len) own holes b.usable (holes_usable len holes sizes)
+
+inside_all : (len end : ℕ) (own holes : List Area) → IsBegun len end own holes → AreInside end holes → AreInside end (own ++ holes)
+inside_all len end own holes b inside = all_join (λ (a : Area). a.at + a.size ≤ end) own holes b.inside inside
+
+more_some : (len : ℕ) (first : Bool) (left : ℕ) (holes : List Area) → 0 < left → take_more len first left holes ≡ take_from len first left holes
+more_some len first zero holes some = absurd (omega arith)
+more_some len first (suc n) holes some = refl
+
+by_more : (s : Space) (len : ℕ) (a u : Taking) → a.spare ≡ [] → a.unused ≡ [] → placed_by s len a u ≡ placed s len (a.pieces ++ u.pieces) u.left u.spare u.unused
+by_more s len a u sp un =
+    ap (λ (xs : List Area). record { pieces = (a.pieces ++ u.pieces) ++ last_pieces len a u s.end; space = record { holes = release_all (xs ++ (u.spare ++ a.unused)) u.unused; end = end_behind s.end (last_pieces len a u s.end) } }) sp
+    ∙ ap (λ (xs : List Area). record { pieces = (a.pieces ++ u.pieces) ++ last_pieces len a u s.end; space = record { holes = release_all (u.spare ++ xs) u.unused; end = end_behind s.end (last_pieces len a u s.end) } }) un
+
+place_begun : (s : Space) (own : List Area) (len : ℕ) → AllByRecursion (IsUsable len) own → 0 < len → 0 < (take_from len true len own).left → place s own len ≡ placed s len ((take_from len true len own).pieces ++ (take_from len (is_none (take_from len true len own).pieces) (take_from len true len own).left s.holes).pieces) (take_from len (is_none (take_from len true len own).pieces) (take_from len true len own).left s.holes).left (take_from len (is_none (take_from len true len own).pieces) (take_from len true len own).left s.holes).spare (take_from len (is_none (take_from len true len own).pieces) (take_from len true len own).left s.holes).unused
+unfolding place
+place_begun s own len usable whole some =
+    let a = take_from len true len own in
+    let o = open_of (take_runs len true len own whole (omega arith) usable) in
+    ap (placed_by s len a) (more_some len (is_none a.pieces) a.left s.holes some) ∙ by_more s len a (take_from len (is_none a.pieces) a.left s.holes) o.spare o.unused
+  where
+    open_of : IsDone len true len (take_from len true len own) ⊎ IsOpen len true len (take_from len true len own) → IsOpen len true len (take_from len true len own)
+    open_of (inl d) = absurd (omega (arith, d.none, some))
+    open_of (inr o) = o
+
+place_is : (s : Space) (own : List Area) (len : ℕ) → AllByRecursion (IsUsable len) own → 0 < len → 0 < (take_from len true len own).left → place s own len ≡ placed s len (take_from len true len (own ++ s.holes)).pieces (take_from len true len (own ++ s.holes)).left (take_from len true len (own ++ s.holes)).spare (take_from len true len (own ++ s.holes)).unused
+place_is s own len usable whole some =
+    let a = take_from len true len own in
+    let u = take_from len (is_none a.pieces) a.left s.holes in
+    let v = take_from len true len (own ++ s.holes) in
+    let m = subst (λ (f : Bool). IsMore a (take_from len f a.left s.holes) v) (first_is a.pieces) (take_more_of len true len own s.holes some) in
+    place_begun s own len usable whole some
+    ∙ ap (λ (x : List Piece). placed s len x u.left u.spare u.unused) (sym m.pieces)
+    ∙ ap (λ (x : ℕ). placed s len v.pieces x u.spare u.unused) (sym m.left)
+    ∙ ap (λ (x : List Area). placed s len v.pieces v.left x u.unused) (sym m.spare)
+    ∙ ap (placed s len v.pieces v.left v.spare) (sym m.unused)
+
+pub place_by : (s : Space) (own : List Area) (len : ℕ) (ps : List Piece) (left : ℕ) (spare unused : List Area) → AllByRecursion (IsUsable len) own → 0 < len → 0 < (take_from len true len own).left → (take_from len true len (own ++ s.holes)).pieces ≡ ps → (take_from len true len (own ++ s.holes)).left ≡ left → (take_from len true len (own ++ s.holes)).spare ≡ spare → (take_from len true len (own ++ s.holes)).unused ≡ unused → place s own len ≡ placed s len ps left spare unused
+place_by s own len ps left spare unused usable whole some p l sp u =
+    let t = take_from len true len (own ++ s.holes) in
+    place_is s own len usable whole some
     ∙ ap (λ (x : List Piece). placed s len x t.left t.spare t.unused) p
     ∙ ap (λ (x : ℕ). placed s len ps x t.spare t.unused) l
     ∙ ap (λ (x : List Area). placed s len ps left x t.unused) sp
     ∙ ap (placed s len ps left spare) u
 
-new_place : (s : Space) (len : ℕ) (head : Option ℕ) (q : Placing) → 0 < len → head ≡ first_or s.holes None → place s [] len ≡ q → place_of q.pieces ≡ Some (next_by head s.end).0
-new_place s len head q some e is =
-    ap (λ (r : Placing). place_of r.pieces) (sym is) ∙ place-new s len some ∙ by_holes s.holes s.end ∙ ap (λ (o : Option ℕ). Some (next_by o s.end).0) (sym e)
+new_place : (s : Space) (len : ℕ) (head : Option ℕ) → 0 < len → head ≡ first_or s.holes None → place_of (place s [] len).pieces ≡ Some (next_by head s.end).0
+new_place s len head some e =
+    place-new s len some ∙ by_holes s.holes s.end ∙ ap (λ (o : Option ℕ). Some (next_by o s.end).0) (sym e)
   where
     by_holes : (holes : List Area) (end : ℕ) → Some (next_place holes end) ≡ Some (next_by (first_or holes None) end).0
     by_holes [] end = refl
     by_holes (h ∷ holes) end = refl
 
 -- what a row takes of the list counts as the list does
-taken_apart : (len : ℕ) (holes : List Area) (qs : List Piece) (spare unused : List Area) → AllByRecursion IsHole holes → AreApart holes → (take_from len true len holes).pieces ≡ qs → (take_from len true len holes).spare ≡ spare → (take_from len true len holes).unused ≡ unused → HaveBytes (areas_of qs ++ (spare ++ unused)) → AreApart (areas_of qs ++ (spare ++ unused))
+taken_apart : (len : ℕ) (holes : List Area) (qs : List Piece) (spare unused : List Area) → AllByRecursion (IsUsable len) holes → AreApart holes → (take_from len true len holes).pieces ≡ qs → (take_from len true len holes).spare ≡ spare → (take_from len true len holes).unused ≡ unused → HaveBytes (areas_of qs ++ (spare ++ unused)) → AreApart (areas_of qs ++ (spare ++ unused))
 taken_apart len holes qs spare unused sizes apart p sp u some =
     once-apart (areas_of qs ++ (spare ++ unused)) some (λ n. omega (arith, same n, same (n + 1), apart-once holes apart n))
   where
     same : (n : ℕ) → bytes_below n (areas_of qs ++ (spare ++ unused)) ≡ bytes_below n holes
     same n =
         let t = take_from len true len holes in
-        let k = (take_takes len true len holes (omega arith) (holes_usable len holes sizes)).bytes n in
+        let k = (take_takes len true len holes (omega arith) sizes).bytes n in
         let kp = ap (λ (x : List Piece). bytes_below n (areas_of x)) p in
         let ks = ap (bytes_below n) sp in
         let ku = ap (bytes_below n) u in
@@ -132,8 +176,8 @@ cross_right (x ∷ xs) ys zs c = ((all_split (IsApart x) ys zs c.0).1, cross_rig
 
 -- ---- the list ends before the row does
 
-pub taken_open : (len : ℕ) (areas : List Area) → 0 < len → AllByRecursion IsHole areas → 0 < (take_from len true len areas).left → ((take_from len true len areas).spare ≡ []) × ((take_from len true len areas).unused ≡ [])
-taken_open len areas some sizes left = by_run (take_runs len true len areas some (omega arith) (holes_usable len areas sizes))
+pub taken_open : (len : ℕ) (areas : List Area) → 0 < len → AllByRecursion (IsUsable len) areas → 0 < (take_from len true len areas).left → ((take_from len true len areas).spare ≡ []) × ((take_from len true len areas).unused ≡ [])
+taken_open len areas some sizes left = by_run (take_runs len true len areas some (omega arith) sizes)
   where
     by_run : IsDone len true len (take_from len true len areas) ⊎ IsOpen len true len (take_from len true len areas) → ((take_from len true len areas).spare ≡ []) × ((take_from len true len areas).unused ≡ [])
     by_run (inl done) = absurd (omega (arith, done.none, left))
@@ -143,14 +187,14 @@ aligned_join : (ps qs : List Piece) → AreAligned ps → AreAligned qs → AreA
 aligned_join [] qs a b = b
 aligned_join (p ∷ ps) qs a b = (a.0, aligned_join ps qs a.1 b)
 
-behind_apart : (len end left : ℕ) (holes : List Area) (ps : List Piece) → 0 < len → 0 < left → AllByRecursion IsHole holes → AreApart holes → AreInside end holes → Run len true len ps left → (take_from len true len holes).pieces ≡ ps → (take_from len true len holes).spare ≡ [] → (take_from len true len holes).unused ≡ [] → AreApart (areas_of (ps ++ behind_pieces len ps left end))
+behind_apart : (len end left : ℕ) (holes : List Area) (ps : List Piece) → 0 < len → 0 < left → AllByRecursion (IsUsable len) holes → AreApart holes → AreInside end holes → Run len true len ps left → (take_from len true len holes).pieces ≡ ps → (take_from len true len holes).spare ≡ [] → (take_from len true len holes).unused ≡ [] → AreApart (areas_of (ps ++ behind_pieces len ps left end))
 behind_apart len end left holes ps some more sizes apart inside run p sp u =
     once-apart (areas_of (ps ++ behind_pieces len ps left end)) (fill_bytes len true len (ps ++ behind_pieces len ps left end) (behind_fill len left end ps run more)) (λ n. by_side n (cases_lt n end))
   where
     same : (n : ℕ) → bytes_below n (areas_of ps) ≡ bytes_below n holes
     same n =
         let t = take_from len true len holes in
-        let k = (take_takes len true len holes (omega arith) (holes_usable len holes sizes)).bytes n in
+        let k = (take_takes len true len holes (omega arith) sizes).bytes n in
         let kp = ap (λ (x : List Piece). bytes_below n (areas_of x)) p in
         let ks = ap (bytes_below n) sp in
         let ku = ap (bytes_below n) u in
@@ -167,32 +211,35 @@ behind_apart len end left holes ps some more sizes apart inside run p sp u =
         omega (arith, le, e.bytes n, e.bytes (n + 1), below-pieces n ps qs, below-pieces (n + 1) ps qs, same n, same (n + 1), no_more end n holes inside le, no_more end (n + 1) holes inside (omega (arith, le)))
 
 -- a row that takes the whole list
-pub record TakesAll (s : Space) (len : ℕ) (ps : List Piece) (left : ℕ) : Type 0 where
-  pub pieces : (take_from len true len s.holes).pieces ≡ ps
-  pub left_is : (take_from len true len s.holes).left ≡ left
-  pub spare : (take_from len true len s.holes).spare ≡ []
-  pub unused : (take_from len true len s.holes).unused ≡ []
-  pub is : place s [] len ≡ placed s len ps left [] []
+pub record TakesAll (own : List Area) (s : Space) (len : ℕ) (ps : List Piece) (left : ℕ) : Type 0 where
+  pub pieces : (take_from len true len (own ++ s.holes)).pieces ≡ ps
+  pub left_is : (take_from len true len (own ++ s.holes)).left ≡ left
+  pub spare : (take_from len true len (own ++ s.holes)).spare ≡ []
+  pub unused : (take_from len true len (own ++ s.holes)).unused ≡ []
+  pub is : place s own len ≡ placed s len ps left [] []
 
-pub takes_all : (l : ListState) (len : ℕ) (d : List ℕ) (holes : List Area) (ps : List Piece) (t : Taken) → 0 < len → HasHoles l holes d → TakesFull d l.head len ps t → t.next ≡ None → TakesAll (record { holes = holes; end = l.end }) len ps t.left
-takes_all l len d holes ps t some has u none =
+pub takes_all : (own : List Area) (l : ListState) (len : ℕ) (d : List ℕ) (holes : List Area) (ps : List Piece) (t : Taken) → 0 < len → IsBegun len l.end own holes → HasHoles l holes d → TakesFull own d l.head len ps t → t.next ≡ None → TakesAll own (record { holes = holes; end = l.end }) len ps t.left
+takes_all own l len d holes ps t some b has u none =
     let s : Space = record { holes = holes; end = l.end } in
     let link : u.link ≡ None = named_nothing d t.last u.link (u.names ∙ ap Ok none) in
     let f = front_of d None u.areas holes u.link (u.fills.first ∙ has.head) u.fills.linked has.list.linked in
     let same : holes ≡ u.areas = f.all ∙ ap (λ (xs : List Area). u.areas ++ xs) (nothing_behind f.rest (f.next ∙ link)) ∙ append-nil u.areas in
-    let pieces : (take_from len true len holes).pieces ≡ ps = ap (λ (hs : List Area). (take_from len true len hs).pieces) same ∙ u.fills.pieces in
-    let left : (take_from len true len holes).left ≡ t.left = ap (λ (hs : List Area). (take_from len true len hs).left) same ∙ u.fills.left_is in
-    let open_ = taken_open len holes some has.list.sizes (omega (arith, left, u.fills.some)) in
-    record { pieces = pieces; left_is = left; spare = open_.0; unused = open_.1; is = place_by s len ps t.left [] [] some pieces left open_.0 open_.1 }
+    let pieces : (take_from len true len (own ++ holes)).pieces ≡ ps = ap (λ (hs : List Area). (take_from len true len (own ++ hs)).pieces) same ∙ u.fills.pieces in
+    let left : (take_from len true len (own ++ holes)).left ≡ t.left = ap (λ (hs : List Area). (take_from len true len (own ++ hs)).left) same ∙ u.fills.left_is in
+    let open_ = taken_open len (own ++ holes) some (usable_all len l.end own holes b has.list.sizes) (omega (arith, left, u.fills.some)) in
+    record { pieces = pieces; left_is = left; spare = open_.0; unused = open_.1; is = place_by s own len ps t.left [] [] b.usable some b.some pieces left open_.0 open_.1 }
 
 -- where the file would end is where the definition on lists says
-pub long-placed : (l : ListState) (holes : List Area) (d : List ℕ) (len limit : ℕ) → 0 < len → HasHoles l holes d → PutLong d l.head l.end limit len → limit ≤ (place (record { holes = holes; end = l.end }) [] len).space.end
-long-placed l holes d len limit some has p =
-    let k = takes_all l len d holes p.ps p.t some has p.takes p.none in
+pub long-by : (own : List Area) (l : ListState) (holes : List Area) (d : List ℕ) (len limit : ℕ) → 0 < len → IsBegun len l.end own holes → HasHoles l holes d → LongBy own d l.head l.end limit len → limit ≤ (place (record { holes = holes; end = l.end }) own len).space.end
+long-by own l holes d len limit some b has p =
+    let k = takes_all own l len d holes p.ps p.t some b has p.takes p.none in
     subst (λ (q : Placing). limit ≤ q.space.end) (sym k.is) p.long
 
+pub long-placed : (l : ListState) (holes : List Area) (d : List ℕ) (len limit : ℕ) → 0 < len → HasHoles l holes d → PutLong d l.head l.end limit len → limit ≤ (place (record { holes = holes; end = l.end }) [] len).space.end
+long-placed l holes d len limit some has p = long-by [] l holes d len limit some (none_begun len l.end holes some has.list.apart) has p
+
 -- what stands before a row is put, and the list that it leaves
-pub record IsBefore (l k : ListState) (row d : List ℕ) (holes : List Area) (new : ListEnds) : Type 0 where
+pub record IsBefore (own : List Area) (l k : ListState) (row d : List ℕ) (holes : List Area) (new : ListEnds) : Type 0 where
   pub is : k ≡ record l { head = new.head; end = new.end }
   pub some : 0 < length row
   pub few : length row < 2 ^ 32
@@ -200,12 +247,13 @@ pub record IsBefore (l k : ListState) (row d : List ℕ) (holes : List Area) (ne
   pub aligned : l.end % 4 ≡ 0
   pub short : new.end < 2 ^ 64
   pub has : HasHoles l holes d
+  pub begun : IsBegun (length row) l.end own holes
 
-behind_is_row : (l k : ListState) (row d : List ℕ) (holes : List Area) (new : ListEnds) (ps : List Piece) (t : Taken) → IsBefore l k row d holes new → IsRun l.end (length row) ps t → TakesFull d l.head (length row) ps t → t.next ≡ None → new.head ≡ None → new.end ≡ end_behind l.end (behind_pieces (length row) ps t.left l.end) → PutsRow k holes (place (record { holes = holes; end = l.end }) [] (length row)) row (next_by l.head l.end).0 d (row_written (ps ++ behind_pieces (length row) ps t.left l.end) row d)
-behind_is_row l k row d holes new ps t b r u none head_is end_is =
+behind_is_row : (own old : List Area) (at : ℕ) (l k : ListState) (row d : List ℕ) (holes : List Area) (new : ListEnds) (ps : List Piece) (t : Taken) → IsBefore own l k row d holes new → place_of (place (record { holes = holes; end = l.end }) own (length row)).pieces ≡ Some at → IsRun l.end (length row) ps t → TakesFull own d l.head (length row) ps t → t.next ≡ None → new.head ≡ None → new.end ≡ end_behind l.end (behind_pieces (length row) ps t.left l.end) → PutsRow k (old ++ holes) (place (record { holes = holes; end = l.end }) own (length row)) row at d (row_written (ps ++ behind_pieces (length row) ps t.left l.end) row d)
+behind_is_row own old at l k row d holes new ps t b first r u none head_is end_is =
     let len = length row in
     let s : Space = record { holes = holes; end = l.end } in
-    let all = takes_all l len d holes ps t b.some b.has u none in
+    let all = takes_all own l len d holes ps t b.some b.begun b.has u none in
     let qs = ps ++ behind_pieces len ps t.left l.end in
     let to = end_behind l.end (behind_pieces len ps t.left l.end) in
     let fs = specs_of len qs in
@@ -213,17 +261,17 @@ behind_is_row l k row d holes new ps t b r u none head_is end_is =
     let ready = behind_ready len t.left l.end ps qs refl b.few r.run r.some r.inside (omega (arith, end_is, b.short)) in
     let le : taken_by qs ≤ len = omega (arith, ready.counts) in
     let inside = subst (λ (n : ℕ). AreInside n holes) b.long b.has.list.inside in
-    let apart = behind_apart len l.end t.left holes ps b.some r.some b.has.list.sizes b.has.list.apart inside r.run all.pieces all.spare all.unused in
+    let apart = behind_apart len l.end t.left (own ++ holes) ps b.some r.some (usable_all len l.end own holes b.begun b.has.list.sizes) b.begun.apart (inside_all len l.end own holes b.begun inside) r.run all.pieces all.spare all.unused in
     let long : length (row_written qs row d) ≡ to = omega (arith, no_longer fs qs row d to ready.writable le (omega (arith, b.long, ends.grows)) (behind_inside len t.left l.end ps r.some r.inside), reaches_behind fs ps (behind_pieces len ps t.left l.end) row d l.end ready.writable le (omega (arith, b.long))) in
-    subst (λ (q : Placing). PutsRow k holes q row (next_by l.head l.end).0 d (row_written qs row d)) (sym all.is) (record {
-      place_is = new_place s len l.head (placed s len ps t.left [] []) b.some b.has.head all.is;
+    subst (λ (q : Placing). PutsRow k (old ++ holes) q row at d (row_written qs row d)) (sym all.is) (record {
+      place_is = ap (λ (q : Placing). place_of q.pieces) (sym all.is) ∙ first;
       holes_are = record { head = ap (λ (x : ListState). x.head) b.is ∙ head_is; list = record { linked = tt; sizes = tt; inside = tt; apart = tt; short = omega (arith, long, end_is, b.short) } };
       end_is = ap (λ (x : ListState). x.end) b.is ∙ end_is;
       long = long;
       blocks = stand fs qs row d ready.writable (aligned_join ps (behind_pieces len ps t.left l.end) r.aligned (append_aligned t.left len (is_none ps) t.left l.end b.aligned)) apart le;
       keeps = record {
         longer = no_shorter fs qs row d ready.writable le;
-        bytes = λ p n within far. rest_keeps fs qs row d p n ready.writable le within (all_split (IsApart (record { at = p; size = n })) (areas_of qs) (holes ++ []) far).0;
+        bytes = λ p n within far. rest_keeps fs qs row d p n ready.writable le within (all_split (IsApart (record { at = p; size = n })) (areas_of qs) ((old ++ holes) ++ []) far).0;
       };
     })
 
@@ -316,14 +364,14 @@ head_is_first prev [] = refl
 head_is_first prev (r ∷ rest) = refl
 
 -- the list of a file in which a row takes these blocks, of which the last is this one
-pub record IsList (l : ListState) (row d : List ℕ) (holes : List Area) (ps : List Piece) (t : Taken) (h : Head) (areas rest : List Area) : Type 0 where
+pub record IsList (own : List Area) (l : ListState) (row d : List ℕ) (holes : List Area) (ps : List Piece) (t : Taken) (h : Head) (areas rest : List Area) : Type 0 where
   pub all : holes ≡ (areas ++ record { at = h.at; size = h.size } ∷ []) ++ rest
   pub next : first_or rest None ≡ h.next
-  pub pieces : (take_from (length row) true (length row) areas).pieces ≡ ps
-  pub left_is : (take_from (length row) true (length row) areas).left ≡ t.left
+  pub pieces : (take_from (length row) true (length row) (own ++ areas)).pieces ≡ ps
+  pub left_is : (take_from (length row) true (length row) (own ++ areas)).left ≡ t.left
 
-pub list_of : (l : ListState) (row d : List ℕ) (holes : List Area) (ps : List Piece) (t : Taken) (h : Head) → HasHoles l holes d → (u : TakesFull d l.head (length row) ps t) → t.next ≡ Some h → (rest : List Area) × IsList l row d holes ps t h u.areas rest
-list_of l row d holes ps t h has u next =
+pub list_of : (own : List Area) (l : ListState) (row d : List ℕ) (holes : List Area) (ps : List Piece) (t : Taken) (h : Head) → HasHoles l holes d → (u : TakesFull own d l.head (length row) ps t) → t.next ≡ Some h → (rest : List Area) × IsList own l row d holes ps t h u.areas rest
+list_of own l row d holes ps t h has u next =
     let a : Area = record { at = h.at; size = h.size } in
     let m = named_block d t.last u.link h (u.names ∙ ap Ok next) in
     let n = subst (λ (o : Option ℕ). IsNamed d o u.link h) u.last m in
@@ -396,8 +444,8 @@ spare_bytes true left h t = (omega (arith, leb-true _ _ t), tt)
 spare_bytes false left h t = tt
 
 -- what is known of a row whose last block is this one
-pub record IsEnded (l : ListState) (row d : List ℕ) (holes areas rest : List Area) (qs : List Piece) (left : ℕ) (h : Head) (b : Bool) : Type 0 where
-  pub is : place (record { holes = holes; end = l.end }) [] (length row) ≡ record { pieces = qs; space = record { holes = release_all (spare_by b left (record { at = h.at; size = h.size }) ++ []) rest; end = l.end } }
+pub record IsEnded (own : List Area) (l : ListState) (row d : List ℕ) (holes areas rest : List Area) (qs : List Piece) (left : ℕ) (h : Head) (b : Bool) : Type 0 where
+  pub is : place (record { holes = holes; end = l.end }) own (length row) ≡ record { pieces = qs; space = record { holes = release_all (spare_by b left (record { at = h.at; size = h.size }) ++ []) rest; end = l.end } }
   pub list : HasList d ((areas ++ record { at = h.at; size = h.size } ∷ []) ++ rest)
   pub apart : AreApart (spare_by b left (record { at = h.at; size = h.size }) ++ rest)
   pub whole : AreCrossed (areas_of qs) (spare_by b left (record { at = h.at; size = h.size }) ++ rest)
@@ -407,8 +455,8 @@ pub record IsEnded (l : ListState) (row d : List ℕ) (holes areas rest : List A
   pub written : IsWritten row d qs rest (row_written qs row (with_prev rest None None d))
   pub size : last_size left h.size ≡ size_by b left h.size
 
-pub ended : (l k : ListState) (row d : List ℕ) (holes : List Area) (new : ListEnds) (ps : List Piece) (t : Taken) (h : Head) (areas rest : List Area) (b : Bool) → IsBefore l k row d holes new → new.end ≡ l.end → IsRun l.end (length row) ps t → t.next ≡ Some h → fits t.left h.size ≡ true → IsList l row d holes ps t h areas rest → nat_le (least_size t.left + 20) h.size ≡ b → IsEnded l row d holes areas rest (ps ++ last_piece t.left h ∷ []) t.left h b
-ended l k row d holes new ps t h areas rest b w end_is r next e x tb =
+pub ended : (own : List Area) (l k : ListState) (row d : List ℕ) (holes : List Area) (new : ListEnds) (ps : List Piece) (t : Taken) (h : Head) (areas rest : List Area) (b : Bool) → IsBefore own l k row d holes new → new.end ≡ l.end → IsRun l.end (length row) ps t → t.next ≡ Some h → fits t.left h.size ≡ true → IsList own l row d holes ps t h areas rest → nat_le (least_size t.left + 20) h.size ≡ b → IsEnded own l row d holes areas rest (ps ++ last_piece t.left h ∷ []) t.left h b
+ended own l k row d holes new ps t h areas rest b w end_is r next e x tb =
     let len = length row in
     let left : ℕ = t.left in
     let a : Area = record { at = h.at; size = h.size } in
@@ -416,9 +464,9 @@ ended l k row d holes new ps t h areas rest b w end_is r next e x tb =
     let size : last_size left h.size ≡ size_by b left h.size = ap (λ (c : Bool). if c then least_size left else h.size) tb in
     let zs = areas ++ a ∷ [] in
     let qs = ps ++ last_piece left h ∷ [] in
-    let all : holes ≡ areas ++ (a ∷ rest) = x.all ∙ append_assoc areas (a ∷ []) rest in
-    let tk = subst (λ (hs : List Area). IsTaken (take_from len true len hs) ps left a b rest) (sym all) (all_taken len areas rest ps left a b x.pieces x.left_is r.some e tb) in
-    let pieces : (take_from len true len holes).pieces ≡ qs = tk.pieces ∙ ap (λ (n : ℕ). ps ++ record { at = h.at; size = n; taken = left } ∷ []) (sym size) in
+    let all : own ++ holes ≡ (own ++ areas) ++ (a ∷ rest) = ap (λ (hs : List Area). own ++ hs) (x.all ∙ append_assoc areas (a ∷ []) rest) ∙ sym (append_assoc own areas (a ∷ rest)) in
+    let tk = subst (λ (hs : List Area). IsTaken (take_from len true len hs) ps left a b rest) (sym all) (all_taken len (own ++ areas) rest ps left a b x.pieces x.left_is r.some e tb) in
+    let pieces : (take_from len true len (own ++ holes)).pieces ≡ qs = tk.pieces ∙ ap (λ (n : ℕ). ps ++ record { at = h.at; size = n; taken = left } ∷ []) (sym size) in
     let s : Space = record { holes = holes; end = l.end } in
     let list = subst (λ (hs : List Area). HasList d hs) x.all w.has.list in
     let lt : l.end < 2 ^ 64 = omega (arith, end_is, w.short) in
@@ -428,13 +476,13 @@ ended l k row d holes new ps t h areas rest b w end_is r next e x tb =
     let sizes = (all_split IsHole zs rest list.sizes).1 in
     let spare = spare_by b left a in
     let some_bytes = all_join (λ (y : Area). 0 < y.size) (areas_of qs) (spare ++ rest) bytes (all_join (λ (y : Area). 0 < y.size) spare rest (spare_bytes b left h tb) (hole_bytes rest sizes)) in
-    let apart = taken_apart len holes qs spare rest w.has.list.sizes w.has.list.apart pieces tk.spare tk.unused some_bytes in
+    let apart = taken_apart len (own ++ holes) qs spare rest (usable_all len l.end own holes w.begun w.has.list.sizes) w.begun.apart pieces tk.spare tk.unused some_bytes in
     let c = cross_of (areas_of qs) (spare ++ rest) apart in
     let cross = cross_right (areas_of qs) spare rest c.1 in
     let part = subst (λ (o : Option ℕ). IsPart d o rest None) (last_join areas a None) (part_split d None None zs rest list.linked).1 in
     let inside = subst (λ (n : ℕ). AreInside n (areas_of qs)) (sym w.long) (in_inside len l.end ps t h r next e) in
     record {
-      is = place_by s len qs 0 spare rest w.some pieces tk.left_is tk.spare tk.unused ∙ ap (λ (xs : List Piece). record { pieces = xs; space = record { holes = release_all (spare ++ []) rest; end = l.end } }) (append-nil qs);
+      is = place_by s own len qs 0 spare rest w.begun.usable w.some w.begun.some pieces tk.left_is tk.spare tk.unused ∙ ap (λ (xs : List Piece). record { pieces = xs; space = record { holes = release_all (spare ++ []) rest; end = l.end } }) (append-nil qs);
       list = list;
       apart = apart_right (areas_of qs) (spare ++ rest) apart;
       whole = c.1;
@@ -446,14 +494,14 @@ ended l k row d holes new ps t h areas rest b w end_is r next e x tb =
     }
 
 -- what stands then
-put_so : (l k : ListState) (row d e : List ℕ) (holes left_over : List Area) (new : ListEnds) (qs : List Piece) (q : Placing) → IsBefore l k row d holes new → new.end ≡ l.end → q ≡ record { pieces = qs; space = record { holes = left_over; end = l.end } } → place (record { holes = holes; end = l.end }) [] (length row) ≡ q → new.head ≡ first_or left_over None → HasList e left_over → length e ≡ length d → AllByRecursion (λ (b : Block). block_of e b.at ≡ Some b) (Rattle.myi_dellist.specs.RowBlocks.row_blocks qs row)
+put_so : (own old : List Area) (at : ℕ) (l k : ListState) (row d e : List ℕ) (holes left_over : List Area) (new : ListEnds) (qs : List Piece) (q : Placing) → IsBefore own l k row d holes new → place_of (place (record { holes = holes; end = l.end }) own (length row)).pieces ≡ Some at → new.end ≡ l.end → q ≡ record { pieces = qs; space = record { holes = left_over; end = l.end } } → place (record { holes = holes; end = l.end }) own (length row) ≡ q → new.head ≡ first_or left_over None → HasList e left_over → length e ≡ length d → AllByRecursion (λ (b : Block). block_of e b.at ≡ Some b) (Rattle.myi_dellist.specs.RowBlocks.row_blocks qs row)
     → ((p n : ℕ) → p + n ≤ length d → AllByRecursion (IsApart (record { at = p; size = n })) (areas_of qs) → AllByRecursion (IsApart (record { at = p; size = n })) holes → AllByRecursion (IsApart (record { at = p; size = n })) left_over → take n (drop p e) ≡ take n (drop p d))
-    → PutsRow k holes (place (record { holes = holes; end = l.end }) [] (length row)) row (next_by l.head l.end).0 d e
-put_so l k row d e holes left_over new qs q w end_is shape is head list long blocks bytes =
+    → PutsRow k (old ++ holes) (place (record { holes = holes; end = l.end }) own (length row)) row at d e
+put_so own old at l k row d e holes left_over new qs q w first end_is shape is head list long blocks bytes =
     let s : Space = record { holes = holes; end = l.end } in
     let all = is ∙ shape in
-    subst (λ (x : Placing). PutsRow k holes x row (next_by l.head l.end).0 d e) (sym all) (record {
-      place_is = new_place s (length row) l.head (record { pieces = qs; space = record { holes = left_over; end = l.end } }) w.some w.has.head all;
+    subst (λ (x : Placing). PutsRow k (old ++ holes) x row at d e) (sym all) (record {
+      place_is = ap (λ (x : Placing). place_of x.pieces) (sym all) ∙ first;
       holes_are = record { head = ap (λ (x : ListState). x.head) w.is ∙ head; list = list };
       end_is = ap (λ (x : ListState). x.end) w.is ∙ end_is;
       long = long ∙ w.long;
@@ -461,20 +509,20 @@ put_so l k row d e holes left_over new qs q w end_is shape is head list long blo
       keeps = record {
         longer = omega (arith, long);
         bytes = λ p n within far.
-            let one = all_split (IsApart (record { at = p; size = n })) (areas_of qs) (holes ++ left_over) far in
-            let two = all_split (IsApart (record { at = p; size = n })) holes left_over one.1 in
-            bytes p n within one.0 two.0 two.1;
+            let one = all_split (IsApart (record { at = p; size = n })) (areas_of qs) ((old ++ holes) ++ left_over) far in
+            let two = all_split (IsApart (record { at = p; size = n })) (old ++ holes) left_over one.1 in
+            bytes p n within one.0 (all_split (IsApart (record { at = p; size = n })) old holes two.0).1 two.1;
       };
     })
 
-filled_row : (l k : ListState) (row d : List ℕ) (holes : List Area) (new : ListEnds) (ps : List Piece) (t : Taken) (h : Head) (plan : RowPlan) (areas rest : List Area) → IsBefore l k row d holes new → new.end ≡ l.end → IsList l row d holes ps t h areas rest → IsEnded l row d holes areas rest (ps ++ last_piece t.left h ∷ []) t.left h false → row_plan_in d l.head ps t.left h ≡ Ok plan → new.head ≡ head_by plan.next plan.rest → PutsRow k holes (place (record { holes = holes; end = l.end }) [] (length row)) row (next_by l.head l.end).0 d (planned_bytes plan (ps ++ last_piece t.left h ∷ []) row d)
-filled_row l k row d holes new ps t h plan areas rest w end_is x n found head =
+filled_row : (own old : List Area) (at : ℕ) (l k : ListState) (row d : List ℕ) (holes : List Area) (new : ListEnds) (ps : List Piece) (t : Taken) (h : Head) (plan : RowPlan) (areas rest : List Area) → IsBefore own l k row d holes new → place_of (place (record { holes = holes; end = l.end }) own (length row)).pieces ≡ Some at → new.end ≡ l.end → IsList own l row d holes ps t h areas rest → IsEnded own l row d holes areas rest (ps ++ last_piece t.left h ∷ []) t.left h false → row_plan_in d l.head ps t.left h ≡ Ok plan → new.head ≡ head_by plan.next plan.rest → PutsRow k (old ++ holes) (place (record { holes = holes; end = l.end }) own (length row)) row at d (planned_bytes plan (ps ++ last_piece t.left h ∷ []) row d)
+filled_row own old at l k row d holes new ps t h plan areas rest w first end_is x n found head =
     let qs = ps ++ last_piece t.left h ∷ [] in
     let next = first_of (Some h.at) rest in
     let plan_is = same_row (row_plan_in d l.head ps t.left h) plan (record { next = next; rest = None }) found (Rattle.myi_dellist.proofs.PlanningLemmas.row_filled d l.head ps t.left h next h.size (sym n.size) refl n.named) in
     let bytes = ap (λ (p : RowPlan). planned_bytes p qs row d) plan_is ∙ ap (row_written qs row) (next_is_prev (Some h.at) rest d) in
-    subst (λ (y : List ℕ). PutsRow k holes (place (record { holes = holes; end = l.end }) [] (length row)) row (next_by l.head l.end).0 d y) (sym bytes)
-    (put_so l k row d (row_written qs row (with_prev rest None None d)) holes rest new qs (record { pieces = qs; space = record { holes = rest; end = l.end } }) w end_is refl n.is
+    subst (λ (y : List ℕ). PutsRow k (old ++ holes) (place (record { holes = holes; end = l.end }) own (length row)) row at d y) (sym bytes)
+    (put_so own old at l k row d (row_written qs row (with_prev rest None None d)) holes rest new qs (record { pieces = qs; space = record { holes = rest; end = l.end } }) w first end_is refl n.is
     (head ∙ ap (λ (p : RowPlan). head_by p.next p.rest) plan_is ∙ head_is_first (Some h.at) rest)
     n.written.list n.written.long n.written.blocks
     (λ p m within far old off. n.written.bytes p m within far off))
@@ -493,9 +541,17 @@ blocks_stay (f ∷ fs) (p ∷ qs) row hs y e k sizes c all = (
   blocks_stay fs qs (drop p.taken row) hs y e k sizes c.1 all.1,
 )
 
+hole_right : (q : ℕ) (xs ys : List Area) (g : Area) → hole_at q ys ≡ Some g → (h : Area) × (hole_at q (xs ++ ys) ≡ Some h)
+hole_right q [] ys g e = (g, e)
+hole_right q (x ∷ xs) ys g e = by_test (x.at == q) (hole_right q xs ys g e)
+  where
+    by_test : (b : Bool) → ((h : Area) × (hole_at q (xs ++ ys) ≡ Some h)) → (h : Area) × ((if b then Some x else hole_at q (xs ++ ys)) ≡ Some h)
+    by_test true k = (x, refl)
+    by_test false k = k
+
 -- what a row's last block leaves over, and what is on the list then
-pub spare-is : (l : ListState) (row d : List ℕ) (holes : List Area) (ps : List Piece) (t : Taken) (h : Head) (areas rest : List Area) (j : Option Linked) → HasHoles l holes d → IsHoleIn l.end h → 0 < t.left → IsList l row d holes ps t h areas rest → fits t.left h.size ≡ true → nat_le (least_size t.left + 20) h.size ≡ true → IsEnded l row d holes areas rest (ps ++ last_piece t.left h ∷ []) t.left h true → AreListedBehind holes holes d → merge_in (hole_in d) l.head (h.at + least_size t.left) (h.size - least_size t.left) ≡ Ok j → IsSpare d (record { at = h.at + least_size t.left; size = h.size - least_size t.left }) (areas ++ record { at = h.at; size = h.size } ∷ []) rest h.at (ps ++ last_piece t.left h ∷ []) j
-spare-is l row d holes ps t h areas rest j has i more x e tb n listed found =
+pub spare-is : (own : List Area) (l : ListState) (row d : List ℕ) (holes : List Area) (ps : List Piece) (t : Taken) (h : Head) (areas rest : List Area) (j : Option Linked) → HasHoles l holes d → IsHoleIn l.end h → 0 < t.left → IsList own l row d holes ps t h areas rest → fits t.left h.size ≡ true → nat_le (least_size t.left + 20) h.size ≡ true → IsEnded own l row d holes areas rest (ps ++ last_piece t.left h ∷ []) t.left h true → AreListedBehind holes holes d → merge_in (hole_in d) l.head (h.at + least_size t.left) (h.size - least_size t.left) ≡ Ok j → IsSpare d (record { at = h.at + least_size t.left; size = h.size - least_size t.left }) (areas ++ record { at = h.at; size = h.size } ∷ []) rest h.at (ps ++ last_piece t.left h ∷ []) j
+spare-is own l row d holes ps t h areas rest j has i more x e tb n listed found =
     let len = length row in
     let left : ℕ = t.left in
     let a : Area = record { at = h.at; size = h.size } in
@@ -505,8 +561,8 @@ spare-is l row d holes ps t h areas rest j has i more x e tb n listed found =
     let le = leb-true _ _ tb in
     let sizes = all_split IsHole zs rest n.list.sizes in
     let stop : h.at + h.size ≡ s.at + s.size = omega (arith, le) in
-    let tz = all_taken len areas [] ps left a true x.pieces x.left_is more e tb in
-    let places : (take_from len true len zs).pieces ≡ qs = tz.pieces ∙ ap (λ (m : ℕ). ps ++ record { at = h.at; size = m; taken = left } ∷ []) (sym n.size) in
+    let tz = all_taken len (own ++ areas) [] ps left a true x.pieces x.left_is more e tb in
+    let places : (take_from len true len ((own ++ areas) ++ a ∷ [])).pieces ≡ qs = tz.pieces ∙ ap (λ (m : ℕ). ps ++ record { at = h.at; size = m; taken = left } ∷ []) (sym n.size) in
     let P : Area → Type 0 = λ b. hole_at (b.at + b.size) holes ≡ None → hole_in d (b.at + b.size) ≡ None in
     let here : P a = (all_split P areas (a ∷ []) (all_split P zs rest (subst (λ (hs : List Area). AllByRecursion P hs) x.all listed)).0).1.0 in
     record {
@@ -514,13 +570,15 @@ spare-is l row d holes ps t h areas rest j has i more x e tb n listed found =
       last_is = last_join areas a None;
       away = none_at a rest (omega (arith, i.place.least)) sizes.1 (cross_last areas a rest (cross_of zs rest n.list.apart).1);
       free = none_taken qs rest n.bytes (hole_bytes rest sizes.1) n.cross;
-      taken = λ g m. ap (is_taken (s.at + s.size)) (sym places) ∙ taken_places len true len zs (s.at + s.size) g tz.unused m;
+      taken = λ g m.
+          let found_there = hole_right (s.at + s.size) own zs g m in
+          ap (is_taken (s.at + s.size)) (sym places) ∙ taken_places len true len ((own ++ areas) ++ a ∷ []) (s.at + s.size) found_there.0 tz.unused (ap (hole_at (s.at + s.size)) (append_assoc own areas (a ∷ [])) ∙ found_there.1);
       behind = λ none. ap (hole_in d) (sym stop) ∙ here (ap (λ (q : ℕ). hole_at q holes) stop ∙ ap (hole_at (s.at + s.size)) x.all ∙ none);
       found = ap (λ (o : Option ℕ). merge_in (hole_in d) o s.at s.size) (sym (has.head ∙ ap (λ (hs : List Area). first_or hs None) x.all)) ∙ found;
     }
 
-cut_row : (l k : ListState) (row d : List ℕ) (holes : List Area) (new : ListEnds) (ps : List Piece) (t : Taken) (h : Head) (plan : RowPlan) (areas rest : List Area) → IsBefore l k row d holes new → new.end ≡ l.end → IsHoleIn l.end h → 0 < t.left → IsList l row d holes ps t h areas rest → fits t.left h.size ≡ true → nat_le (least_size t.left + 20) h.size ≡ true → IsEnded l row d holes areas rest (ps ++ last_piece t.left h ∷ []) t.left h true → AreListedBehind holes holes d → row_plan_in d l.head ps t.left h ≡ Ok plan → new.head ≡ head_by plan.next plan.rest → PutsRow k holes (place (record { holes = holes; end = l.end }) [] (length row)) row (next_by l.head l.end).0 d (planned_bytes plan (ps ++ last_piece t.left h ∷ []) row d)
-cut_row l k row d holes new ps t h plan areas rest w end_is i more x e tb n listed found head =
+cut_row : (own old : List Area) (at : ℕ) (l k : ListState) (row d : List ℕ) (holes : List Area) (new : ListEnds) (ps : List Piece) (t : Taken) (h : Head) (plan : RowPlan) (areas rest : List Area) → IsBefore own l k row d holes new → place_of (place (record { holes = holes; end = l.end }) own (length row)).pieces ≡ Some at → new.end ≡ l.end → IsHoleIn l.end h → 0 < t.left → IsList own l row d holes ps t h areas rest → fits t.left h.size ≡ true → nat_le (least_size t.left + 20) h.size ≡ true → IsEnded own l row d holes areas rest (ps ++ last_piece t.left h ∷ []) t.left h true → AreListedBehind holes holes d → row_plan_in d l.head ps t.left h ≡ Ok plan → new.head ≡ head_by plan.next plan.rest → PutsRow k (old ++ holes) (place (record { holes = holes; end = l.end }) own (length row)) row at d (planned_bytes plan (ps ++ last_piece t.left h ∷ []) row d)
+cut_row own old at l k row d holes new ps t h plan areas rest w first end_is i more x e tb n listed found head =
     let len = length row in
     let left : ℕ = t.left in
     let a : Area = record { at = h.at; size = h.size } in
@@ -534,7 +592,7 @@ cut_row l k row d holes new ps t h plan areas rest w end_is i more x e tb n list
     let cut = cut_off d l.head ps left h next plan n.size less n.named found in
     let y = row_written qs row (with_prev rest None None d) in
     let stop : h.at + h.size ≡ s.at + s.size = omega (arith, le) in
-    let spare = spare-is l row d holes ps t h areas rest cut.joined w.has i more x e tb n listed cut.found in
+    let spare = spare-is own l row d holes ps t h areas rest cut.joined w.has i more x e tb n listed cut.found in
     let is_hole : IsHole s = record { aligned = omega (arith, i.place.aligned, least.multiple); multiple = omega (arith, i.place.multiple, least.multiple, le); least = omega (arith, le); most = omega (arith, i.most, i.place.multiple, least.multiple) } in
     let inside : s.at + s.size ≤ length y = omega (arith, stop, i.place.inside, n.written.long, w.long) in
     let stands = release-one-stands y s rest is_hole inside n.apart.0 n.written.list in
@@ -544,8 +602,8 @@ cut_row l k row d holes new ps t h plan areas rest w end_is i more x e tb n list
     ∙ rest_released d s zs rest h.at qs cut.joined y spare in
     let most : s.size ≤ most_size = is_hole.most in
     let shape = ap (λ (hs : List Area). record { pieces = qs; space = record { holes = hs; end = l.end } }) (short_release s rest most) in
-    subst (λ (z : List ℕ). PutsRow k holes (place (record { holes = holes; end = l.end }) [] len) row (next_by l.head l.end).0 d z) (sym bytes)
-    (put_so l k row d (release_one_bytes s rest y) holes (release_one s rest) new qs (record { pieces = qs; space = record { holes = release s rest; end = l.end } }) w end_is shape n.is
+    subst (λ (z : List ℕ). PutsRow k (old ++ holes) (place (record { holes = holes; end = l.end }) own len) row at d z) (sym bytes)
+    (put_so own old at l k row d (release_one_bytes s rest y) holes (release_one s rest) new qs (record { pieces = qs; space = record { holes = release s rest; end = l.end } }) w first end_is shape n.is
     (head ∙ ap (λ (p : RowPlan). head_by p.next p.rest) cut.plan_is ∙ sym (first_one s rest))
     stands.list (stands.keeps.long ∙ n.written.long)
     (blocks_stay (specs_of len qs) qs row (release_one s rest) y (release_one_bytes s rest y) stands.keeps stands.list.sizes (crossed_one s rest (areas_of qs) n.bytes n.whole) n.written.blocks)
@@ -553,30 +611,32 @@ cut_row l k row d holes new ps t h plan areas rest w end_is i more x e tb n list
 
 -- ---- the whole
 
-in_is_row : (l k : ListState) (row d : List ℕ) (holes : List Area) (new : ListEnds) (ps : List Piece) (t : Taken) (h : Head) (plan : RowPlan) → IsBefore l k row d holes new → new.end ≡ l.end → IsRun l.end (length row) ps t → TakesFull d l.head (length row) ps t → t.next ≡ Some h → fits t.left h.size ≡ true → AreListedBehind holes holes d → row_plan_in d l.head ps t.left h ≡ Ok plan → new.head ≡ head_by plan.next plan.rest → PutsRow k holes (place (record { holes = holes; end = l.end }) [] (length row)) row (next_by l.head l.end).0 d (planned_bytes plan (ps ++ last_piece t.left h ∷ []) row d)
-in_is_row l k row d holes new ps t h plan w end_is r u next e listed found head =
-    let x = list_of l row d holes ps t h w.has u next in
+in_is_row : (own old : List Area) (at : ℕ) (l k : ListState) (row d : List ℕ) (holes : List Area) (new : ListEnds) (ps : List Piece) (t : Taken) (h : Head) (plan : RowPlan) → IsBefore own l k row d holes new → place_of (place (record { holes = holes; end = l.end }) own (length row)).pieces ≡ Some at → new.end ≡ l.end → IsRun l.end (length row) ps t → TakesFull own d l.head (length row) ps t → t.next ≡ Some h → fits t.left h.size ≡ true → AreListedBehind holes holes d → row_plan_in d l.head ps t.left h ≡ Ok plan → new.head ≡ head_by plan.next plan.rest → PutsRow k (old ++ holes) (place (record { holes = holes; end = l.end }) own (length row)) row at d (planned_bytes plan (ps ++ last_piece t.left h ∷ []) row d)
+in_is_row own old at l k row d holes new ps t h plan w first end_is r u next e listed found head =
+    let x = list_of own l row d holes ps t h w.has u next in
     by_test x.0 x.1 (nat_le (least_size t.left + 20) h.size) refl
   where
-    by_test : (rest : List Area) → IsList l row d holes ps t h u.areas rest → (b : Bool) → nat_le (least_size t.left + 20) h.size ≡ b → PutsRow k holes (place (record { holes = holes; end = l.end }) [] (length row)) row (next_by l.head l.end).0 d (planned_bytes plan (ps ++ last_piece t.left h ∷ []) row d)
-    by_test rest x true tb = cut_row l k row d holes new ps t h plan u.areas rest w end_is (some_is (IsHoleIn l.end) t.next h next r.next) r.some x e tb (ended l k row d holes new ps t h u.areas rest true w end_is r next e x tb) listed found head
-    by_test rest x false tb = filled_row l k row d holes new ps t h plan u.areas rest w end_is x (ended l k row d holes new ps t h u.areas rest false w end_is r next e x tb) found head
+    by_test : (rest : List Area) → IsList own l row d holes ps t h u.areas rest → (b : Bool) → nat_le (least_size t.left + 20) h.size ≡ b → PutsRow k (old ++ holes) (place (record { holes = holes; end = l.end }) own (length row)) row at d (planned_bytes plan (ps ++ last_piece t.left h ∷ []) row d)
+    by_test rest x true tb = cut_row own old at l k row d holes new ps t h plan u.areas rest w first end_is (some_is (IsHoleIn l.end) t.next h next r.next) r.some x e tb (ended own l k row d holes new ps t h u.areas rest true w end_is r next e x tb) listed found head
+    by_test rest x false tb = filled_row own old at l k row d holes new ps t h plan u.areas rest w first end_is x (ended own l k row d holes new ps t h u.areas rest false w end_is r next e x tb) found head
 
-puts_row : (l k : ListState) (row : List ℕ) (m n : Holding) → k ≡ record l { head = k.head; end = k.end } → 0 < length row → length row < 2 ^ 32 → k.end < 2 ^ 64 → IsLong l m → PutsIn l.name (ends_of l) row (ends_of k) m n → PutsNew l k row (next_by l.head l.end).0 m n
-puts_row l k row m n is some few short long p holes aligned has listed = by_ends p.ends
+pub puts_row : (own old : List Area) (at : ℕ) (l k : ListState) (row : List ℕ) (m n : Holding) (holes : List Area) → IsBefore own l k row (bytes_of l.name m) holes (ends_of k) → place_of (place (record { holes = holes; end = l.end }) own (length row)).pieces ≡ Some at → AreListedBehind holes holes (bytes_of l.name m) → PutsIn own l.name (ends_of l) row (ends_of k) m n → PutsRow k (old ++ holes) (place (record { holes = holes; end = l.end }) own (length row)) row at (bytes_of l.name m) (bytes_of l.name n)
+puts_row own old at l k row m n holes w first listed p = by_ends p.ends
   where
     d : List ℕ
     d = bytes_of l.name m
 
-    w : IsBefore l k row d holes (ends_of k)
-    w = record { is = is; some = some; few = few; long = long; aligned = aligned; short = short; has = has }
+    by_ends : EndsBehind l.end p.ps p.t row (ends_of k) d (bytes_of l.name n) ⊎ EndsIn l.head l.end p.ps p.t row (ends_of k) d (bytes_of l.name n) → PutsRow k (old ++ holes) (place (record { holes = holes; end = l.end }) own (length row)) row at d (bytes_of l.name n)
+    by_ends (inl b) = subst (λ (z : List ℕ). PutsRow k (old ++ holes) (place (record { holes = holes; end = l.end }) own (length row)) row at d z) (sym b.bytes) (behind_is_row own old at l k row d holes (ends_of k) p.ps p.t w first p.run p.takes b.none b.head_is b.end_is)
+    by_ends (inr b) = subst (λ (z : List ℕ). PutsRow k (old ++ holes) (place (record { holes = holes; end = l.end }) own (length row)) row at d z) (sym b.bytes) (in_is_row own old at l k row d holes (ends_of k) p.ps p.t b.hole b.plan w first b.end_is p.run p.takes b.next_is b.fits_in listed b.found b.head_is)
 
-    by_ends : EndsBehind l.end p.ps p.t row (ends_of k) d (bytes_of l.name n) ⊎ EndsIn l.head l.end p.ps p.t row (ends_of k) d (bytes_of l.name n) → PutsRow k holes (place (record { holes = holes; end = l.end }) [] (length row)) row (next_by l.head l.end).0 d (bytes_of l.name n)
-    by_ends (inl b) = subst (λ (z : List ℕ). PutsRow k holes (place (record { holes = holes; end = l.end }) [] (length row)) row (next_by l.head l.end).0 d z) (sym b.bytes) (behind_is_row l k row d holes (ends_of k) p.ps p.t w p.run p.takes b.none b.head_is b.end_is)
-    by_ends (inr b) = subst (λ (z : List ℕ). PutsRow k holes (place (record { holes = holes; end = l.end }) [] (length row)) row (next_by l.head l.end).0 d z) (sym b.bytes) (in_is_row l k row d holes (ends_of k) p.ps p.t b.hole b.plan w b.end_is p.run p.takes b.next_is b.fits_in listed b.found b.head_is)
+puts_alone : (l k : ListState) (row : List ℕ) (m n : Holding) → k ≡ record l { head = k.head; end = k.end } → 0 < length row → length row < 2 ^ 32 → k.end < 2 ^ 64 → IsLong l m → PutsIn [] l.name (ends_of l) row (ends_of k) m n → PutsNew l k row (next_by l.head l.end).0 m n
+puts_alone l k row m n is some few short long p holes aligned has listed =
+    puts_row [] [] (next_by l.head l.end).0 l k row m n holes (record { is = is; some = some; few = few; long = long; aligned = aligned; short = short; has = has; begun = none_begun (length row) l.end holes some has.list.apart })
+    (new_place (record { holes = holes; end = l.end }) (length row) l.head some has.head) listed p
 
 -- what stands in the file, in the words of lists
 pub puts_new : (old now : Option Holding) (l k : ListState) (row : List ℕ) (at : ℕ) → at ≡ (next_by l.head l.end).0 → k ≡ record l { head = k.head; end = k.end } → 0 < length row → length row < 2 ^ 32 → k.end < 2 ^ 64 → IfTold old (IsLong l) → Told old now (Puts l.name (ends_of l) row (ends_of k)) → Told old now (PutsNew l k row at)
 puts_new old now l k row at place is some few short long t =
     told_more old now (Puts l.name (ends_of l) row (ends_of k)) (PutsNew l k row at) t
-    (λ m n held p. subst (λ (q : ℕ). PutsNew l k row q m n) (sym place) (puts_row l k row m n is some few short (long m held) (p.1 (long m held))))
+    (λ m n held p. subst (λ (q : ℕ). PutsNew l k row q m n) (sym place) (puts_alone l k row m n is some few short (long m held) (p.1 (long m held))))

@@ -26,15 +26,15 @@ use Rattle.myi_dellist.proofs.PutRowLemmas.{IsFront, front_of}
 not_both : {T : Type 0} (r : Result T ℕ) (x : T) (p : ℕ) → r ≡ Ok x → r ≡ Err p → ⊥
 not_both r x p e f = let two : Ok x ≡ Err p = sym e ∙ f in absurd cc
 
-meets_none : (d : List ℕ) (head : Option ℕ) (holes : List Area) (len at : ℕ) → head ≡ first_or holes None → HasList d holes → MeetsBad d head len at → ⊥
-meets_none d head holes len at has list m =
+pub meets_none : (own : List Area) (d : List ℕ) (head : Option ℕ) (holes : List Area) (len at : ℕ) → head ≡ first_or holes None → HasList d holes → MeetsBad own d head len at → ⊥
+meets_none own d head holes len at has list m =
     let f = front_of d None m.areas holes m.link (m.fills.first ∙ has) m.fills.linked list.linked in
     let part = (part_split d None None m.areas f.rest (subst (λ (hs : List Area). IsPart d None hs None) f.all list.linked)).1 in
     let named = ap (block_named (hole_in d) (last_or m.areas None)) (sym f.next) ∙ named_first d (last_or m.areas None) f.rest part in
     not_both (block_named (hole_in d) (last_or m.areas None) m.link) (first_of (last_or m.areas None) f.rest) at named m.bad
 
-plans_none : (d : List ℕ) (head : Option ℕ) (holes : List Area) (len at : ℕ) → head ≡ first_or holes None → HasList d holes → AreListedBehind holes holes d → PlanBad d head len at → ⊥
-plans_none d head holes len at has list listed p = by_test (nat_le (least_size left + 20) h.size) refl
+pub plans_none : (own : List Area) (d : List ℕ) (head : Option ℕ) (holes : List Area) (len at : ℕ) → head ≡ first_or holes None → HasList d holes → AreListedBehind holes holes d → PlanBad own d head len at → ⊥
+plans_none own d head holes len at has list listed p = by_test (nat_le (least_size left + 20) h.size) refl
   where
     left : ℕ
     left = p.t.left
@@ -83,5 +83,5 @@ plans_none d head holes len at has list listed p = by_test (nat_le (least_size l
         not_both (row_plan_in d head p.ps left h) _ at (row_left d head p.ps qs left h (least_size left) next i ∙ ap (with_rest next) r) p.bad
 
 pub never-bad : (l : ListState) (holes : List Area) (d : List ℕ) (len at : ℕ) → HasHoles l holes d → AreListedBehind holes holes d → PutBad d l.head len at → ⊥
-never-bad l holes d len at has listed (inl m) = meets_none d l.head holes len at has.head has.list m
-never-bad l holes d len at has listed (inr p) = plans_none d l.head holes len at has.head has.list listed p
+never-bad l holes d len at has listed (inl m) = meets_none [] d l.head holes len at has.head has.list m
+never-bad l holes d len at has listed (inr p) = plans_none [] d l.head holes len at has.head has.list listed p

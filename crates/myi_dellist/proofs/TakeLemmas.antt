@@ -1,7 +1,8 @@
 -- Blocks that are taken from the head of the list, one after the other.
-use Rattle.std.proofs.Common.{◌≡◌, ℕ, ◌+◌, ◌-◌, ◌%◌, ◌^◌, ◌<◌, ◌≤◌, inr, Bool, true, false, List, [], ◌∷◌, ◌++◌, Option, Some, None, Result, Ok, Err, refl, sym, ap, subst, ◌∙◌, arith}
+use Rattle.std.proofs.Common.{◌≡◌, ℕ, ◌+◌, ◌-◌, ◌%◌, ◌^◌, ◌<◌, ◌≤◌, inr, Bool, true, false, List, [], ◌∷◌, ◌++◌, Option, Some, None, Result, Ok, Err, refl, sym, ap, subst, ◌∙◌, arith, append_assoc}
 use Rattle.std.specs.Prelude.{nat_le, if◌then◌else◌, IfSome, IfErr}
 use Rattle.std.specs.List.{AllByRecursion}
+use Rattle.std.proofs.lemmas.List.{append-nil}
 use Rattle.myi_frames.specs.declared.form.FrameKind.{FrameKind}
 use Rattle.myi_frames.specs.declared.form.FrameKind.TheVariants.{Deleted}
 use Rattle.myi_frames.specs.declared.head.Head.{Head}
@@ -17,7 +18,7 @@ use Rattle.myi_dellist.specs.Areas.{Area, AreInside}
 use Rattle.myi_dellist.specs.Placing.{areas_of, room, fits, Taking, take_last, take_one, take_from, is_none, IsUsable}
 use Rattle.myi_dellist.specs.Standing.{hole_block, first_or, last_or, IsPart}
 use Rattle.myi_dellist.specs.Freeing.{is_deleted, if_deleted, hole_in, same_link, if_says, names_prev, given, block_named, IsHoleIn, Answers, IfDamaged}
-use Rattle.myi_dellist.specs.Taking.{IsFull, IsRun, Fills, TakesFull, MeetsBad}
+use Rattle.myi_dellist.specs.Taking.{IsFull, IsRun, HasTaken, Fills, TakesFull, MeetsBad}
 use Rattle.myi_dellist.proofs.SizeLemmas.{room-bounds, not-fits-few}
 use Rattle.myi_dellist.proofs.LinkLemmas.{part_join}
 use Rattle.myi_dellist.proofs.FillLemmas.{first_behind, first_is, run_run}
@@ -214,50 +215,56 @@ run_next end len ps qs t h taken last next s r n =
       next = n;
     })
 
-fills_next : (d : List ℕ) (head : Option ℕ) (len : ℕ) (ps qs : List Piece) (t : Taken) (h : Head) (taken : ℕ) (areas : List Area) (link : Option ℕ) → IsStep len ps qs t h taken → taken < t.left → IsNamed d (last_or areas None) link h → Fills d head len ps t.left areas link → Fills d head len qs (t.left - taken) (areas ++ record { at = h.at; size = h.size } ∷ []) h.next
-fills_next d head len ps qs t h taken areas link s less n f =
+fills_next : (own : List Area) (d : List ℕ) (head : Option ℕ) (len : ℕ) (ps qs : List Piece) (t : Taken) (h : Head) (taken : ℕ) (areas : List Area) (link : Option ℕ) → IsStep len ps qs t h taken → taken < t.left → IsNamed d (last_or areas None) link h → Fills own d head len ps t.left areas link → Fills own d head len qs (t.left - taken) (areas ++ record { at = h.at; size = h.size } ∷ []) h.next
+fills_next own d head len ps qs t h taken areas link s less n f =
     let a : Area = record { at = h.at; size = h.size } in
-    let u = take_from len true len areas in
+    let u = take_from len true len (own ++ areas) in
     let small : fits u.left a.size ≡ false = ap (λ (k : ℕ). fits k h.size) f.left_is ∙ s.small in
     let some : 0 < u.left = omega (arith, f.left_is, f.some) in
-    let m = take_more_of len true len areas (a ∷ []) some in
+    let m = take_more_of len true len (own ++ areas) (a ∷ []) some in
+    let all : (own ++ areas) ++ a ∷ [] ≡ own ++ (areas ++ a ∷ []) = append_assoc own areas (a ∷ []) in
     let b = first_behind true u.pieces in
     let first : b ≡ is_none ps = ap (first_behind true) f.pieces ∙ first_is ps in
     let room_is : room len b h.size ≡ taken = ap (λ (c : Bool). room len c h.size) first ∙ sym s.taken_is in
     record {
       first = first_join areas (a ∷ []) h.next ∙ ap (first_or areas) (sym n.link_is) ∙ f.first;
       linked = part_join d None h.next areas (a ∷ []) (subst (IsPart d None areas) n.link_is f.linked) (n.stands, tt);
-      pieces = m.pieces ∙ ap (λ (xs : List Piece). u.pieces ++ xs) (one_piece len b u.left a small) ∙ ap (λ (xs : List Piece). xs ++ record { at = h.at; size = h.size; taken = room len b h.size } ∷ []) f.pieces
+      pieces = ap (λ (xs : List Area). (take_from len true len xs).pieces) (sym all) ∙ m.pieces ∙ ap (λ (xs : List Piece). u.pieces ++ xs) (one_piece len b u.left a small) ∙ ap (λ (xs : List Piece). xs ++ record { at = h.at; size = h.size; taken = room len b h.size } ∷ []) f.pieces
           ∙ ap (λ (k : ℕ). ps ++ record { at = h.at; size = h.size; taken = k } ∷ []) room_is ∙ sym s.added;
-      left_is = m.left ∙ one_full len b u.left a small ∙ ap (λ (k : ℕ). k - room len b h.size) f.left_is ∙ ap (λ (k : ℕ). t.left - k) room_is;
+      left_is = ap (λ (xs : List Area). (take_from len true len xs).left) (sym all) ∙ m.left ∙ one_full len b u.left a small ∙ ap (λ (k : ℕ). k - room len b h.size) f.left_is ∙ ap (λ (k : ℕ). t.left - k) room_is;
       some = omega (arith, less);
     }
 
-pub takes_next : (d : List ℕ) (head : Option ℕ) (len : ℕ) (ps qs : List Piece) (t : Taken) (h : Head) (taken : ℕ) → IsStep len ps qs t h taken → taken < t.left → TakesFull d head len ps t
-    → (areas : List Area) × Fills d head len qs (t.left - taken) areas h.next × (Some h.at ≡ last_or areas None)
-takes_next d head len ps qs t h taken s less u =
+pub takes_next : (own : List Area) (d : List ℕ) (head : Option ℕ) (len : ℕ) (ps qs : List Piece) (t : Taken) (h : Head) (taken : ℕ) → IsStep len ps qs t h taken → taken < t.left → TakesFull own d head len ps t
+    → (areas : List Area) × Fills own d head len qs (t.left - taken) areas h.next × (Some h.at ≡ last_or areas None)
+takes_next own d head len ps qs t h taken s less u =
     let a : Area = record { at = h.at; size = h.size } in
     let n = named_block d t.last u.link h (u.names ∙ ap Ok s.next_is) in
     let m = subst (λ (o : Option ℕ). IsNamed d o u.link h) u.last n in
-    (u.areas ++ a ∷ [], fills_next d head len ps qs t h taken u.areas u.link s less m u.fills, sym (last_join u.areas a None))
+    (u.areas ++ a ∷ [], fills_next own d head len ps qs t h taken u.areas u.link s less m u.fills, sym (last_join u.areas a None))
 
-pub takes_on : (d : List ℕ) (head : Option ℕ) (len : ℕ) (ps qs : List Piece) (t : Taken) (h : Head) (taken : ℕ) (next : Option Head) → IsStep len ps qs t h taken → taken < t.left → TakesFull d head len ps t → block_named (hole_in d) (Some h.at) h.next ≡ Ok next → TakesFull d head len qs (record { left = t.left - taken; last = Some h.at; next = next })
-takes_on d head len ps qs t h taken next s less u names =
-    let n = takes_next d head len ps qs t h taken s less u in
+pub takes_on : (own : List Area) (d : List ℕ) (head : Option ℕ) (len : ℕ) (ps qs : List Piece) (t : Taken) (h : Head) (taken : ℕ) (next : Option Head) → IsStep len ps qs t h taken → taken < t.left → TakesFull own d head len ps t → block_named (hole_in d) (Some h.at) h.next ≡ Ok next → TakesFull own d head len qs (record { left = t.left - taken; last = Some h.at; next = next })
+takes_on own d head len ps qs t h taken next s less u names =
+    let n = takes_next own d head len ps qs t h taken s less u in
     record { areas = n.0; link = h.next; fills = n.1; last = n.2; names = names }
 
-pub takes_first : (d : List ℕ) (head : Option ℕ) (len : ℕ) (ps : List Piece) (next : Option Head) → 0 < len → ps ≡ [] → block_named (hole_in d) None head ≡ Ok next → TakesFull d head len ps (record { left = len; last = None; next = next })
-takes_first d head len ps next some none names = record { areas = []; link = head; fills = record { first = refl; linked = tt; pieces = sym none; left_is = refl; some = some }; last = refl; names = names }
+pub fills_first : (own : List Area) (d : List ℕ) (head : Option ℕ) (len left : ℕ) (ps : List Piece) → 0 < left → HasTaken own len ps left → Fills own d head len ps left [] head
+fills_first own d head len left ps some h =
+    let all = append-nil own in
+    record { first = refl; linked = tt; pieces = ap (λ (xs : List Area). (take_from len true len xs).pieces) all ∙ h.0; left_is = ap (λ (xs : List Area). (take_from len true len xs).left) all ∙ h.1; some = some }
 
-pub run_first : (end len : ℕ) (ps : List Piece) (next : Option Head) → 0 < len → ps ≡ [] → IfSome next (IsHoleIn end) → IsRun end len ps (record { left = len; last = None; next = next })
-run_first end len ps next some none n = subst (λ (xs : List Piece). IsRun end len xs (record { left = len; last = None; next = next })) (sym none) (record { run = refl; some = some; less = omega arith; inside = tt; aligned = tt; next = n })
+pub takes_first : (own : List Area) (d : List ℕ) (head : Option ℕ) (len left : ℕ) (ps : List Piece) (next : Option Head) → 0 < left → HasTaken own len ps left → block_named (hole_in d) None head ≡ Ok next → TakesFull own d head len ps (record { left = left; last = None; next = next })
+takes_first own d head len left ps next some h names = record { areas = []; link = head; fills = fills_first own d head len left ps some h; last = refl; names = names }
 
-pub bad_first : (d : List ℕ) (head : Option ℕ) (len p : ℕ) → 0 < len → block_named (hole_in d) None head ≡ Err p → MeetsBad d head len p
-bad_first d head len p some e = record { ps = []; left = len; areas = []; link = head; fills = record { first = refl; linked = tt; pieces = refl; left_is = refl; some = some }; bad = e }
+pub run_next_is : (end len left : ℕ) (ps : List Piece) (next : Option Head) → IsRun end len ps (record { left = left; last = None; next = None }) → IfSome next (IsHoleIn end) → IsRun end len ps (record { left = left; last = None; next = next })
+run_next_is end len left ps next r n = record { run = r.run; some = r.some; less = r.less; inside = r.inside; aligned = r.aligned; next = n }
 
-pub bad_next : (d : List ℕ) (head : Option ℕ) (len : ℕ) (ps qs : List Piece) (t : Taken) (h : Head) (taken : ℕ) → IsStep len ps qs t h taken → taken < t.left → TakesFull d head len ps t → (p : ℕ) → block_named (hole_in d) (Some h.at) h.next ≡ Err p → MeetsBad d head len p
-bad_next d head len ps qs t h taken s less u p e =
-    let n = takes_next d head len ps qs t h taken s less u in
+pub bad_first : (own : List Area) (d : List ℕ) (head : Option ℕ) (len left p : ℕ) (ps : List Piece) → 0 < left → HasTaken own len ps left → block_named (hole_in d) None head ≡ Err p → MeetsBad own d head len p
+bad_first own d head len left p ps some h e = record { ps = ps; left = left; areas = []; link = head; fills = fills_first own d head len left ps some h; bad = e }
+
+pub bad_next : (own : List Area) (d : List ℕ) (head : Option ℕ) (len : ℕ) (ps qs : List Piece) (t : Taken) (h : Head) (taken : ℕ) → IsStep len ps qs t h taken → taken < t.left → TakesFull own d head len ps t → (p : ℕ) → block_named (hole_in d) (Some h.at) h.next ≡ Err p → MeetsBad own d head len p
+bad_next own d head len ps qs t h taken s less u p e =
+    let n = takes_next own d head len ps qs t h taken s less u in
     record { ps = qs; left = t.left - taken; areas = n.0; link = h.next; fills = n.1; bad = ap (λ (o : Option ℕ). block_named (hole_in d) o h.next) (sym n.2) ∙ e }
 
 -- what a read that is refused tells

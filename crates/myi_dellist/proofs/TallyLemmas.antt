@@ -26,7 +26,7 @@ use Rattle.myi_dellist.proofs.SeenLemmas.{first_of}
 use Rattle.myi_dellist.proofs.PlanningLemmas.{not_same, row_filled}
 use Rattle.myi_dellist.proofs.RestLemmas.{rest_counts}
 use Rattle.myi_dellist.proofs.TakeLemmas.{some_is}
-use Rattle.myi_dellist.proofs.PutRowLemmas.{takes_all, IsBefore, IsList, list_of, ended, cut_off, same_row, spare-is}
+use Rattle.myi_dellist.proofs.PutRowLemmas.{none_begun, takes_all, IsBefore, IsList, list_of, ended, cut_off, same_row, spare-is}
 
 -- each block of the list is one of the row's, where a byte of it is left
 taken_all : (len : ℕ) (first : Bool) (left : ℕ) (areas : List Area) → 0 < (take_from len first left areas).left → length (take_from len first left areas).pieces ≡ length areas
@@ -50,9 +50,9 @@ record HasBlocks (put : Put) (qs : List Piece) : Type 0 where
   pub blocks : put.blocks ≡ length qs
   pub bytes : put.bytes ≡ min (sizes_of qs) (2 ^ 64 - 1)
 
-behind_tallies : (l : ListState) (len : ℕ) (d : List ℕ) (holes : List Area) (put : Put) (ps : List Piece) (t : Taken) (qs : List Piece) → 0 < len → HasHoles l holes d → IsRun l.end len ps t → TakesFull d l.head len ps t → CountsBehind l.end len ps t qs put.taken put.more → HasBlocks put qs → Tallies holes (place (record { holes = holes; end = l.end }) [] len) put
+behind_tallies : (l : ListState) (len : ℕ) (d : List ℕ) (holes : List Area) (put : Put) (ps : List Piece) (t : Taken) (qs : List Piece) → 0 < len → HasHoles l holes d → IsRun l.end len ps t → TakesFull [] d l.head len ps t → CountsBehind l.end len ps t qs put.taken put.more → HasBlocks put qs → Tallies holes (place (record { holes = holes; end = l.end }) [] len) put
 behind_tallies l len d holes put ps t qs some has r u c b =
-    let k = takes_all l len d holes ps t some has u c.none in
+    let k = takes_all [] l len d holes ps t some (none_begun len l.end holes some has.list.apart) has u c.none in
     let whole : length ps ≡ length holes = ap (λ (xs : List Piece). length xs) (sym k.pieces) ∙ taken_all len true len holes (omega (arith, k.left_is, r.some)) in
     subst (λ (p : Placing). Tallies holes p put) (sym k.is) (record {
       blocks = b.blocks ∙ ap (λ (xs : List Piece). length xs) c.pieces;
@@ -69,9 +69,9 @@ counted holes areas rest left_over a ps qs last taken more all pieces same is gr
     let three = ap (λ (xs : List Piece). length xs) pieces ∙ length-append ps (last ∷ []) in
     omega (arith, one, two, three, same, is, grown)
 
-in_tallies : (l : ListState) (row d : List ℕ) (holes : List Area) (put : Put) (ps : List Piece) (t : Taken) (qs : List Piece) → IsBefore l l row d holes (ends_of l) → IsRun l.end (length row) ps t → TakesFull d l.head (length row) ps t → AreListedBehind holes holes d → CountsIn d l.head ps t qs put.taken put.more → HasBlocks put qs → Tallies holes (place (record { holes = holes; end = l.end }) [] (length row)) put
+in_tallies : (l : ListState) (row d : List ℕ) (holes : List Area) (put : Put) (ps : List Piece) (t : Taken) (qs : List Piece) → IsBefore [] l l row d holes (ends_of l) → IsRun l.end (length row) ps t → TakesFull [] d l.head (length row) ps t → AreListedBehind holes holes d → CountsIn d l.head ps t qs put.taken put.more → HasBlocks put qs → Tallies holes (place (record { holes = holes; end = l.end }) [] (length row)) put
 in_tallies l row d holes put ps t qs w r u listed c b =
-    let x = list_of l row d holes ps t c.hole w.has u c.next_is in
+    let x = list_of [] l row d holes ps t c.hole w.has u c.next_is in
     by_test x.0 x.1 (nat_le (least_size t.left + 20) c.hole.size) refl
   where
     left : ℕ
@@ -92,12 +92,12 @@ in_tallies l row d holes put ps t qs w r u listed c b =
     bytes_are : put.bytes ≡ min (sizes_of (ps ++ last_piece left h ∷ [])) (2 ^ 64 - 1)
     bytes_are = b.bytes ∙ ap (λ (xs : List Piece). min (sizes_of xs) (2 ^ 64 - 1)) c.pieces
 
-    whole : (rest : List Area) → IsList l row d holes ps t h u.areas rest → length ps ≡ length u.areas
+    whole : (rest : List Area) → IsList [] l row d holes ps t h u.areas rest → length ps ≡ length u.areas
     whole rest x = ap (λ (xs : List Piece). length xs) (sym x.pieces) ∙ taken_all (length row) true (length row) u.areas (omega (arith, x.left_is, r.some))
 
-    by_test : (rest : List Area) → IsList l row d holes ps t h u.areas rest → (k : Bool) → nat_le (least_size left + 20) h.size ≡ k → Tallies holes (place (record { holes = holes; end = l.end }) [] (length row)) put
+    by_test : (rest : List Area) → IsList [] l row d holes ps t h u.areas rest → (k : Bool) → nat_le (least_size left + 20) h.size ≡ k → Tallies holes (place (record { holes = holes; end = l.end }) [] (length row)) put
     by_test rest x false tb =
-        let n = ended l l row d holes (ends_of l) ps t h u.areas rest false w refl r c.next_is c.fits_in x tb in
+        let n = ended [] l l row d holes (ends_of l) ps t h u.areas rest false w refl r c.next_is c.fits_in x tb in
         let next = first_of (Some h.at) rest in
         let plan_is = same_row (row_plan_in d l.head ps left h) c.plan (record { next = next; rest = None }) c.found (row_filled d l.head ps left h next h.size (sym n.size) refl n.named) in
         let none : put.more ≡ 0 = c.more_is ∙ ap (λ (p : RowPlan). more_by p.rest) plan_is in
@@ -108,13 +108,13 @@ in_tallies l row d holes put ps t qs w r u listed c b =
           few = omega (arith, none);
         })
     by_test rest x true tb =
-        let n = ended l l row d holes (ends_of l) ps t h u.areas rest true w refl r c.next_is c.fits_in x tb in
+        let n = ended [] l l row d holes (ends_of l) ps t h u.areas rest true w refl r c.next_is c.fits_in x tb in
         let i = some_is (IsHoleIn l.end) t.next h c.next_is r.next in
         let next = first_of (Some h.at) rest in
         let le = leb-true _ _ tb in
         let less : (least_size left == h.size) ≡ false = not_same (least_size left) h.size (λ same. omega (arith, le, same)) in
         let cut = cut_off d l.head ps left h next c.plan n.size less n.named c.found in
-        let spare = spare-is l row d holes ps t h u.areas rest cut.joined w.has i r.some x c.fits_in tb n listed cut.found in
+        let spare = spare-is [] l row d holes ps t h u.areas rest cut.joined w.has i r.some x c.fits_in tb n listed cut.found in
         let more : put.more ≡ alone_by (rest_plan (ps ++ last_piece left h ∷ []) h.at next cut.joined).joined = c.more_is ∙ ap (λ (p : RowPlan). more_by p.rest) cut.plan_is in
         let counts = rest_counts d s (u.areas ++ a ∷ []) rest h.at (ps ++ last_piece left h ∷ []) cut.joined spare in
         let short : s.size ≤ most_size = omega (arith, i.most, i.place.multiple, (least-sized left).multiple) in
@@ -127,13 +127,13 @@ in_tallies l row d holes put ps t qs w r u listed c b =
         })
 
 -- in the words of a list
-pub tallies-new : (old : Option Holding) (l : ListState) (row : List ℕ) (put : Put) (qs : List Piece) → 0 < length row → length row < 2 ^ 32 → put.blocks ≡ length qs → put.bytes ≡ min (sizes_of qs) (2 ^ 64 - 1) → IfTold old (IsLong l) → IfTold old (λ m. IsLong l m → PutCounts (bytes_of l.name m) (ends_of l) (length row) qs put.taken put.more) → IfTold old (TalliesNew l (length row) put)
+pub tallies-new : (old : Option Holding) (l : ListState) (row : List ℕ) (put : Put) (qs : List Piece) → 0 < length row → length row < 2 ^ 32 → put.blocks ≡ length qs → put.bytes ≡ min (sizes_of qs) (2 ^ 64 - 1) → IfTold old (IsLong l) → IfTold old (λ m. IsLong l m → PutCounts [] (bytes_of l.name m) (ends_of l) (length row) qs put.taken put.more) → IfTold old (TalliesNew l (length row) put)
 tallies-new old l row put qs some few blocks bytes long counts m held holes aligned has listed = by_ends p.ends
   where
     d : List ℕ
     d = bytes_of l.name m
 
-    p : PutCounts d (ends_of l) (length row) qs put.taken put.more
+    p : PutCounts [] d (ends_of l) (length row) qs put.taken put.more
     p = counts m held (long m held)
 
     same : length d ≡ l.end
@@ -142,8 +142,8 @@ tallies-new old l row put qs some few blocks bytes long counts m held holes alig
     short : length d < 2 ^ 64
     short = has.list.short
 
-    w : IsBefore l l row d holes (ends_of l)
-    w = record { is = refl; some = some; few = few; long = same; aligned = aligned; short = omega (arith, same, short); has = has }
+    w : IsBefore [] l l row d holes (ends_of l)
+    w = record { is = refl; some = some; few = few; long = same; aligned = aligned; short = omega (arith, same, short); has = has; begun = none_begun (length row) l.end holes some has.list.apart }
 
     by_ends : CountsBehind l.end (length row) p.ps p.t qs put.taken put.more ⊎ CountsIn d l.head p.ps p.t qs put.taken put.more → Tallies holes (place (record { holes = holes; end = l.end }) [] (length row)) put
     by_ends (inl c) = behind_tallies l (length row) d holes put p.ps p.t qs some has p.run p.takes c (record { blocks = blocks; bytes = bytes })

@@ -24,5 +24,9 @@ pub mod Planning
 pub mod Putting
 -- several releases, planned before anything is written
 pub mod Several
+-- the blocks of a row that stands in a file
+pub mod Chains
+-- a row whose blocks are released
+pub mod Freed
 -- a row in the place of another
 pub mod Replacing

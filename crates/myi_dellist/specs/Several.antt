@@ -5,10 +5,11 @@ use Rattle.std.specs.List.{AllByRecursion}
 use Rattle.myi_frames.specs.declared.head.Head.{Head}
 use Rattle.myi_dellist.specs.declared.linked.Linked.{Linked}
 use Rattle.myi_dellist.specs.declared.linked.ReleasePlan.{ReleasePlan}
+use Rattle.myi_dellist.specs.declared.linked.Sight.{Sight}
 use Rattle.myi_dellist.specs.Areas.{Area, AreApart}
 use Rattle.myi_dellist.specs.Releasing.{most_size, hole_at, front_part, back_part, release_one, IsHole}
 use Rattle.myi_dellist.specs.Standing.{with_head, release_one_bytes}
-use Rattle.myi_dellist.specs.Freeing.{hole_in, plan_in, area_at, place_at, joined_size, first_head}
+use Rattle.myi_dellist.specs.Freeing.{hole_in, plan_in, area_at, place_at, joined_size, first_head, IsHoleIn}
 
 -- ---- what is seen
 
@@ -25,6 +26,14 @@ over (h ∷ heads) seen = over heads (put_over h seen)
 abbrev pub hide : Option ℕ → (ℕ → Option Head) → (ℕ → Option Head)
 hide None seen = seen
 hide (Some q) seen = λ p. if q == p then None else seen p
+
+-- what a reader sees that has planned to write headers
+abbrev pub seen_in : Sight → List ℕ → (ℕ → Option Head)
+seen_in s d = hide s.hidden (over s.heads.now (hole_in d))
+
+-- these headers are those of deleted blocks in the file
+abbrev pub IsSight : Sight → Type 0
+IsSight s = AllByRecursion (IsHoleIn s.end) s.heads.now
 
 -- ---- the headers that a release writes, in their order
 
@@ -69,6 +78,15 @@ next_of (a ∷ areas) = Some a.at
 abbrev pub heads_in : (ℕ → Option Head) → Option ℕ → List Area → Result (List Head) ℕ
 heads_in seen head [] = Ok []
 heads_in seen head (a ∷ areas) = heads_by a (λ heads. heads_in (over heads seen) (Some a.at) areas) (plan_in (hide (next_of areas) seen) head a.at a.size)
+
+-- the headers that a release writes behind planned ones, or the place of the first block that is not what the list needs then
+pub record PlansPart (d : List ℕ) (head : Option ℕ) (a : Area) (hidden : Option ℕ) (heads more : List Head) : Type 0 where
+  pub plan : ReleasePlan
+  pub found : plan_in (hide hidden (over heads (hole_in d))) head a.at a.size ≡ Ok plan
+  pub heads_are : more ≡ heads ++ plan_heads a plan
+
+abbrev pub PartBad : List ℕ → Option ℕ → Area → Option ℕ → List Head → ℕ → Type 0
+PartBad d head a hidden heads p = plan_in (hide hidden (over heads (hole_in d))) head a.at a.size ≡ Err p
 
 -- the file's bytes once headers of deleted blocks are written
 abbrev pub heads_written : List Head → List ℕ → List ℕ

@@ -1,5 +1,5 @@
 -- What a row takes of the deleted list, by the blocks that stand in the file.
-use Rattle.std.specs.Prelude.{◌≡◌, ℕ, ◌+◌, ◌-◌, ◌%◌, ◌^◌, ◌<◌, ◌≤◌, Bool, true, false, List, [], ◌∷◌, Option, None, Ok, Err, IfSome}
+use Rattle.std.specs.Prelude.{◌≡◌, ℕ, ◌+◌, ◌-◌, ◌%◌, ◌^◌, ◌<◌, ◌≤◌, Bool, true, false, List, [], ◌∷◌, ◌++◌, Option, None, Ok, Err, IfSome}
 use Rattle.std.specs.List.{AllByRecursion}
 use Rattle.myi_dellist.specs.declared.pieces.Piece.{Piece}
 use Rattle.myi_dellist.specs.declared.taking.Taken.{Taken}
@@ -32,28 +32,32 @@ pub record IsRun (end len : ℕ) (ps : List Piece) (t : Taken) : Type 0 where
   pub aligned : AllByRecursion (λ p. p.at % 4 ≡ 0) ps
   pub next : IfSome t.next (IsHoleIn end)
 
--- The first blocks of the list, each of which names the one before it: so many that a row fills, the place that the last of them
--- names, and how they are taken.
-pub record Fills (d : List ℕ) (head : Option ℕ) (len : ℕ) (ps : List Piece) (left : ℕ) (areas : List Area) (link : Option ℕ) : Type 0 where
+-- a row of so many bytes takes these blocks of its own, and so many bytes are left
+abbrev pub HasTaken : List Area → ℕ → List Piece → ℕ → Type 0
+HasTaken own len ps left = ((take_from len true len own).pieces ≡ ps) × ((take_from len true len own).left ≡ left)
+
+-- The first blocks of the list, each of which names the one before it: so many that a row fills behind blocks of its own, the
+-- place that the last of them names, and how they are taken.
+pub record Fills (own : List Area) (d : List ℕ) (head : Option ℕ) (len : ℕ) (ps : List Piece) (left : ℕ) (areas : List Area) (link : Option ℕ) : Type 0 where
   pub first : first_or areas link ≡ head
   pub linked : IsPart d None areas link
-  pub pieces : (take_from len true len areas).pieces ≡ ps
-  pub left_is : (take_from len true len areas).left ≡ left
+  pub pieces : (take_from len true len (own ++ areas)).pieces ≡ ps
+  pub left_is : (take_from len true len (own ++ areas)).left ≡ left
   pub some : 0 < left
 
 -- such blocks, and the one behind them, which names the last of them
-pub record TakesFull (d : List ℕ) (head : Option ℕ) (len : ℕ) (ps : List Piece) (t : Taken) : Type 0 where
+pub record TakesFull (own : List Area) (d : List ℕ) (head : Option ℕ) (len : ℕ) (ps : List Piece) (t : Taken) : Type 0 where
   pub areas : List Area
   pub link : Option ℕ
-  pub fills : Fills d head len ps t.left areas link
+  pub fills : Fills own d head len ps t.left areas link
   pub last : t.last ≡ last_or areas None
   pub names : block_named (hole_in d) t.last link ≡ Ok t.next
 
 -- the block behind such blocks is not one that names the last of them
-pub record MeetsBad (d : List ℕ) (head : Option ℕ) (len at : ℕ) : Type 0 where
+pub record MeetsBad (own : List Area) (d : List ℕ) (head : Option ℕ) (len at : ℕ) : Type 0 where
   pub ps : List Piece
   pub left : ℕ
   pub areas : List Area
   pub link : Option ℕ
-  pub fills : Fills d head len ps left areas link
+  pub fills : Fills own d head len ps left areas link
   pub bad : block_named (hole_in d) (last_or areas None) link ≡ Err at

@@ -1,12 +1,16 @@
 //! `FreeList`: the deleted list of a data file of dynamic rows, by its head.
 //!
 //! The links stand in the file; a `FreeList` keeps where the list begins and where the file ends.
+use crate::chains::read_row;
 use crate::fault::FreeFault;
 use crate::links::{merge_one, release_one, release_two};
 use crate::pieces::{Piece, sizes_of};
-use crate::rows::{FileEnd, Put, put_at_end, put_row};
+use crate::replacing::{add_own, take_own};
+use crate::rows::{FileEnd, Put, Room, put_at_end, put_beyond, put_row};
+use crate::several::{Part, plan_releases, split, write_heads};
 use crate::taking::ListEnds;
-use myi_frames::MOST_SIZE;
+use crate::writing::write_pieces;
+use myi_frames::{Head, MOST_SIZE};
 use myi_io::Files;
 use std::alloc::{AllocError, Global};
 use std::marker::Model;
@@ -24,8 +28,14 @@ pub struct FreeList {
     head: Option<u64>,
     end: u64,
     limits: Limits,
-    /// The blocks of the row that is put, so that no row takes memory that one before had.
+    /// The blocks of the row that is put or released, so that no row takes memory that one before had.
     pieces: Vec<Piece>,
+    /// The blocks of the row in whose place one is put, and these as it takes them.
+    own: Vec<Piece>,
+    areas: Vec<Piece>,
+    /// What is released of them, and the headers that this writes.
+    parts: Vec<Part>,
+    heads: Vec<Head>,
 }
 
 impl Drop for FreeList {
@@ -36,6 +46,10 @@ impl Drop for FreeList {
             end: _,
             limits: _,
             pieces: _,
+            own: _,
+            areas: _,
+            parts: _,
+            heads: _,
         } = self;
     }
 }
@@ -66,6 +80,8 @@ impl FreeList {
     ghost use Rattle.myi_dellist.specs.Releasing.{most_size, half_size};
     ghost use Rattle.myi_dellist.specs.Freeing.{IfDamaged, IsNotFull};
     ghost use Rattle.myi_dellist.specs.FreeList.{next_by, Releases, IsLong, FindsAll, FindsBad};
+    ghost use Rattle.myi_dellist.specs.Freed.{RowIsFreed, FreesRow, RowFindsBad};
+    ghost use Rattle.myi_dellist.specs.Replacing.{PutsAgain, RewritesRow, RewriteFindsBad, RewriteIsLong};
     ghost use Rattle.myi_dellist.specs.Merging.{Merges, MergeFinds, MergeFindsBad};
     ghost use Rattle.myi_dellist.specs.Putting.{Puts, ends_of, PutFindsBad, PutIsLong};
     ghost use Rattle.myi_dellist.specs.Rows.{most_end, end_with, IfFull, IsNotDamaged, PutsAtEnd, PutsBehind, PutsNew, TalliesAtEnd, TalliesNew};
@@ -92,6 +108,10 @@ impl FreeList {
             end,
             limits,
             pieces: Vec::new(alloc),
+            own: Vec::new(alloc),
+            areas: Vec::new(alloc),
+            parts: Vec::new(alloc),
+            heads: Vec::new(alloc),
         })
     }
 
@@ -299,6 +319,103 @@ impl FreeList {
         }
         release_two(files, &self.name, self.end, self.head, at, size)?;
         self.head = Some(at);
+        Ok(())
+    }
+
+    /// Releases the blocks of the row at a place, from the first to the last. All that is read is read before
+    /// anything is written: `Damaged` comes exactly where a block that is read is not what the row's chain
+    /// or the list needs there, and then nothing is changed.
+    pub fn release_row<F: Files>(&mut self, files: &mut F, at: u64) -> Result<(), FreeFault>
+        requires writable { IsTrue F.writable }
+        requires long { IfTold (F.holds files.old) (IsLong self.old) }
+        ensures ok { OnOk result (Told (F.holds files.old) (F.holds files.new)
+            (RowIsFreed self.old self.new at)) }
+        ensures frees { OnOk result (Told (F.holds files.old) (F.holds files.new)
+            (FreesRow self.old self.new at)) }
+        ensures others { Told (F.holds files.old) (F.holds files.new) (OthersStay self.old.name) }
+        ensures state { self.new ≡ record self.old { head = self.new.head } }
+        ensures damaged { IfErr result (λ f. IfDamaged f (λ p. IfTold (F.holds files.old)
+            (RowFindsBad self.old at p))) }
+        ensures unchanged { IfErr result (λ f. IfDamaged f (λ p.
+            F.holds files.new ≡ F.holds files.old)) }
+        ensures room { IfErr result IsNotFull }
+        ensures list { OnErr result (self.new ≡ self.old) }
+        ensures cause { HasCause File (F.faults files.old) (F.faults files.new) result }
+    {
+        let list = ListEnds {
+            head: self.head,
+            end: self.end,
+        };
+        self.pieces.clear();
+        read_row(files, &self.name, self.end, at, &mut self.pieces)?;
+        self.parts.clear();
+        split(&self.pieces, &mut self.parts)?;
+        self.heads.clear();
+        let head = plan_releases(files, &self.name, &list, &self.parts, &mut self.heads)?;
+        write_heads(files, &self.name, &self.heads)?;
+        self.head = head;
+        Ok(())
+    }
+
+    /// Puts a row in the place of the one at a place: into the blocks of that one, in their order, then into
+    /// the deleted blocks from the head of the list, and behind the end what they do not hold. What it leaves
+    /// of them is released, once it is written. All that is read is read before anything is written: `Damaged`
+    /// comes exactly where a block that is read is not what the chain of the other row or the list needs there,
+    /// and then `Full` exactly where the end would not stay below its limit, or where no file can end there;
+    /// then nothing is changed.
+    pub fn rewrite_row<F: Files>(
+        &mut self,
+        files: &mut F,
+        at: u64,
+        packed: &[u8],
+    ) -> Result<(), FreeFault>
+        requires writable { IsTrue F.writable }
+        requires some { 0 < length packed.now }
+        requires few { length packed.now < 2 ^ 32 }
+        requires long { IfTold (F.holds files.old) (IsLong self.old) }
+        ensures ok { OnOk result (Told (F.holds files.old) (F.holds files.new)
+            (PutsAgain self.old self.new at packed.now)) }
+        ensures rewrites { OnOk result (Told (F.holds files.old) (F.holds files.new)
+            (RewritesRow self.old self.new at packed.now)) }
+        ensures others { Told (F.holds files.old) (F.holds files.new) (OthersStay self.old.name) }
+        ensures state { self.new ≡ record self.old { head = self.new.head; end = self.new.end } }
+        ensures room { OnOk result (self.new.end < most_end self.old) }
+        ensures damaged { IfErr result (λ f. IfDamaged f (λ p. IfTold (F.holds files.old)
+            (RewriteFindsBad self.old at (length packed.now) p))) }
+        ensures full { IfErr result (λ f. IfFull f (IfTold (F.holds files.old)
+            (RewriteIsLong self.old at (length packed.now)))) }
+        ensures unchanged { IfErr result (λ f. IfDamaged f (λ p.
+            F.holds files.new ≡ F.holds files.old)) }
+        ensures refused { IfErr result (λ f. IfFull f (F.holds files.new ≡ F.holds files.old)) }
+        ensures list { OnErr result (self.new ≡ self.old) }
+        ensures cause { HasCause File (F.faults files.old) (F.faults files.new) result }
+    {
+        let room = Room {
+            list: ListEnds {
+                head: self.head,
+                end: self.end,
+            },
+            below: self.limits.end_below,
+        };
+        let len = packed.len() as u32;
+        self.own.clear();
+        read_row(files, &self.name, self.end, at, &mut self.own)?;
+        self.areas.clear();
+        add_own(&mut self.areas, &self.own, len)?;
+        self.pieces.clear();
+        self.parts.clear();
+        let left = take_own(&self.areas, len, &mut self.pieces, &mut self.parts)?;
+        if left > 0 {
+            let new = put_beyond(files, &self.name, room, &mut self.pieces, packed, left)?;
+            self.head = new.list.head;
+            self.end = new.list.end;
+            return Ok(());
+        }
+        self.heads.clear();
+        let head = plan_releases(files, &self.name, &room.list, &self.parts, &mut self.heads)?;
+        write_pieces(files, &self.name, &self.pieces, packed)?;
+        write_heads(files, &self.name, &self.heads)?;
+        self.head = head;
         Ok(())
     }
 

@@ -3,7 +3,7 @@
 //! for the crates above.
 ghost use Rattle.std.specs.Prelude.{◌≡◌, ◌⊎◌, ℕ, ◌+◌, ◌%◌, ◌^◌, ◌<◌, ◌≤◌, ◌++◌, List, [], ◌∷◌, length, Option, Some, None, Ok};
 ghost use Rattle.std.specs.List.{AllByRecursion, flat_map};
-ghost use Rattle.myi_base.specs.Holding.{overwritten};
+ghost use Rattle.myi_base.specs.Holding.{Holding, bytes_of, overwritten};
 ghost use Rattle.myi_frames.specs.Block.{Block, block_of};
 ghost use Rattle.myi_dellist.specs.Areas.{Area, below, bytes_below, Tile, IsApart, AreApart, AreInside, Holds, HaveBytes};
 ghost use Rattle.myi_dellist.specs.Releasing.{release, release_all, IsHole, IsFreeable};
@@ -11,7 +11,7 @@ ghost use Rattle.myi_dellist.specs.Placing.{Space, areas_of, taken_by, place, up
 ghost use Rattle.myi_dellist.specs.Standing.{HasList, KeepsBut, LeavesList, first_or, with_prev, without_block, release_one_bytes, release_bytes};
 ghost use Rattle.myi_dellist.specs.declared.linked.ReleasePlan.{ReleasePlan};
 ghost use Rattle.myi_dellist.specs.Freeing.{hole_in, plan_in, plan_bytes};
-ghost use Rattle.myi_dellist.specs.FreeList.{ListState, HasHoles, MayRelease};
+ghost use Rattle.myi_dellist.specs.FreeList.{ListState, HasHoles, IsLong, MayRelease};
 ghost use Rattle.myi_frames.specs.declared.head.Head.{Head};
 ghost use Rattle.myi_dellist.specs.Several.{heads_in, heads_written, release_ones, release_ones_bytes, parts_of, MayReleaseAll};
 ghost use Rattle.myi_dellist.specs.Putting.{PutBad, PutLong};
@@ -20,8 +20,10 @@ ghost use Rattle.myi_dellist.specs.Freeing.{unlinked_bytes};
 ghost use Rattle.myi_dellist.specs.Merging.{merged_size, merged, merged_bytes, merge_in, head_past};
 ghost use Rattle.myi_dellist.specs.Order.{in_order, Follow};
 ghost use Rattle.myi_dellist.specs.RowBlocks.{row_blocks, HoldRow};
-ghost use Rattle.myi_dellist.specs.Rows.{KeepsApart, PutsRow, AreListedBehind};
-ghost use Rattle.myi_dellist.specs.Replacing.{FitsInOwn, own_bytes};
+ghost use Rattle.myi_dellist.specs.Rows.{KeepsApart, PutsRow, AreListedBehind, most_end};
+ghost use Rattle.myi_dellist.specs.Replacing.{FitsInOwn, own_bytes, OwnLong, RewriteFindsBad};
+ghost use Rattle.myi_dellist.specs.Chains.{areas_in, StandsIn};
+ghost use Rattle.myi_dellist.specs.Freed.{RowFindsBad};
 
 /// Areas tile a file, by the count of bytes below each place, exactly where no byte belongs to two of
 /// them, none to one behind the end, and each byte below it to one.
@@ -228,4 +230,24 @@ pub fn rows_find_their_list()
         → limit ≤ (place (record { holes = holes; end = l.end }) [] len).space.end }
     ensures sound { (l : ListState) (holes : List Area) (d : List ℕ) (len at : ℕ) → HasHoles l holes d
         → AreListedBehind holes holes d → PutBad d l.head len at → ⊥ }
+{}
+
+/// A row that stands in a file that has a list, in blocks behind which each deleted block is on the list, is
+/// never found damaged: each block that is read for its release, or for a row that is put in its place, is
+/// what its chain or the list needs there. And where such a row fills its blocks and the list, the file would
+/// end where the definition on lists says.
+pub fn standing_rows_are_found()
+    ensures released { (l : ListState) (at p : ℕ) (m : Holding) (row : List ℕ) (bs : List Block)
+        (holes : List Area) → HasHoles l holes (bytes_of l.name m)
+        → StandsIn (bytes_of l.name m) at row bs holes
+        → AreListedBehind (areas_in bs) holes (bytes_of l.name m) → RowFindsBad l at p m → ⊥ }
+    ensures rewritten { (l : ListState) (at len p : ℕ) (m : Holding) (old : List ℕ)
+        (bs : List Block) (holes : List Area) → 0 < len → IsLong l m
+        → HasHoles l holes (bytes_of l.name m) → StandsIn (bytes_of l.name m) at old bs holes
+        → AreListedBehind (areas_in bs ++ holes) holes (bytes_of l.name m)
+        → RewriteFindsBad l at len p m → ⊥ }
+    ensures long { (l : ListState) (at len : ℕ) (m : Holding) (old : List ℕ) (bs : List Block)
+        (holes : List Area) → 0 < len → IsLong l m → HasHoles l holes (bytes_of l.name m)
+        → StandsIn (bytes_of l.name m) at old bs holes → OwnLong l at len m
+        → most_end l ≤ (update (record { holes = holes; end = l.end }) (areas_in bs) len).space.end }
 {}

@@ -24,11 +24,14 @@
 //! row takes of the list, `specs/Planning` what is written beside it, `specs/Putting` both together, and
 //! `specs/Rows` what stands in the file then.
 //!
-//! A row is not yet put in the place of another. The laws say how: `specs/Several` what releases one
-//! after another find where all is read before anything is written, and `specs/Replacing` what a row
-//! leaves of the blocks of the row in whose place it is put.
+//! `release_row` releases the blocks of a row, and `rewrite_row` puts a row in the place of another: into that
+//! one's blocks, in their order, then where `write_row` would. `specs/Chains` says which blocks a row has that
+//! stands in the file, `specs/Several` what releases one after another find where all is read before anything
+//! is written, `specs/Freed` what a released row leaves, and `specs/Replacing` what a row takes and leaves of
+//! the blocks of the row in whose place it is put.
 #![tactic(auto)]
 
+mod chains;
 mod fault;
 mod free_list;
 mod laws;
@@ -36,7 +39,9 @@ mod linked;
 mod links;
 mod pieces;
 mod planning;
+mod replacing;
 mod rows;
+mod several;
 mod taking;
 mod writing;
 
@@ -47,7 +52,7 @@ pub use laws::{
     placed_blocks_can_be_released, placed_blocks_can_be_written, placed_rows_are_chains,
     placed_rows_tile, put_rows_leave_the_rest, released_areas_are_deleted,
     releases_find_their_list, rows_find_their_list, rows_fit_into_their_own_blocks,
-    rows_have_their_places, several_releases_find_their_list, taken_blocks_leave_their_list,
-    tiling_is_counting, tiling_is_following,
+    rows_have_their_places, several_releases_find_their_list, standing_rows_are_found,
+    taken_blocks_leave_their_list, tiling_is_counting, tiling_is_following,
 };
 pub use rows::Put;

@@ -9,6 +9,8 @@ ghost use Rattle.myi_dellist.specs.Freeing.{is_deleted, hole_in, same_link, if_s
 ghost use Rattle.myi_dellist.specs.Freeing.{block_linked, hole_behind, first_without, without_prev, next_past, plan_in, AreHolesIn, IsPlanIn};
 ghost use Rattle.myi_dellist.specs.Releasing.{most_size};
 ghost use Rattle.myi_dellist.specs.Merging.{merge_in};
+ghost use Rattle.myi_dellist.specs.Several.{over, seen_in, IsSight};
+ghost use Rattle.std.specs.List.{AllByRecursion};
 
 use crate::fault::FreeFault;
 use myi_base::slices_are_bytes;
@@ -29,6 +31,15 @@ pub(crate) struct Linked {
 pub(crate) struct ReleasePlan {
     pub joined: Option<Linked>,
     pub first: Option<Head>,
+}
+
+/// Which deleted blocks are seen in a file of `end` bytes: those that stand there, as these headers say once
+/// they are written one after another, and none at a place that is hidden.
+#[derive(Clone, Copy)]
+pub(crate) struct Sight<'a> {
+    pub end: u64,
+    pub heads: &'a [Head],
+    pub hidden: Option<u64>,
 }
 
 fn is_deleted(kind: FrameKind) -> bool
@@ -91,22 +102,64 @@ pub(crate) fn is_same(a: Option<u64>, b: Option<u64>) -> bool
     }
 }
 
+/// The last of these headers that is one of a place.
+fn planned(heads: &[Head], at: u64) -> Option<Head>
+    ensures told { result ≡ over heads.now (λ p. None) at }
+    ensures hole { (end : ℕ) → AllByRecursion (IsHoleIn end) heads.now
+        → IfSome result (IsHoleAt at end) }
+{
+    let mut found = None;
+    let mut left = heads;
+    while let Some((head, behind)) = left.split_first() {
+        if head.at == at {
+            found = Some(*head);
+        }
+        left = behind;
+    }
+    found
+}
+
+/// The deleted block that is seen at a place.
+fn seen_at<F: Files>(
+    files: &mut F,
+    name: &str,
+    sight: &Sight<'_>,
+    at: u64,
+) -> Result<Option<Head>, FileErr>
+    requires { IsSight sight.now }
+    ensures told { IfOk result (λ hole. IfTold (F.holds files.old) (λ m.
+        length (bytes_of name.now m) ≡ sight.now.end
+        → hole ≡ seen_in sight.now (bytes_of name.now m) at)) }
+    ensures hole { IfOk result (λ hole. IfSome hole (IsHoleAt at sight.now.end)) }
+    ensures holds { F.holds files.new ≡ F.holds files.old }
+    ensures cause { HasCause Failed (F.faults files.old) (F.faults files.new) result }
+{
+    if is_same(sight.hidden, Some(at)) {
+        return Ok(None);
+    }
+    let Some(head) = planned(sight.heads, at) else {
+        return hole_at(files, name, at, sight.end);
+    };
+    Ok(Some(head))
+}
+
 /// The deleted block at a place, which is to name this one as the next.
 fn hole_naming_next<F: Files>(
     files: &mut F,
     name: &str,
+    sight: &Sight<'_>,
     at: u64,
-    end: u64,
     next: Option<u64>,
 ) -> Result<Head, FreeFault>
-    ensures told { IfTold (F.holds files.old) (λ m. length (bytes_of name.now m) ≡ end
-        → Answers result (if_says (names_next next) at (hole_in (bytes_of name.now m) at))) }
-    ensures hole { IfOk result (IsHoleAt at end) }
+    requires { IsSight sight.now }
+    ensures told { IfTold (F.holds files.old) (λ m. length (bytes_of name.now m) ≡ sight.now.end
+        → Answers result (if_says (names_next next) at (seen_in sight.now (bytes_of name.now m) at))) }
+    ensures hole { IfOk result (IsHoleAt at sight.now.end) }
     ensures holds { F.holds files.new ≡ F.holds files.old }
     ensures room { IfErr result IsNotFull }
     ensures cause { HasCause File (F.faults files.old) (F.faults files.new) result }
 {
-    let Some(hole) = hole_at(files, name, at, end)? else {
+    let Some(hole) = seen_at(files, name, sight, at)? else {
         return Err(FreeFault::Damaged { at });
     };
     if !is_same(hole.next, next) {
@@ -119,18 +172,19 @@ fn hole_naming_next<F: Files>(
 fn hole_naming_prev<F: Files>(
     files: &mut F,
     name: &str,
+    sight: &Sight<'_>,
     at: u64,
-    end: u64,
     prev: Option<u64>,
 ) -> Result<Head, FreeFault>
-    ensures told { IfTold (F.holds files.old) (λ m. length (bytes_of name.now m) ≡ end
-        → Answers result (if_says (names_prev prev) at (hole_in (bytes_of name.now m) at))) }
-    ensures hole { IfOk result (IsHoleAt at end) }
+    requires { IsSight sight.now }
+    ensures told { IfTold (F.holds files.old) (λ m. length (bytes_of name.now m) ≡ sight.now.end
+        → Answers result (if_says (names_prev prev) at (seen_in sight.now (bytes_of name.now m) at))) }
+    ensures hole { IfOk result (IsHoleAt at sight.now.end) }
     ensures holds { F.holds files.new ≡ F.holds files.old }
     ensures room { IfErr result IsNotFull }
     ensures cause { HasCause File (F.faults files.old) (F.faults files.new) result }
 {
-    let Some(hole) = hole_at(files, name, at, end)? else {
+    let Some(hole) = seen_at(files, name, sight, at)? else {
         return Err(FreeFault::Damaged { at });
     };
     if !is_same(hole.prev, prev) {
@@ -143,13 +197,14 @@ fn hole_naming_prev<F: Files>(
 fn block_before<F: Files>(
     files: &mut F,
     name: &str,
-    end: u64,
+    sight: &Sight<'_>,
     head: Option<u64>,
     hole: &Head,
 ) -> Result<Option<Head>, FreeFault>
-    ensures told { IfTold (F.holds files.old) (λ m. length (bytes_of name.now m) ≡ end
-        → Answers result (block_before (hole_in (bytes_of name.now m)) head hole.now)) }
-    ensures hole { IfOk result (λ before. IfSome before (IsHoleIn end)) }
+    requires { IsSight sight.now }
+    ensures told { IfTold (F.holds files.old) (λ m. length (bytes_of name.now m) ≡ sight.now.end
+        → Answers result (block_before (seen_in sight.now (bytes_of name.now m)) head hole.now)) }
+    ensures hole { IfOk result (λ before. IfSome before (IsHoleIn sight.now.end)) }
     ensures holds { F.holds files.new ≡ F.holds files.old }
     ensures room { IfErr result IsNotFull }
     ensures cause { HasCause File (F.faults files.old) (F.faults files.new) result }
@@ -160,21 +215,22 @@ fn block_before<F: Files>(
         }
         return Ok(None);
     };
-    let before = hole_naming_next(files, name, at, end, Some(hole.at))?;
+    let before = hole_naming_next(files, name, sight, at, Some(hole.at))?;
     Ok(Some(before))
 }
 
 /// The block that a link names, which is to name this one before it.
-pub(crate) fn block_named<F: Files>(
+fn see_named<F: Files>(
     files: &mut F,
     name: &str,
-    end: u64,
+    sight: &Sight<'_>,
     prev: Option<u64>,
     link: Option<u64>,
 ) -> Result<Option<Head>, FreeFault>
-    ensures told { IfTold (F.holds files.old) (λ m. length (bytes_of name.now m) ≡ end
-        → Answers result (block_named (hole_in (bytes_of name.now m)) prev link)) }
-    ensures hole { IfOk result (λ named. IfSome named (IsHoleIn end)) }
+    requires { IsSight sight.now }
+    ensures told { IfTold (F.holds files.old) (λ m. length (bytes_of name.now m) ≡ sight.now.end
+        → Answers result (block_named (seen_in sight.now (bytes_of name.now m)) prev link)) }
+    ensures hole { IfOk result (λ named. IfSome named (IsHoleIn sight.now.end)) }
     ensures holds { F.holds files.new ≡ F.holds files.old }
     ensures room { IfErr result IsNotFull }
     ensures cause { HasCause File (F.faults files.old) (F.faults files.new) result }
@@ -182,7 +238,7 @@ pub(crate) fn block_named<F: Files>(
     let Some(at) = link else {
         return Ok(None);
     };
-    let named = hole_naming_prev(files, name, at, end, prev)?;
+    let named = hole_naming_prev(files, name, sight, at, prev)?;
     Ok(Some(named))
 }
 
@@ -190,21 +246,22 @@ pub(crate) fn block_named<F: Files>(
 fn link<F: Files>(
     files: &mut F,
     name: &str,
-    end: u64,
+    sight: &Sight<'_>,
     head: Option<u64>,
     hole: Head,
 ) -> Result<Linked, FreeFault>
-    requires { IsHoleIn end hole }
-    ensures told { IfTold (F.holds files.old) (λ m. length (bytes_of name.now m) ≡ end
-        → Answers result (block_linked (hole_in (bytes_of name.now m)) head hole)) }
-    ensures holes { IfOk result (AreHolesIn end) }
+    requires sight { IsSight sight.now }
+    requires hole { IsHoleIn sight.now.end hole }
+    ensures told { IfTold (F.holds files.old) (λ m. length (bytes_of name.now m) ≡ sight.now.end
+        → Answers result (block_linked (seen_in sight.now (bytes_of name.now m)) head hole)) }
+    ensures holes { IfOk result (AreHolesIn sight.now.end) }
     ensures same { IfOk result (λ l. l.hole ≡ hole) }
     ensures holds { F.holds files.new ≡ F.holds files.old }
     ensures room { IfErr result IsNotFull }
     ensures cause { HasCause File (F.faults files.old) (F.faults files.new) result }
 {
-    let before = block_before(files, name, end, head, &hole)?;
-    let behind = block_named(files, name, end, Some(hole.at), hole.next)?;
+    let before = block_before(files, name, sight, head, &hole)?;
+    let behind = see_named(files, name, sight, Some(hole.at), hole.next)?;
     Ok(Linked {
         before,
         hole,
@@ -216,21 +273,23 @@ fn link<F: Files>(
 fn hole_behind<F: Files>(
     files: &mut F,
     name: &str,
-    end: u64,
+    sight: &Sight<'_>,
     at: u64,
     size: u32,
 ) -> Result<Option<Head>, FileErr>
-    requires inside { at + size ≤ end }
+    requires sight { IsSight sight.now }
+    requires inside { at + size ≤ sight.now.end }
     requires most { size < 2 ^ 24 }
     ensures told { IfOk result (λ hole. IfTold (F.holds files.old) (λ m.
-        length (bytes_of name.now m) ≡ end
-        → hole ≡ hole_behind (hole_in (bytes_of name.now m)) at size)) }
-    ensures hole { IfOk result (λ hole. IfSome hole (IsHoleIn end)) }
+        length (bytes_of name.now m) ≡ sight.now.end
+        → hole ≡ hole_behind (seen_in sight.now (bytes_of name.now m)) at size)) }
+    ensures hole { IfOk result (λ hole. IfSome hole (IsHoleIn sight.now.end)) }
+    ensures at { IfOk result (λ hole. IfSome hole (λ h. h.at ≡ at + size)) }
     ensures short { IfOk result (λ hole. IfSome hole (λ h. size + h.size ≤ most_size)) }
     ensures holds { F.holds files.new ≡ F.holds files.old }
     ensures cause { HasCause Failed (F.faults files.old) (F.faults files.new) result }
 {
-    let Some(hole) = hole_at(files, name, at + size as u64, end)? else {
+    let Some(hole) = seen_at(files, name, sight, at + size as u64)? else {
         return Ok(None);
     };
     if size + hole.size > MOST_SIZE {
@@ -243,14 +302,15 @@ fn hole_behind<F: Files>(
 fn first_without<F: Files>(
     files: &mut F,
     name: &str,
-    end: u64,
+    sight: &Sight<'_>,
     head: Option<u64>,
     linked: &Linked,
 ) -> Result<Option<Head>, FreeFault>
-    requires { AreHolesIn end linked.now }
-    ensures told { IfTold (F.holds files.old) (λ m. length (bytes_of name.now m) ≡ end
-        → Answers result (first_without (hole_in (bytes_of name.now m)) head linked.now)) }
-    ensures hole { IfOk result (λ first. IfSome first (IsHoleIn end)) }
+    requires sight { IsSight sight.now }
+    requires hole { AreHolesIn sight.now.end linked.now }
+    ensures told { IfTold (F.holds files.old) (λ m. length (bytes_of name.now m) ≡ sight.now.end
+        → Answers result (first_without (seen_in sight.now (bytes_of name.now m)) head linked.now)) }
+    ensures hole { IfOk result (λ first. IfSome first (IsHoleIn sight.now.end)) }
     ensures holds { F.holds files.new ≡ F.holds files.old }
     ensures room { IfErr result IsNotFull }
     ensures cause { HasCause File (F.faults files.old) (F.faults files.new) result }
@@ -258,7 +318,7 @@ fn first_without<F: Files>(
     let Some(before) = linked.before else {
         return Ok(without_prev(linked.behind));
     };
-    let first = block_named(files, name, end, None, head)?;
+    let first = see_named(files, name, sight, None, head)?;
     Ok(next_past(&before, &linked.hole, first))
 }
 
@@ -290,6 +350,64 @@ pub(crate) fn next_past(before: &Head, hole: &Head, first: Option<Head>) -> Opti
 }
 
 /// What a release of an area finds. Nothing is written.
+pub(crate) fn see_release<F: Files>(
+    files: &mut F,
+    name: &str,
+    sight: &Sight<'_>,
+    head: Option<u64>,
+    at: u64,
+    size: u32,
+) -> Result<ReleasePlan, FreeFault>
+    requires sight { IsSight sight.now }
+    requires inside { at + size ≤ sight.now.end }
+    requires most { size < 2 ^ 24 }
+    ensures told { IfTold (F.holds files.old) (λ m. length (bytes_of name.now m) ≡ sight.now.end
+        → Answers result (plan_in (seen_in sight.now (bytes_of name.now m)) head at size)) }
+    ensures holes { IfOk result (IsPlanIn sight.now.end size) }
+    ensures at { IfOk result (λ p. IfSome p.joined (λ l. l.hole.at ≡ at + size)) }
+    ensures holds { F.holds files.new ≡ F.holds files.old }
+    ensures room { IfErr result IsNotFull }
+    ensures cause { HasCause File (F.faults files.old) (F.faults files.new) result }
+{
+    let Some(hole) = hole_behind(files, name, sight, at, size)? else {
+        let alone = see_named(files, name, sight, None, head)?;
+        return Ok(ReleasePlan {
+            joined: None,
+            first: alone,
+        });
+    };
+    let linked = link(files, name, sight, head, hole)?;
+    let first = first_without(files, name, sight, head, &linked)?;
+    Ok(ReleasePlan {
+        joined: Some(linked),
+        first,
+    })
+}
+
+/// The block that a link names in a file of `end` bytes, which is to name this one before it.
+pub(crate) fn block_named<F: Files>(
+    files: &mut F,
+    name: &str,
+    end: u64,
+    prev: Option<u64>,
+    link: Option<u64>,
+) -> Result<Option<Head>, FreeFault>
+    ensures told { IfTold (F.holds files.old) (λ m. length (bytes_of name.now m) ≡ end
+        → Answers result (block_named (hole_in (bytes_of name.now m)) prev link)) }
+    ensures hole { IfOk result (λ named. IfSome named (IsHoleIn end)) }
+    ensures holds { F.holds files.new ≡ F.holds files.old }
+    ensures room { IfErr result IsNotFull }
+    ensures cause { HasCause File (F.faults files.old) (F.faults files.new) result }
+{
+    let sight = Sight {
+        end,
+        heads: &[],
+        hidden: None,
+    };
+    see_named(files, name, &sight, prev, link)
+}
+
+/// What a release of an area finds. Nothing is written.
 pub(crate) fn plan_release<F: Files>(
     files: &mut F,
     name: &str,
@@ -307,19 +425,12 @@ pub(crate) fn plan_release<F: Files>(
     ensures room { IfErr result IsNotFull }
     ensures cause { HasCause File (F.faults files.old) (F.faults files.new) result }
 {
-    let Some(hole) = hole_behind(files, name, end, at, size)? else {
-        let alone = block_named(files, name, end, None, head)?;
-        return Ok(ReleasePlan {
-            joined: None,
-            first: alone,
-        });
+    let sight = Sight {
+        end,
+        heads: &[],
+        hidden: None,
     };
-    let linked = link(files, name, end, head, hole)?;
-    let first = first_without(files, name, end, head, &linked)?;
-    Ok(ReleasePlan {
-        joined: Some(linked),
-        first,
-    })
+    see_release(files, name, &sight, head, at, size)
 }
 
 /// The deleted block that an area takes in, with those beside it. Nothing is written.
@@ -341,9 +452,14 @@ pub(crate) fn plan_merge<F: Files>(
     ensures room { IfErr result IsNotFull }
     ensures cause { HasCause File (F.faults files.old) (F.faults files.new) result }
 {
-    let Some(hole) = hole_behind(files, name, end, at, size)? else {
+    let sight = Sight {
+        end,
+        heads: &[],
+        hidden: None,
+    };
+    let Some(hole) = hole_behind(files, name, &sight, at, size)? else {
         return Ok(None);
     };
-    let linked = link(files, name, end, head, hole)?;
+    let linked = link(files, name, &sight, head, hole)?;
     Ok(Some(linked))
 }

@@ -24,10 +24,10 @@ pub(crate) struct Merged {
 }
 
 /// Where an area is parted that is longer than a deleted block can be.
-const HALF: u32 = 8_388_608;
+pub(crate) const HALF: u32 = 8_388_608;
 
 /// Writes the first 20 bytes of a deleted block.
-fn write_head<F: Files>(
+pub(crate) fn write_head<F: Files>(
     files: &mut F,
     name: &str,
     at: u64,

@@ -150,7 +150,7 @@ fn plan_rest<F: Files>(
 }
 
 /// The size of the last block of a row in a block of this size.
-fn last_size(left: u32, size: u32) -> u32
+pub(crate) fn last_size(left: u32, size: u32) -> u32
     requires { fits left size ≡ true }
     ensures { result ≡ last_size left size }
 {

@@ -1,15 +1,15 @@
 //! Putting rows into a data file.
-ghost use Rattle.std.specs.Prelude.{◌≡◌, ◌≤◌, ◌<◌, ◌^◌, ◌++◌, true, min, Option, IfOk, IfErr, IfSome, OnOk, IsTrue, length};
+ghost use Rattle.std.specs.Prelude.{◌≡◌, ◌≤◌, ◌<◌, ◌^◌, ◌++◌, List, [], None, true, min, Option, IfOk, IfErr, IfSome, OnOk, IsTrue, length};
 ghost use Rattle.myi_base.specs.Holding.{Told, IfTold, OthersStay, bytes_of};
 ghost use Rattle.myi_base.specs.Causes.{HasCause};
 ghost use Rattle.myi_dellist.specs.declared.fault.FreeFault.TheVariants.{File};
-ghost use Rattle.myi_dellist.specs.Areas.{AreInside};
+ghost use Rattle.myi_dellist.specs.Areas.{Area, AreInside};
 ghost use Rattle.myi_dellist.specs.Placing.{areas_of, append_from, end_behind, is_none};
 ghost use Rattle.myi_dellist.specs.Freeing.{Becomes, CutsOff, IfDamaged};
-ghost use Rattle.myi_dellist.specs.Taking.{Run};
+ghost use Rattle.myi_dellist.specs.Taking.{Run, IsRun, HasTaken};
 ghost use Rattle.myi_dellist.specs.Rows.{row_written, IfFull, IsNotDamaged};
 ghost use Rattle.myi_dellist.specs.Planning.{rest_bytes, head_by, more_by, IsReleasable};
-ghost use Rattle.myi_dellist.specs.Putting.{Puts, PutCounts, PutBad, PutLong};
+ghost use Rattle.myi_dellist.specs.Putting.{Puts, PutsBy, PutCounts, PutBad, BadBy, PutLong, LongBy};
 
 use crate::fault::FreeFault;
 use crate::links::{put_first, take_joined, write_first};
@@ -44,6 +44,13 @@ pub(crate) struct Placed {
     pub list: ListEnds,
     pub taken: u64,
     pub more: u64,
+}
+
+/// The deleted list of a file, and the place that the file's end stays below.
+#[derive(Clone, Copy)]
+pub(crate) struct Room {
+    pub list: ListEnds,
+    pub below: u128,
 }
 
 /// Where a file ends, and the place that its end stays below.
@@ -166,46 +173,53 @@ fn more_by(plan: &RowPlan) -> u64
     }
 }
 
-/// Puts a row into the blocks of the list, and behind the end what they do not hold; answers the list then,
-/// and how many blocks came and went.
-pub(crate) fn put_row<F: Files>(
+/// Puts the last `left` bytes of a row, behind the blocks that it has, into the blocks of the list, and behind
+/// the end what they do not hold; answers the list then, how many blocks the row has that were there, and
+/// how many are on the list that were not.
+pub(crate) fn put_beyond<F: Files>(
     files: &mut F,
     name: &str,
-    list: ListEnds,
+    room: Room,
     pieces: &mut Vec<Piece>,
     packed: &[u8],
-    end_below: u128,
+    left: u32,
 ) -> Result<Placed, FreeFault>
     requires writable { IsTrue F.writable }
-    requires some { 0 < length packed.now }
     requires few { length packed.now < 2 ^ 32 }
-    requires end { list.end < end_below }
-    ensures ok { IfOk result (λ new. Told (F.holds files.old) (F.holds files.new)
-        (Puts name.now list packed.now new.list)) }
+    requires run { IsRun room.list.end (length packed.now) pieces.old.items
+        (record { left = left; last = None; next = None }) }
+    requires end { room.list.end < room.below }
+    ensures ok { IfOk result (λ new. Told (F.holds files.old) (F.holds files.new) (λ m n.
+        (own : List Area) → HasTaken own (length packed.now) pieces.old.items left
+        → PutsBy own name.now room.list packed.now new.list m n)) }
     ensures counts { IfOk result (λ new. IfTold (F.holds files.old) (λ m.
-        length (bytes_of name.now m) ≡ list.end → PutCounts (bytes_of name.now m) list
-        (length packed.now) pieces.new.items new.taken new.more)) }
+        length (bytes_of name.now m) ≡ room.list.end → (own : List Area)
+        → HasTaken own (length packed.now) pieces.old.items left
+        → PutCounts own (bytes_of name.now m) room.list (length packed.now) pieces.new.items
+        new.taken new.more)) }
     ensures others { Told (F.holds files.old) (F.holds files.new) (OthersStay name.now) }
-    ensures room { IfOk result (λ new. new.list.end < min end_below (2 ^ 64)) }
+    ensures room { IfOk result (λ new. new.list.end < min room.below (2 ^ 64)) }
     ensures damaged { IfErr result (λ f. IfDamaged f (λ p. IfTold (F.holds files.old) (λ m.
-        length (bytes_of name.now m) ≡ list.end
-        → PutBad (bytes_of name.now m) list.head (length packed.now) p))) }
+        length (bytes_of name.now m) ≡ room.list.end → (own : List Area)
+        → HasTaken own (length packed.now) pieces.old.items left
+        → BadBy own (bytes_of name.now m) room.list.head (length packed.now) p))) }
     ensures full { IfErr result (λ f. IfFull f (IfTold (F.holds files.old) (λ m.
-        length (bytes_of name.now m) ≡ list.end
-        → PutLong (bytes_of name.now m) list.head list.end (min end_below (2 ^ 64))
-        (length packed.now)))) }
+        length (bytes_of name.now m) ≡ room.list.end → (own : List Area)
+        → HasTaken own (length packed.now) pieces.old.items left
+        → LongBy own (bytes_of name.now m) room.list.head room.list.end
+        (min room.below (2 ^ 64)) (length packed.now)))) }
     ensures unchanged { IfErr result (λ f. IfDamaged f (λ p.
         F.holds files.new ≡ F.holds files.old)) }
     ensures refused { IfErr result (λ f. IfFull f (F.holds files.new ≡ F.holds files.old)) }
     ensures cause { HasCause File (F.faults files.old) (F.faults files.new) result }
 {
-    pieces.clear();
-    let taken = take_full(files, name, &list, pieces, packed.len() as u32)?;
+    let list = room.list;
+    let taken = take_full(files, name, &list, pieces, packed.len() as u32, left)?;
     let filled = pieces.len() as u64;
     let Some(hole) = taken.next else {
         let limit = FileEnd {
             at: list.end,
-            below: end_below,
+            below: room.below,
         };
         let to = put_behind(files, name, pieces, packed, taken.left, &limit)?;
         let new = ListEnds {
@@ -231,4 +245,45 @@ pub(crate) fn put_row<F: Files>(
         taken: pieces.len() as u64,
         more: more_by(&plan),
     })
+}
+
+/// Puts a row into the blocks of the list, and behind the end what they do not hold; answers the list then,
+/// and how many blocks came and went.
+pub(crate) fn put_row<F: Files>(
+    files: &mut F,
+    name: &str,
+    list: ListEnds,
+    pieces: &mut Vec<Piece>,
+    packed: &[u8],
+    end_below: u128,
+) -> Result<Placed, FreeFault>
+    requires writable { IsTrue F.writable }
+    requires some { 0 < length packed.now }
+    requires few { length packed.now < 2 ^ 32 }
+    requires end { list.end < end_below }
+    ensures ok { IfOk result (λ new. Told (F.holds files.old) (F.holds files.new)
+        (Puts name.now list packed.now new.list)) }
+    ensures counts { IfOk result (λ new. IfTold (F.holds files.old) (λ m.
+        length (bytes_of name.now m) ≡ list.end → PutCounts [] (bytes_of name.now m) list
+        (length packed.now) pieces.new.items new.taken new.more)) }
+    ensures others { Told (F.holds files.old) (F.holds files.new) (OthersStay name.now) }
+    ensures room { IfOk result (λ new. new.list.end < min end_below (2 ^ 64)) }
+    ensures damaged { IfErr result (λ f. IfDamaged f (λ p. IfTold (F.holds files.old) (λ m.
+        length (bytes_of name.now m) ≡ list.end
+        → PutBad (bytes_of name.now m) list.head (length packed.now) p))) }
+    ensures full { IfErr result (λ f. IfFull f (IfTold (F.holds files.old) (λ m.
+        length (bytes_of name.now m) ≡ list.end
+        → PutLong (bytes_of name.now m) list.head list.end (min end_below (2 ^ 64))
+        (length packed.now)))) }
+    ensures unchanged { IfErr result (λ f. IfDamaged f (λ p.
+        F.holds files.new ≡ F.holds files.old)) }
+    ensures refused { IfErr result (λ f. IfFull f (F.holds files.new ≡ F.holds files.old)) }
+    ensures cause { HasCause File (F.faults files.old) (F.faults files.new) result }
+{
+    pieces.clear();
+    let room = Room {
+        list,
+        below: end_below,
+    };
+    put_beyond(files, name, room, pieces, packed, packed.len() as u32)
 }
