@@ -15,6 +15,8 @@
 //!     push_line(&mut out, line)?;
 //! }
 //! ```
+//!
+//! The case `script` in `crates/cases_locks/src/scripts.rt` runs one like it.
 #![tactic(auto)]
 
 mod bound;
