@@ -1,0 +1,4 @@
+pub mod PrefixLaws
+pub mod SharedLaws
+pub mod CountLaws
+pub mod Worked

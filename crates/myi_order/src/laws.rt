@@ -1,0 +1,26 @@
+//! Laws over the definitions of this crate. Each is the contract of a function that does nothing, so
+//! that it is proved with the crate and stands for the crates above.
+ghost use Rattle.std.specs.Prelude.{◌≡◌, ℕ, List};
+ghost use Rattle.std.specs.Prelude.{IsPermutation, IsSorted};
+ghost use Rattle.myi_keylist.specs.declared.pair.Pair.{Pair};
+ghost use Rattle.myi_keylist.specs.PairOrder.{pair_cmp, sorted};
+ghost use Rattle.myi_keylist.specs.Repeats.{keys_of};
+ghost use Rattle.myi_order.specs.Prefixes.{distinct_prefixes, per, per_each, prefix_ends};
+
+/// In a list in order, keys that share a prefix stand together: there are as many distinct prefixes as keys
+/// of which the next one has another prefix.
+pub fn prefixes_end_in_order()
+    ensures { (j : ℕ) (pairs : List Pair) → IsSorted pair_cmp pairs
+        → distinct_prefixes j (keys_of pairs) ≡ prefix_ends j (keys_of pairs) }
+{}
+
+/// The order of the rows does not count: in the list in order there are as many distinct prefixes as in any
+/// other list of the same pairs, and as many rows to each.
+pub fn sorting_keeps_prefixes()
+    ensures distinct { (j : ℕ) (pairs : List Pair)
+        → distinct_prefixes j (keys_of (sorted pairs)) ≡ distinct_prefixes j (keys_of pairs) }
+    ensures per { (j : ℕ) (pairs : List Pair)
+        → per j (keys_of (sorted pairs)) ≡ per j (keys_of pairs) }
+    ensures each { (segments : ℕ) (pairs : List Pair)
+        → per_each segments (keys_of (sorted pairs)) ≡ per_each segments (keys_of pairs) }
+{}
