@@ -177,10 +177,10 @@ last_shares (p ∷ q ∷ ps) (suc i) end = last_shares (q ∷ ps) i (omega arith
 
 -- ---- one more number of a loop, and numbers that are written over others
 
-pub one_more : (f : ℕ → ℕ) (xs ys : List ℕ) (i d y : ℕ) → i < length xs → ys ≡ map f (take i xs) ++ drop i xs → y ≡ f (get_or ys i d) → set ys i y ≡ map f (take (i + 1) xs) ++ drop (i + 1) xs
+pub one_more : {X : Type 0} (f : X → X) (xs ys : List X) (i : ℕ) (d y : X) → i < length xs → ys ≡ map f (take i xs) ++ drop i xs → y ≡ f (get_or ys i d) → set ys i y ≡ map f (take (i + 1) xs) ++ drop (i + 1) xs
 one_more f xs ys i d y few is made = rw made (rw is (go f xs i d few))
   where
-    go : (f : ℕ → ℕ) (xs : List ℕ) (i d : ℕ) → i < length xs → set (map f (take i xs) ++ drop i xs) i (f (get_or (map f (take i xs) ++ drop i xs) i d)) ≡ map f (take (i + 1) xs) ++ drop (i + 1) xs
+    go : {X : Type 0} (f : X → X) (xs : List X) (i : ℕ) (d : X) → i < length xs → set (map f (take i xs) ++ drop i xs) i (f (get_or (map f (take i xs) ++ drop i xs) i d)) ≡ map f (take (i + 1) xs) ++ drop (i + 1) xs
     go f [] i d few = absurd (omega arith)
     go f (z ∷ xs) zero d few = refl
     go f (z ∷ xs) (suc i) d few = let e : suc i + 1 ≡ suc (i + 1) = omega arith in rw e (ap (λ zs. f z ∷ zs) (go f xs i d (omega arith)))

@@ -2,3 +2,9 @@ pub mod PrefixLaws
 pub mod SharedLaws
 pub mod CountLaws
 pub mod Worked
+pub mod NumberLaws
+pub mod PartsLaws
+pub mod CopyLaws
+pub mod ReadLaws
+pub mod ListedLaws
+pub mod AnalyzeLaws

@@ -2,7 +2,23 @@
 
 -- how many rows go to one prefix of a key
 pub mod Prefixes
+-- the rows per prefix of all keys of a table
+pub mod KeyParts
+-- the numbers of an index file that an analysis sets
+pub mod Numbers
+-- the faults of an analysis
+pub mod Faults
+-- what an analysis answers and leaves
+pub mod Analyzing
 -- what serves private contracts
 
 -- how many segments keys share
 pub mod Shared
+-- the rows per prefix by the lists of all keys
+pub mod Listed
+-- what was read of a table's rows
+pub mod Counting
+-- a piece of a file that is copied
+pub mod Copying
+-- new numbers in an index file
+pub mod Storing

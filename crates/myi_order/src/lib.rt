@@ -1,13 +1,39 @@
-//! The order of a table's rows, and what its index file says of it: how many rows go to one prefix of a key.
+//! How many rows of a table go to one prefix of a key, and these numbers in its index file.
 //!
-//! The definitions are in `specs/`: `Prefixes` has the rows per prefix of any list of keys.
+//! The optimizer of a server reads them there. The definitions are in `specs/`: `Prefixes` has the rows per
+//! prefix of any list of keys, `KeyParts` those of the keys of a table, `Numbers` where they stand in an
+//! index file, and `Analyzing` what an analysis of a table answers and leaves.
 //!
-//! - `rows_per_prefix` counts them in the list of a key in order.
-//! - The rest are laws over the definitions.
+//! `analyze` checks a table, reads its rows once, and puts the pairs of each key in order. In a list in
+//! order keys that share a prefix stand together, so that `rows_per_prefix` counts the distinct prefixes of
+//! all lengths in one pass. The index file is copied by pieces, and the copy gets the numbers and then the
+//! name. In memory are the keys of the table's rows, and no file as a whole. The rest are laws over the
+//! definitions.
+//!
+//! ```
+//! for parts in &analyze(alloc, files, name)? {
+//!     write!(out, "{name}: key {} rows per prefix", parts.key)?;
+//!     for per in parts.per.as_slice() {
+//!         write!(out, " {}", *per)?;
+//!     }
+//!     out.push('\n')?;
+//! }
+//! ```
 #![tactic(auto)]
 
+mod analyzing;
+mod copying;
+mod counting;
+mod fault;
+mod key_parts;
 mod laws;
+mod numbers;
 mod prefixes;
+mod rows_read;
+mod storing;
 
+pub use analyzing::analyze;
+pub use fault::OrderFault;
+pub use key_parts::KeyParts;
 pub use laws::{prefixes_end_in_order, sorting_keeps_prefixes};
 pub use prefixes::rows_per_prefix;
