@@ -1,7 +1,7 @@
 -- What an analysis answers, by what its parts do.
-use Rattle.std.proofs.Common.{◌≡◌, ◌≢◌, ◌⊎◌, inl, inr, ℕ, List, [], ◌∷◌, length, map, Option, Some, None, Result, Ok, Err, unwrap_or, refl, sym, ap, subst, ◌∙◌}
+use Rattle.std.proofs.Common.{◌≡◌, ◌⊎◌, inl, inr, ℕ, List, [], ◌∷◌, length, Option, Some, Result, Ok, Err, unwrap_or, refl, sym, ap, subst, ◌∙◌, ◌^◌, ◌<◌, arith, length-take}
 use Rattle.myi_base.specs.Holding.{Holding, IfTold, Told, bytes_of, overwritten}
-use Rattle.myi_base.proofs.CallerLemmas.{told_same, told_more}
+use Rattle.myi_base.proofs.CallerLemmas.{told_same}
 use Rattle.myi_base.specs.Numbers.{num_at}
 use Rattle.std.specs.Prelude.{take, OnOk, OnErr, slice_get}
 use Rattle.myi_defs.specs.declared.types.Defs.{Defs}
@@ -16,7 +16,8 @@ use Rattle.myi_pair.specs.declared.finding.Finding.{Finding}
 use Rattle.myi_pair.specs.Findings.{findings}
 use Rattle.myi_check.specs.Checking.{findings_in, findings_by, Finds}
 use Rattle.myi_check.specs.Checking as checking
-use Rattle.myi_repair.specs.Names.{FourNames, names_for, new_index_file, AreApart}
+use Rattle.myi_rowkeys.specs.TableKeys.{key_numbers}
+use Rattle.myi_repair.specs.Names.{names_for, new_index_file, AreApart}
 use Rattle.myi_order.specs.declared.fault.OrderFault.{OrderFault}
 use Rattle.myi_order.specs.declared.fault.OrderFault.TheVariants.{Damaged}
 use Rattle.myi_order.specs.declared.key_parts.KeyParts.{KeyParts}
@@ -24,11 +25,12 @@ use Rattle.myi_order.specs.declared.numbers.NewNumbers.{NewNumbers}
 use Rattle.myi_order.specs.declared.counting.Counted.{Counted}
 use Rattle.myi_order.specs.Faults.{order_fault, CutsOff}
 use Rattle.myi_order.specs.KeyParts.{key_parts}
-use Rattle.myi_order.specs.Counting.{IsCounted, CountsFile}
+use Rattle.myi_order.specs.Counting.{CountsFile}
 use Rattle.myi_order.specs.Numbers.{changed_place, rows_place, changed_bits, analyzed_bits, all_per, number_bytes, with_numbers}
 use Rattle.myi_order.specs.Storing.{with_new, Replaces, KeepsIndex, OthersStayOf, Stores}
-use Rattle.myi_order.specs.Analyzing.{table_in, table_by, clean_by, Refuses, IsRefused, rows_in, analyzed_index, Analyzes, KeepsBoth, OthersStay}
-use Rattle.myi_order.proofs.NumberLaws.{header_bits}
+use Rattle.myi_order.specs.Analyzing.{table_in, table_by, clean_by, Refuses, IsRefused, rows_in, Analyzes, KeepsBoth, OthersStay}
+use Rattle.myi_order.proofs.NumberLaws.{header_bits, numbers_read_back}
+use Rattle.myi_order.proofs.ListedLaws.{parts_few, all_small}
 
 ok_same : {A E : Type 0} (x y : A) → ◌≡◌ {A = Result A E} (Ok x) (Ok y) → x ≡ y
 ok_same x y same = cc
@@ -118,9 +120,9 @@ stored_by index working d c numbers m n good raw changed place bytes put = recor
   none = put.gone;
 }
 
-pub analyzed_by : (name index working : List ℕ) (d : Defs) (size : ℕ) (c : Counted) (m n : Holding) → index ≡ index_file name → working ≡ new_index_file name → (opened : IsOpened name d size m) → CountsFile d opened.data_file c → Stores index working d c m n
+pub analyzed_by : (name index working : List ℕ) (d : Defs) (size : ℕ) (c : Counted) (m n : Holding) → IsSound d → ((x : List ℕ) → read_defs x ≡ Ok d → d.raw ≡ take (num_at 6 2 x) x) → c.rows < 256 ^ 8 → index ≡ index_file name → working ≡ new_index_file name → (opened : IsOpened name d size m) → CountsFile d opened.data_file c → Stores index working d c m n
     → Analyzes name c.parts.items m n
-analyzed_by name index working d size c m n index_is working_is opened counts put =
+analyzed_by name index working d size c m n good raw few index_is working_is opened counts put =
     let t : Table = table d opened.data_file opened.index in
     let here : m index ≡ Some opened.index = ap m index_is ∙ opened.there in
     record {
@@ -131,6 +133,9 @@ analyzed_by name index working d size c m n index_is working_is opened counts pu
           ∙ ap (λ k. Some (with_numbers d k (all_per c.parts.items) opened.index)) counts.count
           ∙ ap (λ (ps : List KeyParts). Some (with_numbers d (length (rows_in t)) (all_per ps) opened.index)) counts.parts;
       gone = sym (ap n working_is) ∙ put.none;
+      numbers = numbers_read_back d (length (rows_in t)) (all_per (key_parts d (rows_in t))) opened.index good
+          (omega (arith, ap (λ (xs : List ℕ). length xs) (raw opened.index opened.read), length-take (num_at 6 2 opened.index) opened.index))
+          (parts_few d (rows_in t) good) (omega (arith, few, counts.count)) (all_small d (rows_in t) (key_numbers d));
     }
 
 -- ---- what stays

@@ -1,9 +1,9 @@
 -- A file that is copied by pieces.
-use Rattle.std.proofs.Common.{◌≡◌, ◌≢◌, ℕ, zero, suc, ◌+◌, ◌-◌, ◌<◌, ◌≤◌, ◌⊎◌, inl, inr, Bool, true, false, cond, eqb, min, List, [], ◌∷◌, ◌++◌, length, take, drop, Option, Some, None, unwrap_or, refl, sym, ap, subst, ◌∙◌, arith, append_assoc, length-take, length-drop}
+use Rattle.std.proofs.Common.{◌≡◌, ◌≢◌, ℕ, zero, suc, ◌+◌, ◌-◌, ◌<◌, ◌≤◌, Bool, true, false, cond, eqb, min, List, [], ◌∷◌, ◌++◌, length, take, drop, Option, Some, None, unwrap_or, refl, sym, ap, subst, ◌∙◌, arith, length-take, length-drop}
 use Rattle.std.proofs.lemmas.Bool.{eqb-true, eqb-false}
 use Rattle.std.proofs.lemmas.List.{append-nil, take_all, drop_all}
-use Rattle.myi_base.specs.Holding.{Holding, Told, IfTold, Sets, OthersStay, Measures, bytes_of, resized, overwritten}
-use Rattle.myi_base.proofs.CallerLemmas.{told_same, told_then, told_more}
+use Rattle.myi_base.specs.Holding.{Holding, Told, Sets, OthersStay, Measures, bytes_of, resized, overwritten}
+use Rattle.myi_base.proofs.CallerLemmas.{told_then}
 use Rattle.myi_order.specs.Copying.{CopiesPiece}
 
 -- the front of a file is in the other

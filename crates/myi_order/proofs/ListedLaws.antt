@@ -1,11 +1,17 @@
 -- The lists of the keys of rows, put in order, have the rows per prefix of the rows.
-use Rattle.std.proofs.Common.{◌≡◌, ℕ, zero, suc, ◌+◌, ◌^◌, ◌<◌, ◌≤◌, Bool, true, false, cond, min, List, [], ◌∷◌, ◌++◌, length, get_or, drop, map, refl, sym, ap, subst, ◌∙◌, arith}
+use Rattle.std.proofs.Common.{◌≡◌, ℕ, ◌+◌, ◌-◌, ◌^◌, ◌<◌, ◌≤◌, Bool, true, false, cond, List, [], ◌∷◌, ◌++◌, length, get_or, drop, map, refl, sym, ap, subst, ◌∙◌, arith, length-append, sum_by}
 use Rattle.std.specs.List.{AllByRecursion, range_with_len}
 use Rattle.std.specs.Ordering.{is_gt}
 use Rattle.std.proofs.lemmas.List.{ext_get_or, length-map}
+use Rattle.std.proofs.lemmas.List as lists
+use Rattle.std.proofs.lemmas.List.Sums.{sum_by-cons}
 use Rattle.std.proofs.lemmas.List.FromFn.{get_or-map-range_with_len, length-map-range_with_len}
 use Rattle.std.proofs.Math.ListN.{get_or-map}
+use Rattle.myi_base.specs.Numbers.{num_at}
+use Rattle.myi_defs.specs.declared.types.Segment.{Segment}
+use Rattle.myi_defs.specs.declared.types.Key.{Key}
 use Rattle.myi_defs.specs.declared.types.Defs.{Defs}
+use Rattle.myi_defs.specs.Sound.{IsSound}
 use Rattle.myi_keys.specs.declared.values.KeySeg.{KeySeg}
 use Rattle.myi_keylist.specs.declared.pair.Pair.{Pair}
 use Rattle.myi_keylist.specs.PairOrder.{pair_cmp, put_pair, sorted}
@@ -13,13 +19,14 @@ use Rattle.myi_keylist.specs.Repeats.{keys_of}
 use Rattle.myi_keylist.proofs.CallerLemmas.{sorted_sorted}
 use Rattle.myi_pack.specs.Packed.{Values}
 use Rattle.myi_data.specs.Keys.{segments_of, key_of, seg_of}
-use Rattle.myi_rowkeys.specs.TableKeys.{key_numbers}
+use Rattle.myi_data.proofs.CallerLemmas.{segments_at}
+use Rattle.myi_rowkeys.specs.TableKeys.{numbers_from, key_numbers}
 use Rattle.myi_rowkeys.proofs.CallerLemmas.{mapped_at, length-numbers}
-use Rattle.myi_order.specs.Prefixes.{most_per, distinct_prefixes, per, per_each}
+use Rattle.myi_order.specs.Prefixes.{per, per_each}
 use Rattle.myi_order.specs.declared.key_parts.KeyParts.{KeyParts}
 use Rattle.myi_order.specs.KeyParts.{keys_in, parts_of, key_parts}
 use Rattle.myi_order.specs.Numbers.{all_per}
-use Rattle.myi_order.specs.Listed.{IsListOfKey, parts_of_keys, parts_at}
+use Rattle.myi_order.specs.Listed.{IsListOfKey, parts_at}
 use Rattle.myi_order.proofs.PrefixLaws.{each_sorted}
 
 -- ---- what holds of all pairs of a list holds of those in order
@@ -118,3 +125,42 @@ module _ (d : Defs) (rows : List Values) (all now : List (List Pair)) (keys : ma
 
 pub parts_small : (d : Defs) (rows : List Values) (parts : List KeyParts) → parts ≡ key_parts d rows → AllByRecursion (λ n. n < 256 ^ 4) (all_per parts)
 parts_small d rows parts is = subst (λ (ps : List KeyParts). AllByRecursion (λ n. n < 256 ^ 4) (all_per ps)) (sym is) (all_small d rows (key_numbers d))
+
+-- ---- there is a number for each segment of a key
+
+total : List ℕ → ℕ
+total [] = 0
+total (n ∷ ns) = n + total ns
+
+parts_length : (d : Defs) (rows : List Values) (ks : List ℕ) → length (all_per (map (parts_of d rows) ks)) ≡ total (map (λ k. length (segments_of d.keys k)) ks)
+unfolding total
+parts_length d rows [] = refl
+parts_length d rows (k ∷ ks) =
+    omega (
+      arith,
+      length-append (per_each (length (segments_of d.keys k)) (keys_in d rows k)) (all_per (map (parts_of d rows) ks)),
+      length-map-range_with_len (λ j. per j (keys_in d rows k)) 1 (length (segments_of d.keys k)),
+      parts_length d rows ks,
+    )
+
+total_sum : (keys : List Key) → total (map (λ (k : Key). length k.segments) keys) ≡ sum_by (λ (k : Key). length k.segments) keys
+unfolding total
+total_sum [] = refl
+total_sum (k ∷ keys) = omega (arith, total_sum keys, sum_by-cons (λ (x : Key). length x.segments) k keys)
+
+no_key : Key
+no_key = record { unique = false; block_length = 0; segments = [] }
+
+each_length : (keys : List Key) → map (λ k. length (segments_of keys k)) (numbers_from 1 (length keys)) ≡ map (λ (k : Key). length k.segments) keys
+each_length keys =
+    ext_get_or 0 (map (λ k. length (segments_of keys k)) (numbers_from 1 (length keys))) (map (λ (k : Key). length k.segments) keys)
+    (length-map (numbers_from 1 (length keys)) (λ k. length (segments_of keys k)) ∙ length-numbers 1 (length keys) ∙ sym (length-map keys (λ (k : Key). length k.segments)))
+    (λ i few.
+    let inside : i < length keys = omega (arith, few, length-map (numbers_from 1 (length keys)) (λ k. length (segments_of keys k)), length-numbers 1 (length keys)) in
+    mapped_at (λ k. length (segments_of keys k)) 1 (length keys) i 0 inside
+    ∙ ap (λ (s : List Segment). length s) (segments_at keys (1 + i) no_key (omega arith) (omega arith))
+    ∙ ap (λ n. length (get_or keys n no_key).segments) (let e : 1 + i - 1 ≡ i = omega arith in e)
+    ∙ sym (lists.get_or-map (λ (k : Key). length k.segments) keys i no_key 0 inside))
+
+pub parts_few : (d : Defs) (rows : List Values) → IsSound d → length (all_per (key_parts d rows)) ≤ num_at 14 2 d.raw
+parts_few d rows good = omega (arith, parts_length d rows (key_numbers d), ap total (each_length d.keys), total_sum d.keys, good.key_parts)

@@ -1,18 +1,19 @@
 -- Numbers that are written into an index file, and what is read of it then.
-use Rattle.std.proofs.Common.{◌≡◌, ◌≢◌, ◌⊎◌, inl, inr, ℕ, zero, suc, ◌+◌, ◌-◌, ◌*◌, ◌%◌, ◌^◌, ◌<◌, ◌≤◌, List, [], ◌∷◌, ◌++◌, length, get_or, take, drop, map, refl, sym, ap, ◌∙◌, arith, append_assoc, length-append, length-take, length-drop, get_or-take, get_or-drop}
+use Rattle.std.proofs.Common.{◌≡◌, ◌⊎◌, inl, inr, ℕ, zero, suc, ◌+◌, ◌-◌, ◌*◌, ◌%◌, ◌^◌, ◌<◌, ◌≤◌, List, [], ◌∷◌, ◌++◌, length, get_or, take, drop, map, refl, sym, ap, ◌∙◌, arith, append_assoc, length-append, length-take, length-drop, get_or-take, get_or-drop}
 use Rattle.std.specs.List.{AllByRecursion}
 use Rattle.std.proofs.lemmas.Bool.{cases_lt}
-use Rattle.std.proofs.lemmas.List.{append-nil, take_all, take-append-le}
+use Rattle.std.proofs.lemmas.Nat.{and_le_r}
+use Rattle.std.proofs.lemmas.List.{append-nil, take-append-le}
 use Rattle.std.proofs.Math.Seq.{get_or-append_right}
 use Rattle.std.proofs.Math.ListN.{get_or-append}
-use Rattle.myi_base.specs.Holding.{resized, overwritten}
-use Rattle.myi_base.specs.Numbers.{num, num_at, num_bytes}
+use Rattle.myi_base.specs.Holding.{overwritten}
+use Rattle.myi_base.specs.Numbers.{num_at, num_bytes}
 use Rattle.myi_base.specs.Items.{numbers, spelling, Fit, total_width}
 use Rattle.myi_base.proofs.CallerLemmas.{numbers-spelling, numbers-take, length-spelling, length-num_bytes}
 use Rattle.myi_defs.specs.declared.types.Defs.{Defs}
 use Rattle.myi_defs.specs.Sound.{IsSound}
 use Rattle.myi_order.specs.declared.key_parts.KeyParts.{KeyParts}
-use Rattle.myi_order.specs.Numbers.{changed_place, rows_place, part_place, changed_bits, rows_counted, part_number, analyzed_bits, all_per, number_bytes, with_numbers, IsElsewhere, IsAnalyzed}
+use Rattle.myi_order.specs.Numbers.{changed_place, rows_place, part_place, changed_bits, analyzed_bits, all_per, number_bytes, with_numbers, IsElsewhere, IsAnalyzed}
 
 -- ---- the bytes of numbers of four bytes
 
@@ -150,9 +151,11 @@ one_byte b few = ap (λ n. n ∷ []) (let e : b % 256 ≡ b = omega arith in e)
 pub record HasRoom (d : Defs) (rows : ℕ) (per x : List ℕ) : Type 0 where
   pub behind : changed_place < rows_place d
   pub inside : part_place d (length per) ≤ length x
-  pub bits : analyzed_bits (changed_bits x) < 256
   pub counted : rows < 256 ^ 8
   pub small : AllByRecursion (λ n. n < 256 ^ 4) per
+
+bits_small : (bits : ℕ) → analyzed_bits bits < 256
+bits_small bits = omega (arith, and_le_r bits 247)
 
 module _ (d : Defs) (rows : ℕ) (per x : List ℕ) (room : HasRoom d rows per x) where
   bits_in : List ℕ
@@ -187,10 +190,10 @@ module _ (d : Defs) (rows : ℕ) (per x : List ℕ) (room : HasRoom d rows per x
       let bits : ℕ = analyzed_bits (changed_bits x) in
       let front : take 27 (with_numbers d rows per x) ≡ take 27 bits_in = ap (take 27) new_is ∙ written_front (rows_place d) (number_bytes rows per) bits_in all_inside 27 (omega (arith, room.behind)) in
       let same : numbers changed_place (1 ∷ []) (with_numbers d rows per x) ≡ numbers changed_place (1 ∷ []) bits_in = numbers-take changed_place 27 (1 ∷ []) (with_numbers d rows per x) bits_in (omega arith) front in
-      let spelled : bits ∷ [] ≡ spelling (1 ∷ []) (bits ∷ []) = sym (append-nil (num_bytes 1 bits) ∙ one_byte bits room.bits) in
+      let spelled : bits ∷ [] ≡ spelling (1 ∷ []) (bits ∷ []) = sym (append-nil (num_bytes 1 bits) ∙ one_byte bits (bits_small (changed_bits x))) in
       let read : numbers changed_place (1 ∷ []) bits_in ≡ bits ∷ [] =
       ap (numbers changed_place (1 ∷ [])) (written_is changed_place (bits ∷ []) x bits_inside ∙ ap (λ b. take changed_place x ++ (b ++ drop (changed_place + 1) x)) spelled)
-      ∙ numbers-spelling changed_place (1 ∷ []) (bits ∷ []) (take changed_place x) (drop (changed_place + 1) x) (front_long changed_place (bits ∷ []) x bits_inside) (omega (arith, room.bits), tt) in
+      ∙ numbers-spelling changed_place (1 ∷ []) (bits ∷ []) (take changed_place x) (drop (changed_place + 1) x) (front_long changed_place (bits ∷ []) x bits_inside) (omega (arith, bits_small (changed_bits x)), tt) in
       ap (λ (ns : List ℕ). get_or ns 0 0) (same ∙ read)
 
   else_same : (i : ℕ) → IsElsewhere d (length per) i → get_or (with_numbers d rows per x) i 0 ≡ get_or x i 0
@@ -224,3 +227,15 @@ pub header_bits : (d : Defs) (x : List ℕ) → IsSound d → d.raw ≡ take (nu
 header_bits d x good is =
     let long : 27 ≤ num_at 6 2 x = omega (arith, good.base_inside, good.base, ap (λ (xs : List ℕ). length xs) is, length-take (num_at 6 2 x) x) in
     ap (λ (ns : List ℕ). get_or ns 0 0) (numbers-take changed_place 27 (1 ∷ []) d.raw x (omega arith) (ap (take 27) is ∙ fewer 27 (num_at 6 2 x) x long))
+
+-- a file with the header has room for a number for each key part
+has_room : (d : Defs) (rows : ℕ) (per x : List ℕ) → IsSound d → length d.raw ≤ length x → length per ≤ num_at 14 2 d.raw → rows < 256 ^ 8 → AllByRecursion (λ n. n < 256 ^ 4) per → HasRoom d rows per x
+has_room d rows per x good long few counted small = record {
+  behind = omega arith;
+  inside = omega (arith, good.base_inside, good.base, long, few);
+  counted = counted;
+  small = small;
+}
+
+pub numbers_read_back : (d : Defs) (rows : ℕ) (per x : List ℕ) → IsSound d → length d.raw ≤ length x → length per ≤ num_at 14 2 d.raw → rows < 256 ^ 8 → AllByRecursion (λ n. n < 256 ^ 4) per → IsAnalyzed d rows per x (with_numbers d rows per x)
+numbers_read_back d rows per x good long few counted small = reads_back d rows per x (has_room d rows per x good long few counted small)

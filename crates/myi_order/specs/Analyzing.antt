@@ -16,7 +16,7 @@ use Rattle.myi_order.specs.declared.fault.OrderFault.TheVariants.{Damaged}
 use Rattle.myi_order.specs.declared.key_parts.KeyParts.{KeyParts}
 use Rattle.myi_order.specs.Faults.{order_fault}
 use Rattle.myi_order.specs.KeyParts.{key_parts}
-use Rattle.myi_order.specs.Numbers.{all_per, with_numbers}
+use Rattle.myi_order.specs.Numbers.{all_per, with_numbers, IsAnalyzed}
 
 -- by what is wrong with its files
 abbrev pub clean_by : Table → List Finding → Result Table OrderFault
@@ -49,12 +49,14 @@ rows_in t = map (values_of t.defs) (readable t.defs false t.rows)
 abbrev pub analyzed_index : Table → List ℕ
 analyzed_index t = with_numbers t.defs (length (rows_in t)) (all_per (key_parts t.defs (rows_in t))) t.index
 
--- the answer is the rows per prefix of the table's keys, and the index file has their numbers; the working file is gone
+-- The answer is the rows per prefix of the table's keys. The index file has their numbers, and all other bytes that it had; the
+-- working file is gone.
 pub record Analyzes (name : List ℕ) (parts : List KeyParts) (m n : Holding) : Type 0 where
   pub table : Table
   pub is : table_in name m ≡ Ok table
   pub answer : parts ≡ key_parts table.defs (rows_in table)
   pub stored : n (index_file name) ≡ Some (analyzed_index table)
+  pub numbers : IsAnalyzed table.defs (length (rows_in table)) (all_per (key_parts table.defs (rows_in table))) table.index (analyzed_index table)
   pub gone : n (new_index_file name) ≡ None
 
 -- both files are as before

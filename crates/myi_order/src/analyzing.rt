@@ -71,6 +71,7 @@ fn analyze_clean<F: Files>(
         CutsOff f ⊎ IsRefused name.now f (F.holds files.old) (F.holds files.new)) }
     ensures cause { HasCause OrderFault.File (F.faults files.old) (F.faults files.new) result }
 {
+    definitions_are_sound();
     let table = TableFiles::of(alloc, name)?;
     let opened = open_table(alloc, files, table.index.as_str(), table.rows.as_str())?;
     let rows = table.rows.as_str();

@@ -43,6 +43,7 @@ pub(crate) fn count_file<F: Files>(
     ensures counted { IfOk result (λ c. IfTold (F.holds files.old) (λ m. (d : List ℕ)
         → m rows.now ≡ Some d → CountsFile defs.now d c)) }
     ensures small { IfOk result (λ c. AllByRecursion (λ n. n < 256 ^ 4) (all_per c.parts.items)) }
+    ensures few { IfOk result (λ c. c.rows < 256 ^ 8) }
     ensures holds { F.holds files.new ≡ F.holds files.old }
     ensures cut { IfErr result CutsOff }
     ensures cause { HasCause OrderFault.File (F.faults files.old) (F.faults files.new) result }
@@ -83,6 +84,7 @@ fn into_counted(alloc: Global, read: RowsRead, defs: &Defs) -> Result<Counted, A
     ensures counted { IfOk result (λ c. (rows : List Values) → HasRead defs.now rows read
         → IsCounted defs.now rows c) }
     ensures small { IfOk result (λ c. AllByRecursion (λ n. n < 256 ^ 4) (all_per c.parts.items)) }
+    ensures few { IfOk result (λ c. c.rows < 256 ^ 8) }
 {
     let RowsRead { keys, count } = read;
     let lists = sorted_lists(keys.into_lists().into_vec());

@@ -1,11 +1,15 @@
 //! Laws over the definitions of this crate. Each is the contract of a function that does nothing, so
 //! that it is proved with the crate and stands for the crates above.
-ghost use Rattle.std.specs.Prelude.{◌≡◌, ℕ, List};
-ghost use Rattle.std.specs.Prelude.{IsPermutation, IsSorted};
+ghost use Rattle.std.specs.Prelude.{◌≡◌, ◌<◌, ◌≤◌, ◌^◌, ℕ, List, length, IsSorted};
+ghost use Rattle.std.specs.List.{AllByRecursion};
+ghost use Rattle.myi_defs.specs.declared.types.Defs.{Defs};
+ghost use Rattle.myi_defs.specs.Sound.{IsSound};
+ghost use Rattle.myi_header.specs.Layout.{key_parts};
 ghost use Rattle.myi_keylist.specs.declared.pair.Pair.{Pair};
 ghost use Rattle.myi_keylist.specs.PairOrder.{pair_cmp, sorted};
 ghost use Rattle.myi_keylist.specs.Repeats.{keys_of};
 ghost use Rattle.myi_order.specs.Prefixes.{distinct_prefixes, per, per_each, prefix_ends};
+ghost use Rattle.myi_order.specs.Numbers.{with_numbers, IsAnalyzed};
 
 /// In a list in order, keys that share a prefix stand together: there are as many distinct prefixes as keys
 /// of which the next one has another prefix.
@@ -23,4 +27,13 @@ pub fn sorting_keeps_prefixes()
         → per j (keys_of (sorted pairs)) ≡ per j (keys_of pairs) }
     ensures each { (segments : ℕ) (pairs : List Pair)
         → per_each segments (keys_of (sorted pairs)) ≡ per_each segments (keys_of pairs) }
+{}
+
+/// What is read of an index file with new numbers: each of these numbers, the changed bits without the one
+/// that says not analyzed, and all other bytes of the file before.
+pub fn numbers_read_back()
+    ensures { (d : Defs) (rows : ℕ) (parts x : List ℕ) → IsSound d → length d.raw ≤ length x
+        → length parts ≤ key_parts d → rows < 256 ^ 8
+        → AllByRecursion (λ n. n < 256 ^ 4) parts
+        → IsAnalyzed d rows parts x (with_numbers d rows parts x) }
 {}

@@ -1,4 +1,4 @@
-use Rattle.std.proofs.Common.{◌⊎◌, ◌∙◌, ap, sym, subst, inr}
+use Rattle.std.proofs.Common.{◌⊎◌, ◌∙◌, sym, subst, inr}
 use Rattle.std.specs.Prelude.{IfErr}
 use Rattle.std.proofs.lemmas.Result.{err_from_is_err_and}
 use Rattle.myi_check.specs.Checking.{Finds}

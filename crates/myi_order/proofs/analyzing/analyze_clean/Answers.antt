@@ -1,12 +1,12 @@
 use Rattle.std.proofs.Common.{◌⊎◌, ◌∙◌, ap, sym, subst, refl}
-use Rattle.std.specs.Prelude.{IfErr}
+use Rattle.std.specs.Prelude.{IfErr, string_bytes}
 use Rattle.std.proofs.lemmas.Result.{err_from_is_err_and}
 use Rattle.myi_base.proofs.CallerLemmas.{told_more}
 use Rattle.myi_defs.proofs.CallerLemmas.{sound}
 use Rattle.myi_repair.specs.Names.{FourNames, names_for}
 use Rattle.myi_repair.proofs.CallerLemmas.{apart_of, told_and}
 use Rattle.myi_order.specs.Faults.{CutsOff}
-use Rattle.myi_order.specs.Analyzing.{IsRefused, Analyzes, KeepsBoth}
+use Rattle.myi_order.specs.Analyzing.{IsRefused, KeepsBoth}
 use Rattle.myi_order.proofs.AnalyzeLaws.{not_opened, is_opened, analyzed_by, both_kept, told_from, on_err}
 use Rattle.myi_order.proofs.analyzing.analyze_clean.Goals as goal
 
@@ -50,5 +50,6 @@ returns-clause-analyzed g c =
     let index_is = ap (λ (u : FourNames). u.index) c.in_ok-table.ensures in
     told_more _ _ _ _ (told_from _ _ _ _ (c.count_file.ensures.holds ∙ c.open_table.ensures.holds) c.in_ok-store.ensures.stored) (λ m n held put.
     let opened = is_opened name c.as_str.result.now c.as_str-2.result.now d size m (c.as_str.ensures.value ∙ index_is) (c.as_str-2.ensures.value ∙ rows_is) (c.in_ok-opened.ensures.table m held) (c.requires.clean m held) in
-    analyzed_by name _ _ d size c.in_ok-counted.counted m n index_is (ap (λ (u : FourNames). u.new_index) c.in_ok-table.ensures) opened
+    analyzed_by name (string_bytes c.in_ok-table.table.index) (string_bytes c.in_ok-table.table.new_index) d size c.in_ok-counted.counted m n (sound d c.in_ok-opened.ensures.defs) (λ x read. c.definitions_are_sound.ensures.raw x d read)
+    c.in_ok-counted.ensures.few index_is (ap (λ (u : FourNames). u.new_index) c.in_ok-table.ensures) opened
     (c.in_ok-counted.ensures.counted m (c.open_table.ensures.holds ∙ held) opened.data_file (ap m (c.as_str-rows.ensures.value ∙ rows_is) ∙ opened.rows_there)) put)

@@ -1,5 +1,4 @@
 use Rattle.std.proofs.Common.{length, arith}
-use Rattle.myi_base.specs.Holding.{OthersStay}
 use Rattle.myi_base.proofs.CallerLemmas.{told_then}
 use Rattle.myi_order.specs.Copying.{CopiesPiece}
 use Rattle.myi_order.proofs.CopyLaws.{CopiedTo, one_piece, next_within, others_on}

@@ -1,4 +1,4 @@
-use Rattle.std.proofs.Common.{◌≡◌, ◌-◌, ◌≤◌}
+use Rattle.std.proofs.Common.{◌-◌, ◌≤◌}
 use Rattle.myi_base.specs.Holding.{Told, OthersStay}
 use Rattle.myi_order.proofs.CopyLaws.{CopiedTo}
 use Rattle.myi_order.proofs.copying.copy_pieces.Given as goal

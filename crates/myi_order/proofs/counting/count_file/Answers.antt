@@ -1,6 +1,6 @@
 use Rattle.std.proofs.Common.{◌∙◌, subst}
 use Rattle.myi_defs.proofs.CallerLemmas.{sound}
-use Rattle.myi_order.specs.Counting.{HasRead, IsCounted}
+use Rattle.myi_order.specs.Counting.{HasRead}
 use Rattle.myi_order.proofs.ReadLaws.{begins_known, all_values, same_file}
 use Rattle.myi_order.proofs.counting.count_file.Goals as goal
 

@@ -1,4 +1,4 @@
-use Rattle.std.proofs.Common.{◌<◌, ◌^◌, arith, refl}
+use Rattle.std.proofs.Common.{◌<◌, ◌^◌, arith}
 use Rattle.myi_order.proofs.NumberLaws.{all_at, number_appended, numbers_appended}
 use Rattle.myi_order.proofs.numbers.append_per.Goals as goal
 
