@@ -1,5 +1,5 @@
 -- What an analysis answers, by what its parts do.
-use Rattle.std.proofs.Common.{◌≡◌, ◌⊎◌, inl, inr, ℕ, List, [], ◌∷◌, length, Option, Some, Result, Ok, Err, unwrap_or, refl, sym, ap, subst, ◌∙◌, ◌^◌, ◌<◌, arith, length-take}
+use Rattle.std.proofs.Common.{◌≡◌, ◌⊎◌, inl, inr, ℕ, List, [], ◌∷◌, length, Option, Some, Result, Ok, Err, unwrap_or, refl, sym, ap, subst, ◌∙◌, ◌^◌, ◌<◌, ◌≤◌, arith, length-take}
 use Rattle.myi_base.specs.Holding.{Holding, IfTold, Told, bytes_of, overwritten}
 use Rattle.myi_base.proofs.CallerLemmas.{told_same}
 use Rattle.myi_base.specs.Numbers.{num_at}
@@ -13,7 +13,11 @@ use Rattle.myi_opening.specs.Opening.{Table, table, IsCutOff}
 use Rattle.myi_opening.specs.Opening as opening
 use Rattle.myi_opening.proofs.CallerLemmas.{table_index, table_rows, table_read}
 use Rattle.myi_pair.specs.declared.finding.Finding.{Finding}
+use Rattle.myi_header.specs.Layout as header
+use Rattle.std.specs.List.{AllByRecursion}
+use Rattle.myi_pair.specs.Clean.{IsClean}
 use Rattle.myi_pair.specs.Findings.{findings}
+use Rattle.myi_pair.proofs.CallerLemmas.{clean_where_none}
 use Rattle.myi_check.specs.Checking.{findings_in, findings_by, Finds}
 use Rattle.myi_check.specs.Checking as checking
 use Rattle.myi_rowkeys.specs.TableKeys.{key_numbers}
@@ -86,6 +90,7 @@ pub record IsOpened (name : List ℕ) (d : Defs) (size : ℕ) (m : Holding) : Ty
   pub there : m (index_file name) ≡ Some index
   pub read : read_defs index ≡ Ok d
   pub long : size ≡ length data_file
+  pub none : findings d data_file index ≡ []
 
 pub is_opened : (name index rows : List ℕ) (d : Defs) (size : ℕ) (m : Holding) → index ≡ index_file name → rows ≡ rows_file name → opening.HasTable index rows d size m → Finds name [] m → IsOpened name d size m
 unfolding findings_in table_in
@@ -101,6 +106,7 @@ is_opened name index rows d size m index_is rows_is has clean =
       there = table_index (index_file name) (rows_file name) t m here;
       read = table_read (index_file name) (rows_file name) t m here;
       long = has.long;
+      none = none;
     }
 
 -- ---- what is stored
@@ -120,9 +126,10 @@ stored_by index working d c numbers m n good raw changed place bytes put = recor
   none = put.gone;
 }
 
-pub analyzed_by : (name index working : List ℕ) (d : Defs) (size : ℕ) (c : Counted) (m n : Holding) → IsSound d → ((x : List ℕ) → read_defs x ≡ Ok d → d.raw ≡ take (num_at 6 2 x) x) → c.rows < 256 ^ 8 → index ≡ index_file name → working ≡ new_index_file name → (opened : IsOpened name d size m) → CountsFile d opened.data_file c → Stores index working d c m n
+pub analyzed_by : (name index working : List ℕ) (d : Defs) (size : ℕ) (c : Counted) (m n : Holding) → IsSound d → ((x : List ℕ) → read_defs x ≡ Ok d → d.raw ≡ take (num_at 6 2 x) x) → c.rows < 256 ^ 8
+    → ((file x : List ℕ) (e : Defs) (k : ℕ) (parts : List ℕ) → read_defs x ≡ Ok e → length parts ≤ header.key_parts e → k < 256 ^ 8 → AllByRecursion (λ v. v < 256 ^ 4) parts → IsClean file x → IsClean file (with_numbers e k parts x)) → index ≡ index_file name → working ≡ new_index_file name → (opened : IsOpened name d size m) → CountsFile d opened.data_file c → Stores index working d c m n
     → Analyzes name c.parts.items m n
-analyzed_by name index working d size c m n good raw few index_is working_is opened counts put =
+analyzed_by name index working d size c m n good raw few stays index_is working_is opened counts put =
     let t : Table = table d opened.data_file opened.index in
     let here : m index ≡ Some opened.index = ap m index_is ∙ opened.there in
     record {
@@ -133,6 +140,8 @@ analyzed_by name index working d size c m n good raw few index_is working_is ope
           ∙ ap (λ k. Some (with_numbers d k (all_per c.parts.items) opened.index)) counts.count
           ∙ ap (λ (ps : List KeyParts). Some (with_numbers d (length (rows_in t)) (all_per ps) opened.index)) counts.parts;
       gone = sym (ap n working_is) ∙ put.none;
+      clean = stays opened.data_file opened.index d (length (rows_in t)) (all_per (key_parts d (rows_in t))) opened.read (parts_few d (rows_in t) good) (omega (arith, few, counts.count)) (all_small d (rows_in t) (key_numbers d))
+          (clean_where_none d opened.data_file opened.index opened.read opened.none);
       numbers = numbers_read_back d (length (rows_in t)) (all_per (key_parts d (rows_in t))) opened.index good
           (omega (arith, ap (λ (xs : List ℕ). length xs) (raw opened.index opened.read), length-take (num_at 6 2 opened.index) opened.index))
           (parts_few d (rows_in t) good) (omega (arith, few, counts.count)) (all_small d (rows_in t) (key_numbers d));

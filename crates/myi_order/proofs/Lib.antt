@@ -8,3 +8,4 @@ pub mod CopyLaws
 pub mod ReadLaws
 pub mod ListedLaws
 pub mod AnalyzeLaws
+pub mod CleanLaws

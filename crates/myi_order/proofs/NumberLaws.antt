@@ -3,8 +3,8 @@ use Rattle.std.proofs.Common.{◌≡◌, ◌⊎◌, inl, inr, ℕ, zero, suc, �
 use Rattle.std.specs.List.{AllByRecursion}
 use Rattle.std.proofs.lemmas.Bool.{cases_lt}
 use Rattle.std.proofs.lemmas.Nat.{and_le_r}
-use Rattle.std.proofs.lemmas.List.{append-nil, take-append-le}
-use Rattle.std.proofs.Math.Seq.{get_or-append_right}
+use Rattle.std.proofs.lemmas.List.{append-nil, take-append-le, drop-take}
+use Rattle.std.proofs.Math.Seq.{get_or-append_right, drop-append-add}
 use Rattle.std.proofs.Math.ListN.{get_or-append}
 use Rattle.myi_base.specs.Holding.{overwritten}
 use Rattle.myi_base.specs.Numbers.{num_at, num_bytes}
@@ -92,6 +92,15 @@ parts_appended parts before old i end so_far = sym (append-nil old) ∙ ap (λ x
 
 -- ---- bytes that are written inside a file
 
+drop_none : (n : ℕ) → drop {A = ℕ} n [] ≡ []
+drop_none zero = refl
+drop_none (suc n) = refl
+
+drop_drop : (m n : ℕ) (xs : List ℕ) → drop n (drop m xs) ≡ drop (m + n) xs
+drop_drop zero n xs = ap (λ k. drop k xs) (let e : n ≡ 0 + n = omega arith in e)
+drop_drop (suc m) n [] = drop_none n ∙ sym (drop_none (suc m + n))
+drop_drop (suc m) n (x ∷ xs) = drop_drop m n xs ∙ ap (λ k. drop k (x ∷ xs)) (let e : suc (m + n) ≡ suc m + n = omega arith in e)
+
 fewer : (k n : ℕ) (xs : List ℕ) → k ≤ n → take k (take n xs) ≡ take k xs
 fewer zero n xs low = refl
 fewer (suc k) zero xs low = absurd (omega arith)
@@ -127,6 +136,15 @@ module _ (at : ℕ) (bytes x : List ℕ) (inside : at + length bytes ≤ length 
       ∙ get_or-append_right bytes (drop (at + length bytes) x) (i - length (take at x)) 0 (omega (arith, front_long, high))
       ∙ get_or-drop (at + length bytes) x (i - length (take at x) - length bytes) 0
       ∙ ap (λ k. get_or x k 0) (let e : at + length bytes + (i - length (take at x) - length bytes) ≡ i = omega (arith, front_long, high) in e)
+
+  written_drop : (p : ℕ) → at + length bytes ≤ p → drop p (overwritten at bytes x) ≡ drop p x
+  written_drop p high =
+      let front : List ℕ = take at x ++ bytes in
+      let left : overwritten at bytes x ≡ front ++ drop (at + length bytes) x = written_is ∙ sym (append_assoc (take at x) bytes (drop (at + length bytes) x)) in
+      let many : length front ≡ at + length bytes = length-append (take at x) bytes ∙ ap (λ n. n + length bytes) front_long in
+      let place : p ≡ length front + (p - (at + length bytes)) = omega (arith, many, high) in
+      ap (drop p) left ∙ ap (λ n. drop n (front ++ drop (at + length bytes) x)) place ∙ drop-append-add front (drop (at + length bytes) x) (p - (at + length bytes))
+      ∙ drop_drop (at + length bytes) (p - (at + length bytes)) x ∙ ap (λ n. drop n x) (let e : at + length bytes + (p - (at + length bytes)) ≡ p = omega (arith, high) in e)
 
 -- ---- what is read of a file with new numbers
 
@@ -211,6 +229,26 @@ module _ (d : Defs) (rows : ℕ) (per x : List ℕ) (room : HasRoom d rows per x
           above : changed_place ≤ i → changed_place + 1 ≤ i
           above high = omega (arith, high, where_.0)
 
+  -- between the bits and the other numbers
+  pub part_same : (p w : ℕ) → 27 ≤ p → p + w ≤ rows_place d → take w (drop p (with_numbers d rows per x)) ≡ take w (drop p x)
+  unfolding bits_in
+  part_same p w low high =
+      sym (drop-take p w (with_numbers d rows per x)) ∙ ap (drop p) (ap (take (p + w)) new_is ∙ written_front (rows_place d) (number_bytes rows per) bits_in all_inside (p + w) high)
+      ∙ drop-take p w bits_in ∙ ap (take w) (written_drop changed_place (analyzed_bits (changed_bits x) ∷ []) x bits_inside p low)
+
+  -- behind all of them
+  pub back_same : (p : ℕ) → part_place d (length per) ≤ p → drop p (with_numbers d rows per x) ≡ drop p x
+  unfolding bits_in
+  back_same p high =
+      ap (drop p) new_is ∙ written_drop (rows_place d) (number_bytes rows per) bits_in all_inside p (omega (arith, bytes_long, high))
+      ∙ written_drop changed_place (analyzed_bits (changed_bits x) ∷ []) x bits_inside p (omega (arith, room.behind, high))
+
+  -- and before them
+  pub front_same : (k : ℕ) → k ≤ changed_place → take k (with_numbers d rows per x) ≡ take k x
+  unfolding bits_in
+  front_same k low =
+      ap (take k) new_is ∙ written_front (rows_place d) (number_bytes rows per) bits_in all_inside k (omega (arith, room.behind, low)) ∙ written_front changed_place (analyzed_bits (changed_bits x) ∷ []) x bits_inside k low
+
   pub reads_back : IsAnalyzed d rows per x (with_numbers d rows per x)
   reads_back = record {
     long = ap (λ (xs : List ℕ). length xs) new_is ∙ written_long (rows_place d) (number_bytes rows per) bits_in all_inside ∙ bits_long;
@@ -229,7 +267,7 @@ header_bits d x good is =
     ap (λ (ns : List ℕ). get_or ns 0 0) (numbers-take changed_place 27 (1 ∷ []) d.raw x (omega arith) (ap (take 27) is ∙ fewer 27 (num_at 6 2 x) x long))
 
 -- a file with the header has room for a number for each key part
-has_room : (d : Defs) (rows : ℕ) (per x : List ℕ) → IsSound d → length d.raw ≤ length x → length per ≤ num_at 14 2 d.raw → rows < 256 ^ 8 → AllByRecursion (λ n. n < 256 ^ 4) per → HasRoom d rows per x
+pub has_room : (d : Defs) (rows : ℕ) (per x : List ℕ) → IsSound d → length d.raw ≤ length x → length per ≤ num_at 14 2 d.raw → rows < 256 ^ 8 → AllByRecursion (λ n. n < 256 ^ 4) per → HasRoom d rows per x
 has_room d rows per x good long few counted small = record {
   behind = omega arith;
   inside = omega (arith, good.base_inside, good.base, long, few);

@@ -8,7 +8,7 @@ use Rattle.myi_opening.specs.Opening as opening
 use Rattle.myi_pack.specs.Packed.{Values}
 use Rattle.myi_data.specs.Readable.{readable}
 use Rattle.myi_pair.specs.declared.finding.Finding.{Finding}
-use Rattle.myi_pair.specs.Clean.{values_of}
+use Rattle.myi_pair.specs.Clean.{values_of, IsClean}
 use Rattle.myi_pair.specs.Findings.{findings}
 use Rattle.myi_repair.specs.Names.{new_index_file}
 use Rattle.myi_order.specs.declared.fault.OrderFault.{OrderFault}
@@ -49,14 +49,15 @@ rows_in t = map (values_of t.defs) (readable t.defs false t.rows)
 abbrev pub analyzed_index : Table → List ℕ
 analyzed_index t = with_numbers t.defs (length (rows_in t)) (all_per (key_parts t.defs (rows_in t))) t.index
 
--- The answer is the rows per prefix of the table's keys. The index file has their numbers, and all other bytes that it had; the
--- working file is gone.
+-- The answer is the rows per prefix of the table's keys. The index file has their numbers, and all other bytes that it had; so the
+-- table is clean again. The working file is gone.
 pub record Analyzes (name : List ℕ) (parts : List KeyParts) (m n : Holding) : Type 0 where
   pub table : Table
   pub is : table_in name m ≡ Ok table
   pub answer : parts ≡ key_parts table.defs (rows_in table)
   pub stored : n (index_file name) ≡ Some (analyzed_index table)
   pub numbers : IsAnalyzed table.defs (length (rows_in table)) (all_per (key_parts table.defs (rows_in table))) table.index (analyzed_index table)
+  pub clean : IsClean table.rows (analyzed_index table)
   pub gone : n (new_index_file name) ≡ None
 
 -- both files are as before

@@ -14,6 +14,7 @@ ghost use Rattle.myi_order.specs.Analyzing.{IsRefused, Analyzes, KeepsBoth, Othe
 use crate::counting::{Counted, count_file};
 use crate::fault::OrderFault;
 use crate::key_parts::KeyParts;
+use crate::laws::analyzed_tables_are_clean;
 use crate::numbers::new_numbers;
 use crate::storing::replace_index;
 use myi_check::check;
@@ -72,6 +73,7 @@ fn analyze_clean<F: Files>(
     ensures cause { HasCause OrderFault.File (F.faults files.old) (F.faults files.new) result }
 {
     definitions_are_sound();
+    analyzed_tables_are_clean();
     let table = TableFiles::of(alloc, name)?;
     let opened = open_table(alloc, files, table.index.as_str(), table.rows.as_str())?;
     let rows = table.rows.as_str();

@@ -1,15 +1,20 @@
 //! Laws over the definitions of this crate. Each is the contract of a function that does nothing, so
 //! that it is proved with the crate and stands for the crates above.
-ghost use Rattle.std.specs.Prelude.{◌≡◌, ◌<◌, ◌≤◌, ◌^◌, ℕ, List, length, IsSorted};
+ghost use Rattle.std.specs.Prelude.{◌≡◌, ◌<◌, ◌≤◌, ◌^◌, ℕ, List, length, Ok, IsSorted};
 ghost use Rattle.std.specs.List.{AllByRecursion};
 ghost use Rattle.myi_defs.specs.declared.types.Defs.{Defs};
 ghost use Rattle.myi_defs.specs.Sound.{IsSound};
+ghost use Rattle.myi_defs.specs.ReadDefs.{read_defs};
 ghost use Rattle.myi_header.specs.Layout.{key_parts};
 ghost use Rattle.myi_keylist.specs.declared.pair.Pair.{Pair};
 ghost use Rattle.myi_keylist.specs.PairOrder.{pair_cmp, sorted};
 ghost use Rattle.myi_keylist.specs.Repeats.{keys_of};
+ghost use Rattle.myi_pair.specs.Clean.{IsClean};
 ghost use Rattle.myi_order.specs.Prefixes.{distinct_prefixes, per, per_each, prefix_ends};
 ghost use Rattle.myi_order.specs.Numbers.{with_numbers, IsAnalyzed};
+
+use myi_btree::walks_depend_on_their_pages;
+use myi_defs::definitions_are_sound;
 
 /// In a list in order, keys that share a prefix stand together: there are as many distinct prefixes as keys
 /// of which the next one has another prefix.
@@ -37,3 +42,15 @@ pub fn numbers_read_back()
         → AllByRecursion (λ n. n < 256 ^ 4) parts
         → IsAnalyzed d rows parts x (with_numbers d rows parts x) }
 {}
+
+/// A table that is clean is clean with new numbers in its index file: no definition of a clean pair reads
+/// the bytes that change.
+pub fn analyzed_tables_are_clean()
+    ensures { (file x : List ℕ) (d : Defs) (rows : ℕ) (parts : List ℕ) → read_defs x ≡ Ok d
+        → length parts ≤ key_parts d → rows < 256 ^ 8
+        → AllByRecursion (λ n. n < 256 ^ 4) parts
+        → IsClean file x → IsClean file (with_numbers d rows parts x) }
+{
+    definitions_are_sound();
+    walks_depend_on_their_pages();
+}

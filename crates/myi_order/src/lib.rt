@@ -35,5 +35,7 @@ mod storing;
 pub use analyzing::analyze;
 pub use fault::OrderFault;
 pub use key_parts::KeyParts;
-pub use laws::{numbers_read_back, prefixes_end_in_order, sorting_keeps_prefixes};
+pub use laws::{
+    analyzed_tables_are_clean, numbers_read_back, prefixes_end_in_order, sorting_keeps_prefixes,
+};
 pub use prefixes::rows_per_prefix;

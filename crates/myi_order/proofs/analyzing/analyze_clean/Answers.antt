@@ -51,5 +51,5 @@ returns-clause-analyzed g c =
     told_more _ _ _ _ (told_from _ _ _ _ (c.count_file.ensures.holds ∙ c.open_table.ensures.holds) c.in_ok-store.ensures.stored) (λ m n held put.
     let opened = is_opened name c.as_str.result.now c.as_str-2.result.now d size m (c.as_str.ensures.value ∙ index_is) (c.as_str-2.ensures.value ∙ rows_is) (c.in_ok-opened.ensures.table m held) (c.requires.clean m held) in
     analyzed_by name (string_bytes c.in_ok-table.table.index) (string_bytes c.in_ok-table.table.new_index) d size c.in_ok-counted.counted m n (sound d c.in_ok-opened.ensures.defs) (λ x read. c.definitions_are_sound.ensures.raw x d read)
-    c.in_ok-counted.ensures.few index_is (ap (λ (u : FourNames). u.new_index) c.in_ok-table.ensures) opened
+    c.in_ok-counted.ensures.few c.analyzed_tables_are_clean.ensures index_is (ap (λ (u : FourNames). u.new_index) c.in_ok-table.ensures) opened
     (c.in_ok-counted.ensures.counted m (c.open_table.ensures.holds ∙ held) opened.data_file (ap m (c.as_str-rows.ensures.value ∙ rows_is) ∙ opened.rows_there)) put)
