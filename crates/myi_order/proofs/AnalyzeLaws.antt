@@ -1,9 +1,9 @@
 -- What an analysis answers, by what its parts do.
-use Rattle.std.proofs.Common.{◌≡◌, ◌⊎◌, inl, inr, ℕ, List, [], ◌∷◌, length, Option, Some, Result, Ok, Err, unwrap_or, refl, sym, ap, subst, ◌∙◌, ◌^◌, ◌<◌, ◌≤◌, arith, length-take}
-use Rattle.myi_base.specs.Holding.{Holding, IfTold, Told, bytes_of, overwritten}
-use Rattle.myi_base.proofs.CallerLemmas.{told_same}
+use Rattle.std.proofs.Common.{◌≡◌, ◌⊎◌, inl, inr, ℕ, List, [], ◌∷◌, length, Option, Some, Result, Ok, Err, unwrap_or, sym, ap, subst, ◌∙◌, ◌^◌, ◌<◌, ◌≤◌, arith, length-take}
+use Rattle.myi_base.specs.Holding.{Holding, IfTold, Told, Removes, bytes_of, overwritten}
+use Rattle.myi_base.proofs.CallerLemmas.{told_then}
 use Rattle.myi_base.specs.Numbers.{num_at}
-use Rattle.std.specs.Prelude.{take, OnOk, OnErr, slice_get}
+use Rattle.std.specs.Prelude.{take, OnOk, OnErr, slice_get, IfErr}
 use Rattle.myi_defs.specs.declared.types.Defs.{Defs}
 use Rattle.myi_defs.specs.Sound.{IsSound}
 use Rattle.myi_defs.specs.ReadDefs.{read_defs}
@@ -24,15 +24,19 @@ use Rattle.myi_rowkeys.specs.TableKeys.{key_numbers}
 use Rattle.myi_repair.specs.Names.{names_for, new_index_file, AreApart}
 use Rattle.myi_order.specs.declared.fault.OrderFault.{OrderFault}
 use Rattle.myi_order.specs.declared.fault.OrderFault.TheVariants.{Damaged}
+use Rattle.myi_order.specs.declared.fault.OrderFault.TheVariants as order
+use Rattle.myi_base.specs.Causes.{Rose, HasCause}
+use Rattle.myi_io.specs.declared.files.FileErr.{FileErr}
+use Rattle.myi_io.specs.declared.files.FileErr.TheVariants.{Failed}
 use Rattle.myi_order.specs.declared.key_parts.KeyParts.{KeyParts}
 use Rattle.myi_order.specs.declared.numbers.NewNumbers.{NewNumbers}
 use Rattle.myi_order.specs.declared.counting.Counted.{Counted}
-use Rattle.myi_order.specs.Faults.{order_fault, CutsOff}
+use Rattle.myi_order.specs.Faults.{order_fault, CutsOff, faults_told, Clears, IsCleared}
 use Rattle.myi_order.specs.KeyParts.{key_parts}
 use Rattle.myi_order.specs.Counting.{CountsFile}
 use Rattle.myi_order.specs.Numbers.{changed_place, rows_place, changed_bits, analyzed_bits, all_per, number_bytes, with_numbers}
 use Rattle.myi_order.specs.Storing.{with_new, Replaces, KeepsIndex, OthersStayOf, Stores}
-use Rattle.myi_order.specs.Analyzing.{table_in, table_by, clean_by, Refuses, IsRefused, rows_in, Analyzes, KeepsBoth, OthersStay}
+use Rattle.myi_order.specs.Analyzing.{table_in, table_by, clean_by, Refuses, IsRefused, rows_in, Analyzes, KeepsBoth}
 use Rattle.myi_order.proofs.NumberLaws.{header_bits, numbers_read_back}
 use Rattle.myi_order.proofs.ListedLaws.{parts_few, all_small}
 
@@ -155,15 +159,6 @@ both_kept name index working m n apart index_is working_is kept others = record 
   index = subst (λ i. n i ≡ m i) index_is kept;
 }
 
-pub others_kept : (name index working : List ℕ) (m n : Holding) → index ≡ index_file name → working ≡ new_index_file name → OthersStayOf index working m n → OthersStay name m n
-others_kept name index working m n index_is working_is others q one other = others q (λ same. one (same ∙ index_is)) (λ same. other (same ∙ working_is))
-
-pub same_both : (name : List ℕ) (old new : Option Holding) → new ≡ old → Told old new (KeepsBoth name)
-same_both name old new same = told_same old new (KeepsBoth name) same (λ m held. record { rows = refl; index = refl })
-
-pub same_others : (name : List ℕ) (old new : Option Holding) → new ≡ old → Told old new (OthersStay name)
-same_others name old new same = told_same old new (OthersStay name) same (λ m held q one other. refl)
-
 -- ---- by names and by parts
 
 pub replaces_named : (index working i w : List ℕ) (numbers : NewNumbers) (m n : Holding) → index ≡ i → working ≡ w → Replaces index working numbers m n → Replaces i w numbers m n
@@ -189,3 +184,17 @@ told_from old mid new P same is = subst (λ h. Told h new P) same is
 pub begins : (xs : List Finding) (x : Finding) → Some x ≡ slice_get xs 0 → (others : List Finding) × (xs ≡ x ∷ others)
 begins [] x is = absurd cc
 begins (y ∷ xs) x is = (xs, let e : y ≡ x = cc in ap (λ z. z ∷ xs) e)
+
+-- ---- what is left of the working file
+
+-- a part failed, and the working file was taken away
+pub cleared_by : (working : List ℕ) (old mid new : Option Holding) (before between now : ℕ) (f : OrderFault) (P : Holding → Holding → Type 0) (r : Result (Unit {0}) FileErr) → CutsOff f → (f ≡ order.File → Rose before between) → before ≤ between → Told old mid P
+    → OnOk r (Told mid new (Removes working)) → IfErr r (λ e. e ≡ Failed) → HasCause Failed between now r → IsCleared working old new before now f
+cleared_by working old mid new before between now f P (Ok x) cut rose less first gone failed cause few = told_then old mid new P (Removes working) (Clears working) first gone (λ m n k one two. inr two.gone)
+cleared_by working old mid new before between now f P (Err e) cut rose less first gone failed cause few =
+    let more : Rose between now = cause.cause (ap (λ (x : FileErr). Err x) failed) in
+    absurd (by cut more)
+  where
+    by : CutsOff f → Rose between now → ⊥
+    by (inl file) more = omega (arith, few.0, few.1, rose file, more, less, ap faults_told file)
+    by (inr memory) more = omega (arith, few.0, few.1, more, less, ap faults_told memory)

@@ -1,8 +1,8 @@
 -- A file that is copied by pieces.
-use Rattle.std.proofs.Common.{◌≡◌, ◌≢◌, ℕ, zero, suc, ◌+◌, ◌-◌, ◌<◌, ◌≤◌, Bool, true, false, cond, eqb, min, List, [], ◌∷◌, ◌++◌, length, take, drop, Option, Some, None, unwrap_or, refl, sym, ap, subst, ◌∙◌, arith, length-take, length-drop}
+use Rattle.std.proofs.Common.{◌≡◌, ◌≢◌, ℕ, zero, suc, ◌+◌, ◌-◌, ◌<◌, ◌≤◌, Bool, true, false, cond, eqb, min, List, [], ◌∷◌, ◌++◌, length, take, drop, Option, Some, unwrap_or, refl, sym, ap, ◌∙◌, arith, length-take, length-drop}
 use Rattle.std.proofs.lemmas.Bool.{eqb-true, eqb-false}
 use Rattle.std.proofs.lemmas.List.{append-nil, take_all, drop_all}
-use Rattle.myi_base.specs.Holding.{Holding, Told, Sets, OthersStay, Measures, bytes_of, resized, overwritten}
+use Rattle.myi_base.specs.Holding.{Holding, Told, Sets, OthersStay, bytes_of, overwritten}
 use Rattle.myi_base.proofs.CallerLemmas.{told_then}
 use Rattle.myi_order.specs.Copying.{CopiesPiece}
 
@@ -61,20 +61,5 @@ next_within at count size next low is = by (eqb count 0) refl
     by true none = let e : next ≡ size = is ∙ ap (λ c. cond c size (min size (at + count))) none in (omega (arith, e, low), omega (arith, e))
     by false none = let e : next ≡ min size (at + count) = is ∙ ap (λ c. cond c size (min size (at + count))) none in (omega (arith, e, low, eqb-false count 0 none), omega (arith, e))
 
--- all was copied
-pub all_copied : (from to : List ℕ) (size at : ℕ) (m n : Holding) → size ≤ at → CopiedTo from to size at m n → Sets to (bytes_of from m) m n
-all_copied from to size at m n end so_far = subst (λ b. Sets to b m n) (take_all at (bytes_of from m) (omega (arith, so_far.long, end))) so_far.sets
-
 pub others_on : (to : List ℕ) (old mid new : Option Holding) → Told old mid (OthersStay to) → Told mid new (OthersStay to) → Told old new (OthersStay to)
 others_on to old mid new first next = told_then old mid new _ _ _ first next (λ m n k one two q other. two q other ∙ one q other)
-
-pub none_copied : (from to : List ℕ) (size : ℕ) (m : Holding) → size ≡ length (bytes_of from m) → m to ≡ Some [] → CopiedTo from to size 0 m m
-none_copied from to size m long empty = record { long = long; sets = record { here = empty; others = λ q other. refl } }
-
--- the size that a file is said to have
-pub measured : (file : Option (List ℕ)) (size : Option ℕ) → Measures file size → unwrap_or size 0 ≡ length (unwrap_or file [])
-measured file None none = ap (λ o. length (unwrap_or o [])) (sym none)
-measured file (Some n) has = has.2 ∙ ap (λ o. length (unwrap_or o [])) (sym has.1)
-
-pub emptied : (x : List ℕ) → resized 0 x ≡ []
-emptied x = let e : 0 - length x ≡ 0 = omega arith in rw e refl

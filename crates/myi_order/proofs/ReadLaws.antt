@@ -1,5 +1,5 @@
 -- The rows of a table that are read one after the other.
-use Rattle.std.proofs.Common.{◌≡◌, ℕ, zero, suc, ◌+◌, false, List, [], ◌∷◌, ◌++◌, length, get_or, take, drop, map, Option, Some, None, Result, Ok, unwrap_or, refl, sym, ap, subst, ◌∙◌, arith, append_assoc}
+use Rattle.std.proofs.Common.{◌≡◌, ℕ, zero, suc, ◌+◌, false, List, [], ◌∷◌, ◌++◌, length, get_or, take, drop, map, Option, Some, Result, Ok, unwrap_or, refl, sym, ap, subst, ◌∙◌, arith, append_assoc}
 use Rattle.std.specs.Prelude.{replicate}
 use Rattle.std.proofs.lemmas.List.{append-nil, map-append, length_push, take_all, length-replicate}
 use Rattle.myi_base.specs.Holding.{Holding, IfTold, bytes_of}
@@ -74,9 +74,6 @@ row_taken d at row old new keys count rows has = record {
 pub answered_of : (h : Option Holding) (old new : TableScan) (r : Result (Option (ℕ × Piece)) ScanFault) (o : Option (ℕ × Piece)) (x : ℕ × Piece) → r ≡ Ok o → o ≡ Some x → AfterTable Rows h old (as_items r) new → AfterTable Rows h old (Ok (Some (as_item x))) new
 answered_of h old new r o x ok some leaves = subst (λ o. AfterTable Rows h old (as_items (Ok o)) new) some (subst (λ r. AfterTable Rows h old (as_items r) new) ok leaves)
 
-pub ended_of : (h : Option Holding) (old new : TableScan) (r : Result (Option (ℕ × Piece)) ScanFault) (o : Option (ℕ × Piece)) → r ≡ Ok o → o ≡ None → AfterTable Rows h old (as_items r) new → AfterTable Rows h old (Ok None) new
-ended_of h old new r o ok none leaves = subst (λ o. AfterTable Rows h old (as_items (Ok o)) new) none (subst (λ r. AfterTable Rows h old (as_items r) new) ok leaves)
-
 -- a row that was answered was read
 pub reads : (d : Defs) (h : Option Holding) (s t : TableScan) (found : ℕ × Piece) (view : Values) (bytes : List ℕ) (old new : RowsRead) → s.test ≡ d → AfterTable Rows h s (Ok (Some (as_item found))) t → bytes ≡ piece_bytes found.1 → row_of d bytes ≡ Some view
     → new.keys ≡ with_pairs found.0 (row_keys d view) old.keys → new.count ≡ old.count + 1 → Reads d h s t old new
@@ -92,10 +89,6 @@ reads d h s t found view bytes old new tested answer shows read keys count = rec
       ap (map (values_of s.test)) given.1
       ∙ ap (λ v. v ∷ map (values_of s.test) (rows_ahead t m)) values ∙ ap (λ u. view ∷ map (values_of u) (rows_ahead t m)) (sym answer.0.same.test);
 }
-
--- no row was left
-pub ended : (h : Option Holding) (s t : TableScan) → AfterTable Rows h s (Ok None) t → IfTold h (λ m. values_ahead s m ≡ [])
-ended h s t answer m told = ap (map (values_of s.test)) (answer.0.told m told).0
 
 -- ---- the loop
 

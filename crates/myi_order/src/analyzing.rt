@@ -4,9 +4,9 @@ ghost use Rattle.std.specs.List.{AllByRecursion};
 ghost use Rattle.myi_base.specs.Holding.{IfTold, Told};
 ghost use Rattle.myi_base.specs.Causes.{HasCause};
 ghost use Rattle.myi_defs.specs.Sound.{IsSound};
-ghost use Rattle.myi_repair.specs.Names.{names_of, AreApart};
+ghost use Rattle.myi_repair.specs.Names.{names_of, new_index_file, AreApart};
 ghost use Rattle.myi_check.specs.Checking.{Finds};
-ghost use Rattle.myi_order.specs.Faults.{CutsOff};
+ghost use Rattle.myi_order.specs.Faults.{CutsOff, IsCleared};
 ghost use Rattle.myi_order.specs.Numbers.{all_per};
 ghost use Rattle.myi_order.specs.Storing.{KeepsIndex, OthersStayOf, Stores};
 ghost use Rattle.myi_order.specs.Analyzing.{IsRefused, Analyzes, KeepsBoth, OthersStay};
@@ -42,6 +42,8 @@ pub fn analyze<F: Files>(
     ensures kept { OnErr result (Told (F.holds files.old) (F.holds files.new)
         (KeepsBoth name.now)) }
     ensures others { Told (F.holds files.old) (F.holds files.new) (OthersStay name.now) }
+    ensures cleared { IfErr result (IsCleared (new_index_file name.now)
+        (F.holds files.old) (F.holds files.new) (F.faults files.old) (F.faults files.new)) }
 
     // Why a table is refused, when nothing at all is changed, and what else an error tells.
     ensures refused { IfErr result (λ f.
@@ -68,6 +70,8 @@ fn analyze_clean<F: Files>(
     ensures kept { OnErr result (Told (F.holds files.old) (F.holds files.new)
         (KeepsBoth name.now)) }
     ensures others { Told (F.holds files.old) (F.holds files.new) (OthersStay name.now) }
+    ensures cleared { IfErr result (IsCleared (new_index_file name.now)
+        (F.holds files.old) (F.holds files.new) (F.faults files.old) (F.faults files.new)) }
     ensures refused { IfErr result (λ f.
         CutsOff f ⊎ IsRefused name.now f (F.holds files.old) (F.holds files.new)) }
     ensures cause { HasCause OrderFault.File (F.faults files.old) (F.faults files.new) result }
@@ -100,6 +104,8 @@ fn store<F: Files>(
         (KeepsIndex (names_of table.now).index)) }
     ensures others { Told (F.holds files.old) (F.holds files.new)
         (OthersStayOf (names_of table.now).index (names_of table.now).new_index) }
+    ensures cleared { IfErr result (IsCleared (names_of table.now).new_index
+        (F.holds files.old) (F.holds files.new) (F.faults files.old) (F.faults files.new)) }
     ensures cut { IfErr result CutsOff }
     ensures cause { HasCause OrderFault.File (F.faults files.old) (F.faults files.new) result }
 {

@@ -2,7 +2,7 @@
 ghost use Rattle.std.specs.Prelude.{◌≡◌, ◌≢◌, IfErr, OnOk, OnErr, IsTrue};
 ghost use Rattle.myi_base.specs.Holding.{Told, Sets, OthersStay, bytes_of};
 ghost use Rattle.myi_base.specs.Causes.{HasCause};
-ghost use Rattle.myi_order.specs.Faults.{CutsOff};
+ghost use Rattle.myi_order.specs.Faults.{CutsOff, IsCleared};
 ghost use Rattle.myi_order.specs.Storing.{with_new, Replaces, KeepsIndex, OthersStayOf};
 
 use crate::copying::copy_file;
@@ -28,6 +28,8 @@ pub(crate) fn replace_index<F: Files>(
         (KeepsIndex index.now)) }
     ensures others { Told (F.holds files.old) (F.holds files.new)
         (OthersStayOf index.now working.now) }
+    ensures cleared { IfErr result (IsCleared working.now
+        (F.holds files.old) (F.holds files.new) (F.faults files.old) (F.faults files.new)) }
     ensures cut { IfErr result CutsOff }
     ensures cause { HasCause OrderFault.File (F.faults files.old) (F.faults files.new) result }
 {
