@@ -1,11 +1,13 @@
 //! Stored cases of data files that change: calls, read from standard input, and what they answer.
 //!
-//! `docs/CASES.md` has the grammar of the lines, which `case_lines` reads. Each module has one call, and the
-//! table of its calls in `answer`. The stored input and output lie beside `src`.
+//! `docs/CASES.md` has the grammar of the lines, which `case_lines` reads. The modules `lists`,
+//! `blocks` and `rows` have one call each, and the table of their calls in `answer`. The stored input and output lie beside `src`.
 #![tactic(auto)]
 
+mod blocks;
 mod lists;
 mod rows;
+mod tables;
 
 use case_lines::{Calls, Fault, Words};
 use std::io;
@@ -16,6 +18,9 @@ struct TheCalls;
 impl Calls for TheCalls {
     fn answer(&self, words: &Words, name: &str, args: &[&str]) -> Option<Result<String, Fault>> {
         if let Some(answer) = lists::answer(words, name, args) {
+            return Some(answer);
+        }
+        if let Some(answer) = blocks::answer(words, name, args) {
             return Some(answer);
         }
         rows::answer(words, name, args)

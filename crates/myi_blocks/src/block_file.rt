@@ -1,15 +1,18 @@
 //! `BlockFile`: the data file of a dynamic table that changes.
-ghost use Rattle.std.specs.Prelude.{◌≡◌, ◌<◌, true};
+ghost use Rattle.std.specs.Prelude.{◌≡◌, ◌<◌, true, IfOk};
+ghost use Rattle.myi_defs.specs.Sound.{IsSound};
 ghost use Rattle.myi_defs.specs.declared.types.RowFormat.TheVariants.{Dynamic};
 ghost use Rattle.myi_defs.specs.Addressable.{is_addressable};
+ghost use Rattle.myi_pack.specs.Unpacking.{row_of};
 ghost use Rattle.myi_blocks.specs.BlockFile.{end_limit};
 
 use crate::numbers::{Tally, end_limit, with_row};
+use crate::row_chain::read_chain;
 use myi_defs::Defs;
 use myi_dellist::{FreeList, Limits, Put};
 use myi_header::State;
 use myi_io::Files;
-use myi_pack::{Row, pack};
+use myi_pack::{Row, pack, unpack, view};
 use myi_slots::DataFault;
 use myi_state::Counts;
 use std::alloc::{AllocError, Global};
@@ -17,23 +20,28 @@ use std::marker::Model;
 
 /// The data file of a dynamic table, by the name of the file.
 pub struct BlockFile {
+    name: String,
     list: FreeList,
     defs: Defs,
     tally: Tally,
+    /// The bytes of the row that was read last.
+    row: Vec<u8>,
 }
 
 impl Drop for BlockFile {
     fn drop(self) {
         let BlockFile {
+            name: _,
             list: _,
             defs: _,
             tally: _,
+            row: _,
         } = self;
     }
 }
 
 impl Model for BlockFile {
-    ghost use Rattle.std.specs.Prelude.{◌≡◌};
+    ghost use Rattle.std.specs.Prelude.{◌≡◌, string_bytes};
     ghost use Rattle.myi_defs.specs.Sound.{IsSound};
     ghost use Rattle.myi_defs.specs.declared.types.RowFormat.TheVariants.{Dynamic};
     ghost use Rattle.myi_slots.specs.SlotFile.{SlotFile};
@@ -54,7 +62,8 @@ impl Model for BlockFile {
       };
     } };
 
-    ghost invariant = { λ s. IsSound s.defs × (s.defs.format ≡ Dynamic) × HasLimit s.defs s.list };
+    ghost invariant = { λ s. IsSound s.defs × (s.defs.format ≡ Dynamic) × HasLimit s.defs s.list
+        × (string_bytes s.name ≡ s.list.name) };
 }
 
 /// The place that the end of a file stays below: row pointers reach all of a file that ends before it, if they
@@ -71,7 +80,7 @@ fn limit_of(defs: &Defs, end: u64) -> u128
 }
 
 impl BlockFile {
-    ghost use Rattle.std.specs.Prelude.{◌≡◌, ◌⊎◌, ◌<◌, ◌^◌, true, false, is_some, unwrap_or, length, IfOk, IfErr, OnOk, OnErr, IsTrue};
+    ghost use Rattle.std.specs.Prelude.{◌≡◌, ◌⊎◌, ◌<◌, ◌^◌, true, false, is_some, unwrap_or, length, None, IfOk, IfErr, OnOk, OnErr, IsTrue};
     ghost use Rattle.myi_base.specs.Holding.{IfTold, Told, OthersStay, bytes_of};
     ghost use Rattle.myi_base.specs.Causes.{HasCause};
     ghost use Rattle.myi_defs.specs.declared.types.RowFormat.TheVariants.{Dynamic};
@@ -82,6 +91,7 @@ impl BlockFile {
     ghost use Rattle.myi_slots.specs.declared.fault.DataFault.TheVariants.{File};
     ghost use Rattle.myi_slots.specs.SlotFile.{IsLong, Steps, Refuses, IfRefused, ByCause, Never, counts_in, is_reached, risen};
     ghost use Rattle.myi_blocks.specs.BlockFile.{list_in, end_with, FindsBad, LacksRoom, counts_with};
+    ghost use Rattle.myi_blocks.specs.RowReading.{HasRow, IsRowAt, ReadsFew};
 
     /// The data file of that name, with these definitions of a dynamic table and this state.
     pub fn new(
@@ -103,6 +113,7 @@ impl BlockFile {
             end_below: limit_of(defs, end),
         };
         Ok(BlockFile {
+            name: String::from_str(alloc, name)?,
             list: FreeList::new(alloc, name, state.dellink, end, limits)?,
             defs: defs.copy()?,
             tally: Tally {
@@ -111,6 +122,7 @@ impl BlockFile {
                 split: state.split,
                 empty: state.empty,
             },
+            row: Vec::new(alloc),
         })
     }
 
@@ -273,5 +285,44 @@ impl BlockFile {
         let packed = pack(self.defs.raw.allocator(), &self.defs, row)?;
         let put = self.append(files, packed.as_slice())?;
         Ok(put.at)
+    }
+
+    /// The row at a position where one stands, as an index names it. `Damaged` comes only where none does,
+    /// at a block that is not the one that a row needs there. Nothing before the row is read, and of the row
+    /// nothing twice.
+    pub fn row_at<F: Files>(&mut self, files: &mut F, at: u64) -> Result<Row, DataFault>
+        requires long { IfTold (F.holds files.old) (IsLong self.old) }
+        requires there { IfTold (F.holds files.old) (HasRow self.old at) }
+        ensures told { IfOk result (λ row. IfTold (F.holds files.old) (IsRowAt self.old at row)) }
+        ensures err { IfErr result (ByCause Never ⊥ (λ p. F.holds files.old ≡ None)) }
+        ensures few { IfTold (F.holds files.old)
+            (ReadsFew self.old at (F.reads files.old) (F.reads files.new)) }
+        ensures same { self.new ≡ self.old }
+        ensures holds { F.holds files.new ≡ F.holds files.old }
+        ensures cause { HasCause File (F.faults files.old) (F.faults files.new) result }
+    {
+        read_chain(
+            files,
+            self.name.as_str(),
+            at,
+            self.list.end(),
+            &mut self.row,
+        )?;
+        match row_in(&self.defs, self.row.as_slice())? {
+            Some(row) => Ok(row),
+            None => Err(DataFault::Damaged { at }),
+        }
+    }
+}
+
+/// The row that bytes pack, if they pack one.
+fn row_in(defs: &Defs, bytes: &[u8]) -> Result<Option<Row>, AllocError>
+    requires { IsSound defs.now }
+    ensures { IfOk result (λ row. row ≡ row_of defs.now bytes.now) }
+{
+    let alloc = defs.raw.allocator();
+    match view(defs, bytes) {
+        Some(row) => Ok(Some(unpack(alloc, &row)?)),
+        None => Ok(None),
     }
 }

@@ -3,19 +3,27 @@
 //! A dynamic table's data file is blocks: those of rows, each a chain of blocks or one whole block, and deleted
 //! ones, which form a list. `BlockFile` is such a file by its name, with the definitions of its table and the
 //! table's numbers. `insert` puts a row into the deleted blocks from the head of the list, and behind the end what
-//! they do not hold; `insert_at_end` behind the end whatever is deleted. `counts` and `holes` give the numbers
-//! that the index file is to keep. Which blocks are read and written is the deleted list's part (`myi_dellist`).
+//! they do not hold; `insert_at_end` behind the end whatever is deleted. `row_at` reads the row at a position
+//! that an index names, block by block. `counts` and `holes` give the numbers that the index file is to keep. Which
+//! blocks are read and written for a change is the deleted list's part (`myi_dellist`).
 //!
 //! The model is that of every data file that changes (`specs/SlotFile` of `myi_slots`): where the file and the
 //! numbers stand for a state of the table (`myi_state`), each change is a step of the state, with its reply.
-//! `specs/BlockFile` says what refuses a row.
+//! `specs/BlockFile` says what refuses a row, `specs/RowReading` which row stands at a position and how many
+//! reads its blocks may count for. The law in `laws` joins it to states.
 //!
 //! ```
 //! let at = file.insert(&mut files, &row)?;
+//! let row = file.row_at(&mut files, at)?;
 //! ```
+//!
+//! The case `blocks` in `crates/cases_changes/src/blocks.rt` runs it.
 #![tactic(auto)]
 
 mod block_file;
+mod laws;
 mod numbers;
+mod row_chain;
 
 pub use block_file::BlockFile;
+pub use laws::rows_of_states_stand;
