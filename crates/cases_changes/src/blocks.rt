@@ -19,13 +19,14 @@ fn push_answer(
     call: &str,
 ) -> Result<(), Fault>
     requires sound { IsSound defs.now }
-    requires same { file.old.defs ≡ defs.now }
-    ensures same { file.new.defs ≡ defs.now }
+    requires same { file.old.file.defs ≡ defs.now }
+    ensures same { file.new.file.defs ≡ defs.now }
 {
     let (name, args) = sides(call, ':')?;
     match name {
         "insert" => push_place(out, file.insert(files, &row(words, defs, args)?)),
         "insert_at_end" => push_place(out, file.insert_at_end(files, &row(words, defs, args)?)),
+        "read" => push_row(out, file.read_at(files, number(args)?)),
         "row" => push_row(out, file.row_at(files, number(args)?)),
         _ => Err(Fault::Unread),
     }
@@ -50,7 +51,7 @@ fn push_answers(
     calls: &[&str],
 ) -> Result<(), Fault>
     requires sound { IsSound defs.now }
-    requires same { file.old.defs ≡ defs.now }
+    requires same { file.old.file.defs ≡ defs.now }
 {
     for call in calls {
         push_answer(out, words, defs, files, file, *call)?;
@@ -61,7 +62,7 @@ fn push_answers(
 
 /// `blocks DEFINITIONS FAULTS RECORDS,DEL,SPLIT,EMPTY DELLINK BYTES CALL..`: what each call on the data file of a
 /// dynamic table answers, the table's numbers then, the count of faults, and the file. A call is `insert:VALUE,..`,
-/// `insert_at_end:VALUE,..` or `row:AT`.
+/// `insert_at_end:VALUE,..`, `read:AT` or `row:AT`.
 fn blocks(words: &Words, args: &[&str]) -> Result<String, Fault> {
     let [defs, faults, numbers, dellink, bytes, calls @ ..] = args else {
         return Err(Fault::Unread);

@@ -6,3 +6,4 @@ pub mod ResultLemmas
 pub mod ReadLemmas
 pub mod LinkLemmas
 pub mod RowAtLemmas
+pub mod NoteLemmas

@@ -4,7 +4,11 @@
 pub mod BlockFile
 -- a row that is read from the place of its first block
 pub mod RowReading
+-- where rows stand, as an object notes it
+pub mod Places
 -- What serves private contracts.
 
 -- the blocks of a row, one after the other
 pub mod RowLinks
+-- the rows that a scan has ahead, noted one after the other
+pub mod Noting

@@ -16,6 +16,10 @@ StandsAt f at m r = (r.at ≡ at) × StandsInBlocks f.defs (bytes_of f.name m) r
 abbrev pub HasRow : SlotFile → ℕ → Holding → Type 0
 HasRow f at m = (r : StoredRow) × StandsAt f at m r
 
+-- none stands so
+abbrev pub LacksRow : SlotFile → ℕ → Holding → Type 0
+LacksRow f at m = HasRow f at m → ⊥
+
 -- these are the values of a row that stands at a position
 abbrev pub IsRowAt : SlotFile → ℕ → Values → Holding → Type 0
 IsRowAt f at values m = (r : StoredRow) → StandsAt f at m r → r.values ≡ values

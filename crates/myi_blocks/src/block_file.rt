@@ -1,99 +1,65 @@
 //! `BlockFile`: the data file of a dynamic table that changes.
-ghost use Rattle.std.specs.Prelude.{◌≡◌, ◌<◌, true, IfOk};
-ghost use Rattle.myi_defs.specs.Sound.{IsSound};
-ghost use Rattle.myi_defs.specs.declared.types.RowFormat.TheVariants.{Dynamic};
-ghost use Rattle.myi_defs.specs.Addressable.{is_addressable};
-ghost use Rattle.myi_pack.specs.Unpacking.{row_of};
-ghost use Rattle.myi_blocks.specs.BlockFile.{end_limit};
-
-use crate::numbers::{Tally, end_limit, with_row};
-use crate::row_chain::read_chain;
+//!
+//! It is the blocks of the file (`RowBlocks`) and, once they were looked up, the positions at which rows stand:
+//! a block that looks like a row's first may stand inside a row or a deleted block, so that the bytes at a position
+//! alone do not tell. They are noted by one scan at the first call that needs them, and each change keeps them.
+use crate::row_blocks::RowBlocks;
 use myi_defs::Defs;
-use myi_dellist::{FreeList, Limits, Put};
 use myi_header::State;
 use myi_io::Files;
-use myi_pack::{Row, pack, unpack, view};
+use myi_pack::Row;
 use myi_slots::DataFault;
-use myi_state::Counts;
+use myi_state::{Counts, standing_files_are_read};
 use std::alloc::{AllocError, Global};
+use std::collections::BTreeSet;
 use std::marker::Model;
 
 /// The data file of a dynamic table, by the name of the file.
 pub struct BlockFile {
-    name: String,
-    list: FreeList,
-    defs: Defs,
-    tally: Tally,
-    /// The bytes of the row that was read last.
-    row: Vec<u8>,
+    blocks: RowBlocks,
+    /// Where rows stand, once that was looked up.
+    places: Option<BTreeSet<u64>>,
 }
 
 impl Drop for BlockFile {
     fn drop(self) {
         let BlockFile {
-            name: _,
-            list: _,
-            defs: _,
-            tally: _,
-            row: _,
+            blocks: _,
+            places: _,
         } = self;
     }
 }
 
 impl Model for BlockFile {
-    ghost use Rattle.std.specs.Prelude.{◌≡◌, string_bytes};
+    ghost use Rattle.std.specs.Prelude.{◌≡◌};
+    ghost use Rattle.std.specs.Option.{option_map};
     ghost use Rattle.myi_defs.specs.Sound.{IsSound};
     ghost use Rattle.myi_defs.specs.declared.types.RowFormat.TheVariants.{Dynamic};
-    ghost use Rattle.myi_slots.specs.SlotFile.{SlotFile};
-    ghost use Rattle.myi_blocks.specs.BlockFile.{HasLimit};
+    ghost use Rattle.myi_blocks.specs.Places.{NotedFile};
 
-    ghost Value = { SlotFile };
+    ghost Value = { NotedFile };
 
-    ghost view = { λ s. record {
-      name = s.list.name;
-      defs = s.defs;
-      counts = record {
-        records = s.tally.records;
-        del = s.tally.del;
-        split = s.tally.split;
-        empty = s.tally.empty;
-        length = s.list.end;
-        dellink = s.list.head;
-      };
-    } };
+    ghost view = { λ s. record { file = s.blocks; places = option_map (λ p. p.keys) s.places } };
 
-    ghost invariant = { λ s. IsSound s.defs × (s.defs.format ≡ Dynamic) × HasLimit s.defs s.list
-        × (string_bytes s.name ≡ s.list.name) };
-}
-
-/// The place that the end of a file stays below: row pointers reach all of a file that ends before it, if they
-/// reach all of this one.
-fn limit_of(defs: &Defs, end: u64) -> u128
-    requires { defs.now.format ≡ Dynamic }
-    ensures above { end < result }
-    ensures limit { is_addressable defs.now end ≡ true → result ≡ end_limit defs.now }
-{
-    if !defs.addressable(end) {
-        return end as u128 + 1;
-    }
-    end_limit(defs.rec_ref) as u128
+    ghost invariant = { λ s. IsSound s.blocks.defs × (s.blocks.defs.format ≡ Dynamic) };
 }
 
 impl BlockFile {
-    ghost use Rattle.std.specs.Prelude.{◌≡◌, ◌⊎◌, ◌<◌, ◌^◌, true, false, is_some, unwrap_or, length, None, IfOk, IfErr, OnOk, OnErr, IsTrue};
-    ghost use Rattle.myi_base.specs.Holding.{IfTold, Told, OthersStay, bytes_of};
+    ghost use Rattle.std.specs.Prelude.{◌≡◌, ◌⊎◌, ◌<◌, true, false, is_some, unwrap_or, length, None, Some, IfOk, IfErr, OnOk, OnErr, IsTrue};
+    ghost use Rattle.myi_base.specs.Holding.{IfTold, Told, OthersStay};
     ghost use Rattle.myi_base.specs.Causes.{HasCause};
     ghost use Rattle.myi_defs.specs.declared.types.RowFormat.TheVariants.{Dynamic};
     ghost use Rattle.myi_defs.specs.Sound.{IsSound};
     ghost use Rattle.myi_pack.specs.Spelling.{spelling, fits};
-    ghost use Rattle.myi_dellist.specs.Rows.{PutsNew, PutsAtEnd, TalliesNew, TalliesAtEnd};
+    ghost use Rattle.myi_dellist.specs.Rows.{PutsNew, PutsAtEnd};
     ghost use Rattle.myi_state.specs.Changes.{insert, insert_at_end};
     ghost use Rattle.myi_slots.specs.declared.fault.DataFault.TheVariants.{File};
-    ghost use Rattle.myi_slots.specs.SlotFile.{IsLong, Steps, Refuses, IfRefused, ByCause, Never, counts_in, is_reached, risen};
-    ghost use Rattle.myi_blocks.specs.BlockFile.{list_in, end_with, FindsBad, LacksRoom, counts_with};
-    ghost use Rattle.myi_blocks.specs.RowReading.{HasRow, IsRowAt, ReadsFew};
+    ghost use Rattle.myi_slots.specs.SlotFile.{IsLong, Steps, Refuses, CutsOff, IfRefused, ByCause, Never, counts_in, is_reached, risen};
+    ghost use Rattle.myi_blocks.specs.BlockFile.{list_in, end_with, FindsBad, LacksRoom};
+    ghost use Rattle.myi_blocks.specs.RowReading.{HasRow, LacksRow, IsRowAt, ReadsFew};
+    ghost use Rattle.myi_blocks.specs.Places.{KeepsNotes, StaysNoted, ReadsNoted, LooksUp, HasNoted, MayNote};
 
-    /// The data file of that name, with these definitions of a dynamic table and this state.
+    /// The data file of that name, with these definitions of a dynamic table and this state. Nothing is read yet.
     pub fn new(
         alloc: Global,
         name: &str,
@@ -102,121 +68,46 @@ impl BlockFile {
     ) -> Result<BlockFile, AllocError>
         requires sound { IsSound defs.now }
         requires format { defs.now.format ≡ Dynamic }
-        ensures { IfOk result (λ file. file ≡ record {
+        ensures file { IfOk result (λ file. file.file ≡ record {
           name = name.now;
           defs = defs.now;
           counts = counts_in state.now;
         }) }
+        ensures places { IfOk result (λ file. file.places ≡ None) }
     {
-        let end = state.data_file_length;
-        let limits = Limits {
-            end_below: limit_of(defs, end),
-        };
         Ok(BlockFile {
-            name: String::from_str(alloc, name)?,
-            list: FreeList::new(alloc, name, state.dellink, end, limits)?,
-            defs: defs.copy()?,
-            tally: Tally {
-                records: state.records,
-                del: state.del,
-                split: state.split,
-                empty: state.empty,
-            },
-            row: Vec::new(alloc),
+            blocks: RowBlocks::new(alloc, name, defs, state)?,
+            places: None,
         })
     }
 
     /// The numbers that the table's state is to have. It takes no memory.
     pub fn counts(&self) -> Counts
-        ensures { result ≡ self.now.counts }
+        ensures { result ≡ self.now.file.counts }
     {
-        Counts {
-            records: self.tally.records,
-            del: self.tally.del,
-            split: self.tally.split,
-            empty: self.tally.empty,
-            length: self.list.end(),
-            dellink: self.list.head(),
-        }
+        self.blocks.counts()
     }
 
     /// Whether a block is deleted, so that the next row goes there. It takes no memory.
     pub fn holes(&self) -> bool
-        ensures { result ≡ is_some self.now.counts.dellink }
+        ensures { result ≡ is_some self.now.file.counts.dellink }
     {
-        self.list.head().is_some()
+        self.blocks.holes()
     }
 
-    /// Puts a row of these bytes where it is to go.
-    fn put<F: Files>(&mut self, files: &mut F, packed: &[u8]) -> Result<Put, DataFault>
-        requires writable { IsTrue F.writable }
-        requires some { 0 < length packed.now }
-        requires few { length packed.now < 2 ^ 32 }
-        requires long { IfTold (F.holds files.old) (IsLong self.old) }
-        ensures sound { IsSound self.old.defs }
-        ensures format { self.old.defs.format ≡ Dynamic }
-        ensures ok { IfOk result (λ put. Told (F.holds files.old) (F.holds files.new)
-            (PutsNew (list_in self.old) (list_in self.new) packed.now put.at)) }
-        ensures tallies { IfOk result (λ put. IfTold (F.holds files.old)
-            (TalliesNew (list_in self.old) (length packed.now) put)) }
-        ensures counted { IfOk result (λ put. self.new ≡ record self.old {
-          counts = counts_with put self.new.counts.length self.new.counts.dellink self.old.counts;
-        }) }
-        ensures others { Told (F.holds files.old) (F.holds files.new) (OthersStay self.old.name) }
-        ensures place { IfOk result (λ put.
-            put.at ≡ unwrap_or self.old.counts.dellink self.old.counts.length) }
-        ensures room { OnOk result (is_reached self.new.counts.length self.old ≡ true) }
-        ensures causes { IfErr result (ByCause Never
-            ((is_reached self.old.counts.length self.old ≡ false)
-            ⊎ IfTold (F.holds files.old) (LacksRoom self.old (length packed.now)))
-            (λ p. IfTold (F.holds files.old) (FindsBad self.old (length packed.now) p))) }
-        ensures unchanged { IfErr result (λ f. IfRefused f
-            (F.holds files.new ≡ F.holds files.old)) }
-        ensures same { OnErr result (self.new ≡ self.old) }
-        ensures cause { HasCause File (F.faults files.old) (F.faults files.new) result }
+    /// Notes a position, where positions are noted. Where memory for it is wanting, none is from then on, so that
+    /// they are looked up again when they are needed.
+    fn note(&mut self, at: u64)
+        ensures file { self.new.file ≡ self.old.file }
+        ensures places { MayNote at self.old.places self.new.places }
     {
-        let before = self.list.end();
-        if !self.defs.addressable(before) {
-            return Err(DataFault::Full);
+        let Some(places) = &mut self.places else {
+            return;
+        };
+        if places.insert(at).is_ok() {
+            return;
         }
-        let put = self.list.put(files, packed)?;
-        let grown = self.list.end().saturating_sub(before);
-        self.tally = with_row(self.tally, put, grown);
-        Ok(put)
-    }
-
-    /// Puts a row of these bytes behind the end.
-    fn append<F: Files>(&mut self, files: &mut F, packed: &[u8]) -> Result<Put, DataFault>
-        requires writable { IsTrue F.writable }
-        requires some { 0 < length packed.now }
-        requires few { length packed.now < 2 ^ 32 }
-        requires long { IfTold (F.holds files.old) (IsLong self.old) }
-        ensures sound { IsSound self.old.defs }
-        ensures format { self.old.defs.format ≡ Dynamic }
-        ensures ok { IfOk result (λ put. Told (F.holds files.old) (F.holds files.new)
-            (PutsAtEnd (list_in self.old) (list_in self.new) packed.now put.at)) }
-        ensures tallies { IfOk result (TalliesAtEnd (list_in self.old) (length packed.now)) }
-        ensures counted { IfOk result (λ put. self.new ≡ record self.old {
-          counts = counts_with put self.new.counts.length self.new.counts.dellink self.old.counts;
-        }) }
-        ensures others { Told (F.holds files.old) (F.holds files.new) (OthersStay self.old.name) }
-        ensures place { IfOk result (λ put. put.at ≡ self.old.counts.length) }
-        ensures room { OnOk result (is_reached self.new.counts.length self.old ≡ true) }
-        ensures causes { IfErr result (ByCause Never
-            (is_reached (end_with self.old (length packed.now)) self.old ≡ false) Never) }
-        ensures unchanged { IfErr result (λ f. IfRefused f
-            (F.holds files.new ≡ F.holds files.old)) }
-        ensures same { OnErr result (self.new ≡ self.old) }
-        ensures cause { HasCause File (F.faults files.old) (F.faults files.new) result }
-    {
-        let before = self.list.end();
-        if !self.defs.addressable(before) {
-            return Err(DataFault::Full);
-        }
-        let put = self.list.put_at_end(files, packed)?;
-        let grown = self.list.end().saturating_sub(before);
-        self.tally = with_row(self.tally, put, grown);
-        Ok(put)
+        self.places = None;
     }
 
     /// Puts a new row into the deleted blocks from the head of the list, and behind the end what they do not
@@ -225,104 +116,158 @@ impl BlockFile {
     /// nothing.
     pub fn insert<F: Files>(&mut self, files: &mut F, row: &Row) -> Result<u64, DataFault>
         requires writable { IsTrue F.writable }
-        requires fits { IsTrue (fits self.old.defs row.now) }
-        requires long { IfTold (F.holds files.old) (IsLong self.old) }
+        requires fits { IsTrue (fits self.old.file.defs row.now) }
+        requires long { IfTold (F.holds files.old) (IsLong self.old.file) }
         ensures ok { IfOk result (λ at. Told (F.holds files.old) (F.holds files.new)
-            (Steps (insert row.now) self.old self.new at)) }
+            (Steps (insert row.now) self.old.file self.new.file at)) }
         ensures refused { IfErr result (λ f. IfTold (F.holds files.old)
-            (Refuses (insert row.now) self.old f)) }
+            (Refuses (insert row.now) self.old.file f)) }
+        ensures notes { OnOk result (IfTold (F.holds files.old)
+            (KeepsNotes (insert row.now) self.old self.new)) }
         ensures puts { IfOk result (λ at. Told (F.holds files.old) (F.holds files.new)
-            (PutsNew (list_in self.old) (list_in self.new) (spelling self.old.defs row.now) at)) }
-        ensures others { Told (F.holds files.old) (F.holds files.new) (OthersStay self.old.name) }
+            (PutsNew (list_in self.old.file) (list_in self.new.file)
+            (spelling self.old.file.defs row.now) at)) }
+        ensures others { Told (F.holds files.old) (F.holds files.new)
+            (OthersStay self.old.file.name) }
         ensures place { IfOk result (λ at.
-            at ≡ unwrap_or self.old.counts.dellink self.old.counts.length) }
-        ensures room { OnOk result (is_reached self.new.counts.length self.old ≡ true) }
-        ensures object { self.new ≡ record self.old { counts = self.new.counts } }
+            at ≡ unwrap_or self.old.file.counts.dellink self.old.file.counts.length) }
+        ensures room { OnOk result
+            (is_reached self.new.file.counts.length self.old.file ≡ true) }
+        ensures object { self.new.file ≡ record self.old.file {
+          counts = self.new.file.counts;
+        } }
         ensures records { OnOk result
-            (self.new.counts.records ≡ risen self.old.counts.records 1) }
+            (self.new.file.counts.records ≡ risen self.old.file.counts.records 1) }
         ensures causes { IfErr result (ByCause Never
-            ((is_reached self.old.counts.length self.old ≡ false)
+            ((is_reached self.old.file.counts.length self.old.file ≡ false)
             ⊎ IfTold (F.holds files.old)
-            (LacksRoom self.old (length (spelling self.old.defs row.now))))
+            (LacksRoom self.old.file (length (spelling self.old.file.defs row.now))))
             (λ p. IfTold (F.holds files.old)
-            (FindsBad self.old (length (spelling self.old.defs row.now)) p))) }
+            (FindsBad self.old.file (length (spelling self.old.file.defs row.now)) p))) }
         ensures unchanged { IfErr result (λ f. IfRefused f
             (F.holds files.new ≡ F.holds files.old)) }
         ensures same { OnErr result (self.new ≡ self.old) }
         ensures cause { HasCause File (F.faults files.old) (F.faults files.new) result }
     {
-        let packed = pack(self.defs.raw.allocator(), &self.defs, row)?;
-        let put = self.put(files, packed.as_slice())?;
-        Ok(put.at)
+        let at = self.blocks.insert(files, row)?;
+        self.note(at);
+        Ok(at)
     }
 
     /// Puts a new row behind the end, whatever is deleted, and answers its position. `Full` comes exactly
     /// where row pointers would not reach the whole file, and changes nothing.
     pub fn insert_at_end<F: Files>(&mut self, files: &mut F, row: &Row) -> Result<u64, DataFault>
         requires writable { IsTrue F.writable }
-        requires fits { IsTrue (fits self.old.defs row.now) }
-        requires long { IfTold (F.holds files.old) (IsLong self.old) }
+        requires fits { IsTrue (fits self.old.file.defs row.now) }
+        requires long { IfTold (F.holds files.old) (IsLong self.old.file) }
         ensures ok { IfOk result (λ at. Told (F.holds files.old) (F.holds files.new)
-            (Steps (insert_at_end row.now) self.old self.new at)) }
+            (Steps (insert_at_end row.now) self.old.file self.new.file at)) }
         ensures refused { IfErr result (λ f. IfTold (F.holds files.old)
-            (Refuses (insert_at_end row.now) self.old f)) }
+            (Refuses (insert_at_end row.now) self.old.file f)) }
+        ensures notes { OnOk result (IfTold (F.holds files.old)
+            (KeepsNotes (insert_at_end row.now) self.old self.new)) }
         ensures puts { IfOk result (λ at. Told (F.holds files.old) (F.holds files.new)
-            (PutsAtEnd (list_in self.old) (list_in self.new) (spelling self.old.defs row.now) at)) }
-        ensures others { Told (F.holds files.old) (F.holds files.new) (OthersStay self.old.name) }
-        ensures place { IfOk result (λ at. at ≡ self.old.counts.length) }
-        ensures room { OnOk result (is_reached self.new.counts.length self.old ≡ true) }
-        ensures object { self.new ≡ record self.old { counts = self.new.counts } }
+            (PutsAtEnd (list_in self.old.file) (list_in self.new.file)
+            (spelling self.old.file.defs row.now) at)) }
+        ensures others { Told (F.holds files.old) (F.holds files.new)
+            (OthersStay self.old.file.name) }
+        ensures place { IfOk result (λ at. at ≡ self.old.file.counts.length) }
+        ensures room { OnOk result
+            (is_reached self.new.file.counts.length self.old.file ≡ true) }
+        ensures object { self.new.file ≡ record self.old.file {
+          counts = self.new.file.counts;
+        } }
         ensures records { OnOk result
-            (self.new.counts.records ≡ risen self.old.counts.records 1) }
-        ensures causes { IfErr result (ByCause Never
-            (is_reached (end_with self.old (length (spelling self.old.defs row.now))) self.old
-            ≡ false) Never) }
+            (self.new.file.counts.records ≡ risen self.old.file.counts.records 1) }
+        ensures causes { IfErr result (ByCause Never (is_reached (end_with self.old.file
+            (length (spelling self.old.file.defs row.now))) self.old.file ≡ false) Never) }
         ensures unchanged { IfErr result (λ f. IfRefused f
             (F.holds files.new ≡ F.holds files.old)) }
         ensures same { OnErr result (self.new ≡ self.old) }
         ensures cause { HasCause File (F.faults files.old) (F.faults files.new) result }
     {
-        let packed = pack(self.defs.raw.allocator(), &self.defs, row)?;
-        let put = self.append(files, packed.as_slice())?;
-        Ok(put.at)
+        let at = self.blocks.insert_at_end(files, row)?;
+        self.note(at);
+        Ok(at)
+    }
+
+    /// Notes where rows stand, by one scan of the file, if that is not noted.
+    fn look_up<F: Files>(&mut self, files: &mut F) -> Result<(), DataFault>
+        requires long { IfTold (F.holds files.old) (IsLong self.old.file) }
+        ensures noted { OnOk result (is_some self.new.places ≡ true) }
+        ensures told { IfTold (F.holds files.old) (LooksUp self.old self.new) }
+        ensures kept { IfTold (F.holds files.old) (StaysNoted self.old self.new) }
+        ensures sound { IsSound self.old.file.defs }
+        ensures format { self.old.file.defs.format ≡ Dynamic }
+        ensures cut { IfErr result CutsOff }
+        ensures file { self.new.file ≡ self.old.file }
+        ensures holds { F.holds files.new ≡ F.holds files.old }
+        ensures once { is_some self.old.places ≡ true → F.reads files.new ≡ F.reads files.old }
+        ensures cause { HasCause File (F.faults files.old) (F.faults files.new) result }
+    {
+        standing_files_are_read();
+        if self.places.is_some() {
+            return Ok(());
+        }
+        let places = self.blocks.places(files)?;
+        self.places = Some(places);
+        Ok(())
+    }
+
+    /// Whether a row stands at a position, by what is noted.
+    fn has(&self, at: u64) -> bool
+        requires { is_some self.now.places ≡ true }
+        ensures { HasNoted at result self.now.places }
+    {
+        match &self.places {
+            Some(places) => places.contains(&at),
+            None => false,
+        }
+    }
+
+    /// The row at a position. `NoRow` comes exactly where none stands there, by the positions that are noted: where
+    /// none are, the file is scanned once for them. `Damaged` comes only where a block is not the one that a row
+    /// needs there.
+    pub fn read_at<F: Files>(&mut self, files: &mut F, at: u64) -> Result<Row, DataFault>
+        requires long { IfTold (F.holds files.old) (IsLong self.old.file) }
+        ensures told { IfTold (F.holds files.old) (ReadsNoted self.old at result) }
+        ensures there { IfOk result (λ row. IfTold (F.holds files.old)
+            (IsRowAt self.old.file at row)) }
+        ensures stood { OnOk result (HasNoted at true self.new.places) }
+        ensures causes { IfErr result (ByCause
+            (λ p. (p ≡ at) × HasNoted at false self.new.places) ⊥ (λ p.
+            HasNoted at true self.new.places
+            × IfTold (F.holds files.old) (LacksRow self.old.file at))) }
+        ensures noted { IfTold (F.holds files.old) (LooksUp self.old self.new) }
+        ensures kept { IfTold (F.holds files.old) (StaysNoted self.old self.new) }
+        ensures file { self.new.file ≡ self.old.file }
+        ensures holds { F.holds files.new ≡ F.holds files.old }
+        ensures few { is_some self.old.places ≡ true → IfTold (F.holds files.old)
+            (ReadsFew self.old.file at (F.reads files.old) (F.reads files.new)) }
+        ensures cause { HasCause File (F.faults files.old) (F.faults files.new) result }
+    {
+        self.look_up(files)?;
+        if !self.has(at) {
+            return Err(DataFault::NoRow { at });
+        }
+        self.blocks.read_row(files, at)
     }
 
     /// The row at a position where one stands, as an index names it. `Damaged` comes only where none does,
     /// at a block that is not the one that a row needs there. Nothing before the row is read, and of the row
     /// nothing twice.
     pub fn row_at<F: Files>(&mut self, files: &mut F, at: u64) -> Result<Row, DataFault>
-        requires long { IfTold (F.holds files.old) (IsLong self.old) }
-        requires there { IfTold (F.holds files.old) (HasRow self.old at) }
-        ensures told { IfOk result (λ row. IfTold (F.holds files.old) (IsRowAt self.old at row)) }
+        requires long { IfTold (F.holds files.old) (IsLong self.old.file) }
+        requires there { IfTold (F.holds files.old) (HasRow self.old.file at) }
+        ensures told { IfOk result (λ row. IfTold (F.holds files.old)
+            (IsRowAt self.old.file at row)) }
         ensures err { IfErr result (ByCause Never ⊥ (λ p. F.holds files.old ≡ None)) }
         ensures few { IfTold (F.holds files.old)
-            (ReadsFew self.old at (F.reads files.old) (F.reads files.new)) }
+            (ReadsFew self.old.file at (F.reads files.old) (F.reads files.new)) }
         ensures same { self.new ≡ self.old }
         ensures holds { F.holds files.new ≡ F.holds files.old }
         ensures cause { HasCause File (F.faults files.old) (F.faults files.new) result }
     {
-        read_chain(
-            files,
-            self.name.as_str(),
-            at,
-            self.list.end(),
-            &mut self.row,
-        )?;
-        match row_in(&self.defs, self.row.as_slice())? {
-            Some(row) => Ok(row),
-            None => Err(DataFault::Damaged { at }),
-        }
-    }
-}
-
-/// The row that bytes pack, if they pack one.
-fn row_in(defs: &Defs, bytes: &[u8]) -> Result<Option<Row>, AllocError>
-    requires { IsSound defs.now }
-    ensures { IfOk result (λ row. row ≡ row_of defs.now bytes.now) }
-{
-    let alloc = defs.raw.allocator();
-    match view(defs, bytes) {
-        Some(row) => Ok(Some(unpack(alloc, &row)?)),
-        None => Ok(None),
+        self.blocks.read_row(files, at)
     }
 }

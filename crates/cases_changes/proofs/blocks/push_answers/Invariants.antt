@@ -2,4 +2,4 @@ use Rattle.std.proofs.Common.{◌≡◌}
 use Rattle.cases_changes.proofs.blocks.push_answers.Given as goal
 
 abbrev pub invariant-loop-call : goal.invariant-loop-call
-invariant-loop-call l = record { same : l.file.defs ≡ l.defs }
+invariant-loop-call l = record { same : l.file.file.defs ≡ l.defs }

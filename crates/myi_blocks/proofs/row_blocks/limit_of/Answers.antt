@@ -1,7 +1,7 @@
 use Rattle.std.proofs.Common.{◌≡◌, ◌∙◌, sym, true, arith}
 use Rattle.myi_defs.specs.Addressable.{is_addressable}
 use Rattle.myi_blocks.proofs.StepLemmas.{below-reached}
-use Rattle.myi_blocks.proofs.block_file.limit_of.Goals as goal
+use Rattle.myi_blocks.proofs.row_blocks.limit_of.Goals as goal
 
 pub returns-clause-above : goal.returns-clause-above
 returns-clause-above c =

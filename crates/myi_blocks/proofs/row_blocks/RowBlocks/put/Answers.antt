@@ -5,7 +5,7 @@ use Rattle.myi_defs.specs.Addressable.{is_addressable}
 use Rattle.myi_slots.specs.SlotFile.{SlotFile}
 use Rattle.myi_blocks.specs.BlockFile.{end_limit}
 use Rattle.myi_blocks.proofs.StepLemmas.{reached-below}
-use Rattle.myi_blocks.proofs.block_file.BlockFile.put.Goals as goal
+use Rattle.myi_blocks.proofs.row_blocks.RowBlocks.put.Goals as goal
 
 pub put-requires-clause-long : goal.put-requires-clause-long
 put-requires-clause-long g c κs within = λ m held. subst (λ (f : SlotFile). length (bytes_of f.name m) ≡ f.counts.length) (sym c.self.view_is) (c.requires.long m held)

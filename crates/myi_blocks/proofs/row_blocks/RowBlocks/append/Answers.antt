@@ -13,7 +13,7 @@ use Rattle.myi_slots.specs.SlotFile.{SlotFile, ByCause, Never, is_reached}
 use Rattle.myi_blocks.specs.BlockFile.{end_limit, end_with}
 use Rattle.myi_blocks.proofs.StepLemmas.{reached-below, never-reached}
 use Rattle.myi_blocks.proofs.ResultLemmas.{long-refused}
-use Rattle.myi_blocks.proofs.block_file.BlockFile.append.Goals as goal
+use Rattle.myi_blocks.proofs.row_blocks.RowBlocks.append.Goals as goal
 
 pub returns-then-not-addressable-clause-causes : goal.returns-then-not-addressable-clause-causes
 returns-then-not-addressable-clause-causes g c =
