@@ -7,3 +7,4 @@ pub mod ReadLemmas
 pub mod LinkLemmas
 pub mod RowAtLemmas
 pub mod NoteLemmas
+pub mod FreedLemmas

@@ -12,7 +12,7 @@
 //! were looked up, the positions at which rows stand: where the file and the numbers stand for a state of the table
 //! (`myi_state`), each change is a step of the state, with its reply, and keeps the positions. `RowBlocks` has the
 //! changes of the blocks, `BlockFile` adds the positions. `specs/BlockFile` says what refuses a row, `specs/RowReading` which row stands at a position and how many
-//! reads its blocks may count for. The law in `laws` joins it to states.
+//! reads its blocks may count for. The laws in `laws` join it to states.
 //!
 //! ```
 //! let at = file.insert(&mut files, &row)?;
@@ -30,4 +30,4 @@ mod row_blocks;
 mod row_chain;
 
 pub use block_file::BlockFile;
-pub use laws::rows_of_states_stand;
+pub use laws::{released_rows_leave_states, rows_of_states_stand};
