@@ -32,12 +32,12 @@ area_bytes [] = refl
 area_bytes (p ∷ ps) = sum_by-cons (λ (a : Area). a.size) (record { at = p.at; size = p.size }) (areas_of ps) ∙ ap (λ (n : ℕ). p.size + n) (area_bytes ps)
 
 -- areas that tile a file have all its bytes
-tiled_bytes : (end : ℕ) (xs ys : List Area) → HaveBytes (xs ++ ys) → Tile end (xs ++ ys) → total_bytes xs + total_bytes ys ≡ end
+pub tiled_bytes : (end : ℕ) (xs ys : List Area) → HaveBytes (xs ++ ys) → Tile end (xs ++ ys) → total_bytes xs + total_bytes ys ≡ end
 tiled_bytes end xs ys some tile =
     let h = halves-of end xs ys some (tile-inside end (xs ++ ys) some tile) in
     omega (arith, tile end, below-both end xs ys, bytes-inside end xs h.0.1, bytes-inside end ys h.1.1)
 
-total_both : (xs ys : List Area) → total_bytes (xs ++ ys) ≡ total_bytes xs + total_bytes ys
+pub total_both : (xs ys : List Area) → total_bytes (xs ++ ys) ≡ total_bytes xs + total_bytes ys
 total_both [] ys = omega arith
 total_both (x ∷ xs) ys = omega (arith, sum_by-cons (λ (a : Area). a.size) x (xs ++ ys), sum_by-cons (λ (a : Area). a.size) x xs, total_both xs ys)
 

@@ -1,5 +1,5 @@
 -- A row whose blocks were released leaves a file that stands for the state without it.
-use Rattle.std.proofs.Common.{◌≡◌, ◌∙◌, ℕ, ◌<◌, Bool, true, false, cond, List, [], ◌∷◌, ◌++◌, length, Option, Some, sym, ap, subst, arith}
+use Rattle.std.proofs.Common.{◌≡◌, ◌∙◌, ℕ, ◌<◌, Bool, true, false, cond, List, [], ◌∷◌, ◌++◌, length, Option, Some, refl, sym, ap, subst, arith}
 use Rattle.std.specs.Prelude.{◌==◌}
 use Rattle.std.specs.List.{AllByRecursion}
 use Rattle.myi_defs.specs.declared.types.RowFormat.{RowFormat}
@@ -12,11 +12,14 @@ use Rattle.myi_dellist.specs.Standing.{HasList}
 use Rattle.myi_dellist.specs.Rows.{KeepsApart}
 use Rattle.myi_state.specs.State.{StoredRow, TableState, row_areas, row_at, rows_without, give_back}
 use Rattle.myi_state.specs.Changes.{delete, accepted, without_row}
+use Rattle.myi_state.specs.Numbers.{counts_of}
 use Rattle.myi_state.specs.Sound.{IsState}
 use Rattle.myi_state.specs.Standing.{StandsInBlocks, StandsFor}
-use Rattle.myi_state.proofs.CallerLemmas.{accepted-kept, others-tile, state-bytes, without-all}
+use Rattle.myi_state.proofs.CallerLemmas.{accepted-kept, others-tile, state-bytes, without-all, same-counts, gone-rows, gone-areas}
 use Rattle.myi_blocks.proofs.StandLemmas.{all-split, all-join, dynamic-of, stands-by}
+use Rattle.myi_blocks.specs.BlockFile.{freed_counts}
 use Rattle.myi_blocks.proofs.PutLemmas.{rows-stay, far-across}
+use Rattle.myi_blocks.proofs.CountLemmas.{tiled_bytes, total_both}
 
 -- what holds of the areas of all rows holds of those of one, and of the others
 row_parts : (P : Area → Type 0) (at : ℕ) (rows : List StoredRow) (r : StoredRow) → row_at at rows ≡ Some r → AllByRecursion P (row_areas rows) → AllByRecursion P r.blocks × AllByRecursion P (row_areas (rows_without at rows))
@@ -50,3 +53,29 @@ released-stands d s x e at r sound dynamic k here list keeps long =
     let same = deleted_state d s at r dynamic here in
     let state = subst (IsState d) same (accepted-kept d s (delete at) sound tt q.state) in
     subst (λ (t : TableState). StandsFor d t e) (sym same) (stands-by d (behind_delete s at r) e dynamic state (long ∙ q.long) stand list)
+
+-- the numbers of the state without the row
+pub released-counts : (d : Defs) (s : TableState) (at : ℕ) (r : StoredRow) → IsSound d → d.format ≡ Dynamic → IsState d s → row_at at s.rows ≡ Some r → counts_of (accepted d s (delete at)).state ≡ freed_counts r.blocks (release_all r.blocks s.space.holes) (counts_of s)
+unfolding counts_of
+released-counts d s at r sound dynamic i here =
+    let all = row_areas s.rows in
+    let others = row_areas (rows_without at s.rows) in
+    let own = r.blocks in
+    let holes = s.space.holes in
+    let left = release_all own holes in
+    let end = s.space.end in
+    let same = deleted_state d s at r dynamic here in
+    let then : IsState d (behind_delete s at r) = subst (IsState d) same (accepted-kept d s (delete at) sound tt i) in
+    let bytes = all-split (λ (a : Area). 0 < a.size) all holes (state-bytes d s sound i) in
+    let parts = row_parts (λ (a : Area). 0 < a.size) at s.rows r here bytes.0 in
+    let freed = all-join (λ (a : Area). 0 < a.size) own holes parts.0 bytes.1 in
+    let before = tiled_bytes end others (own ++ holes) (all-join (λ (a : Area). 0 < a.size) others (own ++ holes) parts.1 freed) (others-tile end at s.rows holes r here i.tile) in
+    let after = tiled_bytes end others left (state-bytes d (behind_delete s at r) sound then) then.tile in
+    ap counts_of same
+    ∙ same-counts _ _ _ _ _ _ _ _ _ _ _ _
+    (omega (arith, gone-rows at s.rows r here))
+    refl
+    (omega (arith, gone-areas at s.rows r here))
+    (omega (arith, before, after, total_both own holes))
+    refl
+    refl

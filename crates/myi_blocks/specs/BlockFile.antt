@@ -1,14 +1,17 @@
 -- The data file of a dynamic table that changes: the deleted list in it, what refuses a row, and which numbers a change makes. What
 -- an object on it keeps, and what a step is, is that of every data file that changes.
-use Rattle.std.specs.Prelude.{◌≡◌, ◌+◌, ◌-◌, ◌^◌, min, ℕ, true, [], Option}
+use Rattle.std.specs.Prelude.{◌≡◌, ◌+◌, ◌-◌, ◌^◌, min, ℕ, true, List, [], length, Option, None}
 use Rattle.myi_base.specs.Holding.{Holding, bytes_of}
 use Rattle.myi_defs.specs.declared.types.Defs.{Defs}
 use Rattle.myi_defs.specs.Addressable.{is_addressable}
 use Rattle.myi_dellist.specs.declared.rows.Put.{Put}
+use Rattle.myi_dellist.specs.Areas.{Area}
+use Rattle.myi_dellist.specs.Standing.{first_or}
 use Rattle.myi_dellist.specs.Placing.{place_at_end}
 use Rattle.myi_dellist.specs.FreeList.{ListState}
 use Rattle.myi_dellist.specs.Putting.{PutBad, PutLong}
 use Rattle.myi_state.specs.declared.counts.Counts.{Counts}
+use Rattle.myi_state.specs.Numbers.{total_bytes}
 use Rattle.myi_slots.specs.SlotFile.{SlotFile, risen}
 
 -- the place that the end of a file stays below, so that row pointers reach all of it
@@ -44,4 +47,15 @@ counts_with put end head c = record {
   empty = risen c.empty (end - c.length) - put.bytes;
   length = end;
   dellink = head;
+}
+
+-- the numbers behind a row whose blocks were released, where the deleted list is these blocks then
+abbrev pub freed_counts : List Area → List Area → Counts → Counts
+freed_counts own holes c = record {
+  records = c.records - 1;
+  del = length holes;
+  split = c.split - length own;
+  empty = c.empty + total_bytes own;
+  length = c.length;
+  dellink = first_or holes None;
 }

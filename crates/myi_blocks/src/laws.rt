@@ -9,9 +9,12 @@ ghost use Rattle.myi_dellist.specs.Releasing.{release_all};
 ghost use Rattle.myi_dellist.specs.Rows.{KeepsApart};
 ghost use Rattle.myi_dellist.specs.Standing.{HasList};
 ghost use Rattle.myi_state.specs.Changes.{delete, accepted};
+ghost use Rattle.myi_state.specs.Numbers.{counts_of};
+ghost use Rattle.myi_state.specs.Sound.{IsState};
 ghost use Rattle.myi_state.specs.Standing.{StandsFor};
 ghost use Rattle.myi_state.specs.State.{StoredRow, TableState, row_at};
 ghost use Rattle.myi_slots.specs.SlotFile.{SlotFile, IsFileOf};
+ghost use Rattle.myi_blocks.specs.BlockFile.{freed_counts};
 ghost use Rattle.myi_blocks.specs.RowReading.{StandsAt};
 
 /// A row of a state stands in blocks of each data file that stands for the state, the first of them at its
@@ -31,4 +34,13 @@ pub fn released_rows_leave_states()
         → HasList e (release_all r.blocks s.space.holes)
         → KeepsApart (r.blocks ++ s.space.holes) x e → length e ≡ length x
         → StandsFor d (accepted d s (delete at)).state e }
+{}
+
+/// The numbers of the state without the row are those before with the row and its blocks counted no more and the
+/// blocks' bytes as deleted ones; how many deleted blocks there are then, the list says.
+pub fn released_rows_are_counted()
+    ensures { (d : Defs) (s : TableState) (at : ℕ) (r : StoredRow) → IsSound d
+        → d.format ≡ Dynamic → IsState d s → row_at at s.rows ≡ Some r
+        → counts_of (accepted d s (delete at)).state
+        ≡ freed_counts r.blocks (release_all r.blocks s.space.holes) (counts_of s) }
 {}

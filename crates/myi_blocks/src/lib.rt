@@ -30,4 +30,4 @@ mod row_blocks;
 mod row_chain;
 
 pub use block_file::BlockFile;
-pub use laws::{released_rows_leave_states, rows_of_states_stand};
+pub use laws::{released_rows_are_counted, released_rows_leave_states, rows_of_states_stand};
