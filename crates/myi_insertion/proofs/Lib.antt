@@ -1,0 +1,17 @@
+pub mod FrameLaws
+pub mod StripLaws
+pub mod SettleLaws
+pub mod NodeLaws
+pub mod InsertLaws
+pub mod OrderLaws
+pub mod RoomLaws
+pub mod CoverLaws
+pub mod CachedLaws
+pub mod CodeLaws
+pub mod PageLaws
+pub mod WriteLaws
+pub mod CutLaws
+pub mod LoadLaws
+pub mod SplitLaws
+pub mod PuttingLaws
+pub mod CachedSettling

@@ -1,0 +1,90 @@
+use Rattle.std.proofs.Common.{◌≡◌, ℕ, ◌+◌, ◌<◌, List, [], ◌∷◌, ◌++◌, length, take, drop, refl, sym, ap, subst, ◌∙◌, arith}
+use Rattle.std.proofs.lemmas.Bool.{eqb-true, eqb-false}
+use Rattle.myi_keys.specs.Comparing.{key_front}
+use Rattle.myi_keylist.specs.declared.pair.Pair.{Pair}
+use Rattle.myi_keylist.specs.PairOrder.{pair_with}
+use Rattle.myi_insertion.specs.Written.{page_node}
+use Rattle.myi_insertion.specs.Ordered.{AreBefore, BeginsBehind}
+use Rattle.std.proofs.lemmas.Result.{err_from_is_err_and}
+use Rattle.myi_btree.specs.CachedTrees.{node_lent}
+use Rattle.myi_insertion.proofs.PageLaws.{pair_again, is_code_of}
+use Rattle.myi_insertion.proofs.LoadLaws.{got, can_get, if_err}
+use Rattle.myi_insertion.proofs.SplitLaws.{nil_of, pair_written, strip_written}
+use Rattle.myi_insertion.proofs.PuttingLaws.{Inserts, child_is, into_leaf, into_node, in_root, no_root, Never, never_below}
+use Rattle.myi_insertion.proofs.insertion.+insert_at.Goals as goal
+
+pub place_of-i-requires : goal.place_of-i-requires
+place_of-i-requires g t c = is_code_of c.code-code.result.now c.args.task.now.pair.now c.code-code.ensures.key c.code-code.ensures.value
+
+pub with_pair-requires-clause-code : goal.with_pair-requires-clause-code
+with_pair-requires-clause-code g t c = is_code_of c.code-code.result.now c.args.task.now.pair.now c.code-code.ensures.key c.code-code.ensures.value
+
+pub settle-requires-clause-page : goal.settle-requires-clause-page
+settle-requires-clause-page g t c = λ κs lives.
+    let p : Pair = c.args.task.now.pair.now in
+    let same : pair_with (key_front c.code-code.result.now) p.row ≡ p = pair_again c.code-code.result.now p.row p c.code-code.ensures.key c.code-code.ensures.value refl in
+    let ps : List Pair = c.in_ok-page.page.pairs in
+    let i : ℕ = c.place_of-i.result in
+    pair_written c.args.task.now.setup.place.rec_ref i ps c.in_ok-grown.grown.pairs c.in_ok-page.page.children.items c.in_ok-grown.grown.children.items p c.in_ok-page.ensures.written c.place_of-i.ensures.inside c.requires.row c.code-code.ensures.key
+    (c.in_ok-grown.ensures.pairs ∙ ap (λ (q : Pair). (take i ps ++ q ∷ []) ++ drop i ps) same) c.in_ok-grown.ensures.children
+
+pub returns-then-is_empty-clause-stands : goal.returns-then-is_empty-clause-stands
+returns-then-is_empty-clause-stands g t c =
+    let place = c.args.task.now.setup.place in
+    let p : Pair = c.args.task.now.pair.now in
+    let same : pair_with (key_front c.code-code.result.now) p.row ≡ p = pair_again c.code-code.result.now p.row p c.code-code.ensures.key c.code-code.ensures.value refl in
+    let ps : List Pair = c.in_ok-page.page.pairs in
+    let cs : List ℕ = c.in_ok-page.page.children.items in
+    let i : ℕ = c.place_of-i.result in
+    let none : cs ≡ [] = nil_of cs (sym c.in_ok-page.page.children.ok.0 ∙ eqb-true _ _ (sym c.is_empty.ensures ∙ c.if-is_empty.true)) in
+    into_leaf place p c.args.cache.now (g.F.Files.holds c.args.files.now) (g.F.Files.holds c.load.new.files) (g.F.Files.holds c.settle.new.files) c.load.new.cache c.settle.new.cache c.args.at i ps c.in_ok-grown.grown.pairs cs c.in_ok-grown.grown.children.items c.in_ok-strip.strip.places.items c.in_ok-strip.strip.separators c.args.room.now c.settle.new.room
+    (let l = c.requires.placed.least in omega arith)
+    (λ m held pages room can here. got place c.args.cache.now m pages room (g.F.Files.holds c.args.files.now) (g.F.Files.holds c.load.new.files) c.load.new.cache c.args.at (page_node c.in_ok-page.page) c.requires.placed held c.in_ok-page.ensures.node c.load.ensures.stays c.load.ensures.added c.load.ensures.others c.load.ensures.name can here)
+    c.in_ok-page.ensures.written.branches none (subst (λ (q : Pair). AreBefore q (take i ps)) same c.place_of-i.ensures.before) (subst (λ (q : Pair). BeginsBehind q (drop i ps)) same c.place_of-i.ensures.behind)
+    (c.in_ok-grown.ensures.pairs ∙ ap (λ (q : Pair). (take i ps ++ q ∷ []) ++ drop i ps) same) c.in_ok-grown.ensures.children c.in_ok-strip.ensures.settles
+
+pub settle-requires-2-clause-page : goal.settle-requires-2-clause-page
+settle-requires-2-clause-page g t c = λ κs lives.
+    let some : 0 < length c.in_ok-page.page.children.items = let ne = eqb-false _ _ (sym c.is_empty.ensures ∙ c.if-is_empty.false) in omega (arith, ne, c.in_ok-page.page.children.ok.0) in
+    strip_written c.args.task.now.setup.place.rec_ref c.place_of-i.result c.index-child.result.now c.in_ok-page.page.pairs c.in_ok-grown-2.grown.pairs c.in_ok-page.page.children.items c.in_ok-grown-2.grown.children.items c.in_ok-strip-2.strip.places.items c.in_ok-strip-2.strip.separators
+    c.in_ok-page.ensures.written c.place_of-i.ensures.inside some c.in_ok-strip-2.ensures.shape c.in_ok-grown-2.ensures.pairs
+    (c.in_ok-grown-2.ensures.children ∙ ap (λ (t : List ℕ). (take c.place_of-i.result c.in_ok-page.page.children.items ++ t) ++ drop (c.place_of-i.result + 1) c.in_ok-page.page.children.items) c.deref.ensures.value)
+
+pub returns-clause-stands : goal.returns-clause-stands
+returns-clause-stands g t c =
+    let place = c.args.task.now.setup.place in
+    let p : Pair = c.args.task.now.pair.now in
+    let same : pair_with (key_front c.code-code.result.now) p.row ≡ p = pair_again c.code-code.result.now p.row p c.code-code.ensures.key c.code-code.ensures.value refl in
+    let ps : List Pair = c.in_ok-page.page.pairs in
+    let cs : List ℕ = c.in_ok-page.page.children.items in
+    let i : ℕ = c.place_of-i.result in
+    let some : 0 < length cs = let ne = eqb-false _ _ (sym c.is_empty.ensures ∙ c.if-is_empty.false) in omega (arith, ne, c.in_ok-page.page.children.ok.0) in
+    into_node place p c.args.cache.now (g.F.Files.holds c.args.files.now) (g.F.Files.holds c.load.new.files) (g.F.Files.holds c.insert_at.new.files) (g.F.Files.holds c.settle-2.new.files) c.load.new.cache c.insert_at.new.cache c.settle-2.new.cache c.args.at i ps c.in_ok-grown-2.grown.pairs cs c.in_ok-grown-2.grown.children.items c.in_ok-strip-2.strip.places.items c.in_ok-made.made.places.items c.in_ok-strip-2.strip.separators c.in_ok-made.made.separators c.args.room.now c.insert_at.new.room c.settle-2.new.room
+    (let l = c.requires.placed.least in omega arith)
+    (λ m held pages room can here. got place c.args.cache.now m pages room (g.F.Files.holds c.args.files.now) (g.F.Files.holds c.load.new.files) c.load.new.cache c.args.at (page_node c.in_ok-page.page) c.requires.placed held c.in_ok-page.ensures.node c.load.ensures.stays c.load.ensures.added c.load.ensures.others c.load.ensures.name can here)
+    c.in_ok-page.ensures.written.branches some c.place_of-i.ensures.inside (subst (λ (q : Pair). AreBefore q (take i ps)) same c.place_of-i.ensures.before) (subst (λ (q : Pair). BeginsBehind q (drop i ps)) same c.place_of-i.ensures.behind)
+    (subst (λ (n : ℕ). Inserts place p c.load.new.cache (g.F.Files.holds c.load.new.files) c.args.room.now n (g.F.Files.holds c.insert_at.new.files) c.insert_at.new.cache c.insert_at.new.room c.in_ok-strip-2.strip.places.items c.in_ok-strip-2.strip.separators)
+    (child_is ps cs i c.index-child.result.now c.in_ok-page.ensures.written.branches some c.place_of-i.ensures.inside c.index-child.ensures) c.in_ok-strip-2.ensures.stands) c.in_ok-grown-2.ensures.pairs
+    (c.in_ok-grown-2.ensures.children ∙ ap (λ (t : List ℕ). (take i cs ++ t) ++ drop (i + 1) cs) c.deref.ensures.value) c.in_ok-made.ensures.settles
+
+pub returns-in_err-page-clause-never : goal.returns-in_err-page-clause-never
+returns-in_err-page-clause-never g t c =
+    let place = c.args.task.now.setup.place in
+    let e = err_from_is_err_and c.from_residual.result c.from_residual.ensures.1 in
+    if_err c.from_residual.result e.0 _ e.1
+    (λ p d m held h w walk can sorted. no_root (node_lent place c.args.cache.now m) h c.args.at w walk
+    ((c.in_err-page.ensures.damaged p (sym e.2 ∙ d)).1 m held (can_get place c.args.cache.now m w.pages c.args.room.now c.args.at can (in_root (node_lent place c.args.cache.now m) h c.args.at w walk))))
+
+pub returns-in_err-strip-2-clause-never : goal.returns-in_err-strip-2-clause-never
+returns-in_err-strip-2-clause-never g t c =
+    let place = c.args.task.now.setup.place in
+    let ps : List Pair = c.in_ok-page.page.pairs in
+    let cs : List ℕ = c.in_ok-page.page.children.items in
+    let i : ℕ = c.place_of-i.result in
+    let some : 0 < length cs = let ne = eqb-false _ _ (sym c.is_empty.ensures ∙ c.if-is_empty.false) in omega (arith, ne, c.in_ok-page.page.children.ok.0) in
+    let e = err_from_is_err_and c.from_residual-in_err-strip-2.result c.from_residual-in_err-strip-2.ensures.1 in
+    if_err c.from_residual-in_err-strip-2.result e.0 _ e.1
+    (λ p d. never_below place c.args.cache.now (g.F.Files.holds c.args.files.now) (g.F.Files.holds c.load.new.files) c.load.new.cache c.args.at i ps cs c.args.room.now (let l = c.requires.placed.least in omega arith)
+    (λ m held pages room can here. got place c.args.cache.now m pages room (g.F.Files.holds c.args.files.now) (g.F.Files.holds c.load.new.files) c.load.new.cache c.args.at (page_node c.in_ok-page.page) c.requires.placed held c.in_ok-page.ensures.node c.load.ensures.stays c.load.ensures.added c.load.ensures.others c.load.ensures.name can here)
+    c.in_ok-page.ensures.written.branches some c.place_of-i.ensures.inside
+    (subst (λ (n : ℕ). Never place c.load.new.cache (g.F.Files.holds c.load.new.files) c.args.room.now n) (child_is ps cs i c.index-child.result.now c.in_ok-page.ensures.written.branches some c.place_of-i.ensures.inside c.index-child.ensures) (c.in_err-strip-2.ensures.never p (sym e.2 ∙ d))))

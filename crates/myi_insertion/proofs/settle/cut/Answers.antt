@@ -1,0 +1,23 @@
+use Rattle.std.proofs.Common.{◌-◌, ◌<◌, ◌≤◌, ℕ, List, drop, arith, subst, ap}
+use Rattle.std.proofs.lemmas.List.{length-drop}
+use Rattle.myi_keypage.specs.declared.entry.Entry.{Entry}
+use Rattle.myi_btree.specs.Sizes.{IsFitting}
+use Rattle.myi_insertion.proofs.WriteLaws.{rest_is}
+use Rattle.myi_insertion.proofs.CutLaws.{all_fit, some_fit}
+use Rattle.myi_insertion.proofs.settle.cut.Goals as goal
+
+pub returns-then-most-left-clause-all : goal.returns-then-most-left-clause-all
+returns-then-most-left-clause-all c =
+    let whole = rest_is (c.len.result - c.args.start) c.args.start c.args.pairs.now (ap (λ (n : ℕ). n - c.args.start) c.len.ensures) in
+    let f = subst (λ (t : List Entry). IsFitting c.args.place c.args.node t c.fitting_of-most.result) whole (record { inside = c.fitting_of-most.ensures.inside; exact = c.fitting_of-most.ensures.exact }) in
+    all_fit c.args.place c.args.node (drop c.args.start c.args.pairs.now) c.fitting_of-most.result f (omega (arith, c.if-most-left.true, c.len.ensures, length-drop c.args.start c.args.pairs.now)) (omega (arith, c.requires.inside, length-drop c.args.start c.args.pairs.now))
+
+pub returns-clause-some : goal.returns-clause-some
+returns-clause-some c =
+    let whole = rest_is (c.len.result - c.args.start) c.args.start c.args.pairs.now (ap (λ (n : ℕ). n - c.args.start) c.len.ensures) in
+    let f = subst (λ (t : List Entry). IsFitting c.args.place c.args.node t c.fitting_of-most.result) whole (record { inside = c.fitting_of-most.ensures.inside; exact = c.fitting_of-most.ensures.exact }) in
+    let count : ℕ = c.min-count.result in
+    let some : 0 < count = omega (arith, c.if-count-eq0.false) in
+    let few : count ≤ c.len.result - c.args.start - 2 = omega (arith, c.min-count.ensures, c.saturating_sub.ensures) in
+    let fit : count ≤ c.fitting_of-most.result = omega (arith, c.min-count.ensures, c.min.ensures) in
+    (some, omega (arith, c.len.ensures, length-drop c.args.start c.args.pairs.now), some_fit c.args.place c.args.node (drop c.args.start c.args.pairs.now) c.fitting_of-most.result count f some fit)

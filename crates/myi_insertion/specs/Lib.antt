@@ -1,0 +1,24 @@
+-- what a reader of the contracts must believe
+
+-- trees side by side
+pub mod Strips
+-- the bytes of pages and of free room
+pub mod Covers
+-- taking pages out of a room
+pub mod Rooms
+-- what a change does to a key cache
+pub mod CachedChanges
+-- a tree in what a key cache lends, with a pair put in
+pub mod CachedTree
+-- what serves private contracts
+
+-- where a pair goes
+pub mod Ordered
+-- pairs that are being written on pages
+pub mod Settling
+-- codes that are read without their keys
+pub mod ReadCodes
+-- what can be written on pages
+pub mod Written
+-- the steps of a change
+pub mod Steps

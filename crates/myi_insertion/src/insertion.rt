@@ -1,0 +1,220 @@
+//! Putting a pair into a tree.
+//!
+//! `insert_at` goes down one path of pages to the leaf that the pair goes into, and writes the pages of the path
+//! again, from the leaf up; `raise` puts pages above a root that became several.
+ghost use Rattle.std.specs.Prelude.{◌≡◌, ◌+◌, ◌^◌, ◌<◌, ◌≤◌, ℕ, List, Some, length, IfOk, IfErr, OnOk, IsTrue};
+ghost use Rattle.std.specs.List.Sorted.{IsStrictlySortedBy};
+ghost use Rattle.myi_base.specs.Holding.{IfTold, Told, OthersStay};
+ghost use Rattle.myi_base.specs.Causes.{HasCause};
+ghost use Rattle.myi_keylist.specs.PairOrder.{pair_cmp, put_pair};
+ghost use Rattle.myi_btree.specs.declared.fault.TreeFault.TheVariants.{File};
+ghost use Rattle.myi_btree.specs.Walk.{Walked, walk_of, content};
+ghost use Rattle.myi_btree.specs.Sizes.{IsPlaced};
+ghost use Rattle.myi_btree.specs.Faults.{DamagedAt, IsFileOrMemory};
+ghost use Rattle.myi_btree.specs.CachedTrees.{node_lent};
+ghost use Rattle.myi_insertion.specs.Rooms.{IsWhole};
+ghost use Rattle.myi_insertion.specs.CachedChanges.{CanChange};
+ghost use Rattle.myi_insertion.specs.Written.{IsStripOf};
+ghost use Rattle.myi_keylist.specs.declared.pair.Pair.{Pair};
+ghost use Rattle.myi_insertion.specs.Strips.{IsStrip};
+ghost use Rattle.myi_insertion.specs.CachedTree.{IsTree, Inserted};
+ghost use Rattle.myi_insertion.specs.Steps.{Settles, Rooted};
+
+use crate::load::load;
+use crate::page::{PageData, place_of};
+use crate::room::take_page;
+use crate::settle::{Setup, Strip, settle};
+use myi_btree::{Place, Room, TreeFault};
+use myi_io::Files;
+use myi_keycache::KeyCache;
+use myi_keylist::{Pair, PairList};
+use std::alloc::Global;
+
+/// The most levels that a tree has: one with more levels has more pairs than there are places for pages.
+const MOST_LEVELS: u64 = 64;
+
+/// The pair that goes into a tree.
+#[derive(Clone, Copy)]
+pub(crate) struct Task<'a> {
+    pub(crate) setup: Setup,
+    pub(crate) pair: &'a Pair,
+}
+
+/// Puts the pair into the tree at a place, which has at most so many levels below its root.
+pub(crate) fn insert_at<F: Files>(
+    task: &Task,
+    files: &mut F,
+    cache: &mut KeyCache,
+    room: &mut Room,
+    at: u64,
+    levels: u64,
+) -> Result<Strip, TreeFault>
+    requires writable { IsTrue F.writable }
+    requires placed { IsPlaced task.now.setup.place }
+    requires whole { IsWhole room.old }
+    requires row { task.now.pair.now.row < 256 ^ task.now.setup.place.rec_ref }
+    ensures stands { IfOk result (λ strip. IfTold (F.holds files.old) (λ m. (height : ℕ) (w : Walked)
+        → walk_of (node_lent task.now.setup.place cache.old m) height at ≡ Some w
+        → CanChange task.now.setup.place cache.old m w.pages room.old
+        → IsStrictlySortedBy pair_cmp (content w)
+        → Settles task.now.setup.place cache.old m w.pages room.old (F.holds files.new) cache.new
+        room.new height (put_pair task.now.pair.now (content w)) strip.places.items strip.separators)) }
+    ensures never { IfErr result (DamagedAt (λ p. IfTold (F.holds files.old) (λ m. (height : ℕ)
+        (w : Walked) → walk_of (node_lent task.now.setup.place cache.old m) height at ≡ Some w
+        → CanChange task.now.setup.place cache.old m w.pages room.old
+        → IsStrictlySortedBy pair_cmp (content w) → ⊥))) }
+    ensures shape { IfOk result (λ strip. IsStripOf task.now.setup.place.rec_ref at
+        strip.places.items strip.separators) }
+    ensures whole { OnOk result (IsWhole room.new) }
+    ensures others { Told (F.holds files.old) (F.holds files.new) (OthersStay cache.old.name) }
+    ensures name { cache.new.name ≡ cache.old.name }
+    ensures cause { HasCause File (F.faults files.old) (F.faults files.new) result }
+    ensures reads { F.reads files.old ≤ F.reads files.new }
+{
+    let setup = task.setup;
+    let page = load(setup, files, cache, at)?;
+    let code = task.pair.key.code();
+    let i = place_of(&page.pairs, code, task.pair.row);
+    if page.children.is_empty() {
+        let grown = page.with_pair(setup.alloc, i, code, task.pair.row)?;
+        let strip = settle(setup, files, cache, room, at, &grown)?;
+        return Ok(strip);
+    }
+    if levels == 0 {
+        return Err(TreeFault::Memory);
+    }
+    let child = page.children[i];
+    let strip = insert_at(task, files, cache, room, child, levels - 1)?;
+    let grown = page.with_strip(setup.alloc, i, &strip.places, &strip.separators)?;
+    let made = settle(setup, files, cache, room, at, &grown)?;
+    Ok(made)
+}
+
+// Puts the pair into the tree, or makes the first page of one that has none.
+fn put_in<F: Files>(
+    task: &Task,
+    files: &mut F,
+    cache: &mut KeyCache,
+    room: &mut Room,
+) -> Result<Strip, TreeFault>
+    requires writable { IsTrue F.writable }
+    requires placed { IsPlaced task.now.setup.place }
+    requires whole { IsWhole room.old }
+    requires row { task.now.pair.now.row < 256 ^ task.now.setup.place.rec_ref }
+    ensures stands { IfOk result (λ strip. IfTold (F.holds files.old) (λ m. (xs : List Pair)
+        (pages : List ℕ)
+        → IsTree task.now.setup.place cache.old m task.now.setup.place.root xs pages
+        → CanChange task.now.setup.place cache.old m pages room.old
+        → IsStrictlySortedBy pair_cmp xs
+        → (height : ℕ) × Settles task.now.setup.place cache.old m pages room.old
+        (F.holds files.new) cache.new room.new height (put_pair task.now.pair.now xs)
+        strip.places.items strip.separators)) }
+    ensures never { IfErr result (DamagedAt (λ p. IfTold (F.holds files.old) (λ m. (xs : List Pair)
+        (pages : List ℕ)
+        → IsTree task.now.setup.place cache.old m task.now.setup.place.root xs pages
+        → CanChange task.now.setup.place cache.old m pages room.old
+        → IsStrictlySortedBy pair_cmp xs → ⊥))) }
+    ensures shape { IfOk result (λ strip. (at : ℕ) × IsStripOf task.now.setup.place.rec_ref at
+        strip.places.items strip.separators) }
+    ensures whole { OnOk result (IsWhole room.new) }
+    ensures others { Told (F.holds files.old) (F.holds files.new) (OthersStay cache.old.name) }
+    ensures name { cache.new.name ≡ cache.old.name }
+    ensures cause { HasCause File (F.faults files.old) (F.faults files.new) result }
+    ensures reads { F.reads files.old ≤ F.reads files.new }
+{
+    let setup = task.setup;
+    if let Some(root) = setup.place.root {
+        let strip = insert_at(task, files, cache, room, root, MOST_LEVELS)?;
+        return Ok(strip);
+    }
+    let at = take_page(room, setup.place.block_length)?;
+    let mut pairs = PairList::new(setup.alloc);
+    pairs.push(task.pair.key.code(), task.pair.row)?;
+    let page = PageData {
+        pairs,
+        children: Vec::new(setup.alloc),
+    };
+    let strip = settle(setup, files, cache, room, at, &page)?;
+    Ok(strip)
+}
+
+// Puts pages above trees side by side until they are one, and answers the place of its root.
+fn raise<F: Files>(
+    setup: Setup,
+    files: &mut F,
+    cache: &mut KeyCache,
+    room: &mut Room,
+    strip: Strip,
+    levels: u64,
+) -> Result<u64, TreeFault>
+    requires writable { IsTrue F.writable }
+    requires placed { IsPlaced setup.place }
+    requires whole { IsWhole room.old }
+    requires shape { (at : ℕ) × IsStripOf setup.place.rec_ref at strip.places.items
+        strip.separators }
+    ensures rooted { IfOk result (λ root. IfTold (F.holds files.old) (λ m. (height : ℕ)
+        (xs : List Pair) (pages : List ℕ)
+        → IsStrip (node_lent setup.place cache.old m) height strip.places.items strip.separators
+        xs pages → CanChange setup.place cache.old m pages room.old
+        → Rooted setup.place cache.old m pages room.old (F.holds files.new) cache.new room.new
+        xs root)) }
+    ensures faults { IfErr result IsFileOrMemory }
+    ensures whole { OnOk result (IsWhole room.new) }
+    ensures others { Told (F.holds files.old) (F.holds files.new) (OthersStay cache.old.name) }
+    ensures name { cache.new.name ≡ cache.old.name }
+    ensures cause { HasCause File (F.faults files.old) (F.faults files.new) result }
+    ensures reads { F.reads files.old ≤ F.reads files.new }
+{
+    if strip.places.len() == 1 {
+        return Ok(strip.places[0]);
+    }
+    if levels == 0 {
+        return Err(TreeFault::Memory);
+    }
+    let at = take_page(room, setup.place.block_length)?;
+    let page = strip.into_page();
+    let above = settle(setup, files, cache, room, at, &page)?;
+    let root = raise(setup, files, cache, room, above, levels - 1)?;
+    Ok(root)
+}
+
+/// Puts a pair that is not there into the tree at a place, and moves its root where it has a new one.
+pub fn insert<F: Files>(
+    alloc: Global,
+    place: &mut Place,
+    files: &mut F,
+    cache: &mut KeyCache,
+    room: &mut Room,
+    pair: &Pair,
+) -> Result<(), TreeFault>
+    requires writable { IsTrue F.writable }
+    requires placed { IsPlaced place.old }
+    requires whole { IsWhole room.old }
+    requires row { pair.now.row < 256 ^ place.old.rec_ref }
+    ensures inserted { OnOk result (IfTold (F.holds files.old) (λ m. (xs : List Pair)
+        (pages : List ℕ) → IsTree place.old cache.old m place.old.root xs pages
+        → CanChange place.old cache.old m pages room.old → IsStrictlySortedBy pair_cmp xs
+        → Inserted place.old cache.old m pages room.old (F.holds files.new) cache.new room.new
+        place.new.root (put_pair pair.now xs))) }
+    ensures never { IfErr result (DamagedAt (λ p. IfTold (F.holds files.old) (λ m. (xs : List Pair)
+        (pages : List ℕ) → IsTree place.old cache.old m place.old.root xs pages
+        → CanChange place.old cache.old m pages room.old → IsStrictlySortedBy pair_cmp xs
+        → ⊥))) }
+    ensures length { place.new.block_length ≡ place.old.block_length }
+    ensures pointers { place.new.rec_ref ≡ place.old.rec_ref }
+    ensures whole { OnOk result (IsWhole room.new) }
+    ensures others { Told (F.holds files.old) (F.holds files.new) (OthersStay cache.old.name) }
+    ensures name { cache.new.name ≡ cache.old.name }
+    ensures cause { HasCause File (F.faults files.old) (F.faults files.new) result }
+    ensures reads { F.reads files.old ≤ F.reads files.new }
+{
+    let setup = Setup {
+        alloc,
+        place: *place,
+    };
+    let task = Task { setup, pair };
+    let strip = put_in(&task, files, cache, room)?;
+    let root = raise(setup, files, cache, room, strip, MOST_LEVELS)?;
+    place.root = Some(root);
+    Ok(())
+}
