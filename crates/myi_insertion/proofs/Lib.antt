@@ -7,7 +7,6 @@ pub mod OrderLaws
 pub mod RoomLaws
 pub mod CoverLaws
 pub mod CachedLaws
-pub mod CodeLaws
 pub mod PageLaws
 pub mod WriteLaws
 pub mod CutLaws

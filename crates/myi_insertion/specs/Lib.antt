@@ -16,8 +16,6 @@ pub mod CachedTree
 pub mod Ordered
 -- pairs that are being written on pages
 pub mod Settling
--- codes that are read without their keys
-pub mod ReadCodes
 -- what can be written on pages
 pub mod Written
 -- the steps of a change

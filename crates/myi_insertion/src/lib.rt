@@ -15,7 +15,6 @@
 //! ```
 #![tactic(auto)]
 
-mod codes;
 mod insertion;
 mod laws;
 mod load;

@@ -14,10 +14,10 @@ ghost use Rattle.myi_btree.specs.Nodes.{node_in};
 ghost use Rattle.myi_insertion.specs.Ordered.{AreBefore, BeginsBehind};
 ghost use Rattle.myi_insertion.specs.Written.{page_node, CanWrite};
 
-use crate::codes::is_code;
 use myi_keylist::PairList;
 use myi_keypage::read_page;
 use myi_keys::compare_codes;
+use myi_search::is_code;
 use std::alloc::{AllocError, Global};
 
 /// A page: its pairs, and the places of its children, of which a leaf has none.

@@ -59,8 +59,8 @@ fn can_be_read(bytes: &[u8]) -> bool
     rest.is_empty()
 }
 
-/// Whether bytes are the code of a key.
-pub(crate) fn is_code(bytes: &[u8]) -> bool
+/// Whether bytes are the code of a key. It takes no memory.
+pub fn is_code(bytes: &[u8]) -> bool
     ensures read { result ≡ is_some (key_in bytes.now) }
     ensures key { result ≡ true → key_in bytes.now ≡ Some (key_front bytes.now) }
     ensures code { result ≡ true → IsCode bytes.now }

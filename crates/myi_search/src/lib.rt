@@ -28,5 +28,6 @@ mod page;
 mod reached;
 mod search;
 
+pub use codes::is_code;
 pub use laws::searches_end_once;
 pub use search::{find, next_after};
