@@ -174,6 +174,35 @@ fn push_merge(
     }
 }
 
+fn push_rewrite(
+    out: &mut String,
+    words: &Words,
+    listed: &mut Listed,
+    at: u64,
+    row: &str,
+) -> Result<(), Fault> {
+    let packed = words.bytes(row)?;
+    if !is_row(&packed) {
+        return Err(Fault::Unread);
+    }
+    let mut list = listed.list(words.alloc(), listed.end()?)?;
+    let answer = list.rewrite_row(&mut listed.files, at, &packed);
+    listed.keep(&list);
+    push_done(out, answer)
+}
+
+fn push_release_row(
+    out: &mut String,
+    words: &Words,
+    listed: &mut Listed,
+    at: u64,
+) -> Result<(), Fault> {
+    let mut list = listed.list(words.alloc(), listed.end()?)?;
+    let answer = list.release_row(&mut listed.files, at);
+    listed.keep(&list);
+    push_done(out, answer)
+}
+
 // Makes a call, and writes its answer.
 fn push_call(
     out: &mut String,
@@ -188,14 +217,16 @@ fn push_call(
         ["release", at, size] => {
             push_release(out, words, listed, number(*at)?, four_bytes(*size)?)
         }
+        ["rewrite", at, row] => push_rewrite(out, words, listed, number(*at)?, *row),
+        ["release_row", at] => push_release_row(out, words, listed, number(*at)?),
         ["merge", at, size] => push_merge(out, words, listed, number(*at)?, four_bytes(*size)?),
         _ => Err(Fault::Unread),
     }
 }
 
 /// `list HEAD LIMIT FAULTS BYTES CALL..`: what each call on the deleted list of a data file answers, where the list
-/// begins then, the count of faults, and the file. A call is `write:ROW`, `write_at_end:ROW`, `release:AT:SIZE` or
-/// `merge:AT:SIZE`.
+/// begins then, the count of faults, and the file. A call is `write:ROW`, `write_at_end:ROW`, `release:AT:SIZE`,
+/// `merge:AT:SIZE`, `rewrite:AT:ROW` or `release_row:AT`.
 fn list(words: &Words, args: &[&str]) -> Result<String, Fault> {
     let [head, limit, faults, bytes, calls @ ..] = args else {
         return Err(Fault::Unread);

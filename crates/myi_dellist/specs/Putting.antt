@@ -32,7 +32,7 @@ pub record EndsIn (head : Option ℕ) (end : ℕ) (ps : List Piece) (t : Taken) 
   pub head_is : new.head ≡ head_by plan.next plan.rest
   pub end_is : new.end ≡ end
 
--- in a file of the length that the list says, and no other file is changed
+-- the row's blocks are written behind own blocks that it fills, and the list is that of what it takes
 pub record PutsIn (own : List Area) (name : List ℕ) (l : ListEnds) (row : List ℕ) (new : ListEnds) (m n : Holding) : Type 0 where
   pub ps : List Piece
   pub t : Taken
@@ -66,7 +66,7 @@ pub record CountsIn (d : List ℕ) (head : Option ℕ) (ps : List Piece) (t : Ta
   pub taken_is : taken ≡ length qs
   pub more_is : more ≡ more_by plan.rest
 
--- a row of so many bytes in these blocks takes so many of the list, and leaves so many more on it
+-- a row of so many bytes in these blocks has so many that stood before, its own and those of the list, and leaves so many more on the list
 pub record PutCounts (own : List Area) (d : List ℕ) (l : ListEnds) (len : ℕ) (qs : List Piece) (taken more : ℕ) : Type 0 where
   pub ps : List Piece
   pub t : Taken

@@ -324,7 +324,8 @@ impl FreeList {
 
     /// Releases the blocks of the row at a place, from the first to the last. All that is read is read before
     /// anything is written: `Damaged` comes exactly where a block that is read is not what the row's chain
-    /// or the list needs there, and then nothing is changed.
+    /// or the list needs there, and then nothing is changed. Blocks of a chain that overlap one another are
+    /// taken as they are; no row that stands has such.
     pub fn release_row<F: Files>(&mut self, files: &mut F, at: u64) -> Result<(), FreeFault>
         requires writable { IsTrue F.writable }
         requires long { IfTold (F.holds files.old) (IsLong self.old) }
@@ -362,7 +363,8 @@ impl FreeList {
     /// of them is released, once it is written. All that is read is read before anything is written: `Damaged`
     /// comes exactly where a block that is read is not what the chain of the other row or the list needs there,
     /// and then `Full` exactly where the end would not stay below its limit, or where no file can end there;
-    /// then nothing is changed.
+    /// then nothing is changed. Blocks of a chain that overlap one another are taken as they are; no row that
+    /// stands has such.
     pub fn rewrite_row<F: Files>(
         &mut self,
         files: &mut F,

@@ -38,7 +38,8 @@ pub struct Put {
     pub more: u64,
 }
 
-/// The list once a row was put, how many of its blocks the row took, and how many are on it that were not.
+/// The list once a row was put, how many of the row's blocks stood before (its own and deleted ones), and how
+/// many are on it that were not.
 #[derive(Clone, Copy)]
 pub(crate) struct Placed {
     pub list: ListEnds,

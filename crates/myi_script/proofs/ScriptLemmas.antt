@@ -105,7 +105,7 @@ silent_later m d ended n l ls k few quiet text o = record {
   outside = λ said h. o.outside said (let P : Bool → Type 0 = λ b. MatchBool b (Passes m d ended n l (take (suc o.at) ls) said) (Speaks m d ended n l (take (suc o.at) ls) said) in (subst P quiet h.1).1);
 }
 
-same_line : (m : Bool) (d : Defs) (l : List ℕ) (s t : ℕ) (a b : Act) → HaveSegments d → line_of m d l ≡ Some (s, a) → IsLine m d l t b → (s ≡ t) × (a ≡ b)
+pub same_line : (m : Bool) (d : Defs) (l : List ℕ) (s t : ℕ) (a b : Act) → HaveSegments d → line_of m d l ≡ Some (s, a) → IsLine m d l t b → (s ≡ t) × (a ≡ b)
 unfolding pair_of
 same_line m d l s t a b have e h = let k : Some (s, a) ≡ Some (t, b) = sym e ∙ line_back m d l t b have h in (ap (λ o. (pair_of o (s, a)).0) k, ap (λ o. (pair_of o (s, a)).1) k)
 

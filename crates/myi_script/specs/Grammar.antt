@@ -14,6 +14,7 @@ use Rattle.myi_script.specs.declared.types.Act.TheVariants as act
 use Rattle.myi_script.specs.declared.form.Form.{Form}
 use Rattle.myi_script.specs.Values.{field_form, segment_form, IsValue}
 
+-- the highest position
 abbrev pub highest : ℕ
 highest = 2 ^ 64 - 1
 
@@ -35,12 +36,13 @@ IsRow d text row = AreValues (row_forms d) text row × (fits d row ≡ true)
 
 -- ---- ranges
 
--- the segments of the key of this number, from 1
+-- the segments of key i, counted from 0
 abbrev pub segments_from : List Key → ℕ → List Segment
 segments_from [] i = []
 segments_from (k ∷ ks) zero = k.segments
 segments_from (k ∷ ks) (suc i) = segments_from ks i
 
+-- the segments of the key of this number, from 1
 abbrev pub segments_of : Defs → ℕ → List Segment
 segments_of d n = segments_from d.keys (n - 1)
 

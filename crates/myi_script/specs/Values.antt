@@ -87,7 +87,7 @@ FitsForm f n = MatchBool f.fixed (n ≡ f.most) (n ≤ f.most)
 
 -- ---- values: how a content is written
 
--- two hexadecimal digits a byte, 0-9 and A-F
+-- two hexadecimal digits a byte, 0-9 and A-F, of one byte at least
 abbrev pub hex_digit : ℕ → ℕ
 hex_digit d = if nat_lt d 10 then 48 + d else 55 + d
 

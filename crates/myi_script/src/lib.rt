@@ -7,7 +7,8 @@
 //! `specs/Values`.
 //!
 //! `parse_script` answers the lines that do something, or the number of the first line that is not in the
-//! grammar. That it reads exactly the grammar is the contract of `lines_are_read` in `laws`.
+//! grammar. That these are exactly what the grammar says is its contract; that no text says two things is
+//! that of the functions in `laws`.
 //!
 //! ```
 //! let script = parse_script(alloc, text, &defs, false)?;
@@ -28,6 +29,6 @@ mod types;
 mod value;
 mod words;
 
-pub use laws::{lines_are_read, values_are_read};
+pub use laws::{lines_say_one_thing, values_say_one_thing};
 pub use script::parse_script;
 pub use types::{Act, Line, Range, Script, ScriptFault};

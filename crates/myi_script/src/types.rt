@@ -9,7 +9,8 @@ use myi_pack::Row;
 use std::alloc::{AllocError, AllocFailed};
 use thiserror::Error;
 
-/// Rows whose key lies between two bounds, both of which belong to it. A bound has all segments of the key.
+/// Rows whose key is at least one bound and at most another. In a script a bound has all segments of the
+/// key.
 #[derive(Drop)]
 pub struct Range {
     /// The number of the key, from 1.
