@@ -11,8 +11,9 @@
 //! The model (`specs/Places`) is that of every data file that changes (`specs/SlotFile` of `myi_slots`) and, once they
 //! were looked up, the positions at which rows stand: where the file and the numbers stand for a state of the table
 //! (`myi_state`), each change is a step of the state, with its reply, and keeps the positions. `RowBlocks` has the
-//! changes of the blocks, `BlockFile` adds the positions. `specs/BlockFile` says what refuses a row, `specs/RowReading` which row stands at a position and how many
-//! reads its blocks may count for. The laws in `laws` join it to states.
+//! changes of the blocks, `BlockFile` adds the positions. `specs/BlockFile` says what refuses a row,
+//! `specs/RowReading` which row stands at a position and how many reads its blocks may count for. The laws in
+//! `laws` join it to states.
 //!
 //! ```
 //! let at = file.insert(&mut files, &row)?;

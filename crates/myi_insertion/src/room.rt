@@ -1,7 +1,7 @@
 //! Taking pages out of a room.
 //!
 //! `take_page` hands out a free page of the length that is asked for, and goes to the end of the room where
-//! there is none; `give_page` makes a page free again.
+//! there is none.
 ghost use Rattle.std.specs.Prelude.{◌≡◌, ◌+◌, ◌%◌, ◌^◌, ◌<◌, ◌++◌, ◌∷◌, ℕ, [], length, slice_index_or, IfOk, IfErr, IfSome, OnOk, OnErr, IsNone};
 ghost use Rattle.std.specs.List.{AllByRecursion};
 ghost use Rattle.myi_btree.specs.declared.fault.TreeFault.TheVariants.{Memory};
