@@ -16,7 +16,7 @@ use Rattle.myi_script.specs.declared.types.Act.TheVariants as act
 use Rattle.myi_script.specs.declared.types.Line.{Line}
 use Rattle.myi_script.specs.Values.{field_form}
 use Rattle.myi_script.specs.Reading.{unhex, byte_before, byte_of, digit_of, is_nil, value_of, next_value, before_values, then_values, values_of, part_of, before_parts, then_parts, parts_of, bound_of, with_from, line_of}
-use Rattle.myi_script.specs.Script.{most_lines, is_silent, has_ended, ended_by, with_line, read_lines}
+use Rattle.myi_script.specs.Script.{most_lines, does_nothing, has_ended, ended_by, with_line, read_lines}
 use Rattle.std.specs.Prelude.{nat_le, if◌then◌else◌}
 
 -- ---- digits
@@ -80,27 +80,27 @@ pub late_step : (m : Bool) (d : Defs) (ended : List ℕ) (n : ℕ) (all ls : Lis
 unfolding read_lines
 late_step m d ended n all ls l front whole e late so = sym so ∙ ap (λ q. joined_lines front (read_lines m d ended n q)) e ∙ rw late refl
 
-pub silent_step : (m : Bool) (d : Defs) (ended : List ℕ) (n : ℕ) (all ls : List (List ℕ)) (l : List ℕ) (front : List Line) (whole : Result (List Line) ℕ) → all ≡ l ∷ ls → nat_le n most_lines ≡ true → is_silent l ≡ true → is_utf8 l ≡ true
+pub nothing_step : (m : Bool) (d : Defs) (ended : List ℕ) (n : ℕ) (all ls : List (List ℕ)) (l : List ℕ) (front : List Line) (whole : Result (List Line) ℕ) → all ≡ l ∷ ls → nat_le n most_lines ≡ true → does_nothing l ≡ true → is_utf8 l ≡ true
     → joined_lines front (read_lines m d ended n all) ≡ whole → joined_lines front (read_lines m d ended (n + 1) ls) ≡ whole
 unfolding read_lines
-silent_step m d ended n all ls l front whole e few quiet text so = sym (ap (λ q. joined_lines front (read_lines m d ended n q)) e ∙ rw (few, quiet, text) refl) ∙ so
+nothing_step m d ended n all ls l front whole e few quiet text so = sym (ap (λ q. joined_lines front (read_lines m d ended n q)) e ∙ rw (few, quiet, text) refl) ∙ so
 
-pub other_step : (m : Bool) (d : Defs) (ended : List ℕ) (n : ℕ) (all ls : List (List ℕ)) (l : List ℕ) (front : List Line) (whole : Result (List Line) ℕ) → all ≡ l ∷ ls → nat_le n most_lines ≡ true → is_silent l ≡ true → is_utf8 l ≡ false
+pub other_step : (m : Bool) (d : Defs) (ended : List ℕ) (n : ℕ) (all ls : List (List ℕ)) (l : List ℕ) (front : List Line) (whole : Result (List Line) ℕ) → all ≡ l ∷ ls → nat_le n most_lines ≡ true → does_nothing l ≡ true → is_utf8 l ≡ false
     → joined_lines front (read_lines m d ended n all) ≡ whole → whole ≡ Err n
 unfolding read_lines
 other_step m d ended n all ls l front whole e few quiet text so = sym so ∙ ap (λ q. joined_lines front (read_lines m d ended n q)) e ∙ rw (few, quiet, text) refl
 
-pub outside_step : (m : Bool) (d : Defs) (ended : List ℕ) (n : ℕ) (all ls : List (List ℕ)) (l : List ℕ) (front : List Line) (whole : Result (List Line) ℕ) → all ≡ l ∷ ls → nat_le n most_lines ≡ true → is_silent l ≡ false → line_of m d l ≡ None
+pub outside_step : (m : Bool) (d : Defs) (ended : List ℕ) (n : ℕ) (all ls : List (List ℕ)) (l : List ℕ) (front : List Line) (whole : Result (List Line) ℕ) → all ≡ l ∷ ls → nat_le n most_lines ≡ true → does_nothing l ≡ false → line_of m d l ≡ None
     → joined_lines front (read_lines m d ended n all) ≡ whole → whole ≡ Err n
 unfolding read_lines
 outside_step m d ended n all ls l front whole e few loud none so = sym so ∙ ap (λ q. joined_lines front (read_lines m d ended n q)) e ∙ rw (few, loud, none) refl
 
-pub ended_step : (m : Bool) (d : Defs) (ended : List ℕ) (n : ℕ) (all ls : List (List ℕ)) (l : List ℕ) (s : ℕ) (a : Act) (front : List Line) (whole : Result (List Line) ℕ) → all ≡ l ∷ ls → nat_le n most_lines ≡ true → is_silent l ≡ false
+pub ended_step : (m : Bool) (d : Defs) (ended : List ℕ) (n : ℕ) (all ls : List (List ℕ)) (l : List ℕ) (s : ℕ) (a : Act) (front : List Line) (whole : Result (List Line) ℕ) → all ≡ l ∷ ls → nat_le n most_lines ≡ true → does_nothing l ≡ false
     → line_of m d l ≡ Some (s, a) → has_ended s ended ≡ true → joined_lines front (read_lines m d ended n all) ≡ whole → whole ≡ Err n
 unfolding read_lines
 ended_step m d ended n all ls l s a front whole e few loud said over so = sym so ∙ ap (λ q. joined_lines front (read_lines m d ended n q)) e ∙ rw (few, loud, said, over) refl
 
-pub said_step : (m : Bool) (d : Defs) (ended more : List ℕ) (n : ℕ) (all ls : List (List ℕ)) (l : List ℕ) (s : ℕ) (a : Act) (front items : List Line) (whole : Result (List Line) ℕ) → all ≡ l ∷ ls → nat_le n most_lines ≡ true → is_silent l ≡ false
+pub said_step : (m : Bool) (d : Defs) (ended more : List ℕ) (n : ℕ) (all ls : List (List ℕ)) (l : List ℕ) (s : ℕ) (a : Act) (front items : List Line) (whole : Result (List Line) ℕ) → all ≡ l ∷ ls → nat_le n most_lines ≡ true → does_nothing l ≡ false
     → line_of m d l ≡ Some (s, a) → has_ended s ended ≡ false → more ≡ ended_by s a ended → items ≡ front ++ record { session = s; line = n; act = a } ∷ [] → joined_lines front (read_lines m d ended n all) ≡ whole
     → joined_lines items (read_lines m d more (n + 1) ls) ≡ whole
 unfolding read_lines

@@ -10,7 +10,7 @@ use Rattle.myi_script.specs.declared.types.Act.{Act}
 use Rattle.myi_script.specs.declared.types.Line.{Line}
 use Rattle.myi_script.specs.Grammar.{IsLine}
 use Rattle.myi_script.specs.Reading.{line_of}
-use Rattle.myi_script.specs.Script.{most_lines, is_silent, has_ended, ended_by, AreLines, IsFirstOutside, with_line, spoken, passed, read_lines, IsScript}
+use Rattle.myi_script.specs.Script.{most_lines, does_nothing, has_ended, ended_by, AreLines, IsFirstOutside, with_line, line_said, if_utf8, read_lines, IsScript}
 use Rattle.myi_script.proofs.ValueLemmas.{le_true, le_yes}
 use Rattle.myi_script.proofs.LineLemmas.{HaveSegments, line_sound, line_back}
 
@@ -19,13 +19,13 @@ pair_of None d = d
 pair_of (Some p) d = p
 
 -- what a line that does something gives
-abbrev pub Speaks : Bool → Defs → List ℕ → ℕ → List ℕ → List (List ℕ) → List Line → Type 0
-Speaks m d ended n l ls said =
+abbrev pub LineSays : Bool → Defs → List ℕ → ℕ → List ℕ → List (List ℕ) → List Line → Type 0
+LineSays m d ended n l ls said =
     (s : ℕ) × (a : Act) × (others : List Line) × IsLine m d l s a × (has_ended s ended ≡ false)
     × (said ≡ record { session = s; line = n; act = a } ∷ others) × AreLines m d (ended_by s a ended) (n + 1) ls others
 
-abbrev pub Passes : Bool → Defs → List ℕ → ℕ → List ℕ → List (List ℕ) → List Line → Type 0
-Passes m d ended n l ls said = IsUtf8 l × AreLines m d ended (n + 1) ls said
+abbrev pub LineIsText : Bool → Defs → List ℕ → ℕ → List ℕ → List (List ℕ) → List Line → Type 0
+LineIsText m d ended n l ls said = IsUtf8 l × AreLines m d ended (n + 1) ls said
 
 pub lines_sound : (m : Bool) (d : Defs) (ended : List ℕ) (n : ℕ) (ls : List (List ℕ)) (said : List Line) → read_lines m d ended n ls ≡ Ok said → AreLines m d ended n ls said
 unfolding read_lines
@@ -33,47 +33,47 @@ lines_sound m d ended n [] said e = let k = e in let r : [] ≡ said = cc in sym
 lines_sound m d ended n (l ∷ ls) said e = few (nat_le n most_lines) refl e (λ u f. lines_sound m d ended (n + 1) ls u f) (λ g u f. lines_sound m d g (n + 1) ls u f)
   where
     last : (s : ℕ) (a : Act) (o : Result (List Line) ℕ) → read_lines m d (ended_by s a ended) (n + 1) ls ≡ o → line_of m d l ≡ Some (s, a) → has_ended s ended ≡ false
-        → with_line (record { session = s; line = n; act = a }) o ≡ Ok said → ((g : List ℕ) (u : List Line) → read_lines m d g (n + 1) ls ≡ Ok u → AreLines m d g (n + 1) ls u) → Speaks m d ended n l ls said
+        → with_line (record { session = s; line = n; act = a }) o ≡ Ok said → ((g : List ℕ) (u : List Line) → read_lines m d g (n + 1) ls ≡ Ok u → AreLines m d g (n + 1) ls u) → LineSays m d ended n l ls said
     last s a (Ok others) eo el eh h ih = (s, a, others, line_sound m d l s a el, eh, (let k = h in let r : record { session = s; line = n; act = a } ∷ others ≡ said = cc in sym r), ih (ended_by s a ended) others eo)
     last s a (Err k) eo el eh h ih = cc
 
     test : (b : Bool) (s : ℕ) (a : Act) → has_ended s ended ≡ b → line_of m d l ≡ Some (s, a) → cond b (Err n) (with_line (record { session = s; line = n; act = a }) (read_lines m d (ended_by s a ended) (n + 1) ls)) ≡ Ok said
-        → ((g : List ℕ) (u : List Line) → read_lines m d g (n + 1) ls ≡ Ok u → AreLines m d g (n + 1) ls u) → Speaks m d ended n l ls said
+        → ((g : List ℕ) (u : List Line) → read_lines m d g (n + 1) ls ≡ Ok u → AreLines m d g (n + 1) ls u) → LineSays m d ended n l ls said
     test true s a eh el h ih = cc
     test false s a eh el h ih = last s a (read_lines m d (ended_by s a ended) (n + 1) ls) refl el eh h ih
 
-    speak : (o : Option (ℕ × Act)) → line_of m d l ≡ o → spoken ended n o (λ g. read_lines m d g (n + 1) ls) ≡ Ok said → ((g : List ℕ) (u : List Line) → read_lines m d g (n + 1) ls ≡ Ok u → AreLines m d g (n + 1) ls u) → Speaks m d ended n l ls said
+    speak : (o : Option (ℕ × Act)) → line_of m d l ≡ o → line_said ended n o (λ g. read_lines m d g (n + 1) ls) ≡ Ok said → ((g : List ℕ) (u : List Line) → read_lines m d g (n + 1) ls ≡ Ok u → AreLines m d g (n + 1) ls u) → LineSays m d ended n l ls said
     speak None el h ih = cc
     speak (Some p) el h ih = test (has_ended p.0 ended) p.0 p.1 refl el h ih
 
-    pass : (b : Bool) → is_utf8 l ≡ b → cond b (read_lines m d ended (n + 1) ls) (Err n) ≡ Ok said → ((u : List Line) → read_lines m d ended (n + 1) ls ≡ Ok u → AreLines m d ended (n + 1) ls u) → Passes m d ended n l ls said
+    pass : (b : Bool) → is_utf8 l ≡ b → cond b (read_lines m d ended (n + 1) ls) (Err n) ≡ Ok said → ((u : List Line) → read_lines m d ended (n + 1) ls ≡ Ok u → AreLines m d ended (n + 1) ls u) → LineIsText m d ended n l ls said
     pass true is h ih = (IsUtf8-from_is_utf8 l is, ih said h)
     pass false is h ih = cc
 
-    go : (b : Bool) → cond b (passed n (is_utf8 l) (read_lines m d ended (n + 1) ls)) (spoken ended n (line_of m d l) (λ g. read_lines m d g (n + 1) ls)) ≡ Ok said
+    go : (b : Bool) → cond b (if_utf8 n (is_utf8 l) (read_lines m d ended (n + 1) ls)) (line_said ended n (line_of m d l) (λ g. read_lines m d g (n + 1) ls)) ≡ Ok said
         → ((u : List Line) → read_lines m d ended (n + 1) ls ≡ Ok u → AreLines m d ended (n + 1) ls u) → ((g : List ℕ) (u : List Line) → read_lines m d g (n + 1) ls ≡ Ok u → AreLines m d g (n + 1) ls u)
-        → MatchBool b (Passes m d ended n l ls said) (Speaks m d ended n l ls said)
+        → MatchBool b (LineIsText m d ended n l ls said) (LineSays m d ended n l ls said)
     go true h silent ih = pass (is_utf8 l) refl h silent
     go false h silent ih = speak (line_of m d l) refl h ih
 
-    few : (b : Bool) → nat_le n most_lines ≡ b → cond b (cond (is_silent l) (passed n (is_utf8 l) (read_lines m d ended (n + 1) ls)) (spoken ended n (line_of m d l) (λ g. read_lines m d g (n + 1) ls))) (Err n) ≡ Ok said
+    few : (b : Bool) → nat_le n most_lines ≡ b → cond b (cond (does_nothing l) (if_utf8 n (is_utf8 l) (read_lines m d ended (n + 1) ls)) (line_said ended n (line_of m d l) (λ g. read_lines m d g (n + 1) ls))) (Err n) ≡ Ok said
         → ((u : List Line) → read_lines m d ended (n + 1) ls ≡ Ok u → AreLines m d ended (n + 1) ls u) → ((g : List ℕ) (u : List Line) → read_lines m d g (n + 1) ls ≡ Ok u → AreLines m d g (n + 1) ls u)
-        → (n ≤ most_lines) × MatchBool (is_silent l) (Passes m d ended n l ls said) (Speaks m d ended n l ls said)
-    few true is h silent ih = (le_true n most_lines is, go (is_silent l) h silent ih)
+        → (n ≤ most_lines) × MatchBool (does_nothing l) (LineIsText m d ended n l ls said) (LineSays m d ended n l ls said)
+    few true is h silent ih = (le_true n most_lines is, go (does_nothing l) h silent ih)
     few false is h silent ih = cc
 
 pub lines_back : (m : Bool) (d : Defs) (ended : List ℕ) (n : ℕ) (ls : List (List ℕ)) (said : List Line) → HaveSegments d → AreLines m d ended n ls said → read_lines m d ended n ls ≡ Ok said
 unfolding read_lines
 lines_back m d ended n [] said have h = ap (λ q. Ok q) (sym h)
 lines_back m d ended n (l ∷ ls) said have h =
-    rw (le_yes n most_lines h.0) (go (is_silent l) h.1 (λ u f. lines_back m d ended (n + 1) ls u have f) (λ g u f. lines_back m d g (n + 1) ls u have f))
+    rw (le_yes n most_lines h.0) (go (does_nothing l) h.1 (λ u f. lines_back m d ended (n + 1) ls u have f) (λ g u f. lines_back m d g (n + 1) ls u have f))
   where
-    go : (b : Bool) → MatchBool b (Passes m d ended n l ls said) (Speaks m d ended n l ls said)
+    go : (b : Bool) → MatchBool b (LineIsText m d ended n l ls said) (LineSays m d ended n l ls said)
         → ((u : List Line) → AreLines m d ended (n + 1) ls u → read_lines m d ended (n + 1) ls ≡ Ok u) → ((g : List ℕ) (u : List Line) → AreLines m d g (n + 1) ls u → read_lines m d g (n + 1) ls ≡ Ok u)
-        → cond b (passed n (is_utf8 l) (read_lines m d ended (n + 1) ls)) (spoken ended n (line_of m d l) (λ g. read_lines m d g (n + 1) ls)) ≡ Ok said
+        → cond b (if_utf8 n (is_utf8 l) (read_lines m d ended (n + 1) ls)) (line_said ended n (line_of m d l) (λ g. read_lines m d g (n + 1) ls)) ≡ Ok said
     go true k silent ih = rw (is_utf8-from_IsUtf8 l k.0) (silent said k.1)
     go false k silent ih =
-        ap (λ o. spoken ended n o (λ g. read_lines m d g (n + 1) ls)) (line_back m d l k.0 k.1 have k.3)
+        ap (λ o. line_said ended n o (λ g. read_lines m d g (n + 1) ls)) (line_back m d l k.0 k.1 have k.3)
         ∙ rw k.4 (ap (λ q. with_line (record { session = k.0; line = n; act = k.1 }) q) (ih (ended_by k.0 k.1 ended) k.2 k.6) ∙ ap (λ q. Ok q) (sym k.5))
 
 -- these lines are not all in the grammar: the first of them that is not has number k
@@ -90,35 +90,35 @@ here : (m : Bool) (d : Defs) (ended : List ℕ) (n : ℕ) (l : List ℕ) (ls : L
 here m d ended n l ls k e never = record { at = 0; is = sym e ∙ omega arith; within = omega arith; said = []; before = refl; outside = never }
 
 -- a line that does something, and says nothing that may stand there
-unsaid : (m : Bool) (d : Defs) (ended : List ℕ) (n : ℕ) (l : List ℕ) (said : List Line) → is_silent l ≡ false → ((s : ℕ) (a : Act) → IsLine m d l s a → has_ended s ended ≡ false → ⊥) → AreLines m d ended n (l ∷ []) said → ⊥
+unsaid : (m : Bool) (d : Defs) (ended : List ℕ) (n : ℕ) (l : List ℕ) (said : List Line) → does_nothing l ≡ false → ((s : ℕ) (a : Act) → IsLine m d l s a → has_ended s ended ≡ false → ⊥) → AreLines m d ended n (l ∷ []) said → ⊥
 unsaid m d ended n l said loud never h =
-    let P : Bool → Type 0 = λ b. MatchBool b (Passes m d ended n l [] said) (Speaks m d ended n l [] said) in
+    let P : Bool → Type 0 = λ b. MatchBool b (LineIsText m d ended n l [] said) (LineSays m d ended n l [] said) in
     let w = subst P loud h.1 in never w.0 w.1 w.3 w.4
 
-silent_later : (m : Bool) (d : Defs) (ended : List ℕ) (n : ℕ) (l : List ℕ) (ls : List (List ℕ)) (k : ℕ) → n ≤ most_lines → is_silent l ≡ true → IsUtf8 l → Outside m d ended (n + 1) ls k → Outside m d ended n (l ∷ ls) k
-silent_later m d ended n l ls k few quiet text o = record {
+nothing_later : (m : Bool) (d : Defs) (ended : List ℕ) (n : ℕ) (l : List ℕ) (ls : List (List ℕ)) (k : ℕ) → n ≤ most_lines → does_nothing l ≡ true → IsUtf8 l → Outside m d ended (n + 1) ls k → Outside m d ended n (l ∷ ls) k
+nothing_later m d ended n l ls k few quiet text o = record {
   at = suc o.at;
   is = o.is ∙ omega arith;
   within = (let w = o.within in omega arith);
   said = o.said;
   before = (few, rw quiet (text, o.before));
-  outside = λ said h. o.outside said (let P : Bool → Type 0 = λ b. MatchBool b (Passes m d ended n l (take (suc o.at) ls) said) (Speaks m d ended n l (take (suc o.at) ls) said) in (subst P quiet h.1).1);
+  outside = λ said h. o.outside said (let P : Bool → Type 0 = λ b. MatchBool b (LineIsText m d ended n l (take (suc o.at) ls) said) (LineSays m d ended n l (take (suc o.at) ls) said) in (subst P quiet h.1).1);
 }
 
 pub same_line : (m : Bool) (d : Defs) (l : List ℕ) (s t : ℕ) (a b : Act) → HaveSegments d → line_of m d l ≡ Some (s, a) → IsLine m d l t b → (s ≡ t) × (a ≡ b)
 unfolding pair_of
 same_line m d l s t a b have e h = let k : Some (s, a) ≡ Some (t, b) = sym e ∙ line_back m d l t b have h in (ap (λ o. (pair_of o (s, a)).0) k, ap (λ o. (pair_of o (s, a)).1) k)
 
-spoken_later : (m : Bool) (d : Defs) (ended : List ℕ) (n : ℕ) (l : List ℕ) (ls : List (List ℕ)) (k s : ℕ) (a : Act) → HaveSegments d → n ≤ most_lines → is_silent l ≡ false → line_of m d l ≡ Some (s, a) → has_ended s ended ≡ false
+said_later : (m : Bool) (d : Defs) (ended : List ℕ) (n : ℕ) (l : List ℕ) (ls : List (List ℕ)) (k s : ℕ) (a : Act) → HaveSegments d → n ≤ most_lines → does_nothing l ≡ false → line_of m d l ≡ Some (s, a) → has_ended s ended ≡ false
     → Outside m d (ended_by s a ended) (n + 1) ls k → Outside m d ended n (l ∷ ls) k
-spoken_later m d ended n l ls k s a have few quiet el eh o = record {
+said_later m d ended n l ls k s a have few quiet el eh o = record {
   at = suc o.at;
   is = o.is ∙ omega arith;
   within = (let w = o.within in omega arith);
   said = record { session = s; line = n; act = a } ∷ o.said;
   before = (few, rw quiet (s, a, o.said, line_sound m d l s a el, eh, refl, o.before));
   outside = λ said h. (
-      let P : Bool → Type 0 = λ b. MatchBool b (Passes m d ended n l (take (suc o.at) ls) said) (Speaks m d ended n l (take (suc o.at) ls) said) in
+      let P : Bool → Type 0 = λ b. MatchBool b (LineIsText m d ended n l (take (suc o.at) ls) said) (LineSays m d ended n l (take (suc o.at) ls) said) in
       let w = subst P quiet h.1 in
       let e = same_line m d l s w.0 a w.1 have el w.3 in
       let Q : List ℕ → Type 0 = λ g. AreLines m d g (n + 1) (take (suc o.at) ls) w.2 in
@@ -130,36 +130,36 @@ unfolding read_lines
 lines_outside m d ended n [] k have e = cc
 lines_outside m d ended n (l ∷ ls) k have e = few (nat_le n most_lines) refl e (λ g f. lines_outside m d g (n + 1) ls k have f)
   where
-    last : (s : ℕ) (a : Act) (o : Result (List Line) ℕ) → read_lines m d (ended_by s a ended) (n + 1) ls ≡ o → n ≤ most_lines → is_silent l ≡ false → line_of m d l ≡ Some (s, a) → has_ended s ended ≡ false
+    last : (s : ℕ) (a : Act) (o : Result (List Line) ℕ) → read_lines m d (ended_by s a ended) (n + 1) ls ≡ o → n ≤ most_lines → does_nothing l ≡ false → line_of m d l ≡ Some (s, a) → has_ended s ended ≡ false
         → with_line (record { session = s; line = n; act = a }) o ≡ Err k → ((g : List ℕ) → read_lines m d g (n + 1) ls ≡ Err k → Outside m d g (n + 1) ls k) → Outside m d ended n (l ∷ ls) k
     last s a (Ok others) eo le quiet el eh h ih = cc
-    last s a (Err j) eo le quiet el eh h ih = spoken_later m d ended n l ls k s a have le quiet el eh (ih (ended_by s a ended) (eo ∙ (let q = h in let r : j ≡ k = cc in ap (λ i. Err i) r)))
+    last s a (Err j) eo le quiet el eh h ih = said_later m d ended n l ls k s a have le quiet el eh (ih (ended_by s a ended) (eo ∙ (let q = h in let r : j ≡ k = cc in ap (λ i. Err i) r)))
 
-    test : (b : Bool) (s : ℕ) (a : Act) → has_ended s ended ≡ b → n ≤ most_lines → is_silent l ≡ false → line_of m d l ≡ Some (s, a) → cond b (Err n) (with_line (record { session = s; line = n; act = a }) (read_lines m d (ended_by s a ended) (n + 1) ls)) ≡ Err k
+    test : (b : Bool) (s : ℕ) (a : Act) → has_ended s ended ≡ b → n ≤ most_lines → does_nothing l ≡ false → line_of m d l ≡ Some (s, a) → cond b (Err n) (with_line (record { session = s; line = n; act = a }) (read_lines m d (ended_by s a ended) (n + 1) ls)) ≡ Err k
         → ((g : List ℕ) → read_lines m d g (n + 1) ls ≡ Err k → Outside m d g (n + 1) ls k) → Outside m d ended n (l ∷ ls) k
     test true s a eh le quiet el h ih =
         here m d ended n l ls k (let q = h in cc) (λ said lines. unsaid m d ended n l said quiet (λ t b line open_yet. let e = same_line m d l s t a b have el line in let bad : true ≡ false = sym eh ∙ ap (λ q. has_ended q ended) e.0 ∙ open_yet in cc) lines)
     test false s a eh le quiet el h ih = last s a (read_lines m d (ended_by s a ended) (n + 1) ls) refl le quiet el eh h ih
 
-    speak : (o : Option (ℕ × Act)) → line_of m d l ≡ o → n ≤ most_lines → is_silent l ≡ false → spoken ended n o (λ g. read_lines m d g (n + 1) ls) ≡ Err k → ((g : List ℕ) → read_lines m d g (n + 1) ls ≡ Err k → Outside m d g (n + 1) ls k) → Outside m d ended n (l ∷ ls) k
+    speak : (o : Option (ℕ × Act)) → line_of m d l ≡ o → n ≤ most_lines → does_nothing l ≡ false → line_said ended n o (λ g. read_lines m d g (n + 1) ls) ≡ Err k → ((g : List ℕ) → read_lines m d g (n + 1) ls ≡ Err k → Outside m d g (n + 1) ls k) → Outside m d ended n (l ∷ ls) k
     speak None el le quiet h ih = here m d ended n l ls k (let q = h in cc) (λ said lines. unsaid m d ended n l said quiet (λ t b line _. let bad : None ≡ Some (t, b) = sym el ∙ line_back m d l t b have line in cc) lines)
     speak (Some p) el le quiet h ih = test (has_ended p.0 ended) p.0 p.1 refl le quiet el h ih
 
-    pass : (b : Bool) → is_utf8 l ≡ b → n ≤ most_lines → is_silent l ≡ true → cond b (read_lines m d ended (n + 1) ls) (Err n) ≡ Err k → ((g : List ℕ) → read_lines m d g (n + 1) ls ≡ Err k → Outside m d g (n + 1) ls k) → Outside m d ended n (l ∷ ls) k
-    pass true is le quiet h ih = silent_later m d ended n l ls k le quiet (IsUtf8-from_is_utf8 l is) (ih ended h)
+    pass : (b : Bool) → is_utf8 l ≡ b → n ≤ most_lines → does_nothing l ≡ true → cond b (read_lines m d ended (n + 1) ls) (Err n) ≡ Err k → ((g : List ℕ) → read_lines m d g (n + 1) ls ≡ Err k → Outside m d g (n + 1) ls k) → Outside m d ended n (l ∷ ls) k
+    pass true is le quiet h ih = nothing_later m d ended n l ls k le quiet (IsUtf8-from_is_utf8 l is) (ih ended h)
     pass false is le quiet h ih =
         here m d ended n l ls k (let q = h in cc) (λ said lines.
-        let P : Bool → Type 0 = λ b. MatchBool b (Passes m d ended n l [] said) (Speaks m d ended n l [] said) in
+        let P : Bool → Type 0 = λ b. MatchBool b (LineIsText m d ended n l [] said) (LineSays m d ended n l [] said) in
         let bad : true ≡ false = sym (is_utf8-from_IsUtf8 l (subst P quiet lines.1).0) ∙ is in cc)
 
-    go : (b : Bool) → is_silent l ≡ b → n ≤ most_lines → cond b (passed n (is_utf8 l) (read_lines m d ended (n + 1) ls)) (spoken ended n (line_of m d l) (λ g. read_lines m d g (n + 1) ls)) ≡ Err k
+    go : (b : Bool) → does_nothing l ≡ b → n ≤ most_lines → cond b (if_utf8 n (is_utf8 l) (read_lines m d ended (n + 1) ls)) (line_said ended n (line_of m d l) (λ g. read_lines m d g (n + 1) ls)) ≡ Err k
         → ((g : List ℕ) → read_lines m d g (n + 1) ls ≡ Err k → Outside m d g (n + 1) ls k) → Outside m d ended n (l ∷ ls) k
     go true is le h ih = pass (is_utf8 l) refl le is h ih
     go false is le h ih = speak (line_of m d l) refl le is h ih
 
-    few : (b : Bool) → nat_le n most_lines ≡ b → cond b (cond (is_silent l) (passed n (is_utf8 l) (read_lines m d ended (n + 1) ls)) (spoken ended n (line_of m d l) (λ g. read_lines m d g (n + 1) ls))) (Err n) ≡ Err k
+    few : (b : Bool) → nat_le n most_lines ≡ b → cond b (cond (does_nothing l) (if_utf8 n (is_utf8 l) (read_lines m d ended (n + 1) ls)) (line_said ended n (line_of m d l) (λ g. read_lines m d g (n + 1) ls))) (Err n) ≡ Err k
         → ((g : List ℕ) → read_lines m d g (n + 1) ls ≡ Err k → Outside m d g (n + 1) ls k) → Outside m d ended n (l ∷ ls) k
-    few true is h ih = go (is_silent l) refl (le_true n most_lines is) h ih
+    few true is h ih = go (does_nothing l) refl (le_true n most_lines is) h ih
     few false is h ih = here m d ended n l ls k (let q = h in cc) (λ said lines. let bad : true ≡ false = sym (le_yes n most_lines lines.0) ∙ is in cc)
 
 pub first_outside : (m : Bool) (d : Defs) (ls : List (List ℕ)) (k : ℕ) → HaveSegments d → read_lines m d [] 1 ls ≡ Err k → IsFirstOutside m d ls k

@@ -16,9 +16,9 @@ abbrev pub most_lines : ℕ
 most_lines = 4294967294
 
 -- an empty line or a comment
-abbrev pub is_silent : List ℕ → Bool
-is_silent [] = true
-is_silent (c ∷ cs) = c == 59
+abbrev pub does_nothing : List ℕ → Bool
+does_nothing [] = true
+does_nothing (c ∷ cs) = c == 59
 
 abbrev pub has_ended : ℕ → List ℕ → Bool
 has_ended s ended = list_any (λ e. e == s) ended
@@ -34,7 +34,7 @@ ended_by s a ended = if is_end a then ended ++ s ∷ [] else ended
 abbrev pub AreLines : Bool → Defs → List ℕ → ℕ → List (List ℕ) → List Line → Type 0
 AreLines merge d ended n [] said = said ≡ []
 AreLines merge d ended n (l ∷ ls) said =
-    (n ≤ most_lines) × MatchBool (is_silent l) (IsUtf8 l × AreLines merge d ended (n + 1) ls said)
+    (n ≤ most_lines) × MatchBool (does_nothing l) (IsUtf8 l × AreLines merge d ended (n + 1) ls said)
     ((s : ℕ) × (a : Act) × (others : List Line) × IsLine merge d l s a × (has_ended s ended ≡ false)
     × (said ≡ record { session = s; line = n; act = a } ∷ others) × AreLines merge d (ended_by s a ended) (n + 1) ls others)
 
@@ -55,16 +55,16 @@ abbrev pub with_line : Line → Result (List Line) ℕ → Result (List Line) �
 with_line l (Ok others) = Ok (l ∷ others)
 with_line l (Err k) = Err k
 
-abbrev pub spoken : List ℕ → ℕ → Option (ℕ × Act) → (List ℕ → Result (List Line) ℕ) → Result (List Line) ℕ
-spoken ended n None more = Err n
-spoken ended n (Some p) more = if has_ended p.0 ended then Err n else with_line (record { session = p.0; line = n; act = p.1 }) (more (ended_by p.0 p.1 ended))
+abbrev pub line_said : List ℕ → ℕ → Option (ℕ × Act) → (List ℕ → Result (List Line) ℕ) → Result (List Line) ℕ
+line_said ended n None more = Err n
+line_said ended n (Some p) more = if has_ended p.0 ended then Err n else with_line (record { session = p.0; line = n; act = p.1 }) (more (ended_by p.0 p.1 ended))
 
-abbrev pub passed : ℕ → Bool → Result (List Line) ℕ → Result (List Line) ℕ
-passed n text more = if text then more else Err n
+abbrev pub if_utf8 : ℕ → Bool → Result (List Line) ℕ → Result (List Line) ℕ
+if_utf8 n text more = if text then more else Err n
 
 unfoldable pub read_lines : Bool → Defs → List ℕ → ℕ → List (List ℕ) → Result (List Line) ℕ
 read_lines merge d ended n [] = Ok []
 read_lines merge d ended n (l ∷ ls) =
     if nat_le n most_lines
-    then (if is_silent l then passed n (is_utf8 l) (read_lines merge d ended (n + 1) ls) else spoken ended n (line_of merge d l) (λ e. read_lines merge d e (n + 1) ls))
+    then (if does_nothing l then if_utf8 n (is_utf8 l) (read_lines merge d ended (n + 1) ls) else line_said ended n (line_of merge d l) (λ e. read_lines merge d e (n + 1) ls))
     else Err n

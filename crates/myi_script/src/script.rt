@@ -34,8 +34,8 @@ fn without_end(text: &[u8]) -> &[u8]
 }
 
 // Whether a line is empty or a comment.
-fn is_silent(line: &[u8]) -> bool
-    ensures { result ≡ spec.is_silent line.now }
+fn does_nothing(line: &[u8]) -> bool
+    ensures { result ≡ spec.does_nothing line.now }
 {
     match line {
         [] => true,
@@ -94,7 +94,7 @@ fn read_lines(
         if number > MOST_LINES {
             return Err(ScriptFault::Line(number));
         }
-        if is_silent(text) {
+        if does_nothing(text) {
             if !is_utf8(text) {
                 return Err(ScriptFault::Line(number));
             }

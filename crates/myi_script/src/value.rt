@@ -35,7 +35,7 @@ fn byte_of(first: u8, second: u8) -> Option<u8>
 fn unhex(alloc: Global, word: &[u8]) -> Result<Option<Value>, AllocError>
     ensures { IfOk result (λ v. v ≡ spec.unhex word.now) }
 {
-    let mut bytes = Vec::new(alloc);
+    let mut bytes = Vec::with_capacity(alloc, word.len() / 2)?;
     let mut rest = word;
     while let [first, second, tail @ ..] = rest {
         match byte_of(*first, *second) {
