@@ -29,9 +29,17 @@ Carries P p q = (m n : Holding) → P m n → P (pending_done p m) (pending_done
 abbrev pub HasNone : Pending → List ℕ → Type 0
 HasNone p name = (m : Holding) → pending_done p m name ≡ m name
 
+-- nothing is to be written
+abbrev pub IsDone : Pending → Type 0
+IsDone p = p.bytes.items ≡ []
+
+-- something is to be written
+abbrev pub HasSome : Pending → Type 0
+HasSome p = p.bytes.items ≢ []
+
 -- some are to be written to this file
 pub record IsFor (p : Pending) (name : List ℕ) : Type 0 where
-  pub some : p.bytes.items ≢ []
+  pub some : HasSome p
   pub file : string_bytes p.name ≡ name
 
 -- bytes for this place go on where the writes end, where there are any

@@ -3,7 +3,7 @@
 //! It tells what the files below it hold with the gathered writes done, and has the contract of
 //! `Files` over any files that may be changed. The gathered writes are done before a write elsewhere,
 //! before their file is read, measured or handed to a reader, before any file is cut or renamed, and
-//! by `flush`. Where doing them fails they stay gathered. A file that is removed takes its own along.
+//! by `flush`. Where doing them fails they stay gathered. Those to a file that is removed are given up.
 ghost use Rattle.std.specs.Prelude.{◌≡◌, ◌≢◌, ◌+◌};
 ghost use Rattle.std.specs.Prelude.{[], true, length, IsTrue, OnOk, OnErr, string_bytes};
 ghost use Rattle.myi_base.specs.Holding.{Keeps, Removes, Writes};
@@ -17,18 +17,18 @@ use std::alloc::{AllocError, Global};
 
 /// Files that may be changed, and what `Gathering` does with them. An impl gives nothing of its own.
 pub trait Writable: Files {
-    ghost use Rattle.std.specs.Prelude.{◌≡◌, ◌≢◌, [], IsTrue, OnOk, OnErr};
+    ghost use Rattle.std.specs.Prelude.{◌≡◌, IsTrue, OnOk, OnErr};
     ghost use Rattle.myi_base.specs.Causes.{HasCause};
     ghost use Rattle.myi_io.specs.declared.files.FileErr.TheVariants.{Failed};
-    ghost use Rattle.myi_io.specs.Gathering.{SameShown, HasNone, IsNext, IsFor};
+    ghost use Rattle.myi_io.specs.Gathering.{SameShown, HasNone, HasSome, IsDone, IsNext, IsFor};
 
     /// Does the writes. Where that fails they stay.
     fn write_out(&mut self, pending: &mut Pending) -> Result<(), FileErr>
         requires { IsTrue Self.writable }
         ensures shows { SameShown pending.old (Self.holds self.old)
             pending.new (Self.holds self.new) }
-        ensures done { OnOk result (pending.new.bytes.items ≡ []) }
-        ensures some { OnErr result (pending.old.bytes.items ≢ []) }
+        ensures done { OnOk result (IsDone pending.new) }
+        ensures some { OnErr result (HasSome pending.old) }
         ensures reads { Self.reads self.new ≡ Self.reads self.old }
         ensures cause { HasCause Failed (Self.faults self.old) (Self.faults self.new) result }
     {
@@ -128,6 +128,7 @@ impl<F: Writable + Drop> Gathering<F> {
     /// Nothing is gathered yet.
     pub fn new(alloc: Global, files: F) -> Self
         requires { IsTrue F.writable }
+        ensures below { result.files ≡ files }
         ensures holds { ⟦<Gathering<F> as Files>⟧.holds result ≡ F.holds files }
         ensures faults { ⟦<Gathering<F> as Files>⟧.faults result ≡ F.faults files }
         ensures reads { ⟦<Gathering<F> as Files>⟧.reads result ≡ F.reads files }
@@ -140,7 +141,7 @@ impl<F: Writable + Drop> Gathering<F> {
         }
     }
 
-    /// Does the gathered writes. A program calls it before it ends. Where it fails they stay gathered.
+    /// Does the gathered writes. A program calls it before it ends. Where it fails they stay.
     pub fn flush(&mut self) -> Result<(), FileErr>
         ensures holds { ⟦<Gathering<F> as Files>⟧.holds self.new
             ≡ ⟦<Gathering<F> as Files>⟧.holds self.old }
@@ -156,8 +157,8 @@ impl<F: Writable + Drop> Gathering<F> {
     }
 }
 
-/// Beside the clauses of the trait: a fault of its own, beside those of the files below, is counted by a
-/// read alone, for whose file writes are gathered, where doing them wants memory (`own`).
+/// Beside the clauses of the trait: a fault of its own, beside those of the files below, is counted by
+/// a read alone, for whose file writes are gathered, where doing them wants memory (`own`).
 impl<F: Writable + Drop> Files for Gathering<F> {
     type Reader = F::Reader;
 
@@ -183,7 +184,8 @@ impl<F: Writable + Drop> Files for Gathering<F> {
 
     fn length(&mut self, name: &str) -> Result<Option<u64>, FileErr>
         ensures told { IfOk result (λ size.
-            IfTold (told_with self.old (F.holds self.old.files)) (λ m. Measures (m name.now) size)) }
+            IfTold (told_with self.old (F.holds self.old.files))
+            (λ m. Measures (m name.now) size)) }
         ensures holds { told_with self.new (F.holds self.new.files)
             ≡ told_with self.old (F.holds self.old.files) }
         ensures reads { F.reads self.new.files ≡ F.reads self.old.files }
@@ -199,9 +201,11 @@ impl<F: Writable + Drop> Files for Gathering<F> {
     fn read_at(&mut self, name: &str, at: u64, into: &mut [u8]) -> Result<usize, FileErr>
         ensures bound { IfOk result (λ count. count ≤ length into.new) }
         ensures told { IfOk result (λ count.
-            IfTold (told_with self.old (F.holds self.old.files)) (Gives name.now at into.old count)) }
+            IfTold (told_with self.old (F.holds self.old.files))
+            (Gives name.now at into.old count)) }
         ensures bytes { OnOk result
-            (IfTold (told_with self.old (F.holds self.old.files)) (Fills name.now at into.old into.new)) }
+            (IfTold (told_with self.old (F.holds self.old.files))
+            (Fills name.now at into.old into.new)) }
         ensures failed { IfErr result (λ e. e ≡ Failed) }
         ensures holds { told_with self.new (F.holds self.new.files)
             ≡ told_with self.old (F.holds self.old.files) }
