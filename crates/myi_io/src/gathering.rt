@@ -1,4 +1,4 @@
-//! `Gathering`: files whose writes that follow one another are gathered into large ones.
+//! `Gathering`: files whose small writes that follow one another are gathered into large ones.
 //!
 //! It tells what the files below it hold with the gathered writes done, and has the contract of
 //! `Files` over any files that may be changed. The gathered writes are done before a write elsewhere,
@@ -11,7 +11,7 @@ ghost use Rattle.myi_base.specs.Causes.{HasCause};
 ghost use Rattle.myi_io.specs.declared.files.FileErr.TheVariants.{Failed};
 ghost use Rattle.myi_io.specs.Gathering.{IsNext, Does, Carries};
 
-use crate::pending::Pending;
+use crate::pending::{Pending, goes_alone};
 use crate::{FileErr, Files};
 use std::alloc::{AllocError, Global};
 
@@ -240,7 +240,7 @@ impl<F: Writable + Drop> Files for Gathering<F> {
             (faults_with self.new (F.faults self.new.files)) result }
         ensures own { SameOwn self.old self.new }
     {
-        if bytes.is_empty() {
+        if goes_alone(bytes) {
             self.files.write_out(&mut self.pending)?;
             self.files.write_at(name, at, bytes)?;
             return Ok(());

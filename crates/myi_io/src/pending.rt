@@ -9,6 +9,13 @@ use std::alloc::{AllocError, Global};
 // So many gathered bytes are written before more are taken.
 const GATHERED: usize = 1 << 20;
 
+/// Whether bytes are not gathered: there are none, or as many as one write is to have.
+pub(crate) fn goes_alone(bytes: &[u8]) -> bool
+    ensures { bytes.now ≡ [] → IsTrue result }
+{
+    bytes.is_empty() || bytes.len() >= GATHERED
+}
+
 /// Bytes for one file from a place on. Where there are none, nothing is to be written.
 pub struct Pending {
     pub(crate) name: String,
