@@ -3,7 +3,9 @@ ghost use Rattle.std.specs.Prelude.{◌≡◌, true, IfOk};
 ghost use Rattle.myi_defs.specs.Sound.{IsSound};
 ghost use Rattle.myi_defs.specs.declared.types.RowFormat.TheVariants.{Dynamic};
 
-use crate::tables::{NAME, keep, push_numbers, push_place, push_row, row, state_of, stored};
+use crate::tables::{
+    NAME, keep, push_done, push_numbers, push_place, push_row, row, state_of, stored,
+};
 use case_lines::{Fault, Untold, Words, number, push_file, sides};
 use myi_blocks::BlockFile;
 use myi_defs::{Defs, RowFormat};
@@ -26,6 +28,7 @@ fn push_answer(
     match name {
         "insert" => push_place(out, file.insert(files, &row(words, defs, args)?)),
         "insert_at_end" => push_place(out, file.insert_at_end(files, &row(words, defs, args)?)),
+        "delete" => push_done(out, file.delete_at(files, number(args)?)),
         "read" => push_row(out, file.read_at(files, number(args)?)),
         "row" => push_row(out, file.row_at(files, number(args)?)),
         _ => Err(Fault::Unread),
@@ -62,7 +65,7 @@ fn push_answers(
 
 /// `blocks DEFINITIONS FAULTS RECORDS,DEL,SPLIT,EMPTY DELLINK BYTES CALL..`: what each call on the data file of a
 /// dynamic table answers, the table's numbers then, the count of faults, and the file. A call is `insert:VALUE,..`,
-/// `insert_at_end:VALUE,..`, `read:AT` or `row:AT`.
+/// `insert_at_end:VALUE,..`, `delete:AT`, `read:AT` or `row:AT`.
 fn blocks(words: &Words, args: &[&str]) -> Result<String, Fault> {
     let [defs, faults, numbers, dellink, bytes, calls @ ..] = args else {
         return Err(Fault::Unread);

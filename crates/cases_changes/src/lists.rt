@@ -200,7 +200,10 @@ fn push_release_row(
     let mut list = listed.list(words.alloc(), listed.end()?)?;
     let answer = list.release_row(&mut listed.files, at);
     listed.keep(&list);
-    push_done(out, answer)
+    match answer {
+        Ok(_) => push_done(out, Ok(())),
+        Err(fault) => push_fault(out, fault),
+    }
 }
 
 // Makes a call, and writes its answer.

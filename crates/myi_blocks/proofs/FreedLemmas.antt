@@ -22,7 +22,7 @@ use Rattle.myi_blocks.proofs.PutLemmas.{rows-stay, far-across}
 use Rattle.myi_blocks.proofs.CountLemmas.{tiled_bytes, total_both}
 
 -- what holds of the areas of all rows holds of those of one, and of the others
-row_parts : (P : Area → Type 0) (at : ℕ) (rows : List StoredRow) (r : StoredRow) → row_at at rows ≡ Some r → AllByRecursion P (row_areas rows) → AllByRecursion P r.blocks × AllByRecursion P (row_areas (rows_without at rows))
+pub row_parts : (P : Area → Type 0) (at : ℕ) (rows : List StoredRow) (r : StoredRow) → row_at at rows ≡ Some r → AllByRecursion P (row_areas rows) → AllByRecursion P r.blocks × AllByRecursion P (row_areas (rows_without at rows))
 row_parts P at [] r e all = absurd cc
 row_parts P at (q ∷ qs) r e all = by_test (q.at == at) e (row_parts P at qs r) (all-split P q.blocks (row_areas qs) all)
   where
@@ -30,10 +30,10 @@ row_parts P at (q ∷ qs) r e all = by_test (q.at == at) e (row_parts P at qs r)
     by_test true f ih both = let same : q ≡ r = cc in (subst (λ (z : StoredRow). AllByRecursion P z.blocks) same both.0, both.1)
     by_test false f ih both = let t = ih f both.1 in (t.0, all-join P q.blocks (row_areas (rows_without at qs)) both.0 t.1)
 
-abbrev behind_delete : TableState → ℕ → StoredRow → TableState
+abbrev pub behind_delete : TableState → ℕ → StoredRow → TableState
 behind_delete s at r = record { rows = rows_without at s.rows; space = record { holes = release_all r.blocks s.space.holes; end = s.space.end } }
 
-deleted_state : (d : Defs) (s : TableState) (at : ℕ) (r : StoredRow) → d.format ≡ Dynamic → row_at at s.rows ≡ Some r → (accepted d s (delete at)).state ≡ behind_delete s at r
+pub deleted_state : (d : Defs) (s : TableState) (at : ℕ) (r : StoredRow) → d.format ≡ Dynamic → row_at at s.rows ≡ Some r → (accepted d s (delete at)).state ≡ behind_delete s at r
 unfolding accepted
 deleted_state d s at r dynamic here =
     ap (λ (o : Option StoredRow). (without_row d s at o).state) here

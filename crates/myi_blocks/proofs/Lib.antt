@@ -8,3 +8,6 @@ pub mod LinkLemmas
 pub mod RowAtLemmas
 pub mod NoteLemmas
 pub mod FreedLemmas
+pub mod RowLemmas
+pub mod DeleteLemmas
+pub mod GoneLemmas

@@ -40,14 +40,14 @@ taken_by s done None at e = (ok_is done.at at (Ok done.at) (Ok at) refl refl e, 
 taken_by s done (Some r) at e = absurd cc
 
 -- a step that answers a position was taken there
-step_taken : (d : Defs) (s : TableState) (c : Change) (at : ℕ) → (step d s c).reply ≡ Ok at → ((accepted d s c).at ≡ at) × ((step d s c).state ≡ (accepted d s c).state)
+pub step_taken : (d : Defs) (s : TableState) (c : Change) (at : ℕ) → (step d s c).reply ≡ Ok at → ((accepted d s c).at ≡ at) × ((step d s c).state ≡ (accepted d s c).state)
 unfolding step
 step_taken d s c at e = taken_by s (accepted d s c) (refusal d s c) at e
 
-at_same : (a p : ℕ) → is_at (nat_cmp a) p ≡ true → a ≡ p
+pub at_same : (a p : ℕ) → is_at (nat_cmp a) p ≡ true → a ≡ p
 at_same a p e = grind (arith, nat_tests, e)
 
-at_other : (a p : ℕ) → is_at (nat_cmp a) p ≡ false → p ≢ a
+pub at_other : (a p : ℕ) → is_at (nat_cmp a) p ≡ false → p ≢ a
 at_other a p e same = grind (arith, nat_tests, e, same)
 
 kept_notes : (at : ℕ) (old new : Option (List ℕ)) (rows then : List StoredRow) → MayNote at old new → AreNoted old rows → ((p : ℕ) → p ≢ at → row_at p then ≡ row_at p rows) → is_some (row_at at then) ≡ true → AreNoted new then
@@ -59,7 +59,7 @@ kept_notes at (Some ps) (Some qs) rows then may noted others there = λ p. by p 
     by p true e = may p ∙ ap (λ (t : Bool). cond t true (is_among p ps)) e ∙ sym there ∙ ap (λ (n : ℕ). is_some (row_at n then)) (at_same at p e)
     by p false e = may p ∙ ap (λ (t : Bool). cond t true (is_among p ps)) e ∙ noted p ∙ ap (λ (o : Option StoredRow). is_some o) (sym (others p (at_other at p e)))
 
-has_some : (values : Values) (o : Option StoredRow) → HasValues values o → is_some o ≡ true
+pub has_some : (values : Values) (o : Option StoredRow) → HasValues values o → is_some o ≡ true
 has_some values None h = absurd h
 has_some values (Some r) h = refl
 
@@ -125,7 +125,7 @@ looked-up f s m None None rows read noted = tt
 looked-up f s m None (Some ps) rows read noted = read-noted f s m ps rows read
 looked-up f s m (Some ps) new rows read noted = subst (λ (o : Option (List ℕ)). AreNoted o s.rows) (sym read) noted
 
-noted_is : (at : ℕ) (is : Bool) (o : Option (List ℕ)) (rows : List StoredRow) → HasNoted at is o → AreNoted o rows → is_some (row_at at rows) ≡ is
+pub noted_is : (at : ℕ) (is : Bool) (o : Option (List ℕ)) (rows : List StoredRow) → HasNoted at is o → AreNoted o rows → is_some (row_at at rows) ≡ is
 noted_is at is None rows has noted = absurd has
 noted_is at is (Some ps) rows has noted = sym (noted at) ∙ has
 

@@ -42,7 +42,7 @@ linked_of read p [] l all = absurd l
 linked_of read p (b ∷ []) l all = let at : p ≡ b.at = cc in (ap read at ∙ all.0, l.1)
 linked_of read p (b ∷ c ∷ bs) l all = let at : p ≡ b.at = cc in (ap read at ∙ all.0, l.1, tail_linked read b.next (c ∷ bs) l.2 all.1)
 
-promises : (bs : List Block) → said_len bs ≡ promised bs
+pub promises : (bs : List Block) → said_len bs ≡ promised bs
 promises [] = refl
 promises (b ∷ bs) = refl
 
@@ -124,7 +124,7 @@ apart_left : (xs ys : List Area) → AreApart (xs ++ ys) → AreApart xs
 apart_left [] ys apart = tt
 apart_left (x ∷ xs) ys apart = ((all-split (IsApart x) xs ys apart.0).0, apart_left xs ys apart.1)
 
-apart_right : (xs ys : List Area) → AreApart (xs ++ ys) → AreApart ys
+pub apart_right : (xs ys : List Area) → AreApart (xs ++ ys) → AreApart ys
 apart_right [] ys apart = apart
 apart_right (x ∷ xs) ys apart = apart_right xs ys apart.1
 

@@ -5,11 +5,15 @@ use Rattle.myi_base.specs.Holding.{Holding, bytes_of}
 use Rattle.myi_defs.specs.declared.types.Defs.{Defs}
 use Rattle.myi_defs.specs.Addressable.{is_addressable}
 use Rattle.myi_dellist.specs.declared.rows.Put.{Put}
+use Rattle.myi_dellist.specs.declared.rows.Freed.{Freed}
+use Rattle.myi_dellist.specs.declared.rows.Replaced.{Replaced}
 use Rattle.myi_dellist.specs.Areas.{Area}
 use Rattle.myi_dellist.specs.Standing.{first_or}
 use Rattle.myi_dellist.specs.Placing.{place_at_end}
 use Rattle.myi_dellist.specs.FreeList.{ListState}
 use Rattle.myi_dellist.specs.Putting.{PutBad, PutLong}
+use Rattle.myi_dellist.specs.Freed.{RowFindsBad}
+use Rattle.myi_dellist.specs.Replacing.{RewriteFindsBad, OwnLong}
 use Rattle.myi_state.specs.declared.counts.Counts.{Counts}
 use Rattle.myi_state.specs.Numbers.{total_bytes}
 use Rattle.myi_slots.specs.SlotFile.{SlotFile, risen}
@@ -38,6 +42,18 @@ FindsBad f len at m = PutBad (bytes_of f.name m) f.counts.dellink len at
 abbrev pub LacksRoom : SlotFile → ℕ → Holding → Type 0
 LacksRoom f len m = PutLong (bytes_of f.name m) f.counts.dellink f.counts.length (end_limit f.defs) len
 
+-- a block that is read of the row at a position, or for its release, is not what the row or the list needs at this place
+abbrev pub FindsRowBad : SlotFile → ℕ → ℕ → Holding → Type 0
+FindsRowBad f at p m = RowFindsBad (list_in f) at p m
+
+-- one that is read of it, or for a row of so many bytes that is put in its place, is not
+abbrev pub FindsOtherBad : SlotFile → ℕ → ℕ → ℕ → Holding → Type 0
+FindsOtherBad f at len p m = RewriteFindsBad (list_in f) at len p m
+
+-- a row of so many bytes fills its blocks and those of the list, and row pointers would not reach the whole file
+abbrev pub LacksOtherRoom : SlotFile → ℕ → ℕ → Holding → Type 0
+LacksOtherRoom f at len m = OwnLong (list_in f) at len m
+
 -- the numbers behind a row that was put; a count that would pass the end of its type stays there
 abbrev pub counts_with : Put → ℕ → Option ℕ → Counts → Counts
 counts_with put end head c = record {
@@ -45,6 +61,28 @@ counts_with put end head c = record {
   del = risen c.del put.more - put.taken;
   split = risen c.split put.blocks;
   empty = risen c.empty (end - c.length) - put.bytes;
+  length = end;
+  dellink = head;
+}
+
+-- the numbers behind a row that was released
+abbrev pub counts_without : Freed → Option ℕ → Counts → Counts
+counts_without freed head c = record {
+  records = c.records - 1;
+  del = risen c.del freed.more;
+  split = c.split - freed.blocks;
+  empty = risen c.empty freed.bytes;
+  length = c.length;
+  dellink = head;
+}
+
+-- the numbers behind a row that was put in the place of another
+abbrev pub counts_again : Replaced → ℕ → Option ℕ → Counts → Counts
+counts_again r end head c = record {
+  records = c.records;
+  del = risen c.del r.put.more - r.put.taken;
+  split = risen c.split r.put.blocks - r.blocks;
+  empty = risen (risen c.empty r.bytes) (end - c.length) - r.put.bytes;
   length = end;
   dellink = head;
 }

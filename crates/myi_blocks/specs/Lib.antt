@@ -10,5 +10,7 @@ pub mod Places
 
 -- the blocks of a row, one after the other
 pub mod RowLinks
+-- changes of a row that stands
+pub mod Standing
 -- the rows that a scan has ahead, noted one after the other
 pub mod Noting

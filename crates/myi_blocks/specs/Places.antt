@@ -1,16 +1,16 @@
 -- The positions at which rows of a dynamic data file stand, as an object notes them.
-use Rattle.std.specs.Prelude.{◌≡◌, ℕ, Bool, true, false, cond, List, Option, Some, None, is_some, Result}
+use Rattle.std.specs.Prelude.{◌≡◌, ℕ, Bool, true, false, cond, List, Option, Some, None, is_some, Result, Ok}
 use Rattle.std.specs.List.{list_any}
 use Rattle.std.specs.Ordering.{nat_cmp}
 use Rattle.std.specs.BTreeMap.{is_at}
-use Rattle.myi_base.specs.Holding.{Holding, bytes_of}
+use Rattle.myi_base.specs.Holding.{Holding, IfTold, bytes_of}
 use Rattle.myi_pack.specs.Packed.{Values}
 use Rattle.myi_chain.specs.Readable.{Row}
 use Rattle.myi_data.specs.Readable.{readable}
 use Rattle.myi_state.specs.State.{StoredRow, TableState, row_at}
 use Rattle.myi_state.specs.Changes.{Change, step}
 use Rattle.myi_slots.specs.declared.fault.DataFault.{DataFault}
-use Rattle.myi_slots.specs.SlotFile.{SlotFile, IsFileOf, IsReply}
+use Rattle.myi_slots.specs.SlotFile.{SlotFile, IsFileOf, IsReply, IsRefusal}
 
 -- the file, and the positions of its rows, once they were looked up
 pub record NotedFile : Type 0 where
@@ -42,6 +42,14 @@ IsNotedFileOf f s m = IsFileOf f.file s m × AreNoted f.places s.rows
 abbrev pub KeepsNotes : Change → NotedFile → NotedFile → Holding → Type 0
 KeepsNotes c f g m = (s : TableState) → IsNotedFileOf f s m → AreNoted g.places (step f.file.defs s c).state.rows
 
+-- a step was made, and what is noted is of the state then
+abbrev pub StepsNoted : Change → NotedFile → NotedFile → ℕ → Holding → Holding → Type 0
+StepsNoted c f g at m n = (s : TableState) → IsNotedFileOf f s m → ((step f.file.defs s c).reply ≡ Ok at) × IsNotedFileOf g (step f.file.defs s c).state n
+
+-- a refusal is the reply of a step
+abbrev pub RefusesNoted : Change → NotedFile → DataFault → Holding → Type 0
+RefusesNoted c f e m = (s : TableState) → IsNotedFileOf f s m → IsRefusal (step f.file.defs s c).reply e
+
 -- what is noted then is of each state of which it was
 abbrev pub StaysNoted : NotedFile → NotedFile → Holding → Type 0
 StaysNoted f g m = (s : TableState) → IsNotedFileOf f s m → AreNoted g.places s.rows
@@ -69,3 +77,17 @@ MayNote at (Some ps) (Some qs) = (p : ℕ) → is_among p qs ≡ cond (is_at (na
 abbrev pub HasNoted : ℕ → Bool → Option (List ℕ) → Type 0
 HasNoted at is None = ⊥
 HasNoted at is (Some ps) = is_among at ps ≡ is
+
+-- where positions are noted, one is no more
+abbrev pub MayForget : ℕ → Option (List ℕ) → Option (List ℕ) → Type 0
+MayForget at None None = Unit {0}
+MayForget at None (Some qs) = ⊥
+MayForget at (Some ps) None = ⊥
+MayForget at (Some ps) (Some qs) = (p : ℕ) → is_among p qs ≡ cond (is_at (nat_cmp at) p) false (is_among p ps)
+
+-- a position was among those that were noted, or were looked up, and is no more
+pub record Forgets (h : Option Holding) (at : ℕ) (f g : NotedFile) : Type 0 where
+  pub places : Option (List ℕ)
+  pub looked_up : IfTold h (λ m. NotesRead f.file m f.places places)
+  pub stood : HasNoted at true places
+  pub gone : MayForget at places g.places

@@ -45,19 +45,20 @@ impl Model for BlockFile {
 }
 
 impl BlockFile {
-    ghost use Rattle.std.specs.Prelude.{◌≡◌, ◌⊎◌, ◌<◌, true, false, is_some, unwrap_or, length, None, Some, IfOk, IfErr, OnOk, OnErr, IsTrue};
+    ghost use Rattle.std.specs.Prelude.{◌≡◌, ◌⊎◌, ◌<◌, ◌-◌, true, false, is_some, unwrap_or, length, None, Some, IfOk, IfErr, OnOk, OnErr, IsTrue};
     ghost use Rattle.myi_base.specs.Holding.{IfTold, Told, OthersStay};
     ghost use Rattle.myi_base.specs.Causes.{HasCause};
     ghost use Rattle.myi_defs.specs.declared.types.RowFormat.TheVariants.{Dynamic};
     ghost use Rattle.myi_defs.specs.Sound.{IsSound};
     ghost use Rattle.myi_pack.specs.Spelling.{spelling, fits};
     ghost use Rattle.myi_dellist.specs.Rows.{PutsNew, PutsAtEnd};
-    ghost use Rattle.myi_state.specs.Changes.{insert, insert_at_end};
+    ghost use Rattle.myi_dellist.specs.Freed.{RowIsFreed};
+    ghost use Rattle.myi_state.specs.Changes.{insert, insert_at_end, delete};
     ghost use Rattle.myi_slots.specs.declared.fault.DataFault.TheVariants.{File};
     ghost use Rattle.myi_slots.specs.SlotFile.{IsLong, Steps, Refuses, CutsOff, IfRefused, ByCause, Never, counts_in, is_reached, risen};
-    ghost use Rattle.myi_blocks.specs.BlockFile.{list_in, end_with, FindsBad, LacksRoom};
+    ghost use Rattle.myi_blocks.specs.BlockFile.{list_in, end_with, FindsBad, FindsRowBad, LacksRoom};
     ghost use Rattle.myi_blocks.specs.RowReading.{HasRow, LacksRow, IsRowAt, ReadsFew};
-    ghost use Rattle.myi_blocks.specs.Places.{KeepsNotes, StaysNoted, ReadsNoted, LooksUp, HasNoted, MayNote};
+    ghost use Rattle.myi_blocks.specs.Places.{KeepsNotes, StaysNoted, ReadsNoted, LooksUp, HasNoted, MayNote, MayForget, Forgets, StepsNoted, RefusesNoted};
 
     /// The data file of that name, with these definitions of a dynamic table and this state. Nothing is read yet.
     pub fn new(
@@ -223,6 +224,64 @@ impl BlockFile {
             Some(places) => places.contains(&at),
             None => false,
         }
+    }
+
+    /// Notes that no row stands at a position any more, where positions are noted.
+    fn forget(&mut self, at: u64)
+        ensures file { self.new.file ≡ self.old.file }
+        ensures places { MayForget at self.old.places self.new.places }
+    {
+        let Some(places) = &mut self.places else {
+            return;
+        };
+        places.remove(&at);
+    }
+
+    /// Deletes a row: its blocks are released, from the first to the last. `NoRow` comes exactly where no row stands
+    /// at the position, by the positions that are noted: where none are, the file is scanned once for them. Then
+    /// `Full` comes exactly where row pointers do not reach the whole file, and then `Damaged` exactly where a
+    /// block that is read is not what the row or the list needs there. All change nothing in the file.
+    pub fn delete_at<F: Files>(&mut self, files: &mut F, at: u64) -> Result<(), DataFault>
+        requires writable { IsTrue F.writable }
+        requires long { IfTold (F.holds files.old) (IsLong self.old.file) }
+        ensures ok { OnOk result (Told (F.holds files.old) (F.holds files.new)
+            (StepsNoted (delete at) self.old self.new at)) }
+        ensures refused { IfErr result (λ f. IfTold (F.holds files.old)
+            (RefusesNoted (delete at) self.old f)) }
+        ensures frees { OnOk result (Told (F.holds files.old) (F.holds files.new)
+            (RowIsFreed (list_in self.old.file) (list_in self.new.file) at)) }
+        ensures others { Told (F.holds files.old) (F.holds files.new)
+            (OthersStay self.old.file.name) }
+        ensures stood { OnOk result (Forgets (F.holds files.old) at self.old self.new) }
+        ensures room { OnOk result
+            (is_reached self.old.file.counts.length self.old.file ≡ true) }
+        ensures object { self.new.file ≡ record self.old.file {
+          counts = self.new.file.counts;
+        } }
+        ensures records { OnOk result
+            (self.new.file.counts.records ≡ self.old.file.counts.records - 1) }
+        ensures length { OnOk result
+            (self.new.file.counts.length ≡ self.old.file.counts.length) }
+        ensures causes { IfErr result (ByCause
+            (λ p. (p ≡ at) × HasNoted at false self.new.places)
+            (HasNoted at true self.new.places
+            × (is_reached self.old.file.counts.length self.old.file ≡ false))
+            (λ p. HasNoted at true self.new.places
+            × IfTold (F.holds files.old) (FindsRowBad self.old.file at p))) }
+        ensures noted { OnErr result (IfTold (F.holds files.old) (LooksUp self.old self.new)) }
+        ensures kept { OnErr result (IfTold (F.holds files.old) (StaysNoted self.old self.new)) }
+        ensures unchanged { IfErr result (λ f. IfRefused f
+            (F.holds files.new ≡ F.holds files.old)) }
+        ensures same { OnErr result (self.new.file ≡ self.old.file) }
+        ensures cause { HasCause File (F.faults files.old) (F.faults files.new) result }
+    {
+        self.look_up(files)?;
+        if !self.has(at) {
+            return Err(DataFault::NoRow { at });
+        }
+        self.blocks.delete(files, at)?;
+        self.forget(at);
+        Ok(())
     }
 
     /// The row at a position. `NoRow` comes exactly where none stands there, by the positions that are noted: where

@@ -2,7 +2,7 @@
 ghost use Rattle.std.specs.Prelude.{◌≡◌, ◌-◌, ◌+◌, ◌^◌, min};
 ghost use Rattle.myi_slots.specs.SlotFile.{risen};
 
-use myi_dellist::Put;
+use myi_dellist::{Freed, Put, Replaced};
 
 /// How many rows and blocks a file has.
 #[derive(Clone, Copy)]
@@ -31,6 +31,47 @@ pub(crate) fn with_row(tally: Tally, put: Put, grown: u64) -> Tally
         del: tally.del.saturating_add(put.more).saturating_sub(put.taken),
         split: tally.split.saturating_add(put.blocks),
         empty: tally.empty.saturating_add(grown).saturating_sub(put.bytes),
+    }
+}
+
+/// Behind a row that was released.
+pub(crate) fn without_row(tally: Tally, freed: Freed) -> Tally
+    ensures { result ≡ record {
+      records = tally.records - 1;
+      del = risen tally.del freed.more;
+      split = tally.split - freed.blocks;
+      empty = risen tally.empty freed.bytes;
+    } }
+{
+    Tally {
+        records: tally.records.saturating_sub(1),
+        del: tally.del.saturating_add(freed.more),
+        split: tally.split.saturating_sub(freed.blocks),
+        empty: tally.empty.saturating_add(freed.bytes),
+    }
+}
+
+/// Behind a row that was put in the place of another, in a file that became so much longer.
+pub(crate) fn with_other(tally: Tally, new: Replaced, grown: u64) -> Tally
+    ensures { result ≡ record {
+      records = tally.records;
+      del = risen tally.del new.put.more - new.put.taken;
+      split = risen tally.split new.put.blocks - new.blocks;
+      empty = risen (risen tally.empty new.bytes) grown - new.put.bytes;
+    } }
+{
+    let free = tally.empty.saturating_add(new.bytes);
+    Tally {
+        records: tally.records,
+        del: tally
+            .del
+            .saturating_add(new.put.more)
+            .saturating_sub(new.put.taken),
+        split: tally
+            .split
+            .saturating_add(new.put.blocks)
+            .saturating_sub(new.blocks),
+        empty: free.saturating_add(grown).saturating_sub(new.put.bytes),
     }
 }
 

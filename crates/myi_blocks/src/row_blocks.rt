@@ -8,7 +8,7 @@ ghost use Rattle.myi_defs.specs.Addressable.{is_addressable};
 ghost use Rattle.myi_pack.specs.Unpacking.{row_of};
 ghost use Rattle.myi_blocks.specs.BlockFile.{end_limit};
 
-use crate::numbers::{Tally, end_limit, with_row};
+use crate::numbers::{Tally, end_limit, with_row, without_row};
 use crate::places::note_rows;
 use crate::row_chain::read_chain;
 use myi_chain::{ScanFault, ScanSetup};
@@ -86,17 +86,19 @@ fn limit_of(defs: &Defs, end: u64) -> u128
 }
 
 impl RowBlocks {
-    ghost use Rattle.std.specs.Prelude.{◌≡◌, ◌⊎◌, ◌<◌, ◌^◌, true, false, is_some, unwrap_or, length, None, IfOk, IfErr, OnOk, OnErr, IsTrue};
+    ghost use Rattle.std.specs.Prelude.{◌≡◌, ◌⊎◌, ◌<◌, ◌-◌, ◌^◌, true, false, is_some, unwrap_or, length, None, IfOk, IfErr, OnOk, OnErr, IsTrue};
     ghost use Rattle.myi_base.specs.Holding.{IfTold, Told, OthersStay, bytes_of};
     ghost use Rattle.myi_base.specs.Causes.{HasCause};
     ghost use Rattle.myi_defs.specs.declared.types.RowFormat.TheVariants.{Dynamic};
     ghost use Rattle.myi_defs.specs.Sound.{IsSound};
     ghost use Rattle.myi_pack.specs.Spelling.{spelling, fits};
     ghost use Rattle.myi_dellist.specs.Rows.{PutsNew, PutsAtEnd, TalliesNew, TalliesAtEnd};
-    ghost use Rattle.myi_state.specs.Changes.{insert, insert_at_end};
+    ghost use Rattle.myi_dellist.specs.Freed.{RowIsFreed};
+    ghost use Rattle.myi_state.specs.Changes.{insert, insert_at_end, delete};
     ghost use Rattle.myi_slots.specs.declared.fault.DataFault.TheVariants.{File};
     ghost use Rattle.myi_slots.specs.SlotFile.{IsLong, Steps, Refuses, CutsOff, IfRefused, ByCause, Never, counts_in, is_reached, risen};
-    ghost use Rattle.myi_blocks.specs.BlockFile.{list_in, end_with, FindsBad, LacksRoom, counts_with};
+    ghost use Rattle.myi_blocks.specs.BlockFile.{list_in, end_with, FindsBad, FindsRowBad, LacksRoom, counts_with};
+    ghost use Rattle.myi_blocks.specs.Standing.{StepsRow, RefusesRow};
     ghost use Rattle.myi_blocks.specs.RowReading.{LacksRow, IsRowAt, ReadsFew};
     ghost use Rattle.myi_blocks.specs.Places.{AreRead};
 
@@ -296,6 +298,39 @@ impl RowBlocks {
         let packed = pack(self.defs.raw.allocator(), &self.defs, row)?;
         let put = self.append(files, packed.as_slice())?;
         Ok(put.at)
+    }
+
+    /// Releases the blocks of the row at a position, where one stands. `Full` comes exactly where row pointers do
+    /// not reach the whole file, and then `Damaged` exactly where a block that is read is not what the row or
+    /// the list needs there. Both change nothing.
+    pub(crate) fn delete<F: Files>(&mut self, files: &mut F, at: u64) -> Result<(), DataFault>
+        requires writable { IsTrue F.writable }
+        requires long { IfTold (F.holds files.old) (IsLong self.old) }
+        ensures ok { OnOk result (Told (F.holds files.old) (F.holds files.new)
+            (StepsRow (delete at) at self.old self.new)) }
+        ensures refused { IfErr result (λ f. IfTold (F.holds files.old)
+            (RefusesRow (delete at) at self.old f)) }
+        ensures frees { OnOk result (Told (F.holds files.old) (F.holds files.new)
+            (RowIsFreed (list_in self.old) (list_in self.new) at)) }
+        ensures others { Told (F.holds files.old) (F.holds files.new) (OthersStay self.old.name) }
+        ensures room { OnOk result (is_reached self.old.counts.length self.old ≡ true) }
+        ensures object { self.new ≡ record self.old { counts = self.new.counts } }
+        ensures records { OnOk result (self.new.counts.records ≡ self.old.counts.records - 1) }
+        ensures length { OnOk result (self.new.counts.length ≡ self.old.counts.length) }
+        ensures causes { IfErr result (ByCause Never
+            (is_reached self.old.counts.length self.old ≡ false)
+            (λ p. IfTold (F.holds files.old) (FindsRowBad self.old at p))) }
+        ensures unchanged { IfErr result (λ f. IfRefused f
+            (F.holds files.new ≡ F.holds files.old)) }
+        ensures same { OnErr result (self.new ≡ self.old) }
+        ensures cause { HasCause File (F.faults files.old) (F.faults files.new) result }
+    {
+        if !self.defs.addressable(self.list.end()) {
+            return Err(DataFault::Full);
+        }
+        let freed = self.list.release_row(files, at)?;
+        self.tally = without_row(self.tally, freed);
+        Ok(())
     }
 
     /// Reads the row at a position. `Damaged` comes only where none stands there, at a block that is not the one

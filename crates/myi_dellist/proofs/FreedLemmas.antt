@@ -1,5 +1,5 @@
 -- Areas that are released one after another: how they are planned.
-use Rattle.std.proofs.Common.{◌≡◌, ℕ, ◌<◌, ◌≤◌, Bool, List, [], ◌∷◌, ◌++◌, Option, Some, Result, Ok, Err, refl, sym, ap, ◌∙◌, append_assoc}
+use Rattle.std.proofs.Common.{◌≡◌, ℕ, ◌+◌, ◌<◌, ◌≤◌, Bool, List, [], ◌∷◌, ◌++◌, Option, Some, Result, Ok, Err, refl, sym, ap, ◌∙◌, arith, append_assoc}
 use Rattle.std.specs.Prelude.{if◌then◌else◌}
 use Rattle.std.proofs.lemmas.Bool.{lt-leb, le-leb}
 use Rattle.myi_frames.specs.declared.head.Head.{Head}
@@ -10,7 +10,8 @@ use Rattle.myi_dellist.specs.Areas.{Area}
 use Rattle.myi_dellist.specs.Releasing.{most_size, front_part, back_part}
 use Rattle.myi_dellist.specs.Placing.{area_of}
 use Rattle.myi_dellist.specs.Freeing.{hole_in, plan_in}
-use Rattle.myi_dellist.specs.Several.{over, hide, plan_heads, with_heads, heads_by, next_of, heads_in, parts_of, PlansPart, PartBad}
+use Rattle.myi_dellist.specs.Several.{over, hide, plan_heads, with_heads, heads_by, next_of, heads_in, added_by, added_in, parts_of, PlansPart, PartBad}
+use Rattle.myi_dellist.specs.Planning.{alone_by}
 use Rattle.myi_dellist.specs.Freed.{part_area, parts_in}
 
 -- ---- long areas as two
@@ -45,8 +46,8 @@ heads_append : (xs ys : List Head) (r : Result (List Head) ℕ) → with_heads (
 heads_append xs ys (Ok zs) = ap (λ (hs : List Head). Ok hs) (append_assoc xs ys zs)
 heads_append xs ys (Err p) = refl
 
-pub plans-next : (d : List ℕ) (head : Option ℕ) (left behind : List Part) (p : Part) (hidden : Option ℕ) (hs more : List Head) (all : Result (List Head) ℕ) → left ≡ p ∷ behind → hidden ≡ next_of (parts_in behind) → PlansPart d head (part_area p) hidden hs more → with_heads hs (heads_in (over hs (hole_in d)) head (parts_in left)) ≡ all → with_heads more (heads_in (over more (hole_in d)) (Some p.at) (parts_in behind)) ≡ all
-plans-next d head left behind p hidden hs more all is next plans so_far =
+pub plans-next : (d : List ℕ) (head : Option ℕ) (left behind : List Part) (p : Part) (hidden : Option ℕ) (hs more : List Head) (added : ℕ) (all : Result (List Head) ℕ) → left ≡ p ∷ behind → hidden ≡ next_of (parts_in behind) → PlansPart d head (part_area p) hidden hs more added → with_heads hs (heads_in (over hs (hole_in d)) head (parts_in left)) ≡ all → with_heads more (heads_in (over more (hole_in d)) (Some p.at) (parts_in behind)) ≡ all
+plans-next d head left behind p hidden hs more added all is next plans so_far =
     let a = part_area p in
     let s = hole_in d in
     let new = plan_heads a plans.plan in
@@ -57,3 +58,15 @@ plans-next d head left behind p hidden hs more all is next plans so_far =
     ∙ ap (λ (t : ℕ → Option Head). with_heads hs (with_heads new (heads_in t (Some p.at) areas))) (over_append hs new s)
     ∙ ap (λ (r : Result ReleasePlan ℕ). with_heads hs (heads_by a (λ xs. heads_in (over xs (over hs s)) (Some p.at) areas) r)) (sym found)
     ∙ ap (λ (xs : List Part). with_heads hs (heads_in (over hs s) head (parts_in xs))) (sym is) ∙ so_far
+
+pub adds-next : (d : List ℕ) (head : Option ℕ) (left behind : List Part) (p : Part) (hidden : Option ℕ) (hs more : List Head) (added n all : ℕ) → left ≡ p ∷ behind → hidden ≡ next_of (parts_in behind) → PlansPart d head (part_area p) hidden hs more added → n + added_in (over hs (hole_in d)) head (parts_in left) ≡ all → n + added + added_in (over more (hole_in d)) (Some p.at) (parts_in behind) ≡ all
+adds-next d head left behind p hidden hs more added n all is next plans so_far =
+    let s = hole_in d in
+    let a = part_area p in
+    let new = plan_heads a plans.plan in
+    let areas = parts_in behind in
+    let found : plan_in (hide (next_of areas) (over hs s)) head a.at a.size ≡ Ok plans.plan = ap (λ (o : Option ℕ). plan_in (hide o (over hs s)) head a.at a.size) (sym next) ∙ plans.found in
+    let first : added_in (over hs s) head (parts_in left) ≡ added_in (over hs s) head (a ∷ areas) = ap (λ (xs : List Part). added_in (over hs s) head (parts_in xs)) is in
+    let one : added_in (over hs s) head (a ∷ areas) ≡ alone_by plans.plan.joined + added_in (over new (over hs s)) (Some p.at) areas = ap (added_by a (λ xs. added_in (over xs (over hs s)) (Some p.at) areas)) found in
+    let rest : added_in (over more s) (Some p.at) areas ≡ added_in (over new (over hs s)) (Some p.at) areas = ap (λ (xs : List Head). added_in (over xs s) (Some p.at) areas) plans.heads_are ∙ ap (λ (t : ℕ → Option Head). added_in t (Some p.at) areas) (over_append hs new s) in
+    omega (arith, so_far, first, one, rest, plans.added_is)

@@ -1,28 +1,31 @@
 -- A row whose blocks are released: what the calls need, and what stands in the file then.
-use Rattle.std.proofs.Common.{◌≡◌, ℕ, ◌+◌, ◌^◌, ◌<◌, Bool, true, false, List, [], ◌∷◌, ◌++◌, length, Option, None, Ok, Err, inl, inr, refl, sym, ap, subst, ◌∙◌, arith}
-use Rattle.std.specs.Prelude.{nat_le, if◌then◌else◌}
+use Rattle.std.proofs.Common.{◌≡◌, ℕ, ◌+◌, ◌-◌, ◌^◌, ◌<◌, Bool, true, false, List, [], ◌∷◌, ◌++◌, length, Option, None, Ok, Err, inl, inr, refl, sym, ap, subst, ◌∙◌, arith}
+use Rattle.std.specs.Prelude.{nat_le, min, sum_by, if◌then◌else◌}
 use Rattle.std.specs.List.{AllByRecursion, flat_map}
 use Rattle.std.proofs.lemmas.Bool.{leb-true, leb-false}
+use Rattle.std.proofs.lemmas.List.Sums.{sum_by-cons}
 use Rattle.myi_base.specs.Holding.{Holding, Told, IfTold, bytes_of}
 use Rattle.myi_base.proofs.CallerLemmas.{told_more}
 use Rattle.myi_frames.specs.declared.head.Head.{Head}
 use Rattle.myi_frames.specs.Block.{Block}
 use Rattle.myi_dellist.specs.declared.pieces.Piece.{Piece}
+use Rattle.myi_dellist.specs.declared.rows.Freed.{Freed}
 use Rattle.myi_dellist.specs.Areas.{Area, IsApart, AreApart, AreInside}
 use Rattle.myi_dellist.specs.Releasing.{most_size, front_part, back_part, release_all, IsHole, IsFreeable}
-use Rattle.myi_dellist.specs.Placing.{area_of, areas_of}
+use Rattle.myi_dellist.specs.Placing.{area_of, areas_of, sizes_of}
 use Rattle.myi_dellist.specs.Standing.{first_or, HasList}
 use Rattle.myi_dellist.specs.Freeing.{hole_in, IsHoleIn, IsLinkable}
 use Rattle.myi_dellist.specs.FreeList.{ListState, HasHoles, IsLong}
 use Rattle.myi_dellist.specs.Rows.{KeepsApart, AreListedBehind}
-use Rattle.myi_dellist.specs.Several.{parts_of, heads_in, heads_written, release_ones_bytes}
+use Rattle.myi_dellist.specs.Several.{parts_of, heads_in, heads_written, added_in, release_ones_bytes}
 use Rattle.myi_dellist.specs.Replacing.{head_after}
-use Rattle.myi_dellist.specs.Chains.{IsRowBlock, areas_in, StandsIn}
-use Rattle.myi_dellist.specs.Freed.{freed_parts, IsPart, WritesFreed, FreesRow, RowFindsBad, RowIsFreed}
+use Rattle.myi_dellist.specs.Chains.{IsRowBlock, IsRowIn, areas_in, StandsIn}
+use Rattle.myi_dellist.specs.Freed.{freed_parts, IsPart, WritesFreed, FreesRow, RowFindsBad, RowIsFreed, TalliesFreed}
 use Rattle.myi_dellist.proofs.AreaLemmas.{below-append, once-apart, no_more, inside_by}
 use Rattle.myi_dellist.proofs.LinkLemmas.{all_join, all_split}
 use Rattle.myi_dellist.proofs.FirstLemmas.{hole_bytes}
 use Rattle.myi_dellist.proofs.StandLemmas.{apart-once}
+use Rattle.myi_dellist.proofs.FreeLemmas.{IsOf, moved}
 use Rattle.myi_dellist.proofs.PlanningLemmas.{linkable}
 use Rattle.myi_dellist.proofs.SeveralLemmas.{several-found, several-stand, parts-all}
 use Rattle.myi_dellist.proofs.OwnLemmas.{listed_own, seen_clear, all_holes, all_below, apart_parts}
@@ -67,6 +70,7 @@ parts_inside end own f inside =
 
 pub record IsFreed (d : List ℕ) (own holes : List Area) (heads : List Head) : Type 0 where
   pub list : HasList (heads_written heads d) (release_all own holes)
+  pub long : length (heads_written heads d) ≡ length d
   pub keeps : KeepsApart (own ++ holes) d (heads_written heads d)
   pub head : head_after (first_or holes None) (flat_map parts_of own) ≡ first_or (release_all own holes) None
 
@@ -82,6 +86,7 @@ freed_of d own holes heads f inside apart listed l found =
     let all = parts-all own holes in
     record {
       list = subst (λ (x : List ℕ). HasList x (release_all own holes)) (sym bytes) (subst (λ (hs : List Area). HasList (release_ones_bytes parts holes d) hs) all st.list);
+      long = ap (λ (x : List ℕ). length x) bytes ∙ st.long;
       keeps = subst (λ (x : List ℕ). KeepsApart (own ++ holes) d x) (sym bytes) (record {
         longer = omega (arith, st.long);
         bytes = λ p n inside away.
@@ -107,6 +112,7 @@ row-freed l k at m n w row bs holes has stands listed =
         head = w.head ∙ ap (λ (xs : List Area). head_after l.head (flat_map parts_of xs)) same ∙ ap (λ (o : Option ℕ). head_after o (flat_map parts_of own)) has.head ∙ f.head;
         list = subst (λ (x : List ℕ). HasList x (release_all own holes)) here f.list;
       };
+      long = ap (λ (x : List ℕ). length x) w.becomes.here ∙ f.long;
       keeps = subst (λ (x : List ℕ). KeepsApart (own ++ holes) d x) here f.keeps;
     }
 
@@ -126,3 +132,33 @@ freed-sound l at p m row bs holes has stands listed (inr b) =
     let bad : heads_in (hole_in d) (first_or holes None) (flat_map parts_of own) ≡ Err p = ap (λ (o : Option ℕ). heads_in (hole_in d) o (flat_map parts_of own)) (sym has.head) ∙ ap (λ (xs : List Area). heads_in (hole_in d) l.head (flat_map parts_of xs)) (sym same) ∙ b.bad in
     let no : Ok k.heads ≡ Err p = sym k.found ∙ bad in
     absurd cc
+
+-- ---- how many blocks that makes
+
+pub area_count : (ps : List Piece) → length (areas_of ps) ≡ length ps
+area_count [] = refl
+area_count (p ∷ ps) = omega (arith, area_count ps)
+
+pub area_sizes : (ps : List Piece) → sizes_of ps ≡ sum_by (λ (a : Area). a.size) (areas_of ps)
+area_sizes [] = refl
+area_sizes (p ∷ ps) = ap (λ (n : ℕ). p.size + n) (area_sizes ps) ∙ sym (sum_by-cons (λ (a : Area). a.size) (area_of p) (areas_of ps))
+
+pub tallies-freed : (old : Option Holding) (l : ListState) (at : ℕ) (own : List Piece) (freed : Freed) → freed.blocks ≡ length own → freed.bytes ≡ min (sizes_of own) (2 ^ 64 - 1) → IfTold old (IsLong l) → IfTold old (λ m. IsLong l m → IsRowIn (bytes_of l.name m) at own) → IfTold old (λ m. IsLong l m → freed.more ≡ added_in (hole_in (bytes_of l.name m)) l.head (freed_parts own)) → IfTold old (TalliesFreed l at freed)
+tallies-freed old l at own freed blocks bytes long rows more m held row bs holes has stands listed =
+    let d = bytes_of l.name m in
+    let areas = areas_in bs in
+    let same : areas_of own ≡ areas = standing-read d at row bs holes own stands (rows m held (long m held)) in
+    let free = standing-free d bs stands.read stands.short in
+    let k = several-found d (flat_map parts_of areas) holes has.list (record { sizes = all_holes areas free.0; apart = parts_apart areas holes free.0 has.list.sizes stands.apart; clear = seen_clear d holes holes areas (λ q e. e) (listed_own d holes areas listed) }) in
+    let added : freed.more ≡ added_in (hole_in d) (first_or holes None) (flat_map parts_of areas) = more m held (long m held) ∙ ap (λ (xs : List Area). added_in (hole_in d) l.head (flat_map parts_of xs)) same ∙ ap (λ (o : Option ℕ). added_in (hole_in d) o (flat_map parts_of areas)) has.head in
+    record {
+      blocks = blocks ∙ sym (area_count own) ∙ ap (λ (xs : List Area). length xs) same;
+      bytes = bytes ∙ ap (λ (n : ℕ). min n (2 ^ 64 - 1)) (area_sizes own ∙ ap (λ (xs : List Area). sum_by (λ (a : Area). a.size) xs) same);
+      holes_are = omega (arith, ap (λ (xs : List Area). length xs) (parts-all areas holes), k.counts, added);
+    }
+
+-- as the call tells it
+pub told-added : (old mid : Option Holding) (l : ListState) (again : List ℕ) (end : ℕ) (head : Option ℕ) (parts areas : List Area) (more : ℕ) → IsOf l again end head → mid ≡ old → parts ≡ areas → IfTold mid (λ m. length (bytes_of again m) ≡ end → more ≡ added_in (hole_in (bytes_of again m)) head parts) → IfTold old (λ m. IsLong l m → more ≡ added_in (hole_in (bytes_of l.name m)) l.head areas)
+told-added old mid l again end head parts areas more o same e t =
+    let told = moved (λ a b c. IfTold mid (λ m. length (bytes_of a m) ≡ b → more ≡ added_in (hole_in (bytes_of a m)) c parts)) l again end head o t in
+    λ m held long. told m (same ∙ held) long ∙ ap (λ (xs : List Area). added_in (hole_in (bytes_of l.name m)) l.head xs) e

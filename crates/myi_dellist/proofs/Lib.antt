@@ -39,3 +39,4 @@ pub mod FreedRowLemmas
 pub mod BeyondLemmas
 pub mod ReplaceLemmas
 pub mod RewriteLemmas
+pub mod ReplacedLemmas

@@ -1,8 +1,9 @@
 -- In a file that has a list, a release finds what the list says and writes what the definitions say.
-use Rattle.std.proofs.Common.{◌≡◌, ℕ, ◌+◌, ◌<◌, ◌≤◌, inl, inr, Bool, true, false, List, [], ◌∷◌, ◌++◌, Option, Some, None, Result, Ok, Err, refl, sym, ap, subst, ◌∙◌, arith}
+use Rattle.std.proofs.Common.{◌≡◌, ℕ, ◌+◌, ◌<◌, ◌≤◌, inl, inr, Bool, true, false, List, [], ◌∷◌, ◌++◌, length, Option, Some, None, Result, Ok, Err, refl, sym, ap, subst, ◌∙◌, arith}
 use Rattle.std.specs.Prelude.{◌==◌, nat_le, if◌then◌else◌}
 use Rattle.std.specs.List.{AllByRecursion}
 use Rattle.std.proofs.lemmas.Bool.{eq-eqb, eqb-true}
+use Rattle.std.proofs.lemmas.List.{length-append}
 use Rattle.myi_frames.specs.declared.head.Head.{Head}
 use Rattle.myi_frames.specs.Block.{block_of}
 use Rattle.myi_dellist.specs.declared.linked.ReleasePlan.{ReleasePlan}
@@ -11,6 +12,7 @@ use Rattle.myi_dellist.specs.Releasing.{most_size, hole_at, without, joined, rel
 use Rattle.myi_dellist.specs.Standing.{hole_block, first_or, last_or, IsPart, HasList, with_head, with_next, with_prev, without_block, with_first, before, behind, without_at, joined_bytes, release_one_bytes}
 use Rattle.myi_dellist.specs.Freeing.{hole_in, same_link, if_says, names_next, names_prev, block_before, block_named, block_linked, if_short, hole_behind, first_without, without_prev, next_past, with_joined, plan_linked, plan_in, area_at, behind_bytes, taken_off_bytes, put_first_bytes, plan_bytes, joined_size, place_at, first_head}
 use Rattle.myi_dellist.specs.Several.{over, joined_heads, first_heads, plan_heads}
+use Rattle.myi_dellist.specs.Planning.{alone_by}
 use Rattle.myi_dellist.proofs.LinkLemmas.{all_split, all_join, apart_split}
 use Rattle.myi_dellist.proofs.ReleasedLemmas.{SplitsAt, found_splits, both}
 use Rattle.myi_dellist.proofs.NeedLemmas.{given_ok, before_none, before_some, named_none, named_some, first_none, first_ok, link_both, plan_none, plan_some}
@@ -124,6 +126,7 @@ pub record Plans (s : ℕ → Option Head) (a : Area) (holes left : List Area) (
   pub rest : List Area
   pub shape : left ≡ record { at = a.at; size = joined_size a.size plan.joined } ∷ rest
   pub next : place_at plan.first ≡ first_or rest None
+  pub counts : length left ≡ length holes + alone_by plan.joined
   pub seen_then : 0 < a.size → AllByRecursion (IsApart a) holes → (t : ℕ → Option Head) → AreSeen t None holes None → AreSeen (over (plan_heads a plan) t) None left None
   pub not_there : (p : ℕ) → hole_at p left ≡ None → AreNotAt p (plan_heads a plan)
 
@@ -139,6 +142,7 @@ alone_plans s a holes none l = record {
   rest = holes;
   shape = refl;
   next = place_first holes;
+  counts = omega arith;
   seen_then = λ some far t seen. first_seen t a holes (else_of a holes some l.sizes far) (distinct_of holes l.sizes l.apart) seen;
   not_there = λ p e. first_not p a holes (not_at p (a ∷ holes) e);
 }
@@ -170,6 +174,7 @@ split_plans s a h xs ys at l true t =
       rest = xs ++ ys;
       shape = refl;
       next = place_first (xs ++ ys);
+      counts = omega (arith, length-append xs ys, length-append xs (h ∷ ys));
       seen_then = λ some far t seen.
           let off = off_seen t xs h ys (distinct_of (xs ++ h ∷ ys) l.sizes l.apart) seen in
           let fars = all_split (IsApart a) xs (h ∷ ys) far in
@@ -207,6 +212,7 @@ met_plans s a h holes e l = by_test (nat_le (a.size + h.size) most_size) refl
           rest = p.rest;
           shape = sym (same_list b) ∙ p.shape;
           next = p.next;
+          counts = omega (arith, ap (λ (hs : List Area). length hs) (same_list b), p.counts, ap (λ (hs : List Area). length hs) t_all);
           seen_then = λ some far t seen. subst (λ (hs : List Area). AreSeen (over (plan_heads a p.plan) t) None hs None) (same_list b) (p.seen_then some (subst (λ (hs : List Area). AllByRecursion (IsApart a) hs) t_all far) t (subst (λ (hs : List Area). AreSeen t None hs None) t_all seen));
           not_there = λ q e. p.not_there q (ap (hole_at q) (same_list b) ∙ e);
         }

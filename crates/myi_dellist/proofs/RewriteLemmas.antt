@@ -276,12 +276,12 @@ told-bad {T = T} r f old mid l name again list own areas ps at len left e o also
 not_both : {T : Type 0} (r : Result T ℕ) (x : T) (p : ℕ) → r ≡ Ok x → r ≡ Err p → ⊥
 not_both r x p e f = let two : Ok x ≡ Err p = sym e ∙ f in absurd cc
 
-stands_inside : (l : ListState) (m : Holding) (at : ℕ) (old : List ℕ) (bs : List Block) (holes : List Area) → IsLong l m → StandsIn (bytes_of l.name m) at old bs holes → AllByRecursion IsFreeable (areas_in bs) × AreInside l.end (areas_in bs)
+pub stands_inside : (l : ListState) (m : Holding) (at : ℕ) (old : List ℕ) (bs : List Block) (holes : List Area) → IsLong l m → StandsIn (bytes_of l.name m) at old bs holes → AllByRecursion IsFreeable (areas_in bs) × AreInside l.end (areas_in bs)
 stands_inside l m at old bs holes long w =
     let f = standing-free (bytes_of l.name m) bs w.read w.short in
     (f.0, subst (λ (x : ℕ). AreInside x (areas_in bs)) long f.1)
 
-begun_by : (l : ListState) (len : ℕ) (own holes : List Area) → AllByRecursion IsFreeable own × AreInside l.end own → AllByRecursion IsHole holes → AreApart (own ++ holes) → 0 < (own_taking len own).left → IsBegun len l.end (own_areas len own) holes
+pub begun_by : (l : ListState) (len : ℕ) (own holes : List Area) → AllByRecursion IsFreeable own × AreInside l.end own → AllByRecursion IsHole holes → AreApart (own ++ holes) → 0 < (own_taking len own).left → IsBegun len l.end (own_areas len own) holes
 begun_by l len own holes f hs apart some = record { usable = own-usable len own f.0; inside = own_inside l.end len own f.1; apart = own_apart len own holes f.0 hs apart; some = some }
 
 pub rewrite-sound : (l : ListState) (at len p : ℕ) (m : Holding) (old : List ℕ) (bs : List Block) (holes : List Area) → 0 < len → IsLong l m → HasHoles l holes (bytes_of l.name m) → StandsIn (bytes_of l.name m) at old bs holes → AreListedBehind (areas_in bs ++ holes) holes (bytes_of l.name m) → RewriteFindsBad l at len p m → ⊥

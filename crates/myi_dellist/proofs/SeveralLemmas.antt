@@ -11,7 +11,7 @@ use Rattle.myi_dellist.specs.Releasing.{most_size, hole_at, without, joined, rel
 use Rattle.myi_dellist.specs.Standing.{first_or, HasList, KeepsBut, release_one_bytes}
 use Rattle.myi_dellist.specs.Freeing.{hole_in, place_at, plan_bytes, before_bytes, behind_bytes, unlinked_bytes, put_first_bytes, joined_size, first_head}
 use Rattle.myi_dellist.specs.Rows.{KeepsApart}
-use Rattle.myi_dellist.specs.Several.{over, hide, before_heads, behind_heads, joined_heads, first_heads, plan_heads, with_heads, heads_by, next_of, heads_in, heads_written, release_ones, release_ones_bytes, parts_of, AreClear, MayReleaseAll}
+use Rattle.myi_dellist.specs.Several.{over, hide, before_heads, behind_heads, joined_heads, first_heads, plan_heads, with_heads, heads_by, next_of, heads_in, heads_written, added_by, added_in, release_ones, release_ones_bytes, parts_of, AreClear, MayReleaseAll}
 use Rattle.myi_dellist.proofs.AreaLemmas.{below-append, once-apart}
 use Rattle.myi_dellist.proofs.ReleaseLemmas.{below-release_one, holes-release_one}
 use Rattle.myi_dellist.proofs.LinkLemmas.{all_split, all_join, apart_split}
@@ -20,6 +20,7 @@ use Rattle.myi_dellist.proofs.StandLemmas.{apart-once}
 use Rattle.myi_dellist.proofs.ReleasedLemmas.{release-one-stands, back_head, far_of, apart_after}
 use Rattle.myi_dellist.proofs.FreeLemmas.{first_one}
 use Rattle.myi_dellist.proofs.SeenLemmas.{AreSeen, SeesList, list_seen, AreElse, else_of, over-skips}
+use Rattle.myi_dellist.specs.Planning.{alone_by}
 use Rattle.myi_dellist.proofs.PlanLemmas.{Plans, seen-plans}
 
 -- ---- the headers of a plan are the bytes that it writes
@@ -160,6 +161,7 @@ pub record Several (seen : ℕ → Option Head) (areas holes : List Area) : Type
   pub heads : List Head
   pub found : heads_in seen (first_or holes None) areas ≡ Ok heads
   pub bytes_are : (d : List ℕ) → heads_written heads d ≡ release_ones_bytes areas holes d
+  pub counts : length (release_ones areas holes) ≡ length holes + added_in seen (first_or holes None) areas
 
 hidden_part : (q : ℕ) (s : ℕ → Option Head) (prev : Option ℕ) (xs : List Area) (next : Option ℕ) → AreElse q xs → AreSeen s prev xs next → AreSeen (hide (Some q) s) prev xs next
 hidden_part q s prev [] next far h = tt
@@ -172,7 +174,7 @@ hidden_list s (a ∷ areas) holes sizes apart l =
     record { linked = hidden_part a.at s None holes None (else_of a holes (omega (arith, sizes.0.least)) l.sizes far) l.linked; sizes = l.sizes; apart = l.apart }
 
 pub several : (areas : List Area) (s : ℕ → Option Head) (holes : List Area) → AreReleasable s areas holes → Several s areas holes
-several [] s holes c = record { heads = []; found = refl; bytes_are = λ d. refl }
+several [] s holes c = record { heads = []; found = refl; bytes_are = λ d. refl; counts = omega arith }
 several (a ∷ areas) s holes c =
     let fars = all_split (IsApart a) areas holes c.apart.0 in
     let p = seen-plans (hide (next_of areas) s) a holes (hidden_list s areas holes c.sizes.1 c.apart.1 c.list) c.clear.0 in
@@ -194,6 +196,9 @@ several (a ∷ areas) s holes c =
           ∙ ap (with_heads heads) (ap (λ (o : Option ℕ). heads_in (over heads s) o areas) (sym (first_one a holes)) ∙ ih.found);
       bytes_are = λ d.
           written-append heads ih.heads d ∙ ap (heads_written ih.heads) (plan-written a p.plan d ∙ p.bytes_are d) ∙ ih.bytes_are (release_one_bytes a holes d);
+      counts =
+          let one : added_in s (first_or holes None) (a ∷ areas) ≡ alone_by p.plan.joined + added_in (over heads s) (Some a.at) areas = ap (added_by a (λ hs. added_in (over hs s) (Some a.at) areas)) p.found in
+          omega (arith, ih.counts, ap (λ (o : Option ℕ). added_in (over heads s) o areas) (first_one a holes), p.counts, one);
     }
 
 -- ---- what stands in a file then

@@ -1,11 +1,12 @@
 -- A row whose blocks are released, from the first to the last.
-use Rattle.std.specs.Prelude.{◌≡◌, ℕ, ◌≤◌, ◌⊎◌, List, [], ◌∷◌, ◌++◌, length, Option, Ok, Err}
+use Rattle.std.specs.Prelude.{◌≡◌, ℕ, ◌+◌, ◌-◌, ◌^◌, ◌≤◌, ◌⊎◌, min, List, [], ◌∷◌, ◌++◌, length, sum_by, Option, Ok, Err}
 use Rattle.std.specs.List.{flat_map}
 use Rattle.myi_base.specs.Holding.{Holding, bytes_of}
 use Rattle.myi_frames.specs.declared.head.Head.{Head}
 use Rattle.myi_frames.specs.Block.{Block, IsPlace}
 use Rattle.myi_dellist.specs.declared.several.Part.{Part}
 use Rattle.myi_dellist.specs.declared.pieces.Piece.{Piece}
+use Rattle.myi_dellist.specs.declared.rows.Freed.{Freed}
 use Rattle.myi_dellist.specs.Areas.{Area}
 use Rattle.myi_dellist.specs.Releasing.{most_size, release_all}
 use Rattle.myi_dellist.specs.Freeing.{hole_in, Becomes}
@@ -64,8 +65,21 @@ RowFindsBad l at p m = IsBroken (bytes_of l.name m) at p ⊎ FreedBad (bytes_of 
 -- these blocks are released, and what is apart from them and from the list holds what it held
 pub record LeavesFreed (k : ListState) (own holes : List Area) (d e : List ℕ) : Type 0 where
   pub holes_are : HasHoles k (release_all own holes) e
+  pub long : length e ≡ length d
   pub keeps : KeepsApart (own ++ holes) d e
 
 -- a row that stands in a file is released, block by block
 abbrev pub RowIsFreed : ListState → ListState → ℕ → Holding → Holding → Type 0
 RowIsFreed l k at m n = (row : List ℕ) (bs : List Block) (holes : List Area) → HasHoles l holes (bytes_of l.name m) → StandsIn (bytes_of l.name m) at row bs holes → AreListedBehind (areas_in bs) holes (bytes_of l.name m) → LeavesFreed k (areas_in bs) holes (bytes_of l.name m) (bytes_of l.name n)
+
+-- ---- how many blocks that makes
+
+-- A row that was released had so many blocks, of so many bytes (as far as the type of the number goes), and so many more are on
+-- the list.
+pub record CountsFreed (own holes : List Area) (freed : Freed) : Type 0 where
+  pub blocks : freed.blocks ≡ length own
+  pub bytes : freed.bytes ≡ min (sum_by (λ (a : Area). a.size) own) (2 ^ 64 - 1)
+  pub holes_are : length (release_all own holes) ≡ length holes + freed.more
+
+abbrev pub TalliesFreed : ListState → ℕ → Freed → Holding → Type 0
+TalliesFreed l at freed m = (row : List ℕ) (bs : List Block) (holes : List Area) → HasHoles l holes (bytes_of l.name m) → StandsIn (bytes_of l.name m) at row bs holes → AreListedBehind (areas_in bs) holes (bytes_of l.name m) → CountsFreed (areas_in bs) holes freed

@@ -1,16 +1,17 @@
 -- A row that is put in the place of another, whose blocks it takes first (MySQL Internals Manual, "MyISAM Dynamic Data File
 -- Layout": an updated row keeps its blocks; what is released of them, and in which order, is this project's own).
-use Rattle.std.specs.Prelude.{◌≡◌, ℕ, ◌+◌, ◌%◌, ◌^◌, ◌<◌, ◌⊎◌, true, nat_lt, nat_le, if◌then◌else◌, List, [], ◌∷◌, ◌++◌, length, Option, Some, Ok, Err}
+use Rattle.std.specs.Prelude.{◌≡◌, ℕ, ◌+◌, ◌-◌, ◌%◌, ◌^◌, ◌<◌, ◌≤◌, ◌⊎◌, min, true, nat_lt, nat_le, if◌then◌else◌, List, [], ◌∷◌, ◌++◌, length, sum_by, Option, Some, Ok, Err}
 use Rattle.std.specs.List.{AllByRecursion, flat_map}
 use Rattle.myi_frames.specs.declared.head.Head.{Head}
 use Rattle.myi_base.specs.Holding.{Holding, bytes_of}
 use Rattle.myi_frames.specs.Block.{Block}
 use Rattle.myi_frames.specs.Sizes.{least_size}
 use Rattle.myi_dellist.specs.declared.pieces.Piece.{Piece}
+use Rattle.myi_dellist.specs.declared.rows.Replaced.{Replaced}
 use Rattle.myi_dellist.specs.Areas.{Area, AreApart, AreInside}
 use Rattle.myi_dellist.specs.Releasing.{IsFreeable}
 use Rattle.myi_dellist.specs.Freeing.{hole_in, Becomes}
-use Rattle.myi_dellist.specs.Placing.{Taking, take_last, take_from, own_parts, own_areas, areas_of, update}
+use Rattle.myi_dellist.specs.Placing.{Taking, Placing, take_last, take_from, own_parts, own_areas, areas_of, sizes_of, update}
 use Rattle.myi_dellist.specs.FreeList.{ListState, HasHoles}
 use Rattle.myi_dellist.specs.Rows.{AreListedBehind, PutsRow, most_end, row_written}
 use Rattle.myi_dellist.specs.Chains.{IsRowIn, IsBroken, areas_in, StandsIn}
@@ -111,3 +112,19 @@ RewriteIsLong l at len m = length (bytes_of l.name m) ≡ l.end → OwnLong l at
 abbrev pub PutsAgain : ListState → ListState → ℕ → List ℕ → Holding → Holding → Type 0
 PutsAgain l k at row m n = (old : List ℕ) (bs : List Block) (holes : List Area) → l.end % 4 ≡ 0 → HasHoles l holes (bytes_of l.name m) → StandsIn (bytes_of l.name m) at old bs holes → AreListedBehind (areas_in bs ++ holes) holes (bytes_of l.name m)
     → PutsRow k (areas_in bs ++ holes) (update (record { holes = holes; end = l.end }) (areas_in bs) (length row)) row at (bytes_of l.name m) (bytes_of l.name n)
+
+-- ---- how many blocks that makes
+
+-- A row that was put has so many blocks, of so many bytes, and took so many deleted blocks, and so many are on the list that were
+-- not; the other row had so many blocks, of so many bytes (as far as the types of the numbers go).
+pub record CountsReplaced (own holes : List Area) (p : Placing) (r : Replaced) : Type 0 where
+  pub blocks : r.put.blocks ≡ length p.pieces
+  pub bytes : r.put.bytes ≡ min (sizes_of p.pieces) (2 ^ 64 - 1)
+  pub holes_are : length p.space.holes + r.put.taken ≡ length holes + r.put.more
+  pub few : r.put.taken ≤ length holes
+  pub had : r.blocks ≡ length own
+  pub had_bytes : r.bytes ≡ min (sum_by (λ (a : Area). a.size) own) (2 ^ 64 - 1)
+
+abbrev pub TalliesReplaced : ListState → ℕ → ℕ → Replaced → Holding → Type 0
+TalliesReplaced l at len r m = (old : List ℕ) (bs : List Block) (holes : List Area) → l.end % 4 ≡ 0 → HasHoles l holes (bytes_of l.name m) → StandsIn (bytes_of l.name m) at old bs holes → AreListedBehind (areas_in bs ++ holes) holes (bytes_of l.name m)
+    → CountsReplaced (areas_in bs) holes (update (record { holes = holes; end = l.end }) (areas_in bs) len) r

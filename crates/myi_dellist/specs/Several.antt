@@ -10,6 +10,7 @@ use Rattle.myi_dellist.specs.Areas.{Area, AreApart}
 use Rattle.myi_dellist.specs.Releasing.{most_size, hole_at, front_part, back_part, release_one, IsHole}
 use Rattle.myi_dellist.specs.Standing.{with_head, release_one_bytes}
 use Rattle.myi_dellist.specs.Freeing.{hole_in, plan_in, area_at, place_at, joined_size, first_head, IsHoleIn}
+use Rattle.myi_dellist.specs.Planning.{alone_by}
 
 -- ---- what is seen
 
@@ -79,11 +80,22 @@ abbrev pub heads_in : (ℕ → Option Head) → Option ℕ → List Area → Res
 heads_in seen head [] = Ok []
 heads_in seen head (a ∷ areas) = heads_by a (λ heads. heads_in (over heads seen) (Some a.at) areas) (plan_in (hide (next_of areas) seen) head a.at a.size)
 
--- the headers that a release writes behind planned ones, or the place of the first block that is not what the list needs then
-pub record PlansPart (d : List ℕ) (head : Option ℕ) (a : Area) (hidden : Option ℕ) (heads more : List Head) : Type 0 where
+-- how many deleted blocks they add to the list: one for each area that is joined with none
+abbrev pub added_by : Area → (List Head → ℕ) → Result ReleasePlan ℕ → ℕ
+added_by a go (Ok plan) = alone_by plan.joined + go (plan_heads a plan)
+added_by a go (Err p) = 0
+
+abbrev pub added_in : (ℕ → Option Head) → Option ℕ → List Area → ℕ
+added_in seen head [] = 0
+added_in seen head (a ∷ areas) = added_by a (λ heads. added_in (over heads seen) (Some a.at) areas) (plan_in (hide (next_of areas) seen) head a.at a.size)
+
+-- the headers that a release writes behind planned ones, and how many deleted blocks it adds; or the place of the first block that
+-- is not what the list needs then
+pub record PlansPart (d : List ℕ) (head : Option ℕ) (a : Area) (hidden : Option ℕ) (heads more : List Head) (added : ℕ) : Type 0 where
   pub plan : ReleasePlan
   pub found : plan_in (hide hidden (over heads (hole_in d))) head a.at a.size ≡ Ok plan
   pub heads_are : more ≡ heads ++ plan_heads a plan
+  pub added_is : added ≡ alone_by plan.joined
 
 abbrev pub PartBad : List ℕ → Option ℕ → Area → Option ℕ → List Head → ℕ → Type 0
 PartBad d head a hidden heads p = plan_in (hide hidden (over heads (hole_in d))) head a.at a.size ≡ Err p

@@ -5,8 +5,8 @@ use crate::chains::read_row;
 use crate::fault::FreeFault;
 use crate::links::{merge_one, release_one, release_two};
 use crate::pieces::{Piece, sizes_of};
-use crate::replacing::{add_own, take_own};
-use crate::rows::{FileEnd, Put, Room, put_at_end, put_beyond, put_row};
+use crate::replacing::{add_own, replaced, take_own};
+use crate::rows::{FileEnd, Freed, Put, Replaced, Room, put_at_end, put_beyond, put_row};
 use crate::several::{Part, plan_releases, split, write_heads};
 use crate::taking::ListEnds;
 use crate::writing::write_pieces;
@@ -80,8 +80,8 @@ impl FreeList {
     ghost use Rattle.myi_dellist.specs.Releasing.{most_size, half_size};
     ghost use Rattle.myi_dellist.specs.Freeing.{IfDamaged, IsNotFull};
     ghost use Rattle.myi_dellist.specs.FreeList.{next_by, Releases, IsLong, FindsAll, FindsBad};
-    ghost use Rattle.myi_dellist.specs.Freed.{RowIsFreed, FreesRow, RowFindsBad};
-    ghost use Rattle.myi_dellist.specs.Replacing.{PutsAgain, RewritesRow, RewriteFindsBad, RewriteIsLong};
+    ghost use Rattle.myi_dellist.specs.Freed.{RowIsFreed, FreesRow, RowFindsBad, TalliesFreed};
+    ghost use Rattle.myi_dellist.specs.Replacing.{PutsAgain, RewritesRow, RewriteFindsBad, RewriteIsLong, TalliesReplaced};
     ghost use Rattle.myi_dellist.specs.Merging.{Merges, MergeFinds, MergeFindsBad};
     ghost use Rattle.myi_dellist.specs.Putting.{Puts, ends_of, PutFindsBad, PutIsLong};
     ghost use Rattle.myi_dellist.specs.Rows.{most_end, end_with, IfFull, IsNotDamaged, PutsAtEnd, PutsBehind, PutsNew, TalliesAtEnd, TalliesNew};
@@ -322,15 +322,17 @@ impl FreeList {
         Ok(())
     }
 
-    /// Releases the blocks of the row at a place, from the first to the last. All that is read is read before
-    /// anything is written: `Damaged` comes exactly where a block that is read is not what the row's chain
-    /// or the list needs there, and then nothing is changed. Blocks of a chain that overlap one another are
-    /// taken as they are; no row that stands has such.
-    pub fn release_row<F: Files>(&mut self, files: &mut F, at: u64) -> Result<(), FreeFault>
+    /// Releases the blocks of the row at a place, from the first to the last, and answers what that did. All
+    /// that is read is read before anything is written: `Damaged` comes exactly where a block that is read is
+    /// not what the row's chain or the list needs there, and then nothing is changed. Blocks of a chain that
+    /// overlap one another are taken as they are; no row that stands has such.
+    pub fn release_row<F: Files>(&mut self, files: &mut F, at: u64) -> Result<Freed, FreeFault>
         requires writable { IsTrue F.writable }
         requires long { IfTold (F.holds files.old) (IsLong self.old) }
         ensures ok { OnOk result (Told (F.holds files.old) (F.holds files.new)
             (RowIsFreed self.old self.new at)) }
+        ensures tallies { IfOk result (λ freed. IfTold (F.holds files.old)
+            (TalliesFreed self.old at freed)) }
         ensures frees { OnOk result (Told (F.holds files.old) (F.holds files.new)
             (FreesRow self.old self.new at)) }
         ensures others { Told (F.holds files.old) (F.holds files.new) (OthersStay self.old.name) }
@@ -352,14 +354,85 @@ impl FreeList {
         self.parts.clear();
         split(&self.pieces, &mut self.parts)?;
         self.heads.clear();
-        let head = plan_releases(files, &self.name, &list, &self.parts, &mut self.heads)?;
+        let released = plan_releases(files, &self.name, &list, &self.parts, &mut self.heads)?;
         write_heads(files, &self.name, &self.heads)?;
-        self.head = head;
-        Ok(())
+        self.head = released.head;
+        Ok(Freed {
+            blocks: self.pieces.len() as u64,
+            bytes: sizes_of(&self.pieces),
+            more: released.more,
+        })
+    }
+
+    /// Puts a row in the place of the one at a place, and answers what that did: into the blocks of that one, in
+    /// their order, then into the deleted blocks from the head of the list, and behind the end what they do not
+    /// hold. What it leaves of them is released, once it is written. All that is read is read before anything is written: `Damaged`
+    /// comes exactly where a block that is read is not what the chain of the other row or the list needs there,
+    /// and then `Full` exactly where the end would not stay below its limit, or where no file can end there;
+    /// then nothing is changed. Blocks of a chain that overlap one another are taken as they are; no row that
+    /// stands has such.
+    pub fn replace<F: Files>(
+        &mut self,
+        files: &mut F,
+        at: u64,
+        packed: &[u8],
+    ) -> Result<Replaced, FreeFault>
+        requires writable { IsTrue F.writable }
+        requires some { 0 < length packed.now }
+        requires few { length packed.now < 2 ^ 32 }
+        requires long { IfTold (F.holds files.old) (IsLong self.old) }
+        ensures ok { OnOk result (Told (F.holds files.old) (F.holds files.new)
+            (PutsAgain self.old self.new at packed.now)) }
+        ensures tallies { IfOk result (λ r. IfTold (F.holds files.old)
+            (TalliesReplaced self.old at (length packed.now) r)) }
+        ensures rewrites { OnOk result (Told (F.holds files.old) (F.holds files.new)
+            (RewritesRow self.old self.new at packed.now)) }
+        ensures others { Told (F.holds files.old) (F.holds files.new) (OthersStay self.old.name) }
+        ensures state { self.new ≡ record self.old { head = self.new.head; end = self.new.end } }
+        ensures room { OnOk result (self.new.end < most_end self.old) }
+        ensures damaged { IfErr result (λ f. IfDamaged f (λ p. IfTold (F.holds files.old)
+            (RewriteFindsBad self.old at (length packed.now) p))) }
+        ensures full { IfErr result (λ f. IfFull f (IfTold (F.holds files.old)
+            (RewriteIsLong self.old at (length packed.now)))) }
+        ensures unchanged { IfErr result (λ f. IfDamaged f (λ p.
+            F.holds files.new ≡ F.holds files.old)) }
+        ensures refused { IfErr result (λ f. IfFull f (F.holds files.new ≡ F.holds files.old)) }
+        ensures list { OnErr result (self.new ≡ self.old) }
+        ensures cause { HasCause File (F.faults files.old) (F.faults files.new) result }
+    {
+        let room = Room {
+            list: ListEnds {
+                head: self.head,
+                end: self.end,
+            },
+            below: self.limits.end_below,
+        };
+        let len = packed.len() as u32;
+        self.own.clear();
+        read_row(files, &self.name, self.end, at, &mut self.own)?;
+        self.areas.clear();
+        add_own(&mut self.areas, &self.own, len)?;
+        self.pieces.clear();
+        self.parts.clear();
+        let left = take_own(&self.areas, len, &mut self.pieces, &mut self.parts)?;
+        if left > 0 {
+            let filled = self.pieces.len() as u64;
+            let new = put_beyond(files, &self.name, room, &mut self.pieces, packed, left)?;
+            self.head = new.list.head;
+            self.end = new.list.end;
+            let taken = new.taken - filled;
+            return Ok(replaced(at, &self.own, &self.pieces, taken, new.more));
+        }
+        self.heads.clear();
+        let freed = plan_releases(files, &self.name, &room.list, &self.parts, &mut self.heads)?;
+        write_pieces(files, &self.name, &self.pieces, packed)?;
+        write_heads(files, &self.name, &self.heads)?;
+        self.head = freed.head;
+        Ok(replaced(at, &self.own, &self.pieces, 0, freed.more))
     }
 
     /// Puts a row in the place of the one at a place: into the blocks of that one, in their order, then into
-    /// the deleted blocks from the head of the list, and behind the end what they do not hold. What it leaves
+    /// the deleted blocks from the head of the list, and behind the end what they do not hold: `replace`. What it leaves
     /// of them is released, once it is written. All that is read is read before anything is written: `Damaged`
     /// comes exactly where a block that is read is not what the chain of the other row or the list needs there,
     /// and then `Full` exactly where the end would not stay below its limit, or where no file can end there;
@@ -392,32 +465,7 @@ impl FreeList {
         ensures list { OnErr result (self.new ≡ self.old) }
         ensures cause { HasCause File (F.faults files.old) (F.faults files.new) result }
     {
-        let room = Room {
-            list: ListEnds {
-                head: self.head,
-                end: self.end,
-            },
-            below: self.limits.end_below,
-        };
-        let len = packed.len() as u32;
-        self.own.clear();
-        read_row(files, &self.name, self.end, at, &mut self.own)?;
-        self.areas.clear();
-        add_own(&mut self.areas, &self.own, len)?;
-        self.pieces.clear();
-        self.parts.clear();
-        let left = take_own(&self.areas, len, &mut self.pieces, &mut self.parts)?;
-        if left > 0 {
-            let new = put_beyond(files, &self.name, room, &mut self.pieces, packed, left)?;
-            self.head = new.list.head;
-            self.end = new.list.end;
-            return Ok(());
-        }
-        self.heads.clear();
-        let head = plan_releases(files, &self.name, &room.list, &self.parts, &mut self.heads)?;
-        write_pieces(files, &self.name, &self.pieces, packed)?;
-        write_heads(files, &self.name, &self.heads)?;
-        self.head = head;
+        self.replace(files, at, packed)?;
         Ok(())
     }
 

@@ -25,7 +25,8 @@
 //! `specs/Rows` what stands in the file then.
 //!
 //! `release_row` releases the blocks of a row, and `rewrite_row` puts a row in the place of another: into that
-//! one's blocks, in their order, then where `write_row` would. `specs/Chains` says which blocks a row has that
+//! one's blocks, in their order, then where `write_row` would; `replace` is the same call, and answers also how
+//! many blocks came and went (`Replaced`). `specs/Chains` says which blocks a row has that
 //! stands in the file, `specs/Several` what releases one after another find where all is read before anything
 //! is written, `specs/Freed` what a released row leaves, and `specs/Replacing` what a row takes and leaves of
 //! the blocks of the row in whose place it is put.
@@ -55,4 +56,4 @@ pub use laws::{
     rows_have_their_places, several_releases_find_their_list, standing_rows_are_found,
     taken_blocks_leave_their_list, tiling_is_counting, tiling_is_following,
 };
-pub use rows::Put;
+pub use rows::{Freed, Put, Replaced};

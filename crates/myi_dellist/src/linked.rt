@@ -9,6 +9,7 @@ ghost use Rattle.myi_dellist.specs.Freeing.{is_deleted, hole_in, same_link, if_s
 ghost use Rattle.myi_dellist.specs.Freeing.{block_linked, hole_behind, first_without, without_prev, next_past, plan_in, AreHolesIn, IsPlanIn};
 ghost use Rattle.myi_dellist.specs.Releasing.{most_size};
 ghost use Rattle.myi_dellist.specs.Merging.{merge_in};
+ghost use Rattle.myi_dellist.specs.Planning.{alone_by};
 ghost use Rattle.myi_dellist.specs.Several.{over, seen_in, IsSight};
 ghost use Rattle.std.specs.List.{AllByRecursion};
 
@@ -87,6 +88,17 @@ pub(crate) fn hole_at<F: Files>(
         return Ok(None);
     }
     Ok(hole_of(&bytes, at, end))
+}
+
+/// How many deleted blocks an area adds to the list that is joined with this one, or with none.
+pub(crate) fn alone_by(joined: &Option<Linked>) -> u64
+    ensures value { result ≡ alone_by joined.now }
+    ensures few { result ≤ 1 }
+{
+    match joined {
+        None => 1,
+        Some(_) => 0,
+    }
 }
 
 /// Whether two links are the same.

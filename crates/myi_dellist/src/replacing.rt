@@ -1,8 +1,8 @@
 //! Which of its own blocks a row takes that is put in the place of another. Nothing is read or written here.
-ghost use Rattle.std.specs.Prelude.{◌≡◌, ◌≤◌, ◌<◌, ◌+◌, ◌^◌, ◌++◌, ◌∷◌, [], true, IfOk, IfErr, OnOk};
+ghost use Rattle.std.specs.Prelude.{◌≡◌, ◌≤◌, ◌<◌, ◌+◌, ◌-◌, ◌^◌, ◌++◌, ◌∷◌, [], min, length, true, IfOk, IfErr, OnOk};
 ghost use Rattle.std.specs.List.{AllByRecursion, flat_map};
 ghost use Rattle.myi_dellist.specs.declared.fault.FreeFault.TheVariants.{Memory};
-ghost use Rattle.myi_dellist.specs.Placing.{IsUsable, area_of, areas_of, fits, own_areas, take_from};
+ghost use Rattle.myi_dellist.specs.Placing.{IsUsable, area_of, areas_of, sizes_of, fits, own_areas, take_from};
 ghost use Rattle.myi_dellist.specs.Taking.{HasTaken};
 ghost use Rattle.myi_dellist.specs.Rows.{AreBelow};
 ghost use Rattle.myi_dellist.specs.Several.{parts_of};
@@ -11,8 +11,9 @@ ghost use Rattle.myi_dellist.specs.Replacing.{last_taking, own_released, parts_f
 
 use crate::fault::FreeFault;
 use crate::links::HALF;
-use crate::pieces::{Piece, room};
+use crate::pieces::{Piece, room, sizes_of};
 use crate::planning::last_size;
+use crate::rows::{Put, Replaced};
 use crate::several::{Part, push_parts, split};
 use crate::taking::fits;
 use myi_frames::{GIANT, MOST_SIZE};
@@ -125,4 +126,31 @@ pub(crate) fn take_own(
         rest = behind;
     }
     Ok(left)
+}
+
+/// What putting a row in the place of another did, by the blocks of that one and its own.
+pub(crate) fn replaced(at: u64, own: &[Piece], pieces: &[Piece], taken: u64, more: u64) -> Replaced
+    ensures { result ≡ record {
+      put = record {
+        at = at;
+        blocks = length pieces.now;
+        bytes = min (sizes_of pieces.now) (2 ^ 64 - 1);
+        taken = taken;
+        more = more;
+      };
+      blocks = length own.now;
+      bytes = min (sizes_of own.now) (2 ^ 64 - 1);
+    } }
+{
+    Replaced {
+        put: Put {
+            at,
+            blocks: pieces.len() as u64,
+            bytes: sizes_of(pieces),
+            taken,
+            more,
+        },
+        blocks: own.len() as u64,
+        bytes: sizes_of(own),
+    }
 }

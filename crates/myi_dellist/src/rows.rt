@@ -12,6 +12,7 @@ ghost use Rattle.myi_dellist.specs.Planning.{rest_bytes, head_by, more_by, IsRel
 ghost use Rattle.myi_dellist.specs.Putting.{Puts, PutsBy, PutCounts, PutBad, BadBy, PutLong, LongBy};
 
 use crate::fault::FreeFault;
+use crate::linked::alone_by;
 use crate::links::{put_first, take_joined, write_first};
 use crate::pieces::{Piece, append_pieces};
 use crate::planning::{RestPlan, RowPlan, plan_last};
@@ -36,6 +37,29 @@ pub struct Put {
     /// How many deleted blocks are on the list that were not: what its last block left over, if that is
     /// joined with none.
     pub more: u64,
+}
+
+/// What releasing a row did.
+#[derive(Clone, Copy, Debug, PartialEq, Eq)]
+pub struct Freed {
+    /// How many blocks the row had.
+    pub blocks: u64,
+    /// How many bytes these had.
+    pub bytes: u64,
+    /// How many deleted blocks are on the list that were not: those that were joined with none.
+    pub more: u64,
+}
+
+/// What putting a row in the place of another did.
+#[derive(Clone, Copy, Debug, PartialEq, Eq)]
+pub struct Replaced {
+    /// The new row. What is on the list that was not is what it left of the blocks, as far as that was joined
+    /// with none.
+    pub put: Put,
+    /// How many blocks the other row had.
+    pub blocks: u64,
+    /// How many bytes these had.
+    pub bytes: u64,
 }
 
 /// The list once a row was put, how many of the row's blocks stood before (its own and deleted ones), and how
@@ -168,10 +192,7 @@ fn more_by(plan: &RowPlan) -> u64
     let Some(rest) = plan.rest else {
         return 0;
     };
-    match rest.plan.joined {
-        None => 1,
-        Some(_) => 0,
-    }
+    alone_by(&rest.plan.joined)
 }
 
 /// Puts the last `left` bytes of a row, behind the blocks that it has, into the blocks of the list, and behind
@@ -198,6 +219,7 @@ pub(crate) fn put_beyond<F: Files>(
         → HasTaken own (length packed.now) pieces.old.items left
         → PutCounts own (bytes_of name.now m) room.list (length packed.now) pieces.new.items
         new.taken new.more)) }
+    ensures before { IfOk result (λ new. length pieces.old.items ≤ new.taken) }
     ensures others { Told (F.holds files.old) (F.holds files.new) (OthersStay name.now) }
     ensures room { IfOk result (λ new. new.list.end < min room.below (2 ^ 64)) }
     ensures damaged { IfErr result (λ f. IfDamaged f (λ p. IfTold (F.holds files.old) (λ m.

@@ -8,14 +8,14 @@ ghost use Rattle.myi_base.specs.Causes.{HasCause};
 ghost use Rattle.myi_dellist.specs.declared.fault.FreeFault.TheVariants.{File, Memory};
 ghost use Rattle.myi_dellist.specs.Releasing.{most_size};
 ghost use Rattle.myi_dellist.specs.Freeing.{hole_in, joined_size, IsHoleIn, IsPlanIn, IsLinkable, IfDamaged, IsNotFull, CutsOff, Becomes};
-ghost use Rattle.myi_dellist.specs.Several.{parts_of, before_heads, behind_heads, joined_heads, first_heads, plan_heads, next_of, heads_in, heads_written, PlansPart, PartBad};
+ghost use Rattle.myi_dellist.specs.Several.{parts_of, before_heads, behind_heads, joined_heads, first_heads, plan_heads, next_of, heads_in, heads_written, added_in, PlansPart, PartBad};
 ghost use Rattle.myi_dellist.specs.Replacing.{head_after};
 ghost use Rattle.myi_dellist.specs.Placing.{area_of};
 ghost use Rattle.myi_dellist.specs.Rows.{AreBelow};
 ghost use Rattle.myi_dellist.specs.Freed.{parts_in, part_area, freed_parts, IsPart};
 
 use crate::fault::FreeFault;
-use crate::linked::{Linked, ReleasePlan, Sight, see_release};
+use crate::linked::{Linked, ReleasePlan, Sight, alone_by, see_release};
 use crate::links::{HALF, place_at, write_head};
 use crate::pieces::Piece;
 use crate::taking::ListEnds;
@@ -27,6 +27,13 @@ use myi_io::Files;
 pub(crate) struct Part {
     pub at: u64,
     pub size: u32,
+}
+
+/// Where the list begins once areas were released, and how many deleted blocks are on it that were not.
+#[derive(Clone, Copy)]
+pub(crate) struct Released {
+    pub head: Option<u64>,
+    pub more: u64,
 }
 
 /// Adds what is released of a block: one that is longer than a deleted block can be is released as two, the
@@ -160,7 +167,8 @@ fn next_of(parts: &[Part]) -> Option<u64>
     Some(part.at)
 }
 
-/// Plans the release of an area, behind others that were planned.
+/// Plans the release of an area, behind others that were planned, and answers how many deleted blocks that
+/// adds to the list.
 fn plan_part<F: Files>(
     files: &mut F,
     name: &str,
@@ -168,12 +176,13 @@ fn plan_part<F: Files>(
     part: &Part,
     hidden: Option<u64>,
     heads: &mut Vec<Head>,
-) -> Result<(), FreeFault>
+) -> Result<u64, FreeFault>
     requires part { IsPart list.now.end (part_area part.now) }
     requires heads { AllByRecursion (IsHoleIn list.now.end) heads.old.items }
-    ensures told { OnOk result (IfTold (F.holds files.old) (λ m.
+    ensures told { IfOk result (λ added. IfTold (F.holds files.old) (λ m.
         length (bytes_of name.now m) ≡ list.now.end → PlansPart (bytes_of name.now m) list.now.head
-        (part_area part.now) hidden heads.old.items heads.new.items)) }
+        (part_area part.now) hidden heads.old.items heads.new.items added)) }
+    ensures few { IfOk result (λ added. added ≤ 1) }
     ensures bad { IfErr result (λ f. IfDamaged f (λ p. IfTold (F.holds files.old) (λ m.
         length (bytes_of name.now m) ≡ list.now.end
         → PartBad (bytes_of name.now m) list.now.head (part_area part.now) hidden heads.old.items p))) }
@@ -189,18 +198,18 @@ fn plan_part<F: Files>(
     };
     let plan = see_release(files, name, &sight, list.head, part.at, part.size)?;
     push_plan(heads, part, &plan)?;
-    Ok(())
+    Ok(alone_by(&plan.joined))
 }
 
 /// Plans the releases of these areas, one after the other: the headers that they write. Answers where the
-/// list begins then. Nothing is written.
+/// list begins then, and how many deleted blocks are on it that were not. Nothing is written.
 pub(crate) fn plan_releases<F: Files>(
     files: &mut F,
     name: &str,
     list: &ListEnds,
     parts: &[Part],
     heads: &mut Vec<Head>,
-) -> Result<Option<u64>, FreeFault>
+) -> Result<Released, FreeFault>
     requires none { heads.old.items ≡ [] }
     requires parts { AllByRecursion (IsPart list.now.end) (parts_in parts.now) }
     ensures told { OnOk result (IfTold (F.holds files.old) (λ m.
@@ -210,23 +219,27 @@ pub(crate) fn plan_releases<F: Files>(
         length (bytes_of name.now m) ≡ list.now.end → heads_in (hole_in (bytes_of name.now m))
         list.now.head (parts_in parts.now) ≡ Err p))) }
     ensures heads { OnOk result (AllByRecursion (IsHoleIn list.now.end) heads.new.items) }
-    ensures head { IfOk result (λ h. h ≡ head_after list.now.head (parts_in parts.now)) }
+    ensures head { IfOk result (λ r. r.head ≡ head_after list.now.head (parts_in parts.now)) }
+    ensures more { IfOk result (λ r. IfTold (F.holds files.old) (λ m.
+        length (bytes_of name.now m) ≡ list.now.end → r.more
+        ≡ added_in (hole_in (bytes_of name.now m)) list.now.head (parts_in parts.now))) }
     ensures holds { F.holds files.new ≡ F.holds files.old }
     ensures room { IfErr result IsNotFull }
     ensures cause { HasCause File (F.faults files.old) (F.faults files.new) result }
 {
     let mut head = list.head;
+    let mut more = 0u64;
     let mut left = parts;
     while let Some((part, behind)) = left.split_first() {
         let now = ListEnds {
             head,
             end: list.end,
         };
-        plan_part(files, name, &now, part, next_of(behind), heads)?;
+        more += plan_part(files, name, &now, part, next_of(behind), heads)?;
         head = Some(part.at);
         left = behind;
     }
-    Ok(head)
+    Ok(Released { head, more })
 }
 
 /// Writes these headers of deleted blocks.

@@ -1,5 +1,5 @@
 //! Which blocks of the list a row takes. Nothing is written here.
-ghost use Rattle.std.specs.Prelude.{◌≡◌, ◌≤◌, ◌<◌, ◌+◌, ◌^◌, List, None, true, IfOk, IfErr, IfSome, length};
+ghost use Rattle.std.specs.Prelude.{◌≡◌, ◌≤◌, ◌<◌, ◌+◌, ◌^◌, List, None, true, IfOk, IfErr, IfSome, OnOk, length};
 ghost use Rattle.myi_base.specs.Holding.{IfTold, bytes_of};
 ghost use Rattle.myi_base.specs.Causes.{HasCause};
 ghost use Rattle.myi_dellist.specs.declared.fault.FreeFault.TheVariants.{File};
@@ -49,6 +49,7 @@ pub(crate) fn take_full<F: Files>(
     requires run { IsRun list.now.end len pieces.old.items
         (record { left = left; last = None; next = None }) }
     ensures run { IfOk result (IsRun list.now.end len pieces.new.items) }
+    ensures before { OnOk result (length pieces.old.items ≤ length pieces.new.items) }
     ensures told { IfOk result (λ t. IfTold (F.holds files.old) (λ m.
         length (bytes_of name.now m) ≡ list.now.end → (own : List Area)
         → HasTaken own len pieces.old.items left

@@ -1,8 +1,8 @@
-use Rattle.std.proofs.Common.{◌≡◌, ◌≤◌, length}
+use Rattle.std.proofs.Common.{◌≡◌, ◌≤◌, ◌+◌, length}
 use Rattle.std.specs.List.{AllByRecursion}
 use Rattle.myi_base.specs.Holding.{IfTold, bytes_of}
 use Rattle.myi_dellist.specs.Freeing.{hole_in, IsHoleIn}
-use Rattle.myi_dellist.specs.Several.{over, with_heads, heads_in}
+use Rattle.myi_dellist.specs.Several.{over, with_heads, heads_in, added_in}
 use Rattle.myi_dellist.specs.Replacing.{head_after}
 use Rattle.myi_dellist.specs.Freed.{parts_in, IsPart}
 use Rattle.myi_dellist.proofs.several.plan_releases.Given as goal
@@ -17,6 +17,10 @@ invariant-loop-part g l = record {
   so_far : IfTold (g.F.Files.holds l.fn.files) (λ m. length (bytes_of l.name m) ≡ l.list.end →
       with_heads l.heads.items (heads_in (over l.heads.items (hole_in (bytes_of l.name m))) l.head (parts_in l.left))
       ≡ heads_in (hole_in (bytes_of l.name m)) l.fn.list.head (parts_in l.fn.parts));
+  added : IfTold (g.F.Files.holds l.fn.files) (λ m. length (bytes_of l.name m) ≡ l.list.end →
+      l.more + added_in (over l.heads.items (hole_in (bytes_of l.name m))) l.head (parts_in l.left)
+      ≡ added_in (hole_in (bytes_of l.name m)) l.fn.list.head (parts_in l.fn.parts));
+  few : l.more + length l.left ≤ length l.fn.parts;
 }
 
 abbrev pub decreases-loop-part : goal.decreases-loop-part

@@ -1,6 +1,8 @@
-use Rattle.std.proofs.Common.{◌≡◌, ◌-◌, ◌∙◌, List, Some, Err, sym, ap, length, arith}
+use Rattle.std.proofs.Common.{◌≡◌, ◌-◌, ◌∙◌, List, [], ◌∷◌, Some, Err, sym, ap, length, arith}
 use Rattle.std.proofs.lemmas.Result.{err_from_is_err_and}
+use Rattle.std.proofs.lemmas.List.{length-append}
 use Rattle.myi_base.specs.Holding.{bytes_of}
+use Rattle.myi_dellist.specs.declared.pieces.Piece.{Piece}
 use Rattle.myi_dellist.specs.declared.taking.Taken.{Taken}
 use Rattle.myi_dellist.specs.Placing.{room}
 use Rattle.myi_dellist.specs.Freeing.{hole_in, block_named}
@@ -83,6 +85,7 @@ loop-next-preserved g c =
     let less = step_less c.args.list.now.end c.args.len ps qs t h taken s was.run in
     record {
       run = run_next c.args.list.now.end c.args.len ps qs t h taken (Some h.at) c.in_ok-next-2.next s was.run c.in_ok-next-2.ensures.hole;
+      before = omega (arith, was.before, ap (λ (xs : List Piece). length xs) c.in_ok-push.ensures.items, length-append ps (record { at = h.at; size = h.size; taken = taken } ∷ []));
       holds = c.in_ok-next-2.ensures.holds ∙ was.holds;
       faults = omega (arith, was.faults, c.in_ok-next-2.ensures.cause.later);
       so_far = λ m held long own k. takes_on own (bytes_of c.args.name.now m) c.args.list.now.head c.args.len ps qs t h taken c.in_ok-next-2.next s less.0 (was.so_far m held long own k) (c.in_ok-next-2.ensures.told m (was.holds ∙ held) long);
