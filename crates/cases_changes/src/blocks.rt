@@ -29,6 +29,11 @@ fn push_answer(
         "insert" => push_place(out, file.insert(files, &row(words, defs, args)?)),
         "insert_at_end" => push_place(out, file.insert_at_end(files, &row(words, defs, args)?)),
         "delete" => push_done(out, file.delete_at(files, number(args)?)),
+        "update" => {
+            let (at, values) = sides(args, ':')?;
+            let row = row(words, defs, values)?;
+            push_done(out, file.update_at(files, number(at)?, &row))
+        }
         "read" => push_row(out, file.read_at(files, number(args)?)),
         "row" => push_row(out, file.row_at(files, number(args)?)),
         _ => Err(Fault::Unread),
@@ -65,7 +70,7 @@ fn push_answers(
 
 /// `blocks DEFINITIONS FAULTS RECORDS,DEL,SPLIT,EMPTY DELLINK BYTES CALL..`: what each call on the data file of a
 /// dynamic table answers, the table's numbers then, the count of faults, and the file. A call is `insert:VALUE,..`,
-/// `insert_at_end:VALUE,..`, `delete:AT`, `read:AT` or `row:AT`.
+/// `insert_at_end:VALUE,..`, `delete:AT`, `update:AT:VALUE,..`, `read:AT` or `row:AT`.
 fn blocks(words: &Words, args: &[&str]) -> Result<String, Fault> {
     let [defs, faults, numbers, dellink, bytes, calls @ ..] = args else {
         return Err(Fault::Unread);

@@ -23,11 +23,11 @@ use Rattle.myi_blocks.specs.BlockFile.{counts_with}
 use Rattle.myi_blocks.proofs.StandLemmas.{all-join}
 use Rattle.myi_blocks.proofs.PutLemmas.{IsPlaced}
 
-area_count : (ps : List Piece) → length (areas_of ps) ≡ length ps
+pub area_count : (ps : List Piece) → length (areas_of ps) ≡ length ps
 area_count [] = refl
 area_count (p ∷ ps) = omega (arith, area_count ps)
 
-area_bytes : (ps : List Piece) → total_bytes (areas_of ps) ≡ sizes_of ps
+pub area_bytes : (ps : List Piece) → total_bytes (areas_of ps) ≡ sizes_of ps
 area_bytes [] = refl
 area_bytes (p ∷ ps) = sum_by-cons (λ (a : Area). a.size) (record { at = p.at; size = p.size }) (areas_of ps) ∙ ap (λ (n : ℕ). p.size + n) (area_bytes ps)
 
@@ -47,7 +47,7 @@ risen_is n k le = omega (arith, le)
 min_is : (n : ℕ) → n ≤ 2 ^ 41 → min n (2 ^ 64 - 1) ≡ n
 min_is n le = omega (arith, le)
 
-pub put-counts : (d : Defs) (s : TableState) (p : Placing) (at : ℕ) (values : Values) (row : List ℕ) (put : Put) → IsSound d → d.format ≡ Dynamic → IsState d s → IsPlaced d s p at row → IsState d (with_row at values (taken_of p) s.rows).state → Tallies s.space.holes p put → p.space.end ≤ 2 ^ 40 → counts_of (with_row at values (taken_of p) s.rows).state ≡ counts_with put p.space.end (first_or p.space.holes None) (counts_of s)
+pub put-counts : (d : Defs) (s : TableState) (p : Placing) (at : ℕ) (values : Values) (row : List ℕ) (put : Put) → IsSound d → d.format ≡ Dynamic → IsState d s → IsPlaced d s [] p at row → IsState d (with_row at values (taken_of p) s.rows).state → Tallies s.space.holes p put → p.space.end ≤ 2 ^ 40 → counts_of (with_row at values (taken_of p) s.rows).state ≡ counts_with put p.space.end (first_or p.space.holes None) (counts_of s)
 unfolding counts_of
 put-counts d s p at values row put sound dynamic was i now t short =
     let others = row_areas s.rows in

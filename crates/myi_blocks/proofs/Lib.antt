@@ -11,3 +11,4 @@ pub mod FreedLemmas
 pub mod RowLemmas
 pub mod DeleteLemmas
 pub mod GoneLemmas
+pub mod UpdateLemmas

@@ -130,30 +130,41 @@ apart_right (x ∷ xs) ys apart = apart_right xs ys apart.1
 
 -- ---- the whole
 
--- what a row takes, where each block has a byte
-pub record IsPlaced (d : Defs) (s : TableState) (p : Placing) (at : ℕ) (row : List ℕ) : Type 0 where
-  pub takes : TakesSpace Dynamic d.slot_length at s.space [] (taken_of p)
+-- what a row takes in place of one with these blocks, where each block has a byte
+pub record IsPlaced (d : Defs) (s : TableState) (own : List Area) (p : Placing) (at : ℕ) (row : List ℕ) : Type 0 where
+  pub takes : TakesSpace Dynamic d.slot_length at s.space own (taken_of p)
   pub own_bytes : HaveBytes (areas_of p.pieces)
   pub hole_bytes : HaveBytes p.space.holes
   pub place : place_of p.pieces ≡ Some at
   pub hold : HoldRow (place_of p.pieces) row (row_blocks p.pieces row)
 
-pub put-stands : (d : Defs) (s : TableState) (x e : List ℕ) (k : ListState) (p : Placing) (at : ℕ) (values : Values) (row : List ℕ) → IsSound d → d.format ≡ Dynamic → fits d values ≡ true → row ≡ spelling d values → IsDynamic d s x → IsPlaced d s p at row → IsState d (with_row at values (taken_of p) s.rows).state → PutsRow k s.space.holes p row at x e → StandsFor d (with_row at values (taken_of p) s.rows).state e
-put-stands d s x e k p at values row sound dynamic fit packed q i state puts =
-    let others = row_areas s.rows in
-    let holes = s.space.holes in
-    let own = areas_of p.pieces in
+-- what is known of the other rows, which tile the file with these blocks and the deleted ones
+pub record AreOthers (d : Defs) (s : TableState) (x : List ℕ) (own : List Area) (rows : List StoredRow) : Type 0 where
+  pub row_bytes : HaveBytes (row_areas rows)
+  pub free_bytes : HaveBytes (own ++ s.space.holes)
+  pub tile : Tile s.space.end (row_areas rows ++ (own ++ s.space.holes))
+  pub stand : AllByRecursion (StandsInBlocks d x) rows
+
+pub put-over : (d : Defs) (s : TableState) (rows : List StoredRow) (own : List Area) (x e : List ℕ) (k : ListState) (p : Placing) (at : ℕ) (values : Values) (row : List ℕ) → IsSound d → d.format ≡ Dynamic → fits d values ≡ true → row ≡ spelling d values → AreOthers d s x own rows → IsPlaced d s own p at row → IsState d (with_row at values (taken_of p) rows).state → PutsRow k (own ++ s.space.holes) p row at x e → StandsFor d (with_row at values (taken_of p) rows).state e
+put-over d s rows own x e k p at values row sound dynamic fit packed o i state puts =
+    let others = row_areas rows in
+    let free = own ++ s.space.holes in
+    let new = areas_of p.pieces in
     let left = p.space.holes in
-    let bytes = all-split (λ (a : Area). 0 < a.size) others holes (state-bytes d s sound q.state) in
-    let new_bytes = all-join (λ (a : Area). 0 < a.size) own left i.own_bytes i.hole_bytes in
-    let tile = i.takes.tile others q.state.tile in
-    let now = far-across p.space.end others (own ++ left) bytes.0 new_bytes tile in
-    let was = far-across s.space.end others holes bytes.0 bytes.1 q.state.tile in
-    let far_own = all-more (λ (a : Area). AllByRecursion (IsApart a) (own ++ left)) (λ (a : Area). AllByRecursion (IsApart a) own) others (λ a h. (all-split (IsApart a) own left h).0) now in
-    let far_left = all-more (λ (a : Area). AllByRecursion (IsApart a) (own ++ left)) (λ (a : Area). AllByRecursion (IsApart a) left) others (λ a h. (all-split (IsApart a) own left h).1) now in
-    let far = far-both own (holes ++ left) others far_own (far-both holes left others was far_left) in
-    let apart = apart_left own left (apart_right others (own ++ left) (tile-apart p.space.end (others ++ (own ++ left)) (all-join (λ (a : Area). 0 < a.size) others (own ++ left) bytes.0 new_bytes) tile)) in
-    let r : StoredRow = record { at = at; values = values; blocks = own } in
+    let new_bytes = all-join (λ (a : Area). 0 < a.size) new left i.own_bytes i.hole_bytes in
+    let tile = i.takes.tile others o.tile in
+    let now = far-across p.space.end others (new ++ left) o.row_bytes new_bytes tile in
+    let was = far-across s.space.end others free o.row_bytes o.free_bytes o.tile in
+    let far_new = all-more (λ (a : Area). AllByRecursion (IsApart a) (new ++ left)) (λ (a : Area). AllByRecursion (IsApart a) new) others (λ a h. (all-split (IsApart a) new left h).0) now in
+    let far_left = all-more (λ (a : Area). AllByRecursion (IsApart a) (new ++ left)) (λ (a : Area). AllByRecursion (IsApart a) left) others (λ a h. (all-split (IsApart a) new left h).1) now in
+    let far = far-both new (free ++ left) others far_new (far-both free left others was far_left) in
+    let apart = apart_left new left (apart_right others (new ++ left) (tile-apart p.space.end (others ++ (new ++ left)) (all-join (λ (a : Area). 0 < a.size) others (new ++ left) o.row_bytes new_bytes) tile)) in
+    let r : StoredRow = record { at = at; values = values; blocks = new } in
     let here = row_stands d at values p.pieces row e sound fit packed i.place i.hold puts.blocks apart in
-    stands-by d (with_row at values (taken_of p) s.rows).state e dynamic state puts.long
-    (put-all (StandsInBlocks d e) r s.rows here (rows-stay d (own ++ (holes ++ left)) x e s.rows puts.keeps far q.stand)) puts.holes_are.list
+    stands-by d (with_row at values (taken_of p) rows).state e dynamic state puts.long
+    (put-all (StandsInBlocks d e) r rows here (rows-stay d (new ++ (free ++ left)) x e rows puts.keeps far o.stand)) puts.holes_are.list
+
+pub put-stands : (d : Defs) (s : TableState) (x e : List ℕ) (k : ListState) (p : Placing) (at : ℕ) (values : Values) (row : List ℕ) → IsSound d → d.format ≡ Dynamic → fits d values ≡ true → row ≡ spelling d values → IsDynamic d s x → IsPlaced d s [] p at row → IsState d (with_row at values (taken_of p) s.rows).state → PutsRow k s.space.holes p row at x e → StandsFor d (with_row at values (taken_of p) s.rows).state e
+put-stands d s x e k p at values row sound dynamic fit packed q i state puts =
+    let bytes = all-split (λ (a : Area). 0 < a.size) (row_areas s.rows) s.space.holes (state-bytes d s sound q.state) in
+    put-over d s s.rows [] x e k p at values row sound dynamic fit packed (record { row_bytes = bytes.0; free_bytes = bytes.1; tile = q.state.tile; stand = q.stand }) i state puts

@@ -17,6 +17,7 @@ use Rattle.myi_dellist.specs.Releasing.{half_size, most_size, hole_at, IsFreeabl
 use Rattle.myi_dellist.specs.RowBlocks.{AreNamed}
 use Rattle.myi_dellist.specs.RowBlocks as blocks
 use Rattle.myi_dellist.specs.Freeing.{hole_in}
+use Rattle.myi_dellist.specs.Standing.{first_or}
 use Rattle.myi_dellist.specs.Rows.{AreListedBehind}
 use Rattle.myi_dellist.specs.Chains.{areas_in, StandsIn}
 use Rattle.myi_dellist.proofs.CallerLemmas.{tile-apart}
@@ -79,6 +80,7 @@ pub record IsStanding (s : TableState) (x : List ℕ) (at : ℕ) (r : StoredRow)
   pub stands : StandsIn x at (row_bytes blocks) blocks s.space.holes
   pub listed : AreListedBehind (areas_in blocks ++ s.space.holes) s.space.holes x
   pub free : AllByRecursion IsFreeable r.blocks
+  pub place : first_or r.blocks None ≡ Some at
 
 pub standing-of : (d : Defs) (s : TableState) (x : List ℕ) (at : ℕ) (r : StoredRow) → IsSound d → d.format ≡ Dynamic → IsDynamic d s x → row_at at s.rows ≡ Some r → IsStanding s x at r
 standing-of d s x at r sound dynamic k here =
@@ -87,7 +89,8 @@ standing-of d s x at r sound dynamic k here =
     let bs = w.chain in
     let is : IsChain (block_of x) at [] bs = subst (λ (p : ℕ). IsChain (block_of x) p [] bs) found.1 w.is in
     let own : areas_in bs ≡ r.blocks = areas_same bs ∙ w.blocks in
-    let free = free_blocks d r dynamic (found-is (IsRow d) at s.rows r here k.state.rows).0 in
+    let row = (found-is (IsRow d) at s.rows r here k.state.rows).0 in
+    let free = free_blocks d r dynamic row in
     let few = all-mapped area_of_block (λ (a : Area). a.size ≤ half_size + most_size) bs (subst (λ (xs : List Area). AllByRecursion (λ (a : Area). a.size ≤ half_size + most_size) xs) (sym w.blocks) (all-more IsFreeable (λ (a : Area). a.size ≤ half_size + most_size) r.blocks (λ a f. f.most) free)) in
     let holes = s.space.holes in
     let others = row_areas (rows_without at s.rows) in
@@ -109,4 +112,5 @@ standing-of d s x at r sound dynamic k here =
       };
       listed = all-join P (areas_in bs) holes (subst (λ (xs : List Area). AllByRecursion P xs) (sym own) mine.0) listed.1;
       free = free;
+      place = row.place ∙ ap (λ (p : ℕ). Some p) found.1;
     }

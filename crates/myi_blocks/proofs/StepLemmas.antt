@@ -104,10 +104,10 @@ head-of f s m k = ap (λ (c : Counts). c.dellink) k.counts
 
 -- ---- what a row takes
 
-freeable_bytes : (areas : List Area) → AllByRecursion IsFreeable areas → HaveBytes areas
+pub freeable_bytes : (areas : List Area) → AllByRecursion IsFreeable areas → HaveBytes areas
 freeable_bytes areas all = all-more IsFreeable (λ (a : Area). 0 < a.size) areas (λ a f. omega (arith, f.least)) all
 
-hole_bytes : (holes : List Area) → AllByRecursion IsHole holes → HaveBytes holes
+pub hole_bytes : (holes : List Area) → AllByRecursion IsHole holes → HaveBytes holes
 hole_bytes holes all = all-more IsHole (λ (a : Area). 0 < a.size) holes (λ a f. omega (arith, f.least)) all
 
 aligned_by : (f : RowFormat) (end : ℕ) → f ≡ Dynamic → IsAligned f end → end % 4 ≡ 0
@@ -117,7 +117,7 @@ aligned_by Dynamic end e a = a
 pub aligned-end : (d : Defs) (s : TableState) → d.format ≡ Dynamic → IsState d s → s.space.end % 4 ≡ 0
 aligned-end d s dynamic i = aligned_by d.format s.space.end dynamic (state-aligned d s i)
 
-new_placed : (d : Defs) (s : TableState) (row : List ℕ) → 0 < length row → s.space.end % 4 ≡ 0 → AllByRecursion IsHole s.space.holes → IsPlaced d s (place s.space [] (length row)) (next_place s.space.holes s.space.end) row
+new_placed : (d : Defs) (s : TableState) (row : List ℕ) → 0 < length row → s.space.end % 4 ≡ 0 → AllByRecursion IsHole s.space.holes → IsPlaced d s [] (place s.space [] (length row)) (next_place s.space.holes s.space.end) row
 new_placed d s row some aligned holes =
     let t = next-takes Dynamic d.slot_length s.space (length row) some aligned holes in
     record {
@@ -128,7 +128,7 @@ new_placed d s row some aligned holes =
       hold = subst (λ (p : Placing). HoldRow (place_of p.pieces) row (row_blocks p.pieces row)) (none-own s.space (length row)) (update-holds s.space [] row some aligned tt holes);
     }
 
-end_placed : (d : Defs) (s : TableState) (row : List ℕ) → 0 < length row → s.space.end % 4 ≡ 0 → AllByRecursion IsHole s.space.holes → IsPlaced d s (place_at_end s.space (length row)) s.space.end row
+end_placed : (d : Defs) (s : TableState) (row : List ℕ) → 0 < length row → s.space.end % 4 ≡ 0 → AllByRecursion IsHole s.space.holes → IsPlaced d s [] (place_at_end s.space (length row)) s.space.end row
 end_placed d s row some aligned holes =
     let t = behind-takes Dynamic d.slot_length s.space (length row) some aligned holes in
     record {
@@ -161,7 +161,7 @@ some_is : {a b : ℕ} → Some a ≡ Some b → a ≡ b
 some_is e = cc
 
 -- The object behind a row that was put, where it was placed so.
-put_steps : (f g : SlotFile) (c : Change) (s : TableState) (values : Values) (row : List ℕ) (p : Placing) (place at : ℕ) (put : Put) (m n : Holding) → IsSound f.defs → f.defs.format ≡ Dynamic → fits f.defs values ≡ true → row ≡ spelling f.defs values → IsFileOf f s m → IsState f.defs (accepted f.defs s c).state → accepted f.defs s c ≡ with_row place values (taken_of p) s.rows → lacks_row s c ≡ None → IsPlaced f.defs s p place row → Tallies s.space.holes p put → PutsRow (list_in g) s.space.holes p row at (bytes_of f.name m) (bytes_of f.name n) → g ≡ record f { counts = counts_with put g.counts.length g.counts.dellink f.counts } → is_addressable f.defs g.counts.length ≡ true → ((step f.defs s c).reply ≡ Ok at) × IsFileOf g (step f.defs s c).state n
+put_steps : (f g : SlotFile) (c : Change) (s : TableState) (values : Values) (row : List ℕ) (p : Placing) (place at : ℕ) (put : Put) (m n : Holding) → IsSound f.defs → f.defs.format ≡ Dynamic → fits f.defs values ≡ true → row ≡ spelling f.defs values → IsFileOf f s m → IsState f.defs (accepted f.defs s c).state → accepted f.defs s c ≡ with_row place values (taken_of p) s.rows → lacks_row s c ≡ None → IsPlaced f.defs s [] p place row → Tallies s.space.holes p put → PutsRow (list_in g) s.space.holes p row at (bytes_of f.name m) (bytes_of f.name n) → g ≡ record f { counts = counts_with put g.counts.length g.counts.dellink f.counts } → is_addressable f.defs g.counts.length ≡ true → ((step f.defs s c).reply ≡ Ok at) × IsFileOf g (step f.defs s c).state n
 put_steps f g c s values row p place at put m n sound dynamic fit packed k kept done none i tallies puts object room =
     let d = f.defs in
     let q = with_row place values (taken_of p) s.rows in
@@ -190,7 +190,7 @@ holes-listed f s m sound dynamic k =
     let x = bytes_of f.name m in
     (all-split _ (row_areas s.rows) s.space.holes (listed-behind f.defs s x sound (dynamic-of f.defs s x dynamic k.stands))).1
 
-space_is : (s : TableState) (end : ℕ) → end ≡ s.space.end → (record { holes = s.space.holes; end = end }) ≡ s.space
+pub space_is : (s : TableState) (end : ℕ) → end ≡ s.space.end → (record { holes = s.space.holes; end = end }) ≡ s.space
 space_is s end e = ap (λ (x : ℕ). record { holes = s.space.holes; end = x }) e
 
 pub insert-steps : (f g : SlotFile) (values : Values) (row : List ℕ) (at : ℕ) (put : Put) (m n : Holding) → IsSound f.defs → f.defs.format ≡ Dynamic → fits f.defs values ≡ true → row ≡ spelling f.defs values → PutsNew (list_in f) (list_in g) row at m n → TalliesNew (list_in f) (length row) put m → g ≡ record f { counts = counts_with put g.counts.length g.counts.dellink f.counts } → is_addressable f.defs g.counts.length ≡ true → Steps (insert values) f g at m n

@@ -53,10 +53,11 @@ impl BlockFile {
     ghost use Rattle.myi_pack.specs.Spelling.{spelling, fits};
     ghost use Rattle.myi_dellist.specs.Rows.{PutsNew, PutsAtEnd};
     ghost use Rattle.myi_dellist.specs.Freed.{RowIsFreed};
-    ghost use Rattle.myi_state.specs.Changes.{insert, insert_at_end, delete};
+    ghost use Rattle.myi_dellist.specs.Replacing.{PutsAgain};
+    ghost use Rattle.myi_state.specs.Changes.{insert, insert_at_end, delete, update};
     ghost use Rattle.myi_slots.specs.declared.fault.DataFault.TheVariants.{File};
     ghost use Rattle.myi_slots.specs.SlotFile.{IsLong, Steps, Refuses, CutsOff, IfRefused, ByCause, Never, counts_in, is_reached, risen};
-    ghost use Rattle.myi_blocks.specs.BlockFile.{list_in, end_with, FindsBad, FindsRowBad, LacksRoom};
+    ghost use Rattle.myi_blocks.specs.BlockFile.{list_in, end_with, FindsBad, FindsRowBad, FindsOtherBad, LacksRoom, LacksOtherRoom};
     ghost use Rattle.myi_blocks.specs.RowReading.{HasRow, LacksRow, IsRowAt, ReadsFew};
     ghost use Rattle.myi_blocks.specs.Places.{KeepsNotes, StaysNoted, ReadsNoted, LooksUp, HasNoted, MayNote, MayForget, Forgets, StepsNoted, RefusesNoted};
 
@@ -281,6 +282,61 @@ impl BlockFile {
         }
         self.blocks.delete(files, at)?;
         self.forget(at);
+        Ok(())
+    }
+
+    /// Puts other values in the place of a row: into its blocks, then into the deleted ones from the head of the
+    /// list, and behind the end what they do not hold; what it leaves of its blocks is released. `NoRow` comes
+    /// exactly where no row stands at the position, as for `delete_at`. Then `Full` comes exactly where row
+    /// pointers would not reach the whole file, and `Damaged` exactly where a block that is read is not what the
+    /// row or the list needs there. All change nothing in the file.
+    pub fn update_at<F: Files>(
+        &mut self,
+        files: &mut F,
+        at: u64,
+        row: &Row,
+    ) -> Result<(), DataFault>
+        requires writable { IsTrue F.writable }
+        requires fits { IsTrue (fits self.old.file.defs row.now) }
+        requires long { IfTold (F.holds files.old) (IsLong self.old.file) }
+        ensures ok { OnOk result (Told (F.holds files.old) (F.holds files.new)
+            (StepsNoted (update at row.now) self.old self.new at)) }
+        ensures refused { IfErr result (λ f. IfTold (F.holds files.old)
+            (RefusesNoted (update at row.now) self.old f)) }
+        ensures puts { OnOk result (Told (F.holds files.old) (F.holds files.new)
+            (PutsAgain (list_in self.old.file) (list_in self.new.file) at
+            (spelling self.old.file.defs row.now))) }
+        ensures others { Told (F.holds files.old) (F.holds files.new)
+            (OthersStay self.old.file.name) }
+        ensures stood { OnOk result (HasNoted at true self.new.places) }
+        ensures room { OnOk result
+            (is_reached self.new.file.counts.length self.old.file ≡ true) }
+        ensures object { self.new.file ≡ record self.old.file {
+          counts = self.new.file.counts;
+        } }
+        ensures records { OnOk result
+            (self.new.file.counts.records ≡ self.old.file.counts.records) }
+        ensures causes { IfErr result (ByCause
+            (λ p. (p ≡ at) × HasNoted at false self.new.places)
+            (HasNoted at true self.new.places
+            × ((is_reached self.old.file.counts.length self.old.file ≡ false)
+            ⊎ IfTold (F.holds files.old) (LacksOtherRoom self.old.file at
+            (length (spelling self.old.file.defs row.now)))))
+            (λ p. HasNoted at true self.new.places
+            × IfTold (F.holds files.old) (FindsOtherBad self.old.file at
+            (length (spelling self.old.file.defs row.now)) p))) }
+        ensures noted { IfTold (F.holds files.old) (LooksUp self.old self.new) }
+        ensures kept { IfTold (F.holds files.old) (StaysNoted self.old self.new) }
+        ensures unchanged { IfErr result (λ f. IfRefused f
+            (F.holds files.new ≡ F.holds files.old)) }
+        ensures same { OnErr result (self.new.file ≡ self.old.file) }
+        ensures cause { HasCause File (F.faults files.old) (F.faults files.new) result }
+    {
+        self.look_up(files)?;
+        if !self.has(at) {
+            return Err(DataFault::NoRow { at });
+        }
+        self.blocks.update(files, at, row)?;
         Ok(())
     }
 

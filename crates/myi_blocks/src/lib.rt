@@ -3,9 +3,10 @@
 //! A dynamic table's data file is blocks: those of rows, each a chain of blocks or one whole block, and deleted
 //! ones, which form a list. `BlockFile` is such a file by its name, with the definitions of its table and the
 //! table's numbers. `insert` puts a row into the deleted blocks from the head of the list, and behind the end what
-//! they do not hold; `insert_at_end` behind the end whatever is deleted; `delete_at` releases the blocks of a
-//! row. `row_at` reads the row at a position that an index names, block by block; `read_at` the row at any
-//! position. `delete_at` and `read_at` say whether a row stands there, for which the file is scanned once. `counts` and `holes` give the numbers that the index file is to keep. Which
+//! they do not hold; `insert_at_end` behind the end whatever is deleted; `update_at` puts other values in the place
+//! of a row, into its own blocks first; `delete_at` releases the blocks of a row. `row_at` reads the row at a
+//! position that an index names, block by block; `read_at` the row at any position. `update_at`, `delete_at` and
+//! `read_at` say whether a row stands there, for which the file is scanned once. `counts` and `holes` give the numbers that the index file is to keep. Which
 //! blocks are read and written for a change is the deleted list's part (`myi_dellist`).
 //!
 //! The model (`specs/Places`) is that of every data file that changes (`specs/SlotFile` of `myi_slots`) and, once they

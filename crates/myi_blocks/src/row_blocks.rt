@@ -8,13 +8,13 @@ ghost use Rattle.myi_defs.specs.Addressable.{is_addressable};
 ghost use Rattle.myi_pack.specs.Unpacking.{row_of};
 ghost use Rattle.myi_blocks.specs.BlockFile.{end_limit};
 
-use crate::numbers::{Tally, end_limit, with_row, without_row};
+use crate::numbers::{Tally, end_limit, with_other, with_row, without_row};
 use crate::places::note_rows;
 use crate::row_chain::read_chain;
 use myi_chain::{ScanFault, ScanSetup};
 use myi_data::DataScan;
 use myi_defs::Defs;
-use myi_dellist::{FreeList, Limits, Put};
+use myi_dellist::{FreeList, Limits, Put, Replaced};
 use myi_header::State;
 use myi_io::Files;
 use myi_pack::{Row, pack, unpack, view};
@@ -94,10 +94,11 @@ impl RowBlocks {
     ghost use Rattle.myi_pack.specs.Spelling.{spelling, fits};
     ghost use Rattle.myi_dellist.specs.Rows.{PutsNew, PutsAtEnd, TalliesNew, TalliesAtEnd};
     ghost use Rattle.myi_dellist.specs.Freed.{RowIsFreed};
-    ghost use Rattle.myi_state.specs.Changes.{insert, insert_at_end, delete};
+    ghost use Rattle.myi_dellist.specs.Replacing.{PutsAgain, TalliesReplaced};
+    ghost use Rattle.myi_state.specs.Changes.{insert, insert_at_end, delete, update};
     ghost use Rattle.myi_slots.specs.declared.fault.DataFault.TheVariants.{File};
     ghost use Rattle.myi_slots.specs.SlotFile.{IsLong, Steps, Refuses, CutsOff, IfRefused, ByCause, Never, counts_in, is_reached, risen};
-    ghost use Rattle.myi_blocks.specs.BlockFile.{list_in, end_with, FindsBad, FindsRowBad, LacksRoom, counts_with};
+    ghost use Rattle.myi_blocks.specs.BlockFile.{list_in, end_with, FindsBad, FindsRowBad, FindsOtherBad, LacksRoom, LacksOtherRoom, counts_with, counts_again};
     ghost use Rattle.myi_blocks.specs.Standing.{StepsRow, RefusesRow};
     ghost use Rattle.myi_blocks.specs.RowReading.{LacksRow, IsRowAt, ReadsFew};
     ghost use Rattle.myi_blocks.specs.Places.{AreRead};
@@ -330,6 +331,88 @@ impl RowBlocks {
         }
         let freed = self.list.release_row(files, at)?;
         self.tally = without_row(self.tally, freed);
+        Ok(())
+    }
+
+    /// Puts a row of these bytes in the place of the one at a position.
+    fn replace<F: Files>(
+        &mut self,
+        files: &mut F,
+        at: u64,
+        packed: &[u8],
+    ) -> Result<Replaced, DataFault>
+        requires writable { IsTrue F.writable }
+        requires some { 0 < length packed.now }
+        requires few { length packed.now < 2 ^ 32 }
+        requires long { IfTold (F.holds files.old) (IsLong self.old) }
+        ensures sound { IsSound self.old.defs }
+        ensures format { self.old.defs.format ≡ Dynamic }
+        ensures ok { OnOk result (Told (F.holds files.old) (F.holds files.new)
+            (PutsAgain (list_in self.old) (list_in self.new) at packed.now)) }
+        ensures tallies { IfOk result (λ new. IfTold (F.holds files.old)
+            (TalliesReplaced (list_in self.old) at (length packed.now) new)) }
+        ensures counted { IfOk result (λ new. self.new ≡ record self.old {
+          counts = counts_again new self.new.counts.length self.new.counts.dellink self.old.counts;
+        }) }
+        ensures others { Told (F.holds files.old) (F.holds files.new) (OthersStay self.old.name) }
+        ensures room { OnOk result (is_reached self.new.counts.length self.old ≡ true) }
+        ensures causes { IfErr result (ByCause Never
+            ((is_reached self.old.counts.length self.old ≡ false)
+            ⊎ IfTold (F.holds files.old) (LacksOtherRoom self.old at (length packed.now)))
+            (λ p. IfTold (F.holds files.old)
+            (FindsOtherBad self.old at (length packed.now) p))) }
+        ensures unchanged { IfErr result (λ f. IfRefused f
+            (F.holds files.new ≡ F.holds files.old)) }
+        ensures same { OnErr result (self.new ≡ self.old) }
+        ensures cause { HasCause File (F.faults files.old) (F.faults files.new) result }
+    {
+        let before = self.list.end();
+        if !self.defs.addressable(before) {
+            return Err(DataFault::Full);
+        }
+        let new = self.list.replace(files, at, packed)?;
+        let grown = self.list.end().saturating_sub(before);
+        self.tally = with_other(self.tally, new, grown);
+        Ok(new)
+    }
+
+    /// Puts other values in the place of the row at a position, where one stands: into its blocks, then into the
+    /// deleted ones from the head of the list, and behind the end what they do not hold. `Full` comes exactly where
+    /// row pointers would not reach the whole file, `Damaged` exactly where a block that is read is not what the
+    /// row or the list needs there. Both change nothing.
+    pub(crate) fn update<F: Files>(
+        &mut self,
+        files: &mut F,
+        at: u64,
+        row: &Row,
+    ) -> Result<(), DataFault>
+        requires writable { IsTrue F.writable }
+        requires fits { IsTrue (fits self.old.defs row.now) }
+        requires long { IfTold (F.holds files.old) (IsLong self.old) }
+        ensures ok { OnOk result (Told (F.holds files.old) (F.holds files.new)
+            (StepsRow (update at row.now) at self.old self.new)) }
+        ensures refused { IfErr result (λ f. IfTold (F.holds files.old)
+            (RefusesRow (update at row.now) at self.old f)) }
+        ensures puts { OnOk result (Told (F.holds files.old) (F.holds files.new)
+            (PutsAgain (list_in self.old) (list_in self.new) at
+            (spelling self.old.defs row.now))) }
+        ensures others { Told (F.holds files.old) (F.holds files.new) (OthersStay self.old.name) }
+        ensures room { OnOk result (is_reached self.new.counts.length self.old ≡ true) }
+        ensures object { self.new ≡ record self.old { counts = self.new.counts } }
+        ensures records { OnOk result (self.new.counts.records ≡ self.old.counts.records) }
+        ensures causes { IfErr result (ByCause Never
+            ((is_reached self.old.counts.length self.old ≡ false)
+            ⊎ IfTold (F.holds files.old)
+            (LacksOtherRoom self.old at (length (spelling self.old.defs row.now))))
+            (λ p. IfTold (F.holds files.old)
+            (FindsOtherBad self.old at (length (spelling self.old.defs row.now)) p))) }
+        ensures unchanged { IfErr result (λ f. IfRefused f
+            (F.holds files.new ≡ F.holds files.old)) }
+        ensures same { OnErr result (self.new ≡ self.old) }
+        ensures cause { HasCause File (F.faults files.old) (F.faults files.new) result }
+    {
+        let packed = pack(self.defs.raw.allocator(), &self.defs, row)?;
+        self.replace(files, at, packed.as_slice())?;
         Ok(())
     }
 
