@@ -9,3 +9,9 @@ pub mod ReadLaws
 pub mod ListedLaws
 pub mod AnalyzeLaws
 pub mod CleanLaws
+pub mod OrderLaws
+pub mod LinkLaws
+pub mod PlaceLaws
+pub mod NewOrderLaws
+pub mod EndLaws
+pub mod SortLaws

@@ -22,6 +22,7 @@ CutsOff fault = (fault ≡ order.File) ⊎ (fault ≡ order.Memory)
 abbrev pub faults_told : OrderFault → ℕ
 faults_told (order.Absent f) = 0
 faults_told (order.Def f) = 0
+faults_told (order.NoKey keys) = 0
 faults_told (order.Damaged f) = 0
 faults_told order.File = 1
 faults_told order.Memory = 0

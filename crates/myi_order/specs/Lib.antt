@@ -10,6 +10,12 @@ pub mod Numbers
 pub mod Faults
 -- what an analysis answers and leaves
 pub mod Analyzing
+-- the rows of a table in the order of a key
+pub mod InOrder
+-- what sorting answers and leaves
+pub mod Sorting
+-- how a call that sorts a table ends
+pub mod Outcome
 -- what serves private contracts
 
 -- how many segments keys share
@@ -18,6 +24,14 @@ pub mod Shared
 pub mod Listed
 -- what was read of a table's rows
 pub mod Counting
+-- how the blocks of a row are read one after the other
+pub mod RowLinks
+-- a readable row at its place
+pub mod AtPlaces
+-- what is written of a table whose rows are sorted
+pub mod NewOrder
+-- its two files then
+pub mod SortedFiles
 -- a piece of a file that is copied
 pub mod Copying
 -- new numbers in an index file

@@ -1,4 +1,4 @@
-//! Counting the rows of a table, and the distinct prefixes of their keys.
+//! Reading the rows of a table, and counting them and the distinct prefixes of their keys.
 ghost use Rattle.std.specs.Prelude.{◌≡◌, ◌<◌, ◌^◌, ℕ, Some, List, length, IfOk, IfErr};
 ghost use Rattle.std.specs.Prelude as std;
 ghost use Rattle.std.specs.List.{AllByRecursion};
@@ -6,11 +6,11 @@ ghost use Rattle.myi_base.specs.Holding.{IfTold};
 ghost use Rattle.myi_base.specs.Causes.{HasCause};
 ghost use Rattle.myi_defs.specs.ReadDefs.{AreDefs};
 ghost use Rattle.myi_defs.specs.Sound.{IsSound};
-ghost use Rattle.myi_pack.specs.Packed.{Values};
+ghost use Rattle.myi_pair.specs.KeyList.{PlacedRow};
 ghost use Rattle.myi_data.specs.Scanning.{IsAsKnown};
 ghost use Rattle.myi_order.specs.Faults.{CutsOff};
 ghost use Rattle.myi_order.specs.Numbers.{all_per};
-ghost use Rattle.myi_order.specs.Counting.{HasRead, ReadsAll, IsCounted, CountsFile};
+ghost use Rattle.myi_order.specs.Counting.{HasRead, values_placed, ReadsAll, ReadsFile, IsCounted, CountsFile};
 
 use crate::fault::OrderFault;
 use crate::key_parts::{KeyParts, parts_of_lists, sorted_lists};
@@ -48,13 +48,32 @@ pub(crate) fn count_file<F: Files>(
     ensures cut { IfErr result CutsOff }
     ensures cause { HasCause OrderFault.File (F.faults files.old) (F.faults files.new) result }
 {
+    let read = read_file(alloc, files, rows, defs, length)?;
+    Ok(into_counted(alloc, read, defs)?)
+}
+
+/// Reads the rows of a data file of that length.
+pub(crate) fn read_file<F: Files>(
+    alloc: Global,
+    files: &mut F,
+    rows: &str,
+    defs: &Defs,
+    length: u64,
+) -> Result<RowsRead, OrderFault>
+    requires defs { AreDefs defs.now }
+    requires long { IfTold (F.holds files.old) (λ m.
+        (d : List ℕ) × (m rows.now ≡ Some d) × (length ≡ std.length d)) }
+    ensures read { IfOk result (ReadsFile defs.now rows.now (F.holds files.old)) }
+    ensures holds { F.holds files.new ≡ F.holds files.old }
+    ensures cut { IfErr result CutsOff }
+    ensures cause { HasCause OrderFault.File (F.faults files.old) (F.faults files.new) result }
+{
     let setup = ScanSetup {
         extend: false,
         file_len: length,
     };
     let mut scan = DataScan::of_file(rows, defs, setup)?;
-    let read = read_all(alloc, files, &mut scan, defs)?;
-    Ok(into_counted(alloc, read, defs)?)
+    read_all(alloc, files, &mut scan, defs)
 }
 
 // Reads all rows that a scan has left.
@@ -80,9 +99,9 @@ fn read_all<F: Files>(
 // The rows per prefix of all keys of the rows that were read.
 fn into_counted(alloc: Global, read: RowsRead, defs: &Defs) -> Result<Counted, AllocError>
     requires sound { IsSound defs.now }
-    requires read { (rows : List Values) × HasRead defs.now rows read }
-    ensures counted { IfOk result (λ c. (rows : List Values) → HasRead defs.now rows read
-        → IsCounted defs.now rows c) }
+    requires read { (rows : List PlacedRow) × HasRead defs.now rows read }
+    ensures counted { IfOk result (λ c. (rows : List PlacedRow) → HasRead defs.now rows read
+        → IsCounted defs.now (values_placed rows) c) }
     ensures small { IfOk result (λ c. AllByRecursion (λ n. n < 256 ^ 4) (all_per c.parts.items)) }
     ensures few { IfOk result (λ c. c.rows < 256 ^ 8) }
 {

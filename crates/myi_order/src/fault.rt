@@ -1,4 +1,4 @@
-//! Why a table is not analyzed.
+//! Why a table is not analyzed or sorted.
 ghost use Rattle.std.specs.Prelude.{◌≡◌};
 ghost use Rattle.myi_order.specs.declared.fault.OrderFault.TheVariants.{Memory};
 
@@ -10,8 +10,8 @@ use myi_pair::Finding;
 use std::alloc::{AllocError, AllocFailed};
 use thiserror::Error;
 
-/// Why a table is not analyzed. `Absent`, `Def` and `Damaged` are said in this order, before anything is
-/// changed.
+/// Why a table is not analyzed or sorted. `Absent`, `Def`, `NoKey` and `Damaged` are said in this order, before
+/// anything is changed.
 #[derive(Clone, Copy, Debug, PartialEq, Eq, Error)]
 pub enum OrderFault {
     /// This file is not there; the index file is looked for first.
@@ -20,6 +20,9 @@ pub enum OrderFault {
     /// The definitions are refused, not for want of memory.
     #[error("the definitions are refused")]
     Def(DefFault),
+    /// The table has no key of that number; so many it has.
+    #[error("the table has no such key")]
+    NoKey { keys: u8 },
     /// The first thing that a check finds wrong with the table.
     #[error("the table is damaged")]
     Damaged(Finding),

@@ -1,6 +1,6 @@
 //! Laws over the definitions of this crate. Each is the contract of a function that does nothing, so
 //! that it is proved with the crate and stands for the crates above.
-ghost use Rattle.std.specs.Prelude.{◌≡◌, ◌<◌, ◌≤◌, ◌^◌, ℕ, List, length, Ok, IsSorted};
+ghost use Rattle.std.specs.Prelude.{◌≡◌, ◌<◌, ◌≤◌, ◌^◌, ℕ, List, [], length, map, Ok, IsSorted};
 ghost use Rattle.std.specs.List.{AllByRecursion};
 ghost use Rattle.myi_defs.specs.declared.types.Defs.{Defs};
 ghost use Rattle.myi_defs.specs.Sound.{IsSound};
@@ -9,7 +9,10 @@ ghost use Rattle.myi_header.specs.Layout.{key_parts};
 ghost use Rattle.myi_keylist.specs.declared.pair.Pair.{Pair};
 ghost use Rattle.myi_keylist.specs.PairOrder.{pair_cmp, sorted};
 ghost use Rattle.myi_keylist.specs.Repeats.{keys_of};
-ghost use Rattle.myi_pair.specs.Clean.{IsClean};
+ghost use Rattle.myi_chain.specs.Readable.{Row};
+ghost use Rattle.myi_pair.specs.Clean.{values_of, IsClean};
+ghost use Rattle.myi_pair.specs.FirstRows.{AreDistinct};
+ghost use Rattle.myi_order.specs.InOrder.{placed_key, in_order, IsInOrder};
 ghost use Rattle.myi_order.specs.Prefixes.{distinct_prefixes, per, per_each, prefix_ends};
 ghost use Rattle.myi_order.specs.Numbers.{with_numbers, IsAnalyzed};
 
@@ -32,6 +35,18 @@ pub fn sorting_keeps_prefixes()
         → per j (keys_of (sorted pairs)) ≡ per j (keys_of pairs) }
     ensures each { (segments : ℕ) (pairs : List Pair)
         → per_each segments (keys_of (sorted pairs)) ≡ per_each segments (keys_of pairs) }
+{}
+
+/// Rows in the order of a key are the same rows, in order; their keys and positions are the sorted ones of the
+/// rows; and where no row repeats one before it in a unique key, none does so in order.
+pub fn rows_are_put_in_order()
+    ensures ordered { (d : Defs) (k : ℕ) (rows : List Row)
+        → IsInOrder d k rows (in_order d k rows) }
+    ensures pairs { (d : Defs) (k : ℕ) (rows : List Row)
+        → map (placed_key d k) (in_order d k rows) ≡ sorted (map (placed_key d k) rows) }
+    ensures distinct { (d : Defs) (k : ℕ) (rows : List Row)
+        → AreDistinct d [] (map (values_of d) rows)
+        → AreDistinct d [] (map (values_of d) (in_order d k rows)) }
 {}
 
 /// What is read of an index file with new numbers: each of these numbers, the changed bits without the one

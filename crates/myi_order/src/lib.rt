@@ -27,15 +27,20 @@ mod counting;
 mod fault;
 mod key_parts;
 mod laws;
+mod new_order;
 mod numbers;
 mod prefixes;
+mod row_at;
 mod rows_read;
+mod sorting;
 mod storing;
 
 pub use analyzing::analyze;
 pub use fault::OrderFault;
 pub use key_parts::KeyParts;
 pub use laws::{
-    analyzed_tables_are_clean, numbers_read_back, prefixes_end_in_order, sorting_keeps_prefixes,
+    analyzed_tables_are_clean, numbers_read_back, prefixes_end_in_order, rows_are_put_in_order,
+    sorting_keeps_prefixes,
 };
 pub use prefixes::rows_per_prefix;
+pub use sorting::sort_records;

@@ -23,7 +23,7 @@ impl RowsRead {
     ghost use Rattle.myi_base.specs.Holding.{IfTold};
     ghost use Rattle.myi_base.specs.Causes.{HasCause};
     ghost use Rattle.myi_defs.specs.ReadDefs.{AreDefs};
-    ghost use Rattle.myi_pack.specs.Packed.{Values};
+    ghost use Rattle.myi_pair.specs.KeyList.{PlacedRow};
     ghost use Rattle.myi_chain.specs.ScanModel.{IsSameScan};
     ghost use Rattle.myi_data.specs.Scanning.{IsAsKnown};
     ghost use Rattle.myi_order.specs.Faults.{CutsOff};
@@ -49,7 +49,7 @@ impl RowsRead {
         requires current { IfTold (F.holds files.old) (IsAsKnown scan.old) }
         requires test { scan.old.test ≡ defs.now }
         requires defs { AreDefs defs.now }
-        requires read { (rows : List Values) × HasRead defs.now rows self.old }
+        requires read { (rows : List PlacedRow) × HasRead defs.now rows self.old }
         ensures read { IfOk result (λ more.
             ReadsIf more defs.now (F.holds files.old) scan.old scan.new self.old self.new) }
         ensures same { OnOk result (IsSameScan scan.old scan.new) }

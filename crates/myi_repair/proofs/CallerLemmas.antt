@@ -7,5 +7,8 @@ pub use Rattle.myi_repair.proofs.FilesLaws.{apart_of}
 pub use Rattle.myi_repair.proofs.RepairLaws.{repaired, kept_both, kept_or_whole}
 -- two facts of one step, and of what an Ok holds
 pub use Rattle.myi_repair.proofs.FilesLaws.{told_and, both_ok}
+-- rows that are all written
+pub use Rattle.myi_repair.proofs.PointerLaws.{chosen_all}
+pub use Rattle.myi_repair.proofs.StoredLaws.{all_parts}
 -- how a call ends
 pub use Rattle.myi_repair.proofs.EndLaws.{cut_off_ends, cut_off_later}

@@ -47,7 +47,7 @@ use Rattle.myi_repair.specs.Names.{FourNames}
 use Rattle.myi_repair.specs.Opening.{IsTable, HasTable}
 use Rattle.myi_repair.specs.Sized.{AreSizedPairs}
 use Rattle.myi_repair.specs.Keeping.{IsPrepared, is_chosen, flags_by, chosen, pointers_at, AreStorable, AreStored, HasWritten, Adds, WritesIf}
-use Rattle.myi_repair.specs.Gathering.{Gathers, sized_ahead, Reads, HasTaken, TakesChosen, TakesAll, all_chosen}
+use Rattle.myi_repair.specs.Gathering.{IsOfRows, Gathers, sized_ahead, Reads, HasTaken, TakesChosen, TakesAll, all_chosen}
 use Rattle.myi_repair.proofs.FilesLaws.{resized_none, told_and}
 use Rattle.myi_repair.proofs.StoredLaws.{all_parts}
 use Rattle.myi_repair.proofs.PointerLaws.{chosen_all, flags_given, lists_of_all, lists_of_kept}
@@ -269,6 +269,24 @@ all_gathered t defs extend end scan file w lists sorts g before after defined is
     (subst (λ f. n f ≡ Some (stored_file defs (chosen all_chosen rows))) named (both.1 can))
     (lists_of_all defs rows sorts w.pointers s can are (has.written.stored can).pointers ∙ ap (λ rs. key_lists defs (placed_from defs 0 rs)) (sym all))
     made)
+
+-- what was gathered of rows that were all written
+pub of_all_rows : (defs : Defs) (end : ℕ) (rows : List SizedRow) (w : NewRows) (lists sorts : List (List Pair)) (g : Gathered) → IsSound defs → HasWritten defs all_chosen rows w → lists ≡ number_pairs defs rows → AreStorable defs rows
+    → sorts ≡ sorted_unique defs.keys lists → g ≡ gathered_of defs end w (map (map (pointed w.pointers)) sorts) → IsOfRows rows g × (g.report.repeats ≡ 0)
+of_all_rows defs end rows w lists sorts g s has is can step made =
+    let was : AreStored defs all_chosen rows w = has.stored can in
+    let all : chosen all_chosen rows ≡ rows = chosen_all rows in
+    let kept : w.kept ≡ length rows = was.kept ∙ ap (λ (rs : List SizedRow). length rs) all in
+    let none : length w.pointers - w.kept ≡ 0 = omega (arith, written_long defs all_chosen rows w has, kept) in
+    subst (λ (x : Gathered). IsOfRows rows x × (x.report.repeats ≡ 0)) (sym made) (
+      record {
+        kept = kept;
+        split = was.split ∙ ap (block_count defs) all;
+        long = was.end ∙ ap (λ rs. length (stored_file defs rs)) all;
+        pairs = lists_of_all defs rows sorts w.pointers s can (lists_sorted defs rows lists sorts is step) was.pointers;
+      },
+      none,
+    )
 
 -- what is known of the files once all rows were written
 abbrev pub Known : FourNames → Defs → ℕ → TableScan → List ℕ → List SizedRow → Holding → Holding → Type 0

@@ -112,20 +112,33 @@ finished_is t extend d g h now end roots m n s left counted is rooted ended buil
 
 -- ---- the steps together
 
-pub completed : (t u : FourNames) (extend : Bool) (d : List ℕ) (g h : Gathered) (now end : ℕ) (roots : List (Option ℕ)) (m n o : Holding) → IsSound g.defs → u ≡ t → h ≡ without_pairs g → length g.pairs ≡ length g.defs.keys → IsGathered t extend d g m
-    → roots ≡ (trees_of g.defs g.pairs).roots → end ≡ (trees_of g.defs g.pairs).end → Builds g.defs g.pairs u.new_index m n → n u.new_rows ≡ m u.new_rows → Finishes t h roots end now n o → Holds t (new_data g.defs extend d) (new_index g.defs extend d now) o
-completed t u extend d g h now end roots m n o s named left counted is rooted ended built rows done =
-    let index = finished_is t extend d g h now end roots m n s left counted is rooted ended (subst (λ v. Builds g.defs g.pairs v.new_index m n) named built) in
-    let there : n t.new_rows ≡ m t.new_rows = subst (λ v. n v.new_rows ≡ m v.new_rows) named rows in
-    subst (λ x. Holds t (new_data g.defs extend d) x o) index (done (new_data g.defs extend d) (there ∙ is.written))
+pub completed : (t u : FourNames) (rows : List SizedRow) (g h : Gathered) (now end : ℕ) (roots : List (Option ℕ)) (m n o : Holding) → IsSound g.defs → u ≡ t → h ≡ without_pairs g → length g.pairs ≡ length g.defs.keys → IsOfRows rows g → m t.new_rows ≡ Some (stored_file g.defs rows)
+    → roots ≡ (trees_of g.defs g.pairs).roots → end ≡ (trees_of g.defs g.pairs).end → Builds g.defs g.pairs u.new_index m n → n u.new_rows ≡ m u.new_rows → Finishes t h roots end now n o → Holds t (stored_file g.defs rows) (rebuilt_index g.defs rows now) o
+completed t u rows g h now end roots m n o s named left counted is written rooted ended built stay done =
+    let there : n t.new_rows ≡ m t.new_rows = subst (λ v. n v.new_rows ≡ m v.new_rows) named stay in
+    made_files t rows g h now end roots m n o s left counted is rooted ended (subst (λ v. Builds g.defs g.pairs v.new_index m n) named built) (there ∙ written) done
 
-pub completed_part : (t u : FourNames) (extend : Bool) (d : List ℕ) (g h : Gathered) (now end : ℕ) (roots : List (Option ℕ)) (m n o : Holding) → IsSound g.defs → u ≡ t → h ≡ without_pairs g → length g.pairs ≡ length g.defs.keys → IsGathered t extend d g m
-    → roots ≡ (trees_of g.defs g.pairs).roots → end ≡ (trees_of g.defs g.pairs).end → Builds g.defs g.pairs u.new_index m n → n u.new_rows ≡ m u.new_rows → KeepsBoth u m n → FinishesPart t h roots end now n o → IsWhole t (new_data g.defs extend d) (new_index g.defs extend d now) m o
-completed_part t u extend d g h now end roots m n o s named left counted is rooted ended built rows both part =
-    let index = finished_is t extend d g h now end roots m n s left counted is rooted ended (subst (λ v. Builds g.defs g.pairs v.new_index m n) named built) in
-    let there : n t.new_rows ≡ m t.new_rows = subst (λ v. n v.new_rows ≡ m v.new_rows) named rows in
-    whole_before t (new_data g.defs extend d) (new_index g.defs extend d now) m n o (subst (λ v. KeepsBoth v m n) named both)
-    (subst (λ x. IsWhole t (new_data g.defs extend d) x n o) index (part (new_data g.defs extend d) (there ∙ is.written)))
+pub completed_part : (t u : FourNames) (rows : List SizedRow) (g h : Gathered) (now end : ℕ) (roots : List (Option ℕ)) (m n o : Holding) → IsSound g.defs → u ≡ t → h ≡ without_pairs g → length g.pairs ≡ length g.defs.keys → IsOfRows rows g → m t.new_rows ≡ Some (stored_file g.defs rows)
+    → roots ≡ (trees_of g.defs g.pairs).roots → end ≡ (trees_of g.defs g.pairs).end → Builds g.defs g.pairs u.new_index m n → n u.new_rows ≡ m u.new_rows → KeepsBoth u m n → FinishesPart t h roots end now n o → IsWhole t (stored_file g.defs rows) (rebuilt_index g.defs rows now) m o
+completed_part t u rows g h now end roots m n o s named left counted is written rooted ended built stay both part =
+    let index = made_index t rows g h now end roots m n s left counted is rooted ended (subst (λ v. Builds g.defs g.pairs v.new_index m n) named built) in
+    let there : n t.new_rows ≡ m t.new_rows = subst (λ v. n v.new_rows ≡ m v.new_rows) named stay in
+    whole_before t (stored_file g.defs rows) (rebuilt_index g.defs rows now) m n o (subst (λ v. KeepsBoth v m n) named both)
+    (subst (λ x. IsWhole t (stored_file g.defs rows) x n o) index (part (stored_file g.defs rows) (there ∙ written)))
+
+-- the rows that are kept, in the working data file
+kept_written : (t : FourNames) (extend : Bool) (d : List ℕ) (g : Gathered) (m : Holding) → IsGathered t extend d g m → m t.new_rows ≡ Some (stored_file g.defs (kept g.defs extend d))
+unfolding new_data
+kept_written t extend d g m is = is.written
+
+-- their table made anew is the recovered bytes
+kept_holds : (t : FourNames) (extend : Bool) (d : List ℕ) (defs : Defs) (now : ℕ) (n : Holding) → Holds t (stored_file defs (kept defs extend d)) (rebuilt_index defs (kept defs extend d) now) n → Holds t (new_data defs extend d) (new_index defs extend d now) n
+unfolding new_data new_index
+kept_holds t extend d defs now n holds = holds
+
+kept_whole : (t : FourNames) (extend : Bool) (d : List ℕ) (defs : Defs) (now : ℕ) (m n : Holding) → IsWhole t (stored_file defs (kept defs extend d)) (rebuilt_index defs (kept defs extend d) now) m n → IsWhole t (new_data defs extend d) (new_index defs extend d now) m n
+unfolding new_data new_index
+kept_whole t extend d defs now m n whole = whole
 
 pub repaired : (name : List ℕ) (t : FourNames) (extend : Bool) (now : ℕ) (g : Gathered) (said : Report) (m n o : Holding) → t ≡ names_for name → AreDefs g.defs → AreBytes g.defs.raw → now < 2 ^ 64 → Gathers t extend g m n → said ≡ g.report → Completes t g now n o → LeavesRepaired name extend now said m o
 repaired name t extend now g said m n o named are header early gathers same completes =
@@ -141,7 +154,7 @@ repaired name t extend now g said m n o named are header early gathers same comp
       reached = open_table.reached;
       time = early;
     } in
-    (g.defs, d, gathered.1, record { holds = done extend d is; recovered = recovered g.defs extend d now can; report = same ∙ is.report })
+    (g.defs, d, gathered.1, record { holds = kept_holds (names_for name) extend d g.defs now o (done (kept g.defs extend d) (gathered_rows (names_for name) extend d g n is) (kept_written (names_for name) extend d g n is)); recovered = recovered g.defs extend d now can; report = same ∙ is.report })
 
 -- where both files stay they are the old ones
 pub kept_both : (name : List ℕ) (t : FourNames) (extend : Bool) (now : ℕ) (m n : Holding) → t ≡ names_for name → KeepsBoth t m n → OldOrNew name extend now m n
@@ -158,7 +171,7 @@ kept_or_whole name t extend now g m n o named gathers both part =
     let keeps : KeepsBoth (names_for name) m n = subst (λ u. KeepsBoth u m n) named both in
     let whole : CompletesPart (names_for name) g now n o = subst (λ u. CompletesPart u g now n o) named part in
     let d : List ℕ = gathered.0 in
-    subst (λ (table : Result Table RepairFault). OldOrNewOf name extend now table m o) (sym gathered.1) (whole_before (names_for name) (new_data g.defs extend d) (new_index g.defs extend d now) m n o keeps (whole extend d gathered.2))
+    subst (λ (table : Result Table RepairFault). OldOrNewOf name extend now table m o) (sym gathered.1) (whole_before (names_for name) (new_data g.defs extend d) (new_index g.defs extend d now) m n o keeps (kept_whole (names_for name) extend d g.defs now n o (whole (kept g.defs extend d) (gathered_rows (names_for name) extend d g n gathered.2) (kept_written (names_for name) extend d g n gathered.2))))
 
 -- Putting trees changes neither file, nor the working data file; and finishing leaves the data file, or gives it what that held.
 pub rows_kept_or_taken : (t : FourNames) (g : Gathered) (roots : List (Option ℕ)) (end now : ℕ) (m n o : Holding) → n t.new_rows ≡ m t.new_rows → KeepsBoth t m n → FinishesPart t g roots end now n o → FinishesAlone t g roots end now n o → KeepsOrTakesRows t m o

@@ -2,6 +2,8 @@
 use Rattle.std.specs.Prelude.{◌≡◌, ◌⊎◌, ℕ, Bool, List, Some, Result, Ok, Err}
 use Rattle.myi_base.specs.Holding.{Holding}
 use Rattle.myi_defs.specs.declared.types.Defs.{Defs}
+use Rattle.myi_data.specs.Stored.{SizedRow, stored_file}
+use Rattle.myi_pair.specs.RebuiltBytes.{rebuilt_index}
 use Rattle.myi_pair.specs.RecoveredBytes.{new_data, new_index}
 use Rattle.myi_pair.specs.Recovered.{Recovered}
 use Rattle.myi_repair.specs.declared.report.Report.{Report}
@@ -9,7 +11,7 @@ use Rattle.myi_repair.specs.declared.gathering.Gathered.{Gathered}
 use Rattle.myi_repair.specs.Names.{FourNames, names_for, Holds, KeepsBoth}
 use Rattle.myi_repair.specs.declared.fault.RepairFault.{RepairFault}
 use Rattle.myi_repair.specs.Opening.{Table, table_in, IsTable}
-use Rattle.myi_repair.specs.Gathering.{report_of, IsGathered}
+use Rattle.myi_repair.specs.Gathering.{report_of, IsOfRows}
 use Rattle.myi_repair.specs.Finishing.{IsWhole}
 
 -- the files are the recovered bytes, the working files are gone, and this is said of it
@@ -30,12 +32,12 @@ OldOrNewOf name extend now (Ok t) m n = IsWhole (names_for name) (new_data t.0 e
 abbrev pub OldOrNew : List ℕ → Bool → ℕ → Holding → Holding → Type 0
 OldOrNew name extend now m n = OldOrNewOf name extend now (table_in (names_for name) m) m n
 
--- what was gathered was completed: the files are the recovered bytes
+-- what was gathered was completed: where the working data file held the rows, the files are those of a table made anew of them
 abbrev pub Completes : FourNames → Gathered → ℕ → Holding → Holding → Type 0
-Completes t g now m n = (extend : Bool) (d : List ℕ) → IsGathered t extend d g m → Holds t (new_data g.defs extend d) (new_index g.defs extend d now) n
+Completes t g now m n = (rows : List SizedRow) → IsOfRows rows g → m t.new_rows ≡ Some (stored_file g.defs rows) → Holds t (stored_file g.defs rows) (rebuilt_index g.defs rows now) n
 
 abbrev pub CompletesPart : FourNames → Gathered → ℕ → Holding → Holding → Type 0
-CompletesPart t g now m n = (extend : Bool) (d : List ℕ) → IsGathered t extend d g m → IsWhole t (new_data g.defs extend d) (new_index g.defs extend d now) m n
+CompletesPart t g now m n = (rows : List SizedRow) → IsOfRows rows g → m t.new_rows ≡ Some (stored_file g.defs rows) → IsWhole t (stored_file g.defs rows) (rebuilt_index g.defs rows now) m n
 
 -- the data file is the old one, or what the working data file was
 abbrev pub KeepsOrTakesRows : FourNames → Holding → Holding → Type 0

@@ -11,13 +11,13 @@ ghost use Rattle.myi_data.specs.Scanning.{IsAsKnown};
 ghost use Rattle.myi_data.specs.Stored.{SizedRow};
 ghost use Rattle.myi_keylist.specs.Columns.{pointed};
 ghost use Rattle.myi_rowkeys.specs.TableKeys.{row_keys};
-ghost use Rattle.myi_rowkeys.specs.RowLists.{with_pairs};
+ghost use Rattle.myi_rowkeys.specs.RowLists.{with_pairs, number_pairs};
 ghost use Rattle.myi_repair.specs.Names.{names_of, names_for, AreApart, KeepsBoth};
 ghost use Rattle.myi_repair.specs.Opening.{HasTable};
 ghost use Rattle.myi_repair.specs.Outcome.{Ends, EndsIn};
 ghost use Rattle.myi_repair.specs.Sized.{AreSizedPairs};
-ghost use Rattle.myi_repair.specs.Keeping.{is_chosen, IsPrepared, HasWritten, Adds, WritesIf};
-ghost use Rattle.myi_repair.specs.Gathering.{Gathers, TakesChosen, TakesAll};
+ghost use Rattle.myi_repair.specs.Keeping.{is_chosen, AreStorable, IsPrepared, HasWritten, Adds, WritesIf};
+ghost use Rattle.myi_repair.specs.Gathering.{all_chosen, IsOfRows, Gathers, TakesChosen, TakesAll};
 
 use crate::fault::RepairFault;
 use crate::names::TableFiles;
@@ -190,6 +190,23 @@ fn into_gathered(defs: Defs, old_length: u64, rows: NewRows, mut keys: RowKeys) 
     }
 }
 
+/// What was gathered of rows that were all written, of which none repeats another, and the pairs of their keys
+/// by their numbers.
+pub fn gathered_of_all(defs: Defs, old_length: u64, rows: NewRows, mut keys: RowKeys) -> Gathered
+    requires sound { IsSound defs }
+    requires written { (all : List SizedRow) × HasWritten defs all_chosen all rows
+        × (keys ≡ number_pairs defs all) }
+    ensures defs { result.defs ≡ defs }
+    ensures length { result.report.old_length ≡ old_length }
+    ensures pairs { AreSizedPairs result.defs result.pairs }
+    ensures rows { (all : List SizedRow) → HasWritten defs all_chosen all rows
+        → keys ≡ number_pairs defs all → AreStorable defs all
+        → IsOfRows all result × (result.report.repeats ≡ 0) }
+{
+    keys.sort_unique(&defs);
+    into_gathered(defs, old_length, rows, keys)
+}
+
 // Writes the rows that a scan has left into a file, which is made anew, and notes the pairs of their keys.
 fn take_rows<F: Files>(
     alloc: Global,
@@ -218,8 +235,8 @@ fn take_rows<F: Files>(
     Ok((rows, keys))
 }
 
-// Writes a row at the end of the file, and notes the pairs of its keys with its number.
-fn take_row<F: Files>(
+/// Writes a row at the end of the file, and notes the pairs of its keys with its number.
+pub fn take_row<F: Files>(
     files: &mut F,
     file: &str,
     defs: &Defs,

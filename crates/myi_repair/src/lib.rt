@@ -10,6 +10,10 @@
 //! gives both working files the names of the old ones. Where the trees are laid in memory, by whomever,
 //! `complete_laid` puts them into the working index file and finishes.
 //!
+//! A table is made anew of its rows in any other order by the same parts: `NextRow` spells a row, `take_row`
+//! writes it and notes its keys, `gathered_of_all` says what was gathered, and `complete` builds the trees and
+//! finishes.
+//!
 //! ```
 //! if options.mode != (Mode::Recover { parallel: true }) {
 //!     return recover(host.alloc, files, name, options.extend, now);
@@ -37,11 +41,13 @@ mod writing;
 
 pub use fault::RepairFault;
 pub use finishing::finish;
-pub use gathering::{Gathered, gather, gather_table};
+pub use gathering::{Gathered, gather, gather_table, gathered_of_all, take_row};
 pub use laid::complete_laid;
 pub use laws::{completed_tables_are_repaired, laid_trees_are_finished, names_of_files_are_apart};
 pub use names::TableFiles;
-pub use repair::recover;
+pub use new_rows::NewRows;
+pub use next_row::NextRow;
+pub use repair::{complete, recover};
 pub use report::Report;
 pub use trees::place_of;
 pub use writing::put_row;

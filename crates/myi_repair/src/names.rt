@@ -43,7 +43,7 @@ impl TableFiles {
     }
 
     /// Takes the working files away, each as far as that succeeds.
-    pub(crate) fn clear<F: Files>(&self, files: &mut F)
+    pub fn clear<F: Files>(&self, files: &mut F)
         requires writable { IsTrue F.writable }
         requires apart { AreApart (names_of self.now) }
         ensures gone { (more : ℕ) → RoseAtMost more (F.faults files.old) (F.faults files.new)

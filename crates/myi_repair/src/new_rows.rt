@@ -16,14 +16,14 @@ use myi_keylist::RowPointers;
 use std::alloc::{AllocError, Global};
 
 /// The rows that came so far, and what of them was written.
-pub(crate) struct NewRows {
+pub struct NewRows {
     /// How many rows were written, and in how many blocks.
-    pub(crate) kept: u64,
-    pub(crate) split: u64,
+    pub kept: u64,
+    pub split: u64,
     /// The place behind the last row in the new data file.
-    pub(crate) end: u64,
+    pub end: u64,
     /// For each row that came its pointer, and 0 where it was left out.
-    pub(crate) pointers: RowPointers,
+    pub pointers: RowPointers,
     block: Vec<u8>,
 }
 
@@ -51,7 +51,7 @@ impl NewRows {
     ghost use Rattle.myi_repair.specs.Keeping.{IsPrepared, HasWritten, Adds, WritesIf, is_chosen};
 
     /// No row yet.
-    pub(crate) fn new(alloc: Global) -> NewRows
+    pub fn new(alloc: Global) -> NewRows
         ensures { (d : Defs) (choose : ℕ → Bool) → HasWritten d choose [] result }
     {
         NewRows {

@@ -48,9 +48,9 @@ pub fn recover<F: Files>(
     complete(alloc, files, &table, gathered, now)
 }
 
-// Builds the trees of what was gathered, and puts the new files in the place of the old ones. After a refusal
-// the working files are taken away, each as far as that succeeds.
-fn complete<F: Files>(
+/// Builds the trees of what was gathered, of whatever rows, and puts the new files in the place of the old
+/// ones. After a refusal the working files are taken away, each as far as that succeeds.
+pub fn complete<F: Files>(
     alloc: Global,
     files: &mut F,
     table: &TableFiles,

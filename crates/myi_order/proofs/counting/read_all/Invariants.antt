@@ -1,6 +1,6 @@
 use Rattle.std.proofs.Common.{◌≡◌, ◌≤◌, ◌-◌, List}
 use Rattle.myi_base.specs.Holding.{IfTold}
-use Rattle.myi_pack.specs.Packed.{Values}
+use Rattle.myi_pair.specs.KeyList.{PlacedRow}
 use Rattle.myi_chain.specs.ScanModel.{IsSameScan}
 use Rattle.myi_data.specs.Scanning.{IsAsKnown}
 use Rattle.myi_order.proofs.ReadLaws.{Reading}
@@ -12,7 +12,7 @@ invariant-loop-read g l = record {
   holds : g.F.Files.holds l.files ≡ g.F.Files.holds l.fn.files;
   current : IfTold (g.F.Files.holds l.files) (IsAsKnown l.scan);
   later : g.F.Files.faults l.fn.files ≤ g.F.Files.faults l.files;
-  came : List Values;
+  came : List PlacedRow;
   so_far : Reading l.defs (g.F.Files.holds l.fn.files) l.fn.scan l.scan came l.read;
 }
 

@@ -23,8 +23,8 @@ returns-clause-done g c pairs are =
     let t = names_of c.args.table.now in
     let whole : Gathered = record c.args.gathered.now { pairs = pairs } in
     let put = c.in_ok-trees.ensures in
-    told_then _ _ _ _ _ _ (told_and _ _ _ _ (put.built pairs are) put.rows) c.in_ok-finish_table.ensures.done (λ m k n was finished extend d is.
-    completed t t extend d whole (without_pairs whole) c.args.now c.in_ok-trees.trees.end c.deref.result.now m k n (sound c.args.gathered.now.defs c.requires.defs) refl refl (put.counted pairs are) is
+    told_then _ _ _ _ _ _ (told_and _ _ _ _ (put.built pairs are) put.rows) c.in_ok-finish_table.ensures.done (λ m k n was finished rows is written.
+    completed t t rows whole (without_pairs whole) c.args.now c.in_ok-trees.trees.end c.deref.result.now m k n (sound c.args.gathered.now.defs c.requires.defs) refl refl (put.counted pairs are) is written
     (c.deref.ensures.value ∙ (put.trees pairs are).roots) (put.trees pairs are).end was.0 was.1 finished)
 
 pub returns-clause-whole : goal.returns-clause-whole
@@ -32,8 +32,8 @@ returns-clause-whole g c pairs are =
     let t = names_of c.args.table.now in
     let whole : Gathered = record c.args.gathered.now { pairs = pairs } in
     let put = c.in_ok-trees.ensures in
-    told_then _ _ _ _ _ _ (told_and _ _ _ _ (told_and _ _ _ _ (put.built pairs are) put.rows) c.put_laid.ensures.both) c.finish_table.ensures.whole (λ m k n was finished extend d is.
-    completed_part t t extend d whole (without_pairs whole) c.args.now c.in_ok-trees.trees.end c.deref.result.now m k n (sound c.args.gathered.now.defs c.requires.defs) refl refl (put.counted pairs are) is
+    told_then _ _ _ _ _ _ (told_and _ _ _ _ (told_and _ _ _ _ (put.built pairs are) put.rows) c.put_laid.ensures.both) c.finish_table.ensures.whole (λ m k n was finished rows is written.
+    completed_part t t rows whole (without_pairs whole) c.args.now c.in_ok-trees.trees.end c.deref.result.now m k n (sound c.args.gathered.now.defs c.requires.defs) refl refl (put.counted pairs are) is written
     (c.deref.ensures.value ∙ (put.trees pairs are).roots) (put.trees pairs are).end was.0.0 was.0.1 was.1 finished)
 
 pub returns-in_err-finish_table-clause-whole : goal.returns-in_err-finish_table-clause-whole
@@ -41,8 +41,8 @@ returns-in_err-finish_table-clause-whole g c pairs are =
     let t = names_of c.args.table.now in
     let whole : Gathered = record c.args.gathered.now { pairs = pairs } in
     let put = c.in_ok-trees.ensures in
-    told_then _ _ _ _ _ _ (told_and _ _ _ _ (told_and _ _ _ _ (put.built pairs are) put.rows) c.put_laid.ensures.both) c.finish_table.ensures.whole (λ m k n was finished extend d is.
-    completed_part t t extend d whole (without_pairs whole) c.args.now c.in_ok-trees.trees.end c.deref.result.now m k n (sound c.args.gathered.now.defs c.requires.defs) refl refl (put.counted pairs are) is
+    told_then _ _ _ _ _ _ (told_and _ _ _ _ (told_and _ _ _ _ (put.built pairs are) put.rows) c.put_laid.ensures.both) c.finish_table.ensures.whole (λ m k n was finished rows is written.
+    completed_part t t rows whole (without_pairs whole) c.args.now c.in_ok-trees.trees.end c.deref.result.now m k n (sound c.args.gathered.now.defs c.requires.defs) refl refl (put.counted pairs are) is written
     (c.deref.ensures.value ∙ (put.trees pairs are).roots) (put.trees pairs are).end was.0.0 was.0.1 was.1 finished)
 
 pub returns-in_err-finish_table-clause-ends : goal.returns-in_err-finish_table-clause-ends

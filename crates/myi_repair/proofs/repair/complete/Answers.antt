@@ -20,24 +20,24 @@ pub returns-clause-done : goal.returns-clause-done
 returns-clause-done g c =
     let t = names_of c.args.table.now in
     let built = c.in_ok-trees.ensures in
-    told_then _ _ _ _ _ _ (told_and _ _ _ _ built.built built.rows) c.in_ok-finish_table.ensures.done (λ m k n was finished extend d is.
-    completed t t extend d c.args.gathered c.build.new.gathered c.args.now c.in_ok-trees.trees.end c.deref.result.now m k n (sound c.args.gathered.defs c.requires.defs) refl c.build.ensures.left c.requires.pairs.all is
+    told_then _ _ _ _ _ _ (told_and _ _ _ _ built.built built.rows) c.in_ok-finish_table.ensures.done (λ m k n was finished rows is written.
+    completed t t rows c.args.gathered c.build.new.gathered c.args.now c.in_ok-trees.trees.end c.deref.result.now m k n (sound c.args.gathered.defs c.requires.defs) refl c.build.ensures.left c.requires.pairs.all is written
     (c.deref.ensures.value ∙ built.trees.roots) built.trees.end was.0 was.1 finished)
 
 pub returns-clause-whole : goal.returns-clause-whole
 returns-clause-whole g c =
     let t = names_of c.args.table.now in
     let built = c.in_ok-trees.ensures in
-    told_then _ _ _ _ _ _ (told_and _ _ _ _ (told_and _ _ _ _ built.built built.rows) c.build.ensures.both) c.finish_table.ensures.whole (λ m k n was finished extend d is.
-    completed_part t t extend d c.args.gathered c.build.new.gathered c.args.now c.in_ok-trees.trees.end c.deref.result.now m k n (sound c.args.gathered.defs c.requires.defs) refl c.build.ensures.left c.requires.pairs.all is
+    told_then _ _ _ _ _ _ (told_and _ _ _ _ (told_and _ _ _ _ built.built built.rows) c.build.ensures.both) c.finish_table.ensures.whole (λ m k n was finished rows is written.
+    completed_part t t rows c.args.gathered c.build.new.gathered c.args.now c.in_ok-trees.trees.end c.deref.result.now m k n (sound c.args.gathered.defs c.requires.defs) refl c.build.ensures.left c.requires.pairs.all is written
     (c.deref.ensures.value ∙ built.trees.roots) built.trees.end was.0.0 was.0.1 was.1 finished)
 
 pub returns-in_err-finish_table-clause-whole : goal.returns-in_err-finish_table-clause-whole
 returns-in_err-finish_table-clause-whole g c =
     let t = names_of c.args.table.now in
     let built = c.in_ok-trees.ensures in
-    told_then _ _ _ _ _ _ (told_and _ _ _ _ (told_and _ _ _ _ built.built built.rows) c.build.ensures.both) c.finish_table.ensures.whole (λ m k n was finished extend d is.
-    completed_part t t extend d c.args.gathered c.build.new.gathered c.args.now c.in_ok-trees.trees.end c.deref.result.now m k n (sound c.args.gathered.defs c.requires.defs) refl c.build.ensures.left c.requires.pairs.all is
+    told_then _ _ _ _ _ _ (told_and _ _ _ _ (told_and _ _ _ _ built.built built.rows) c.build.ensures.both) c.finish_table.ensures.whole (λ m k n was finished rows is written.
+    completed_part t t rows c.args.gathered c.build.new.gathered c.args.now c.in_ok-trees.trees.end c.deref.result.now m k n (sound c.args.gathered.defs c.requires.defs) refl c.build.ensures.left c.requires.pairs.all is written
     (c.deref.ensures.value ∙ built.trees.roots) built.trees.end was.0.0 was.0.1 was.1 finished)
 
 pub returns-in_err-finish_table-clause-ends : goal.returns-in_err-finish_table-clause-ends

@@ -7,7 +7,7 @@ use Rattle.myi_chain.specs.declared.piece.Wanted.TheVariants.{Rows}
 use Rattle.myi_chain.specs.declared.piece.Piece.{Piece}
 use Rattle.myi_chain.specs.Pieces.{piece_bytes}
 use Rattle.myi_chain.specs.ScanModel.{as_items}
-use Rattle.myi_order.proofs.ReadLaws.{answered_of, reads}
+use Rattle.myi_order.proofs.ReadLaws.{answered_of, reads, lists_read}
 use Rattle.myi_order.proofs.rows_read.RowsRead.read.Goals as goal
 
 -- four bytes count the bytes of an answered row
@@ -31,7 +31,7 @@ push-requires-clause-row g c =
     row-fits c.args.defs.now c.view_packed-row.result c.bytes.result.now (sound c.args.defs.now c.requires.defs) c.view_packed-row.ensures.packs (λ _. counted c.in-Some.piece c.bytes.result.now c.bytes.ensures says.counted)
 
 pub push-requires-clause-all : goal.push-requires-clause-all
-push-requires-clause-all g c = c.requires.read.1.lists
+push-requires-clause-all g c = lists_read c.args.defs.now c.requires.read.0 c.args.self.now c.requires.read.1
 
 pub returns-clause-read : goal.returns-clause-read
 returns-clause-read g c =
