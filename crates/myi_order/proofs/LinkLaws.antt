@@ -149,8 +149,3 @@ next-step x all before seen at left h b r read heads = next_of x all before seen
 pub goes-same : (read : Reading) (all : List Block) (link found : Link) (before bytes : List ℕ) (seen notes : List (ℕ × ℕ)) → Some link ≡ Some found → bytes ≡ before → notes ≡ seen → GoesOn read all link before seen → GoesOn read all found bytes notes
 goes-same read all link found before bytes seen notes same is noting g =
     subst (λ (k : Link). GoesOn read all k bytes notes) (some_is same) (subst (λ (ys : List ℕ). GoesOn read all link ys notes) (sym is) (subst (λ (s : List (ℕ × ℕ)). GoesOn read all link before s) (sym noting) g))
-
--- where a row goes on no more it is whole
-pub goes-last : (read : Reading) (all : List Block) (link : Link) (bytes : List ℕ) (seen : List (ℕ × ℕ)) → ((at left : ℕ) → link ≡ More at left → ⊥) → GoesOn read all link bytes seen → (bytes ≡ row_bytes all) × (seen ≡ placed all)
-goes-last read all Last bytes seen none g = g
-goes-last read all (More at left) bytes seen none g = absurd (none at left refl)

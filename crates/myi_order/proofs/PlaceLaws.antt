@@ -64,16 +64,6 @@ ranges_placed : (bs : List Block) → ranges_at (placed bs) ≡ ranges bs
 ranges_placed [] = refl
 ranges_placed (b ∷ bs) = ap (λ (rs : List Range). (b.at, b.at + b.size) ∷ rs) (ranges_placed bs)
 
-pub slot_held : (d : Defs) (x : List ℕ) (at size : ℕ) (a : RowAt) (r : Row) → d.format ≡ Static → size ≡ d.slot_length → a.bytes.items ≡ take size (drop at x) → length a.bytes.items ≡ size → a.blocks.items ≡ (at, size) ∷ [] → r.at ≡ at → Stands d x r → Holds a r
-slot_held d x at size a r static is bytes long seen here stands =
-    let slot : IsInSlot d x r = subst (λ f. StandsBy f d x r) static stands in
-    let same : a.bytes.items ≡ r.bytes = bytes ∙ ap (λ n. take n (drop at x)) is ∙ ap (λ p. take d.slot_length (drop p x)) (sym here) ∙ sym slot.bytes in
-    let many : at + size ≡ r.at + length r.bytes = omega (arith, here, long, ap (λ (b : List ℕ). length b) same) in
-    record {
-      bytes = same;
-      blocks = ap ranges_at seen ∙ ap (λ p. (p, at + size) ∷ []) (sym here) ∙ ap (λ e. (r.at, e) ∷ []) many ∙ sym slot.blocks;
-    }
-
 pub chain_held : (d : Defs) (x : List ℕ) (at : ℕ) (a : RowAt) (r : Row) → d.format ≡ Dynamic → r.at ≡ at → (stands : Stands d x r) → ((bs : List Block) → IsChain (block_of x) at [] bs → (a.bytes.items ≡ row_bytes bs) × (a.blocks.items ≡ placed bs)) → Holds a r
 chain_held d x at a r dynamic here stands told =
     let is : IsRowOf (block_of x) (packs d) r = subst (λ f. StandsBy f d x r) dynamic stands in

@@ -1,14 +1,19 @@
-//! How many rows of a table go to one prefix of a key, and these numbers in its index file.
+//! How many rows of a table go to one prefix of a key, and these numbers in its index file; and the rows of a
+//! table in the order of a key.
 //!
-//! The optimizer of a server reads them there. The definitions are in `specs/`: `Prefixes` has the rows per
+//! The optimizer of a server reads the numbers there. The definitions are in `specs/`: `Prefixes` has the rows per
 //! prefix of any list of keys, `KeyParts` those of the keys of a table, `Numbers` where they stand in an
 //! index file, and `Analyzing` what an analysis of a table answers and leaves.
 //!
 //! `analyze` checks a table, reads its rows once, and puts the pairs of each key in order. In a list in
 //! order keys that share a prefix stand together, so that `rows_per_prefix` counts the distinct prefixes of
 //! all lengths in one pass. The index file is copied by pieces, and the copy gets the numbers and then the
-//! name. In memory are the keys of the table's rows, and no file as a whole. The rest are laws over the
-//! definitions.
+//! name. In memory are the keys of the table's rows, and no file as a whole.
+//!
+//! `sort_records` checks a table, reads its rows once, and puts the keys of one key, with the places of the
+//! rows, in order. Then it reads each row at its place, in that order, and writes it by the parts of a repair,
+//! which also build the trees and give the new files their names. `InOrder` and `Sorting` have what it leaves.
+//! The rest are laws over the definitions.
 //!
 //! ```
 //! for parts in &analyze(alloc, files, name)? {
