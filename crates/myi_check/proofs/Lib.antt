@@ -16,3 +16,6 @@ pub mod PairsLaws
 pub mod ShowsLaws
 pub mod WalkLaws
 pub mod KeysLaws
+pub mod AskedLaws
+pub mod SlotLaws
+pub mod AskedWalks

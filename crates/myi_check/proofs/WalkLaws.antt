@@ -10,7 +10,6 @@ use Rattle.myi_keycache.specs.Kept.{Page, AllWritten, kept, is_unwritten}
 use Rattle.myi_keycache.specs.Lent.{bytes_at, lent}
 use Rattle.myi_keycache.specs.Caching.{Caching, pages_of, IsCurrent}
 use Rattle.myi_keycache.proofs.CallerLemmas.{stays_start}
-use Rattle.myi_keylist.specs.declared.pair.Pair.{Pair}
 use Rattle.myi_btree.specs.declared.place.Place.{Place}
 use Rattle.myi_btree.specs.Walk.{◌>>=◌, Node, Places}
 use Rattle.myi_btree.specs.Nodes.{node_in}
@@ -22,10 +21,7 @@ use Rattle.myi_btree.specs.Serving.{View, view, nodes_at, IsServed}
 use Rattle.myi_btree.specs.Walking.{Walking, walk_at, IsStillMet, IsOver, MayGo, Goes}
 use Rattle.myi_btree.proofs.CallerLemmas.{meets_once, tree_met}
 use Rattle.myi_pair.specs.Trees.{node_at}
-use Rattle.myi_check.specs.declared.busy.BusyPages.{BusyPages}
-use Rattle.myi_check.specs.declared.walks.TreeKey.{TreeKey}
-use Rattle.myi_check.specs.declared.walks.TreeWalk.{TreeWalk}
-use Rattle.myi_check.specs.Walks.{ShowsApart, GoesOn, events_in}
+use Rattle.myi_check.specs.Walks.{EventList, GoesOn, events_in}
 
 -- ---- where a walk begins, and where it is over
 
@@ -80,28 +76,28 @@ meets place block read root es is left =
 
 -- ---- events one after the other
 
-pub goes_first : (key : TreeKey) (pairs : List Pair) (busy : BusyPages) (v : View) (held : Option Holding) (cache : Caching) (walk : TreeWalk) → MayGo key.place v held cache [] (walk_at key.place) → ((all : List Event) → ShowsApart key pairs busy walk all all) → GoesOn key pairs busy v held cache (walk_at key.place) walk
-goes_first key pairs busy v held cache walk may shows = record { seen = []; may = may; back = λ left l. (left, l, shows left) }
+pub goes_first : (Of : EventList → EventList → Type 0) (place : Place) (v : View) (held : Option Holding) (cache : Caching) → MayGo place v held cache [] (walk_at place) → ((all : List Event) → Of all all) → GoesOn Of place v held cache (walk_at place)
+goes_first Of place v held cache may shows = record { seen = []; may = may; back = λ left l. (left, l, shows left) }
 
-pub goes_on : (key : TreeKey) (pairs : List Pair) (busy : BusyPages) (v : View) (held next : Option Holding) (cache after : Caching) (old new : Walking) (walk now : TreeWalk) (event : Event) → (g : GoesOn key pairs busy v held cache old walk)
-    → Goes key.place.block_length (nodes_at key.place v) v.asked g.seen old new (event ∷ []) → IsServed key.place v next after new.met
-    → ((all left : List Event) → ShowsApart key pairs busy walk all (event ∷ left) → ShowsApart key pairs busy now all left) → GoesOn key pairs busy v next after new now
-goes_on key pairs busy v held next cache after old new walk now event g m served note = record {
+pub goes_on : (Of Then : EventList → EventList → Type 0) (place : Place) (v : View) (held next : Option Holding) (cache after : Caching) (old new : Walking) (event : Event) → (g : GoesOn Of place v held cache old)
+    → Goes place.block_length (nodes_at place v) v.asked g.seen old new (event ∷ []) → IsServed place v next after new.met
+    → ((all left : List Event) → Of all (event ∷ left) → Then all left) → GoesOn Then place v next after new
+goes_on Of Then place v held next cache after old new event g m served note = record {
   seen = m.after;
   may = record { goes = served; has = m.has; asks = m.asks; fits = m.fits };
   back = λ left l. let b = g.back (event ∷ left) (m.back left l) in (b.0, b.1, note b.0 left b.2);
 }
 
 -- what the whole walk shows, by the events of the tree
-pub goes_over : (key : TreeKey) (pairs : List Pair) (busy : BusyPages) (v : View) (held : Option Holding) (cache : Caching) (old new : Walking) (walk : TreeWalk) (root : ℕ) (all : List Event) → key.place.root ≡ Some root
-    → (g : GoesOn key pairs busy v held cache old walk) → Goes key.place.block_length (nodes_at key.place v) v.asked g.seen old new [] → IsOver new → MeetsTree key.place.block_length (nodes_at key.place v) key.place.root all → ShowsApart key pairs busy walk all []
-goes_over key pairs busy v held cache old new walk root all is g m done met =
-    let block = key.place.block_length in
-    let read = nodes_at key.place v in
+pub goes_over : (Of : EventList → EventList → Type 0) (place : Place) (v : View) (held : Option Holding) (cache : Caching) (old new : Walking) (root : ℕ) (all : List Event) → place.root ≡ Some root
+    → (g : GoesOn Of place v held cache old) → Goes place.block_length (nodes_at place v) v.asked g.seen old new [] → IsOver new → MeetsTree place.block_length (nodes_at place v) place.root all → Of all []
+goes_over Of place v held cache old new root all is g m done met =
+    let block = place.block_length in
+    let read = nodes_at place v in
     let b = g.back [] (m.back [] (over block read m.after new done)) in
-    let one : Meets block read root b.0 = meets key.place block read root b.0 is b.1 in
+    let one : Meets block read root b.0 = meets place block read root b.0 is b.1 in
     let two : Meets block read root all = subst (λ (r : Option ℕ). MeetsTree block read r all) is met in
-    subst (λ (t : List Event). ShowsApart key pairs busy walk t []) (meets_once block read root b.0 all one two) b.2
+    subst (λ (t : List Event). Of t []) (meets_once block read root b.0 all one two) b.2
 
 -- ---- what the empty cache of a file lends
 

@@ -1,7 +1,8 @@
 -- What the walks of all trees show, and how far a check of them has come.
-use Rattle.std.specs.Prelude.{◌≡◌, ◌+◌, ◌-◌, ◌&&◌, ℕ, suc, is_none, List, [], ◌∷◌, ◌++◌, length, map, drop, if◌then◌else◌, Option, Some, None}
+use Rattle.std.specs.Prelude.{◌≡◌, ◌+◌, ◌-◌, ◌&&◌, ℕ, suc, true, false, is_none, List, [], ◌∷◌, ◌++◌, length, map, drop, if◌then◌else◌, Option, Some, None}
 use Rattle.std.specs.List.{flat_map}
 use Rattle.std.specs.Option.{option_to_list}
+use Rattle.myi_base.specs.Holding.{Holding}
 use Rattle.myi_base.specs.Ranges.{Range}
 use Rattle.myi_defs.specs.declared.types.Defs.{Defs}
 use Rattle.myi_header.specs.StateOf.{state_of}
@@ -15,6 +16,9 @@ use Rattle.myi_pair.specs.KeyList.{PlacedRow}
 use Rattle.myi_pair.specs.Trees.{block_of_key, total}
 use Rattle.myi_pair.specs.FirstBad.{walk_bad}
 use Rattle.myi_pair.specs.Findings.{KeyWalk, key_walks, all_walks, all_walk, walk_pages, page_bytes, key_findings, told}
+use Rattle.myi_data.specs.Readable.{readable}
+use Rattle.myi_check.specs.declared.header.StoredHeader.{StoredHeader}
+use Rattle.myi_check.specs.Rows.{rows_in}
 use Rattle.myi_check.specs.declared.busy.TreePages.{TreePages}
 use Rattle.myi_check.specs.declared.walks.TreeKey.{TreeKey}
 use Rattle.myi_check.specs.declared.walks.TreeWalk.{TreeWalk}
@@ -26,6 +30,12 @@ use Rattle.myi_check.specs.WalksBusy.{AreBusy}
 pub record HasKeys (d : Defs) (x : List ℕ) (rows : List PlacedRow) (r : KeysFound) : Type 0 where
   pub findings : r.findings.items ≡ flat_map (key_findings d rows) (all_walks d x)
   pub page_bytes : r.page_bytes ≡ (if all_walk (all_walks d x) then Some (told (page_bytes d (all_walks d x))) else None)
+
+-- the keys of a table with the mark were looked at, by the roots in its header and as many readable rows
+abbrev pub FindsKeys : List ℕ → List ℕ → Defs → StoredHeader → ℕ → KeysFound → Holding → Type 0
+FindsKeys index rows d header records r m = (x data_file : List ℕ) → m index ≡ Some x → m rows ≡ Some data_file
+    → header.state.roots ≡ (state_of d x).roots → records ≡ length (readable d false data_file)
+    → header.marked ≡ true → HasKeys d x (rows_in d data_file) r
 
 -- how the pages of a key are made, by its number, with its root
 abbrev pub rooted_place : Defs → ℕ → Option ℕ → Place

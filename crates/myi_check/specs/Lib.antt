@@ -16,6 +16,8 @@ pub mod ListMet
 pub mod WalksBusy
 -- the walk of a tree, as far as it went
 pub mod Walks
+-- the walk of a tree of which each pair is asked of its row
+pub mod Asked
 -- what the walks of all trees show
 pub mod Keys
 -- what the files show of the numbers of a header

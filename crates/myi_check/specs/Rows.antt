@@ -9,7 +9,7 @@ use Rattle.myi_chain.specs.Meeting.{ranges_of}
 use Rattle.myi_data.specs.Readable.{readable}
 use Rattle.myi_data.specs.Readable as table
 use Rattle.myi_pair.specs.FirstRows.{key_numbers}
-use Rattle.myi_pair.specs.KeyList.{pairs_of}
+use Rattle.myi_pair.specs.KeyList.{PlacedRow, pairs_of}
 use Rattle.myi_pair.specs.Trees.{total}
 use Rattle.myi_pair.specs.Clean.{placed_row}
 use Rattle.myi_pair.specs.Findings.{deleted_places, rows_bad}
@@ -23,6 +23,10 @@ IsAscending (p ∷ ps) = AllByRecursion (λ q. p < q) ps × IsAscending ps
 -- in a static table a row pointer stands behind the first byte at each of these places of a file of so many bytes
 abbrev pub ArePointed : Defs → ℕ → List ℕ → Type 0
 ArePointed d len ps = d.format ≡ Static → AllByRecursion (λ p. p + d.rec_ref < len) ps
+
+-- the readable rows of a data file, each with its place
+abbrev pub rows_in : Defs → List ℕ → List PlacedRow
+rows_in d x = map (placed_row d) (readable d false x)
 
 -- the pairs of these rows, a list for each key
 abbrev pub pair_lists : Defs → List Row → List (List Pair)

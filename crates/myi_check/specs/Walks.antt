@@ -60,12 +60,12 @@ abbrev pub ShowsApart : TreeKey → List Pair → BusyPages → TreeWalk → Lis
 ShowsApart key pairs busy walk all left = (ranges : List Range) → AreBusy ranges busy
     → Shows key.unique key.place.block_length pairs walk (up_to_used key.place.block_length ranges all) (up_to_used key.place.block_length ranges left)
 
--- a walk that is under way: it may go on, and what it showed and what is left for it to meet is all
-pub record GoesOn (key : TreeKey) (pairs : List Pair) (busy : BusyPages) (v : View) (held : Option Holding) (cache : Caching) (now : Walking) (walk : TreeWalk) : Type 0 where
+-- a walk that is under way: it may go on, and this holds of all that it meets and of what is left for it to meet
+pub record GoesOn (Of : EventList → EventList → Type 0) (place : Place) (v : View) (held : Option Holding) (cache : Caching) (now : Walking) : Type 0 where
   pub seen : List ℕ
-  pub may : MayGo key.place v held cache seen now
-  pub back : (left : List Event) → IsStillMet key.place.block_length (nodes_at key.place v) seen now left
-      → (all : List Event) × IsStillMet key.place.block_length (nodes_at key.place v) [] (walk_at key.place) all × ShowsApart key pairs busy walk all left
+  pub may : MayGo place v held cache seen now
+  pub back : (left : List Event) → IsStillMet place.block_length (nodes_at place v) seen now left
+      → (all : List Event) × IsStillMet place.block_length (nodes_at place v) [] (walk_at place) all × Of all left
 
 -- the events of a tree's walk in an index file
 abbrev pub events_in : Place → List ℕ → List Event

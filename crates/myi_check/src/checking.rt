@@ -3,7 +3,7 @@
 //! `check` opens the table, and then goes through the data file once (`rows`), follows the list of deleted
 //! blocks (`list`) and walks the tree of each key (`keys`). What the header says is compared with
 //! what these found (`header`). The sections' findings are put together at the end.
-ghost use Rattle.std.specs.Prelude.{◌≡◌, ◌⊎◌, ◌++◌, ℕ, true, false, List, [], length, map, Some, IfOk, IfErr};
+ghost use Rattle.std.specs.Prelude.{◌≡◌, ◌⊎◌, ◌++◌, ℕ, false, List, [], length, map, Some, IfOk, IfErr};
 ghost use Rattle.std.specs.Option.{option_to_list};
 ghost use Rattle.myi_base.specs.Holding.{IfTold, Measures};
 ghost use Rattle.myi_base.specs.Causes.{HasCause};
@@ -11,19 +11,16 @@ ghost use Rattle.myi_defs.specs.ReadDefs.{AreDefs};
 ghost use Rattle.myi_header.specs.StateOf.{state_of};
 ghost use Rattle.myi_opening.specs.Opening.{HasTable, HasNoTable, IsCutOff};
 ghost use Rattle.myi_pair.specs.declared.finding.Finding.TheVariants as finding;
-ghost use Rattle.myi_pair.specs.FirstRows.{key_numbers};
-ghost use Rattle.myi_pair.specs.KeyList.{PlacedRow, pairs_of};
 ghost use Rattle.myi_check.specs.Checking.{Finds, Refuses, AreFindings};
-ghost use Rattle.myi_check.specs.Keys.{HasKeys};
+ghost use Rattle.myi_check.specs.Rows.{rows_in};
+ghost use Rattle.myi_check.specs.Keys.{HasKeys, FindsKeys};
 
+use crate::asking::ask_keys;
 use crate::header::{Shown, StoredHeader, header_item, room_left, stored_header};
 use crate::keys::{KeysFound, check_keys};
 use crate::list::check_list;
 use crate::rows::{RowsFound, find_rows};
-use myi_base::Sequence;
-use myi_defs::Defs;
 use myi_io::Files;
-use myi_keylist::PairList;
 use myi_opening::{OpenedTable, TableFault, TableFile, open_table};
 use myi_pair::{Finding, HeaderItem};
 use std::alloc::{AllocError, Global};
@@ -89,9 +86,9 @@ fn check_sections<F: Files>(
 {
     let defs = &opened.defs;
     let header = stored_header(alloc, defs)?;
-    let found = find_rows(alloc, files, rows, defs, opened.length, header.marked)?;
+    let found = find_rows(alloc, files, rows, defs, opened.length, false)?;
     let RowsFound {
-        keys,
+        keys: _,
         records,
         split,
         deleted,
@@ -100,7 +97,7 @@ fn check_sections<F: Files>(
     } = found;
     let head = header.state.dellink;
     let listed = check_list(files, rows, defs, opened.length, &deleted, head)?;
-    let keys = keys_found(files, index, defs, &header, keys.into_lists())?;
+    let keys = keys_found(files, index, rows, opened, &header, records)?;
     let shown = Shown {
         records,
         del: deleted.len() as u64,
@@ -114,42 +111,71 @@ fn check_sections<F: Files>(
     Ok(all_findings(alloc, item, listed, keys.findings, gap)?)
 }
 
-// What is wrong with the keys of a table with the mark. Those of a foreign one are not looked at.
+// What is wrong with the keys of a table with the mark and so many readable rows. Those of a foreign one are
+// not looked at.
 fn keys_found<F: Files>(
     files: &mut F,
     index: &str,
-    defs: &Defs,
+    rows: &str,
+    opened: &OpenedTable,
     header: &StoredHeader,
-    lists: Sequence<PairList>,
+    records: u64,
 ) -> Result<KeysFound, TableFault>
-    requires defs { AreDefs defs.now }
-    requires roots { length header.now.state.roots ≡ length defs.now.keys }
-    requires lists { length lists ≡ length defs.now.keys }
-    ensures found { IfOk result (λ r. IfTold (F.holds files.old) (λ m.
-        (x : List ℕ) (rows : List PlacedRow) → m index.now ≡ Some x
-        → header.now.state.roots ≡ (state_of defs.now x).roots
-        → lists ≡ map (λ k. pairs_of defs.now k rows) (key_numbers defs.now)
-        → header.now.marked ≡ true → HasKeys defs.now x rows r)) }
+    requires defs { AreDefs opened.now.defs }
+    requires long { IfTold (F.holds files.old) (λ m.
+        (d : List ℕ) × (m rows.now ≡ Some d) × (opened.now.length ≡ length d)) }
+    requires roots { length header.now.state.roots ≡ length opened.now.defs.keys }
+    ensures found { IfOk result (λ r. IfTold (F.holds files.old)
+        (FindsKeys index.now rows.now opened.now.defs header.now records r)) }
     ensures foreign { IfOk result (λ r. header.now.marked ≡ false → r.findings.items ≡ []) }
     ensures cut { IfErr result IsCutOff }
     ensures holds { F.holds files.new ≡ F.holds files.old }
     ensures cause { HasCause TableFault.File (F.faults files.old) (F.faults files.new) result }
 {
-    let alloc = defs.raw.allocator();
     if !header.marked {
         return Ok(KeysFound {
-            findings: Vec::new(alloc),
+            findings: Vec::new(opened.defs.raw.allocator()),
             page_bytes: None,
         });
     }
-    check_keys(
-        alloc,
-        files,
-        index,
-        defs,
-        header.state.roots.as_slice(),
-        lists,
-    )
+    let roots = header.state.roots.as_slice();
+    if let Some(found) = ask_keys(files, index, rows, &opened.defs, roots, records)? {
+        return Ok(found);
+    }
+    compare_keys(files, index, rows, opened, roots)
+}
+
+// The same, beside the sorted keys of all rows.
+fn compare_keys<F: Files>(
+    files: &mut F,
+    index: &str,
+    rows: &str,
+    opened: &OpenedTable,
+    roots: &[Option<u64>],
+) -> Result<KeysFound, TableFault>
+    requires defs { AreDefs opened.now.defs }
+    requires long { IfTold (F.holds files.old) (λ m.
+        (d : List ℕ) × (m rows.now ≡ Some d) × (opened.now.length ≡ length d)) }
+    requires roots { length roots.now ≡ length opened.now.defs.keys }
+    ensures found { IfOk result (λ r. IfTold (F.holds files.old) (λ m. (x d : List ℕ)
+        → m index.now ≡ Some x → m rows.now ≡ Some d
+        → roots.now ≡ (state_of opened.now.defs x).roots
+        → HasKeys opened.now.defs x (rows_in opened.now.defs d) r)) }
+    ensures cut { IfErr result IsCutOff }
+    ensures holds { F.holds files.new ≡ F.holds files.old }
+    ensures cause { HasCause TableFault.File (F.faults files.old) (F.faults files.new) result }
+{
+    let defs = &opened.defs;
+    let alloc = defs.raw.allocator();
+    let RowsFound {
+        keys,
+        records: _,
+        split: _,
+        deleted: _,
+        empty: _,
+        gap: _,
+    } = find_rows(alloc, files, rows, defs, opened.length, true)?;
+    check_keys(alloc, files, index, defs, roots, keys.into_lists())
 }
 
 // The findings of all sections, one after the other.

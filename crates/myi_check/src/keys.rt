@@ -65,8 +65,8 @@ impl Drop for KeysSoFar {
 }
 
 impl KeysSoFar {
-    // Before the first key, where pages begin at this place.
-    fn new(alloc: Global, first_page: u64) -> KeysSoFar
+    /// Before the first key, where pages begin at this place.
+    pub(crate) fn new(alloc: Global, first_page: u64) -> KeysSoFar
         ensures number { result.number ≡ 1 }
         ensures findings { result.findings.items ≡ [] }
         ensures first { result.busy.first_page ≡ first_page }
@@ -83,8 +83,8 @@ impl KeysSoFar {
         }
     }
 
-    // What was found, where no key is left.
-    fn into_found(self) -> KeysFound
+    /// What was found, where no key is left.
+    pub(crate) fn into_found(self) -> KeysFound
         ensures findings { result.findings ≡ self.findings }
         ensures bytes { result.page_bytes ≡ (if self.walks then Some self.page_bytes else None) }
         ensures fits { self.page_bytes < 2 ^ 64 }
@@ -118,8 +118,8 @@ impl KeysSoFar {
         Ok(())
     }
 
-    // Adds the pages of a tree, where its walk met no bad place.
-    fn add_pages(&mut self, block_length: u16, walk: TreeWalk) -> Result<(), AllocError>
+    /// Adds the pages of a tree, where its walk met no bad place.
+    pub(crate) fn add_pages(&mut self, block_length: u16, walk: TreeWalk) -> Result<(), AllocError>
         ensures walks { OnOk result (self.new.walks ≡ (self.old.walks && not walk.is_cut)) }
         ensures bytes { OnOk result (self.new.page_bytes ≡ (if walk.is_cut then
             self.old.page_bytes else told (self.old.page_bytes + walk.bytes))) }
@@ -139,8 +139,8 @@ impl KeysSoFar {
     }
 }
 
-// The key of that number, as far as its tree is looked at.
-fn tree_key(defs: &Defs, number: usize, root: Option<u64>) -> TreeKey
+/// The key of that number, as far as its tree is looked at.
+pub(crate) fn tree_key(defs: &Defs, number: usize, root: Option<u64>) -> TreeKey
     requires { IsKeyNumber defs.now number }
     ensures { result ≡ tree_key defs.now number root }
 {

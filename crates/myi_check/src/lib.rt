@@ -22,6 +22,7 @@
 //! `crates/myisamkit/src/check.rt` has it.
 #![tactic(auto)]
 
+mod asking;
 mod busy;
 mod checking;
 mod header;
@@ -31,6 +32,7 @@ mod list;
 mod met;
 mod pairs_met;
 mod rows;
+mod slot_rows;
 mod walks;
 
 pub use checking::check;

@@ -1,6 +1,6 @@
 //! The pairs that a walk of a tree meets, beside the sorted pairs of its key.
-ghost use Rattle.std.specs.Prelude.{◌≡◌, ◌<◌, ◌&&◌, ◌∷◌, Bool, List, [], Some, None};
-ghost use Rattle.std.specs.Prelude.{is_none, false, length, drop, slice_index_or};
+ghost use Rattle.std.specs.Prelude.{◌≡◌, ◌<◌, ◌+◌, ◌-◌, ◌^◌, ◌&&◌, ◌∷◌, Bool, List, [], Some, None};
+ghost use Rattle.std.specs.Prelude.{is_none, true, false, length, drop, slice_index_or};
 ghost use Rattle.std.specs.Ordering.{is_eq};
 ghost use Rattle.std.specs.Option.{option_or};
 ghost use Rattle.myi_keylist.specs.declared.pair.Pair.{Pair};
@@ -8,6 +8,7 @@ ghost use Rattle.myi_keylist.specs.PairOrder.{pair_cmp};
 ghost use Rattle.myi_btree.specs.Events.{Event, pair};
 ghost use Rattle.myi_pair.specs.FirstBad.{repeats_last};
 ghost use Rattle.myi_check.specs.Walks.{last_key, is_next, bad_with};
+ghost use Rattle.myi_check.specs.Asked.{IsAbove};
 
 use myi_btree::Pair;
 use myi_keylist::PairList;
@@ -99,9 +100,46 @@ impl PairsMet {
         }
     }
 
+    /// Whether the pair is above the last one, and does not repeat its complete key in a unique key.
+    pub(crate) fn rises_to(&self, unique: bool, met: &Pair) -> bool
+        ensures above { result ≡ true → IsAbove self.now.last met.now }
+        ensures apart { result ≡ true
+            → (unique && repeats_last (last_key self.now) met.now.key) ≡ false }
+    {
+        self.is_below(met) && !self.repeats_last(unique, &met.key)
+    }
+
+    // Whether the last pair, if any, is below this one.
+    fn is_below(&self, met: &Pair) -> bool
+        ensures { result ≡ true → IsAbove self.now.last met.now }
+    {
+        match &self.last {
+            None => true,
+            Some(last) => last.cmp(met).is_lt(),
+        }
+    }
+
+    /// Notes a pair that may be met next.
+    pub(crate) fn note_next(&mut self, met: Pair)
+        requires { self.old.count < 2 ^ 64 - 1 }
+        ensures { self.new ≡ record self.old { count = self.old.count + 1; last = Some met } }
+    {
+        self.count += 1;
+        self.last = Some(met);
+    }
+
+    /// Whether so many pairs were met, and nothing bad.
+    pub(crate) fn is_whole(&self, records: u64) -> bool
+        ensures none { result ≡ true → is_none self.now.bad ≡ true }
+        ensures all { result ≡ true → self.now.count ≡ records }
+    {
+        self.bad.is_none() && self.count as u64 == records
+    }
+
     /// Notes a place where no page of the tree stands.
     pub(crate) fn note_bad(&mut self, at: u64)
-        ensures { self.new ≡ record self.old { bad = option_or self.old.bad (Some at) } }
+        ensures noted { self.new ≡ record self.old { bad = option_or self.old.bad (Some at) } }
+        ensures bad { is_none self.new.bad ≡ false }
     {
         if self.bad.is_none() {
             self.bad = Some(at);

@@ -1,5 +1,5 @@
 //! `TreeWalk`: what the walk of a key's tree shows, page by page.
-ghost use Rattle.std.specs.Prelude.{◌≡◌, ◌∷◌, ℕ, List, [], true, is_some, Some, All};
+ghost use Rattle.std.specs.Prelude.{◌≡◌, ◌∷◌, ℕ, List, [], true, false, is_none, is_some, Some, None, All};
 ghost use Rattle.std.specs.Prelude.{IfOk, IfErr, OnOk};
 ghost use Rattle.myi_base.specs.Holding.{IfTold};
 ghost use Rattle.myi_base.specs.Causes.{HasCause};
@@ -15,6 +15,7 @@ ghost use Rattle.myi_btree.specs.Events.{MeetsTree, page, bad};
 ghost use Rattle.myi_btree.specs.Cursors.{event_of};
 ghost use Rattle.myi_check.specs.WalksBusy.{HasBytes};
 ghost use Rattle.myi_check.specs.Walks.{EventList, ShowsApart, events_in};
+ghost use Rattle.myi_check.specs.Asked.{IsGood};
 
 use crate::busy::{BusyPages, TreePages};
 use crate::pairs_met::PairsMet;
@@ -27,7 +28,7 @@ use std::alloc::{AllocError, Global};
 use std::collections::BTreeSet;
 
 /// How a check keeps index pages. A walk asks for each page once.
-const SETUP: CacheSetup = CacheSetup {
+pub(crate) const SETUP: CacheSetup = CacheSetup {
     blocks: 4,
     division: 100,
     age: 300,
@@ -81,9 +82,10 @@ impl TreeWalk {
     }
 
     /// Nothing yet.
-    fn new(alloc: Global) -> TreeWalk
-        ensures { (key : TreeKey) (pairs : List Pair) (busy : BusyPages) (all : EventList)
+    pub(crate) fn new(alloc: Global) -> TreeWalk
+        ensures shows { (key : TreeKey) (pairs : List Pair) (busy : BusyPages) (all : EventList)
             → ShowsApart key pairs busy result all all }
+        ensures none { result.met ≡ record { count = 0; last = None; bad = None } }
     {
         TreeWalk {
             met: PairsMet::none(),
@@ -93,23 +95,30 @@ impl TreeWalk {
         }
     }
 
-    // Notes a bad place. What is met behind it does not count.
-    fn cut(&mut self, at: u64)
-        ensures { (key : TreeKey) (pairs : List Pair) (busy : BusyPages) (all left : EventList)
+    /// Notes a bad place. What is met behind it does not count.
+    pub(crate) fn cut(&mut self, at: u64)
+        ensures shows { (key : TreeKey) (pairs : List Pair) (busy : BusyPages) (all left : EventList)
             → ShowsApart key pairs busy self.old all (bad at ∷ left)
             → ShowsApart key pairs busy self.new all left }
+        ensures bad { is_none self.new.met.bad ≡ false }
     {
         self.met.note_bad(at);
         self.is_cut = true;
     }
 
-    // Notes a page.
-    fn note_page(&mut self, key: TreeKey, busy: &BusyPages, at: u64) -> Result<(), AllocError>
+    /// Notes a page.
+    pub(crate) fn note_page(
+        &mut self,
+        key: TreeKey,
+        busy: &BusyPages,
+        at: u64,
+    ) -> Result<(), AllocError>
         requires placed { IsPlaced key.place }
         requires sized { All HasBytes busy.now.trees.items }
-        ensures { OnOk result ((pairs : List Pair) (all left : EventList)
+        ensures shows { OnOk result ((pairs : List Pair) (all left : EventList)
             → ShowsApart key pairs busy.now self.old all (page at ∷ left)
             → ShowsApart key pairs busy.now self.new all left) }
+        ensures met { OnOk result (IsGood self.new → self.new.met ≡ self.old.met) }
     {
         if self.is_cut {
             return Ok(());
@@ -146,7 +155,8 @@ impl TreeWalk {
     }
 }
 
-fn of_tree(fault: TreeFault) -> TableFault
+/// Why a walk does not go on, as a fault of the table.
+pub(crate) fn of_tree(fault: TreeFault) -> TableFault
     requires { IsFileOrMemory fault }
     ensures { HandsOn (TreeFault.File, TableFault.File) (TreeFault.Memory, TableFault.Memory)
         fault result }

@@ -1,11 +1,8 @@
-use Rattle.std.proofs.Common.{◌≡◌, ◌∙◌, true, false, [], List, Ok, map, unwrap_or, refl, sym, ap, subst}
+use Rattle.std.proofs.Common.{◌≡◌, ◌∙◌, true, false, [], Ok, unwrap_or, refl, sym, ap, subst}
 use Rattle.myi_defs.proofs.CallerLemmas.{sound}
 use Rattle.myi_opening.specs.Opening.{Table, table}
 use Rattle.myi_opening.proofs.CallerLemmas.{table_index, table_rows, table_read}
 use Rattle.myi_header.specs.declared.state.State.{State}
-use Rattle.myi_data.specs.Readable.{readable}
-use Rattle.myi_pair.specs.KeyList.{PlacedRow}
-use Rattle.myi_pair.specs.Clean.{placed_row}
 use Rattle.myi_check.specs.Checking.{findings_by}
 use Rattle.myi_check.specs.Rows.{IsAscending, ArePointed}
 use Rattle.myi_check.proofs.SectionLemmas.{all_sections, list_found, item_found, keys_are, shown_are, same_size}
@@ -23,6 +20,11 @@ room_left-requires g c = sound c.args.opened.now.defs c.requires.defs
 pub find_rows-requires-clause-long : goal.find_rows-requires-clause-long
 find_rows-requires-clause-long g c κs lives = λ m held.
     let h = c.requires.opened m held in
+    (h.data_file, table_rows c.args.index.now c.args.rows.now (table c.args.opened.now.defs h.data_file h.index_file) m h.is, h.long)
+
+pub keys_found-requires-clause-long : goal.keys_found-requires-clause-long
+keys_found-requires-clause-long g c κs lives = λ m held.
+    let h = c.requires.opened m (sym (c.in_ok-listed.ensures.holds ∙ c.in_ok-found.ensures.holds) ∙ held) in
     (h.data_file, table_rows c.args.index.now c.args.rows.now (table c.args.opened.now.defs h.data_file h.index_file) m h.is, h.long)
 
 pub returns-clause-findings : goal.returns-clause-findings
@@ -44,10 +46,9 @@ returns-clause-findings g c m held =
     let up = subst IsAscending (sym c.deref.ensures.value) found.ascends in
     let listed = c.in_ok-listed.ensures.found m held2 h.data_file (ap (λ o. unwrap_or o []) rows_there) (sym h.long) up points in
     let size = same_size (m index) h.index_file c.args.size there (c.requires.long m held) in
-    let placed : List PlacedRow = map (placed_row d) (readable d false h.data_file) in
-    let keys = λ (marked : c.in_ok-header.header.marked ≡ true). c.in_ok-keys.ensures.found m held3 h.index_file placed there (ap (λ (s : State). s.roots) state) (c.into_lists.ensures ∙ found.keys marked) marked in
+    let keys = λ (marked : c.in_ok-header.header.marked ≡ true). c.in_ok-keys.ensures.found m held3 h.index_file h.data_file there rows_there (ap (λ (s : State). s.roots) state) found.records marked in
     ap findings_by h.is ∙ ap Ok (sym (all_sections d h.data_file h.index_file c.header_item-item.result c.in_ok-listed.listed c.in_ok-found.found.gap c.in_ok-keys.keys.findings.items c.in_ok-all_findings.field-0.items
-    (item_found d h.data_file h.index_file c.in_ok-header.header _ c.header_item-item.result state mark (λ marked. shown_are d h.data_file h.index_file c.args.size c.in_ok-header.header.marked c.in_ok-found.found c.in_ok-keys.keys _ size c.ranges.size.fits found (keys marked) refl (c.len.ensures ∙ c.in_ok-found.found.deleted.ok.0) refl refl h.long refl c.room_left.ensures) c.header_item-item.ensures)
+    (item_found d h.data_file h.index_file c.in_ok-header.header _ c.header_item-item.result state mark (λ marked. shown_are d h.data_file h.index_file c.args.size false c.in_ok-found.found c.in_ok-keys.keys _ size c.ranges.size.fits found (keys marked) refl (c.len.ensures ∙ c.in_ok-found.found.deleted.ok.0) refl refl h.long refl c.room_left.ensures) c.header_item-item.ensures)
     (list_found d h.data_file h.index_file c.deref.result.now c.in_ok-header.header.state.dellink c.in_ok-listed.listed (c.deref.ensures.value ∙ found.deleted) (ap (λ (s : State). s.dellink) state) listed)
     (keys_are d h.data_file h.index_file c.in_ok-header.header.marked c.in_ok-keys.keys mark keys c.in_ok-keys.ensures.foreign)
     found.gap c.in_ok-all_findings.ensures))

@@ -4,7 +4,7 @@ use Rattle.myi_btree.specs.Events.{Event}
 use Rattle.myi_btree.specs.Serving.{View, nodes_at, IsServed}
 use Rattle.myi_btree.specs.Walking.{Walking, MayGo, Goes}
 use Rattle.myi_btree.specs.Cursors.{event_of, events_of}
-use Rattle.myi_check.specs.Walks.{GoesOn}
+use Rattle.myi_check.specs.Walks.{ShowsApart, GoesOn}
 use Rattle.myi_check.proofs.WalkLaws.{root_there, any_place, may_begin, goes_first, goes_on, goes_over}
 use Rattle.myi_check.proofs.walks.follow.Goals as goal
 
@@ -15,8 +15,8 @@ loop-event-init g c = record {
   written = c.requires.written;
   faults = omega arith;
   goes = λ v may.
-      subst (λ (w : Walking). GoesOn c.args.key c.args.pairs.now c.args.busy.now v (g.F.Files.holds c.args.files.now) c.args.cache.now w c.new-walk.result) (sym c.new-events.ensures)
-      (goes_first c.args.key c.args.pairs.now c.args.busy.now v (g.F.Files.holds c.args.files.now) c.args.cache.now c.new-walk.result may (λ all. c.new-walk.ensures c.args.key c.args.pairs.now c.args.busy.now all));
+      subst (λ (w : Walking). GoesOn (ShowsApart c.args.key c.args.pairs.now c.args.busy.now c.new-walk.result) c.args.key.place v (g.F.Files.holds c.args.files.now) c.args.cache.now w) (sym c.new-events.ensures)
+      (goes_first (ShowsApart c.args.key c.args.pairs.now c.args.busy.now c.new-walk.result) c.args.key.place v (g.F.Files.holds c.args.files.now) c.args.cache.now may (λ all. c.new-walk.ensures.shows c.args.key c.args.pairs.now c.args.busy.now all));
 }
 
 pub loop-event-preserved : goal.loop-event-preserved
@@ -36,7 +36,7 @@ loop-event-preserved g c =
           let all = (subst (λ (p : Place). (v : View) (seen : List ℕ) → MayGo p v held c.loop-event.cache seen old → Goes p.block_length (nodes_at p v) v.asked seen old new (events_of c.in-Ok-Some.field-0)) was.place c.in-Ok-Some.ensures.goes) v q.seen q.may in
           let m = subst (λ (t : List Event). Goes c.args.key.place.block_length (nodes_at c.args.key.place v) v.asked q.seen old new t) (ap events_of c.in-Ok-Some.field-0-is) all in
           let served = (subst (λ (p : Place). (v : View) (seen : List ℕ) → MayGo p v held c.loop-event.cache seen old → IsServed p v (g.F.Files.holds c.next.new.files) c.next.new.cache new.met) was.place x.served) v q.seen q.may in
-          goes_on c.args.key c.args.pairs.now c.args.busy.now v held (g.F.Files.holds c.next.new.files) c.loop-event.cache c.next.new.cache old new c.loop-event.walk c.note.new.self (event_of c.in-Ok-Some.event) q m served c.in_ok-note-in-Ok-Some.ensures;
+          goes_on (ShowsApart c.args.key c.args.pairs.now c.args.busy.now c.loop-event.walk) (ShowsApart c.args.key c.args.pairs.now c.args.busy.now c.note.new.self) c.args.key.place v held (g.F.Files.holds c.next.new.files) c.loop-event.cache c.next.new.cache old new (event_of c.in-Ok-Some.event) q m served c.in_ok-note-in-Ok-Some.ensures;
     }
 
 pub returns-in-Ok-None-clause-shows : goal.returns-in-Ok-None-clause-shows
@@ -50,4 +50,4 @@ returns-in-Ok-None-clause-shows g c = λ m told current all met.
     let q = was.goes v (may_begin c.args.key.place (g.F.Files.holds c.args.files.now) c.args.cache.now m root.0 told current c.requires.written root.1) in
     let last = (subst (λ (p : Place). (v : View) (seen : List ℕ) → MayGo p v held c.loop-event.cache seen old → Goes p.block_length (nodes_at p v) v.asked seen old new (events_of c.in-Ok-None.field-0)) was.place c.in-Ok-None.ensures.goes) v q.seen q.may in
     let n = subst (λ (t : List Event). Goes c.args.key.place.block_length (nodes_at c.args.key.place v) v.asked q.seen old new t) (ap events_of c.in-Ok-None.field-0-is) last in
-    goes_over c.args.key c.args.pairs.now c.args.busy.now v held c.loop-event.cache old new c.loop-event.walk root.0 all root.1 q n (c.in-Ok-None.ensures.over c.in-Ok-None.field-0-is) met
+    goes_over (ShowsApart c.args.key c.args.pairs.now c.args.busy.now c.loop-event.walk) c.args.key.place v held c.loop-event.cache old new root.0 all root.1 q n (c.in-Ok-None.ensures.over c.in-Ok-None.field-0-is) met

@@ -7,7 +7,7 @@ use Rattle.myi_check.proofs.walks.walk_tree.Goals as goal
 
 pub returns-then-is_none-clause-shows : goal.returns-then-is_none-clause-shows
 returns-then-is_none-clause-shows g c = λ m held x is.
-    subst (λ (t : List Event). ShowsApart c.args.key c.args.pairs.now c.args.busy.now c.new.result t []) (sym (none_met c.args.key.place x (c.is_none.ensures ∙ ap not c.if-is_none.true))) (c.new.ensures c.args.key c.args.pairs.now c.args.busy.now [])
+    subst (λ (t : List Event). ShowsApart c.args.key c.args.pairs.now c.args.busy.now c.new.result t []) (sym (none_met c.args.key.place x (c.is_none.ensures ∙ ap not c.if-is_none.true))) (c.new.ensures.shows c.args.key c.args.pairs.now c.args.busy.now [])
 
 pub follow-requires-clause-written : goal.follow-requires-clause-written
 follow-requires-clause-written g c κs lives = none_written (pages_of c.in_ok-cache.cache) c.in_ok-cache.ensures.pages

@@ -7,7 +7,7 @@ use Rattle.myi_check.proofs.walks.TreeWalk.note.Goals as goal
 
 pub returns-in_ok-note_page-in-Page : goal.returns-in_ok-note_page-in-Page
 returns-in_ok-note_page-in-Page c = λ all left s.
-    c.in_ok-note_page-in-Page.ensures c.args.pairs.now all left (subst (λ (e : declared.Event). ShowsApart c.args.key c.args.pairs.now c.args.busy.now c.args.self.now all (event_of e ∷ left)) c.in-Page.is s)
+    c.in_ok-note_page-in-Page.ensures.shows c.args.pairs.now all left (subst (λ (e : declared.Event). ShowsApart c.args.key c.args.pairs.now c.args.busy.now c.args.self.now all (event_of e ∷ left)) c.in-Page.is s)
 
 pub returns-in-Pair : goal.returns-in-Pair
 returns-in-Pair c = λ all left s.
@@ -16,4 +16,4 @@ returns-in-Pair c = λ all left s.
 
 pub returns-in-Bad : goal.returns-in-Bad
 returns-in-Bad c = λ all left s.
-    c.cut.ensures c.args.key c.args.pairs.now c.args.busy.now all left (subst (λ (e : declared.Event). ShowsApart c.args.key c.args.pairs.now c.args.busy.now c.args.self.now all (event_of e ∷ left)) c.in-Bad.is s)
+    c.cut.ensures.shows c.args.key c.args.pairs.now c.args.busy.now all left (subst (λ (e : declared.Event). ShowsApart c.args.key c.args.pairs.now c.args.busy.now c.args.self.now all (event_of e ∷ left)) c.in-Bad.is s)
