@@ -1,6 +1,6 @@
 //! `Met`: what was met of a data file so far.
 //!
-//! Of each row its pairs are noted, where keys are looked at, how many blocks it has and which bytes they hold;
+//! Of each row its pairs are noted, where they are wanted, how many blocks it has and which bytes they hold;
 //! of each deleted block its place and its size. A deleted block is one of the table only if it meets no block of a row, be it
 //! before or behind, so that which of them count is told when all rows have come.
 ghost use Rattle.std.specs.Prelude.{◌≡◌, ◌+◌, IfOk};

@@ -34,7 +34,7 @@ use std::alloc::{AllocError, Global};
 #[derive(Drop)]
 pub(crate) struct RowsFound {
     /// The pairs of the readable rows, a list for each key of the table, in the order of the rows. The lists
-    /// are empty where keys are not looked at.
+    /// are empty where they were not wanted.
     pub(crate) keys: RowKeys,
     pub(crate) records: u64,
     /// How many blocks the rows have.
@@ -47,7 +47,7 @@ pub(crate) struct RowsFound {
     pub(crate) gap: Option<u64>,
 }
 
-/// Goes through a data file of that length once, and notes the pairs of its rows where keys are looked at.
+/// Goes through a data file of that length once, and notes the pairs of its rows where they are wanted.
 pub(crate) fn find_rows<F: Files>(
     alloc: Global,
     files: &mut F,
