@@ -1,0 +1,4 @@
+-- what a reader of the contracts must believe
+
+-- the data file of a table that changes, in either format
+pub mod RowFile
