@@ -74,6 +74,20 @@ two_pages block (r ∷ ps) p q one hp hq = elim (Contains-append_cases (r ∷ []
   ]
 ]
 
+-- of free ranges of which no two have a byte in common, two are the same or share none
+pub two_ranges : (rs : List (ℕ × ℕ)) (r s : ℕ × ℕ) → ((x : ℕ) → covers rs x ≤ 1) → Contains rs r → Contains rs s → (r ≡ s) ⊎ ((x : ℕ) → within r.0 r.1 x + within s.0 s.1 x ≤ 1)
+two_ranges [] r s one hr hs = absurd (no_one r hr)
+two_ranges (t ∷ rs) r s one hr hs = elim (Contains-append_cases (t ∷ []) rs r hr) [
+  | inl re ↦ elim (Contains-append_cases (t ∷ []) rs s hs) [
+    | inl se ↦ inl (sym (only_one t r re) ∙ only_one t s se)
+    | inr sl ↦ inr (λ x. let k = one x in let e = ap (λ (t : ℕ × ℕ). within t.0 t.1 x) (only_one t r re) in let l = in_covers rs s x sl in omega arith)
+  ]
+  | inr rl ↦ elim (Contains-append_cases (t ∷ []) rs s hs) [
+    | inl se ↦ inr (λ x. let k = one x in let e = ap (λ (t : ℕ × ℕ). within t.0 t.1 x) (only_one t s se) in let l = in_covers rs r x rl in omega arith)
+    | inr sl ↦ two_ranges rs r s (λ x. let k = one x in omega arith) rl sl
+  ]
+]
+
 -- a page that has no byte behind the end ends before it
 pub before_end : (p n end : ℕ) → 0 < n → ((x : ℕ) → within p n x + from_end end x ≤ 1) → p + n ≤ end
 before_end zero zero end some off = absurd (omega arith)

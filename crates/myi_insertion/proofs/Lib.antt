@@ -14,3 +14,5 @@ pub mod LoadLaws
 pub mod SplitLaws
 pub mod PuttingLaws
 pub mod CachedSettling
+pub mod OpeningLaws
+pub mod RemovalLaws

@@ -1,8 +1,8 @@
 -- Where a pair goes.
-use Rattle.std.proofs.Common.{◌≡◌, true, false, List, [], ◌∷◌, ◌++◌, length, refl, sym, ap, subst, ◌∙◌, append_assoc, inl, inr}
+use Rattle.std.proofs.Common.{◌≡◌, true, false, List, [], ◌∷◌, ◌++◌, length, refl, sym, ap, subst, ◌∙◌, append_assoc, inl, inr, arith}
 use Rattle.std.specs.List.{AllByRecursion}
 use Rattle.std.specs.List.Sorted.{IsStrictlySortedBy}
-use Rattle.std.specs.Ordering.{is_gt, ordering_reverse}
+use Rattle.std.specs.Ordering.{is_gt, is_eq, ordering_reverse}
 use Rattle.std.specs.declared.cmp.Ordering.{Ordering}
 use Rattle.std.specs.declared.cmp.Ordering.TheVariants.{Less, Equal, Greater}
 use Rattle.std.proofs.lemmas.Bool.{cases_Bool}
@@ -11,7 +11,8 @@ use Rattle.myi_keylist.specs.declared.pair.Pair.{Pair}
 use Rattle.myi_keylist.specs.PairOrder.{pair_cmp, put_pair}
 use Rattle.myi_keylist.proofs.CallerLemmas.{pair_total}
 use Rattle.myi_insertion.specs.Strips.{lefts, rights}
-use Rattle.myi_insertion.specs.Ordered.{AreBefore, BeginsBehind}
+use Rattle.myi_insertion.specs.Ordered.{AreBefore, BeginsBehind, begins_with}
+use Rattle.myi_insertion.specs.Removal.{has_pair, without_pair}
 
 put_right : (p : Pair) (m r : List Pair) → BeginsBehind p r → put_pair p (m ++ r) ≡ put_pair p m ++ r
 put_right p [] [] h = refl
@@ -121,3 +122,67 @@ put_sorted p (q ∷ qs) s differ =
       | inl is ↦ let below : pair_cmp q p ≡ Less = pair_total.antisymm q p ∙ ap ordering_reverse (greater (pair_cmp p q) is) in rw is (put_all q p qs below s.0, put_sorted p qs s.1 differ.1)
       | inr other ↦ let less = less_from (pair_cmp p q) other differ.0 in rw other ((less, below_all p q qs less s.0), s)
     ]
+
+-- ---- where a pair is sought
+
+equal_is : (r : Ordering) → is_eq r ≡ true → r ≡ Equal
+equal_is Less e = absurd cc
+equal_is Equal e = refl
+equal_is Greater e = absurd cc
+
+differs_is : (r : Ordering) → is_eq r ≡ false → r ≡ Equal → ⊥
+differs_is Less e f = absurd cc
+differs_is Equal e f = absurd cc
+differs_is Greater e f = absurd cc
+
+differs_not : (r : Ordering) → (r ≡ Equal → ⊥) → is_eq r ≡ false
+differs_not Less f = refl
+differs_not Equal f = absurd (f refl)
+differs_not Greater f = refl
+
+-- the first of some pairs is the pair
+pub begins_is : (p : Pair) (qs : List Pair) → begins_with p qs ≡ true → (q : Pair) × (rest : List Pair) × (qs ≡ q ∷ rest) × (pair_cmp p q ≡ Equal)
+begins_is p [] e = absurd cc
+begins_is p (q ∷ rest) e = (q, rest, refl, equal_is (pair_cmp p q) e)
+
+pub rights_begin : (cs : List (List Pair)) (ps : List Pair) (p : Pair) → length cs ≡ length ps → begins_with p ps ≡ false → begins_with p (rights ps cs) ≡ false
+rights_begin cs [] p n h = refl
+rights_begin [] (q ∷ ps) p n h = absurd (omega arith)
+rights_begin (c ∷ cs) (q ∷ ps) p n h = h
+
+-- none of those before where the pair goes is it, and none behind, where the first is not
+pub none_before : (p : Pair) (qs : List Pair) → AreBefore p qs → AllByRecursion (λ q. pair_cmp p q ≡ Equal → ⊥) qs
+none_before p [] b = tt
+none_before p (q ∷ qs) b = (λ e. let k : is_gt Equal ≡ true = sym (ap is_gt e) ∙ b.0 in absurd cc, none_before p qs b.1)
+
+less_none : (p : Pair) (qs : List Pair) → AllByRecursion (λ r. pair_cmp p r ≡ Less) qs → AllByRecursion (λ q. pair_cmp p q ≡ Equal → ⊥) qs
+less_none p [] h = tt
+less_none p (q ∷ qs) h = (λ e. let k : Less ≡ Equal = sym h.0 ∙ e in absurd cc, less_none p qs h.1)
+
+pub none_behind : (p : Pair) (qs : List Pair) → IsStrictlySortedBy pair_cmp qs → BeginsBehind p qs → begins_with p qs ≡ false → AllByRecursion (λ q. pair_cmp p q ≡ Equal → ⊥) qs
+unfolding IsStrictlySortedBy
+none_behind p [] s h n = tt
+none_behind p (q ∷ qs) s h n =
+    let less = less_from (pair_cmp p q) h (differs_is (pair_cmp p q) n) in
+    (differs_is (pair_cmp p q) n, less_none p qs (below_all p q qs less s.0))
+
+pub sorted_back : (l r : List Pair) → IsStrictlySortedBy pair_cmp (l ++ r) → IsStrictlySortedBy pair_cmp r
+sorted_back l r s = sorted_right l r s
+
+-- ---- a pair that is taken out
+
+pub none_has : (p : Pair) (qs : List Pair) → AllByRecursion (λ q. pair_cmp p q ≡ Equal → ⊥) qs → (has_pair p qs ≡ false) × (without_pair p qs ≡ qs)
+none_has p [] none = (refl, refl)
+none_has p (q ∷ qs) none =
+    let n = differs_not (pair_cmp p q) none.0 in
+    let k = none_has p qs none.1 in
+    (rw n k.0, rw n (ap (λ (t : List Pair). q ∷ t) k.1))
+
+pub one_has : (p q : Pair) (front back : List Pair) → IsStrictlySortedBy pair_cmp (front ++ q ∷ back) → pair_cmp p q ≡ Equal → (has_pair p (front ++ q ∷ back) ≡ true) × (without_pair p (front ++ q ∷ back) ≡ front ++ back)
+unfolding IsStrictlySortedBy
+one_has p q [] back s e = (rw e refl, rw e refl)
+one_has p q (r ∷ front) back s e =
+    let less : pair_cmp r q ≡ Less = (all_back (λ t. pair_cmp r t ≡ Less) front (q ∷ back) s.0).0 in
+    let n = differs_not (pair_cmp p r) (λ f. let k : Less ≡ Equal = sym less ∙ sym (pair_total.congr p r q f) ∙ e in absurd cc) in
+    let k = one_has p q front back s.1 e in
+    (rw n k.0, rw n (ap (λ (t : List Pair). r ∷ t) k.1))

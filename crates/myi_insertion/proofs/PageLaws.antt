@@ -2,11 +2,12 @@
 use Rattle.std.proofs.Common.{◌≡◌, ℕ, zero, suc, ◌+◌, ◌-◌, ◌^◌, ◌<◌, ◌≤◌, Bool, true, false, Option, Some, None, List, [], ◌∷◌, ◌++◌, length, get_or, take, drop, refl, sym, ap, subst, ◌∙◌, append_assoc, append-nil, arith, inl, inr}
 use Rattle.std.specs.Prelude.{is_some}
 use Rattle.std.proofs.Math.Seq.{drop-cons}
+use Rattle.std.proofs.lemmas.Bool.{cases_lt}
 use Rattle.std.proofs.lemmas.Option.{same_Some}
-use Rattle.std.proofs.lemmas.List.{length-drop, get_or-drop}
+use Rattle.std.proofs.lemmas.List.{length-drop, get_or-drop, drop_all, take_all}
 use Rattle.std.specs.Option.{option_to_list}
 use Rattle.std.specs.List.{slice_get, AllByRecursion}
-use Rattle.std.specs.Ordering.{is_gt, ordering_then, nat_cmp}
+use Rattle.std.specs.Ordering.{is_gt, is_eq, ordering_then, nat_cmp}
 use Rattle.myi_keypage.specs.declared.entry.Entry.{Entry}
 use Rattle.myi_keypage.specs.Page.{page_with, IsPage, IsPlace, IsBranching}
 use Rattle.myi_keypage.specs.PageItems.{Item, key_after}
@@ -23,7 +24,7 @@ use Rattle.myi_btree.specs.Walk.{◌>>=◌, node_with, each}
 use Rattle.myi_btree.specs.Nodes.{key_in, pair_in, node_in}
 use Rattle.myi_btree.proofs.CallerLemmas.{bind_some}
 use Rattle.myi_insertion.specs.Strips.{Branches}
-use Rattle.myi_insertion.specs.Ordered.{AreBefore, BeginsBehind}
+use Rattle.myi_insertion.specs.Ordered.{AreBefore, BeginsBehind, begins_with}
 use Rattle.myi_insertion.specs.Written.{CanWrite}
 use Rattle.myi_insertion.proofs.RoomLaws.{all_both}
 use Rattle.myi_insertion.proofs.StripLaws.{each_length}
@@ -103,6 +104,19 @@ after_pair code other row other_row q r is e f g =
 pub begins_behind : (p : Pair) (pairs : List Pair) (i : ℕ) (d : Pair) → i < length pairs → is_gt (pair_cmp p (get_or pairs i d)) ≡ false → BeginsBehind p (drop i pairs)
 begins_behind p pairs i d lt e = subst (BeginsBehind p) (sym (drop-cons pairs i d lt)) e
 
+pub is_pair : (code other : List ℕ) (row other_row : ℕ) (q : Pair) (r : Bool) → IsKey q.key → other ≡ key_code q.key → other_row ≡ q.row → r ≡ is_eq (ordering_then (code_cmp code other) (nat_cmp row other_row)) → r ≡ is_eq (pair_cmp (pair_with (key_front code) row) q)
+is_pair code other row other_row q r is e f g =
+    g ∙ ap (λ (k : List KeySeg). is_eq (ordering_then (key_cmp (key_front code) k) (nat_cmp row other_row))) (code_is other q.key is e).1 ∙ ap (λ (n : ℕ). is_eq (ordering_then (key_cmp (key_front code) q.key) (nat_cmp row n))) f
+
+pub begins_there : (p : Pair) (pairs : List Pair) (i : ℕ) (d : Pair) → i < length pairs → begins_with p (drop i pairs) ≡ is_eq (pair_cmp p (get_or pairs i d))
+begins_there p pairs i d lt = ap (begins_with p) (drop-cons pairs i d lt)
+
+pub begins_nowhere : (p : Pair) (pairs : List Pair) (i : ℕ) → length pairs ≤ i → begins_with p (drop i pairs) ≡ false
+begins_nowhere p pairs i le = ap (begins_with p) (drop_all i pairs le)
+
+pub begins_inside : (p : Pair) (pairs : List Pair) (i : ℕ) → begins_with p (drop i pairs) ≡ true → i < length pairs
+begins_inside p pairs i e = elim (cases_lt i (length pairs)) [ inl lt ↦ lt | inr le ↦ absurd (let k : false ≡ true = sym (begins_nowhere p pairs i le) ∙ e in cc) ]
+
 pub take_next : {A : Type 0} (k : ℕ) (xs : List A) (d : A) → k < length xs → take (suc k) xs ≡ take k xs ++ get_or xs k d ∷ []
 take_next k [] d lt = absurd (omega arith)
 take_next zero (x ∷ xs) d lt = refl
@@ -120,6 +134,13 @@ pushed_more pairs start i d le lt =
     let at : start + (i - start) ≡ i = omega arith in
     ap (λ (k : ℕ). take k (drop start pairs)) one ∙ take_next (i - start) (drop start pairs) d (omega (arith, length-drop start pairs))
     ∙ ap (λ (q : Pair). take (i - start) (drop start pairs) ++ q ∷ []) (get_or-drop start pairs (i - start) d ∙ ap (λ (k : ℕ). get_or pairs k d) at)
+
+-- two lists, and a pair between them, one after the other
+pub joined_is : (none one two three ls rs : List Pair) (q same : Pair) (n k : ℕ) → none ≡ [] → one ≡ none ++ take (n - 0) (drop 0 ls) → n ≡ length ls → two ≡ one ++ q ∷ [] → q ≡ same → three ≡ two ++ take (k - 0) (drop 0 rs) → k ≡ length rs → three ≡ ls ++ same ∷ rs
+joined_is none one two three ls rs q same n k a b c d e f g =
+    let l : take (n - 0) ls ≡ ls = take_all (n - 0) ls (omega (arith, c)) in
+    let r : take (k - 0) rs ≡ rs = take_all (k - 0) rs (omega (arith, g)) in
+    f ∙ ap (λ (t : List Pair). t ++ take (k - 0) rs) (d ∙ ap (λ (t : List Pair). t ++ q ∷ []) (b ∙ ap (λ (t : List Pair). t ++ take (n - 0) ls) a ∙ l)) ∙ ap (λ (t : List Pair). (ls ++ q ∷ []) ++ t) r ∙ append_assoc ls (q ∷ []) rs ∙ ap (λ (p : Pair). ls ++ p ∷ rs) e
 
 -- ---- what was read can be written
 

@@ -48,7 +48,7 @@ pub in_root : (read : Places) (h at : ℕ) (w : Walked) → walk_of read h at �
 in_root read h at w e = let r = root_page read h at w e in subst (λ (ps : List ℕ). Contains ps at) (sym r.1) (first_one at r.0)
 
 -- a page with children is no leaf, and one without is
-leaf_only : (read : Places) (h at : ℕ) (w : Walked) (node : Node) → walk_of read h at ≡ Some w → read at ≡ Some node → node.children ≡ [] → h ≡ zero
+pub leaf_only : (read : Places) (h at : ℕ) (w : Walked) (node : Node) → walk_of read h at ≡ Some w → read at ≡ Some node → node.children ≡ [] → h ≡ zero
 leaf_only read zero at w node e there none = refl
 leaf_only read (suc h) at w node e there none =
     let a = bind_some (read at) (λ node. each (walk_of read h) node.children >>= λ ws. cond (ltb 0 (length node.children)) (Some (at_node at node ws)) None) w e in
@@ -58,7 +58,7 @@ leaf_only read (suc h) at w node e there none =
     let same : a.0 ≡ node = same_Some a.0 node (sym a.1 ∙ there) in
     absurd (omega (arith, some, ap (λ (n : Node). length n.children) same, ap length none))
 
-node_only : (read : Places) (h at : ℕ) (w : Walked) (node : Node) → walk_of read h at ≡ Some w → read at ≡ Some node → 0 < length node.children → (k : ℕ) × (h ≡ suc k)
+pub node_only : (read : Places) (h at : ℕ) (w : Walked) (node : Node) → walk_of read h at ≡ Some w → read at ≡ Some node → 0 < length node.children → (k : ℕ) × (h ≡ suc k)
 node_only read (suc h) at w node e there some = (h, refl)
 node_only read zero at w node e there some =
     let a = bind_some (read at) (λ node. as_leaf at node node.children) w e in
@@ -70,7 +70,7 @@ node_only read zero at w node e there some =
     by n (c ∷ cs) e pos = absurd cc
 
 -- where all that was lent is lent, walks stand
-walk_stays : (place : Place) (old : Caching) (m : Holding) (new : Caching) (n : Holding) (h at : ℕ) (w : Walked) → SameLent old m new n → walk_of (node_lent place old m) h at ≡ Some w → walk_of (node_lent place new n) h at ≡ Some w
+pub walk_stays : (place : Place) (old : Caching) (m : Holding) (new : Caching) (n : Holding) (h at : ℕ) (w : Walked) → SameLent old m new n → walk_of (node_lent place old m) h at ≡ Some w → walk_of (node_lent place new n) h at ≡ Some w
 walk_stays place old m new n h at w same e = same_walk (node_lent place old m) (node_lent place new n) h at w e (all_from (StillStands (node_lent place old m) (node_lent place new n)) w.pages (λ p here node was. lent_node place old m new n p node (λ x. same p place.block_length x) was))
 
 -- what a call that asks for a page says, and one that writes pairs on pages
@@ -109,7 +109,7 @@ into_leaf place p old told told1 told2 mid new at i ps grown cs gcs sp ss r0 r1 
     (subst (λ (t : List Pair). Settles place old m w.pages r0 told2 new r1 zero t sp ss) (is ∙ sym l.1) made)
 
 -- the child's pages may be changed where all may
-child_can : (place : Place) (cache : Caching) (m : Holding) (h at : ℕ) (w : Walked) (ps : List Pair) (cs : List ℕ) (i child : ℕ) (room : Room) (c : Child (node_lent place cache m) h at w ps cs i child) → CanChange place cache m w.pages room → CanChange place cache m c.v.pages room
+pub child_can : (place : Place) (cache : Caching) (m : Holding) (h at : ℕ) (w : Walked) (ps : List Pair) (cs : List ℕ) (i child : ℕ) (room : Room) (c : Child (node_lent place cache m) h at w ps cs i child) → CanChange place cache m w.pages room → CanChange place cache m c.v.pages room
 child_can place cache m h at w ps cs i child room c can =
     let P : ℕ → Type 0 = λ at. NoOtherMeets (is_kept (pages_of cache)) at place.block_length in
     let all : AllByRecursion P (at ∷ c.pages) = subst (AllByRecursion P) c.all_are can.meets in

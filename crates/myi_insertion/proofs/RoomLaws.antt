@@ -6,7 +6,7 @@ use Rattle.std.proofs.lemmas.Bool.{cases_lt, le-ltb, lt-ltb, le-leb, lt-leb}
 use Rattle.std.proofs.lemmas.List.{take-append-drop}
 use Rattle.myi_btree.specs.declared.place.Room.{Room}
 use Rattle.myi_insertion.specs.Covers.{within, stock, covers, from_end}
-use Rattle.myi_insertion.specs.Rooms.{IsWhole, TakesFree, TakesEnd, Takes}
+use Rattle.myi_insertion.specs.Rooms.{IsWhole, TakesFree, TakesEnd, Takes, Gives}
 use Rattle.myi_insertion.proofs.FrameLaws.{all_left, all_right}
 
 covers-append : (us vs : List (ℕ × ℕ)) (x : ℕ) → covers (us ++ vs) x ≡ covers us x + covers vs x
@@ -45,6 +45,14 @@ pub stock_taken : (len at : ℕ) (before after : Room) → Takes len at before a
 stock_taken len at before after (inl t) = free_out len at before after t
 stock_taken len at before after (inr t) = behind_out len at before after t
 
+-- the bytes of a page that is given are free afterwards
+pub stock_given : (len at : ℕ) (before after : Room) → Gives len at before after → (x : ℕ) → within at len x + stock before x ≡ stock after x
+unfolding stock
+stock_given len at before after t x =
+    let a = ap (λ (t : List (ℕ × ℕ)). covers t x) t.free in
+    let b = ap (λ (t : ℕ). from_end t x) t.end in
+    omega (arith, covers-append before.free ((at, len) ∷ []) x)
+
 pub all_both : {A : Type 0} (P : A → Type 0) (xs ys : List A) → AllByRecursion P xs → AllByRecursion P ys → AllByRecursion P (xs ++ ys)
 all_both P [] ys h k = k
 all_both P (x ∷ xs) ys h k = (h.0, all_both P xs ys h.1 k)
@@ -73,3 +81,9 @@ free_whole len at before after t w =
 -- a search from the back
 pub none_more : (P : ℕ × ℕ → Type 0) (rs : List (ℕ × ℕ)) (i : ℕ) (d : ℕ × ℕ) → i < length rs → P (get_or rs i d) → AllByRecursion P (drop (suc i) rs) → AllByRecursion P (drop i rs)
 none_more P rs i d lt one more = subst (AllByRecursion P) (sym (drop-cons rs i d lt)) (one, more)
+
+pub given_whole : (len at : ℕ) (before after : Room) → Gives len at before after → at % 1024 ≡ 0 → IsWhole before → IsWhole after
+given_whole len at before after t whole w = record {
+  end = ap (λ (n : ℕ). n % 1024) t.end ∙ w.end;
+  free = subst (AllByRecursion (λ (r : ℕ × ℕ). r.0 % 1024 ≡ 0)) (sym t.free) (all_both (λ (r : ℕ × ℕ). r.0 % 1024 ≡ 0) before.free ((at, len) ∷ []) w.free (whole, tt));
+}

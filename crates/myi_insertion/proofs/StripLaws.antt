@@ -60,7 +60,7 @@ weave_whole (k ∷ cs) ds es [] qs rs a b c = absurd (omega arith)
 weave_whole (k ∷ cs) ds es (p ∷ ps) qs rs a b c =
     ap (λ (t : List Pair). k ++ p ∷ t) (weave_whole cs ds es ps qs rs (omega arith) b c) ∙ sym (append_assoc k (p ∷ lefts cs ps ++ weave ds qs) (rights rs es)) ∙ ap (λ (t : List Pair). t ++ rights rs es) (sym (append_assoc k (p ∷ lefts cs ps) (weave ds qs)))
 
-lefts_more : (cs : List (List Pair)) (ps : List Pair) (c : List Pair) (p : Pair) → length cs ≡ length ps → lefts (cs ++ c ∷ []) (ps ++ p ∷ []) ≡ lefts cs ps ++ c ++ p ∷ []
+pub lefts_more : (cs : List (List Pair)) (ps : List Pair) (c : List Pair) (p : Pair) → length cs ≡ length ps → lefts (cs ++ c ∷ []) (ps ++ p ∷ []) ≡ lefts cs ps ++ c ++ p ∷ []
 lefts_more [] [] c p e = refl
 lefts_more [] (q ∷ ps) c p e = absurd (omega arith)
 lefts_more (d ∷ cs) [] c p e = absurd (omega arith)

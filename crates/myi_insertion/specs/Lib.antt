@@ -10,6 +10,8 @@ pub mod Rooms
 pub mod CachedChanges
 -- a tree in what a key cache lends, with a pair put in
 pub mod CachedTree
+-- taking a pair out of a list and a tree
+pub mod Removal
 -- what serves private contracts
 
 -- where a pair goes
@@ -20,3 +22,5 @@ pub mod Settling
 pub mod Written
 -- the steps of a change
 pub mod Steps
+-- trees of which a page is not written
+pub mod Openings

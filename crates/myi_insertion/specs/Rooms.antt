@@ -1,5 +1,5 @@
--- Taking pages out of a room: a free page of the length first, and the room's end where there is none.
-use Rattle.std.specs.Prelude.{◌≡◌, ◌⊎◌, ◌+◌, ◌%◌, ℕ, List, ◌∷◌, ◌++◌}
+-- Taking pages out of a room, a free page of the length first, and the room's end where there is none; and giving pages to it.
+use Rattle.std.specs.Prelude.{◌≡◌, ◌⊎◌, ◌+◌, ◌%◌, ℕ, List, [], ◌∷◌, ◌++◌}
 use Rattle.std.specs.List.{AllByRecursion}
 use Rattle.myi_btree.specs.declared.place.Room.{Room}
 
@@ -26,3 +26,8 @@ pub record TakesEnd (len at : ℕ) (old new : Room) : Type 0 where
 -- a page of the length was taken
 abbrev pub Takes : ℕ → ℕ → Room → Room → Type 0
 Takes len at old new = TakesFree len at old new ⊎ TakesEnd len at old new
+
+-- a page of the length became free
+pub record Gives (len at : ℕ) (old new : Room) : Type 0 where
+  pub free : new.free ≡ old.free ++ (at, len) ∷ []
+  pub end : new.end ≡ old.end

@@ -31,7 +31,7 @@ use myi_keylist::{Pair, PairList};
 use std::alloc::Global;
 
 /// The most levels that a tree has: one with more levels has more pairs than there are places for pages.
-const MOST_LEVELS: u64 = 64;
+pub(crate) const MOST_LEVELS: u64 = 64;
 
 /// The pair that goes into a tree.
 #[derive(Clone, Copy)]
@@ -138,8 +138,8 @@ fn put_in<F: Files>(
     Ok(strip)
 }
 
-// Puts pages above trees side by side until they are one, and answers the place of its root.
-fn raise<F: Files>(
+/// Puts pages above trees side by side until they are one, and answers the place of its root.
+pub(crate) fn raise<F: Files>(
     setup: Setup,
     files: &mut F,
     cache: &mut KeyCache,

@@ -19,8 +19,8 @@ ghost use Rattle.myi_keycache.specs.Caching.{pages_of, Caching, IsCurrent, CanPu
 ghost use Rattle.std.specs.List.{Contains};
 ghost use Rattle.myi_btree.specs.declared.place.Place.{Place};
 ghost use Rattle.myi_btree.specs.CachedTrees.{node_lent, NoneMeets};
-ghost use Rattle.myi_insertion.specs.Rooms.{Takes};
-ghost use Rattle.myi_insertion.specs.CachedChanges.{CanChange, Changes};
+ghost use Rattle.myi_insertion.specs.Rooms.{Takes, Gives};
+ghost use Rattle.myi_insertion.specs.CachedChanges.{CanChange, Exchanges, Changes};
 
 /// A walk depends on its own pages alone: where each of them still stands, the walk is the same.
 pub fn walks_still_stand()
@@ -144,14 +144,17 @@ pub fn page_by_page()
         → Grows block old new height xs olds before after (places ++ at ∷ []) separators }
 {}
 
-/// A page that is taken from a room has just the bytes that are free no more.
+/// A page that is taken from a room has just the bytes that are free no more, and one that is given to it those
+/// that became free.
 pub fn rooms_hand_out_their_bytes()
-    ensures { (len at : ℕ) (before after : Room) → Takes len at before after
+    ensures taken { (len at : ℕ) (before after : Room) → Takes len at before after
         → (x : ℕ) → within at len x + stock after x ≡ stock before x }
+    ensures given { (len at : ℕ) (before after : Room) → Gives len at before after
+        → (x : ℕ) → within at len x + stock before x ≡ stock after x }
 {}
 
-/// What one step does to a key cache and a room: a page that is asked for or put changes no other range, and a
-/// page that is taken from the room becomes one of the tree's.
+/// What one step does to a key cache and a room: a page that is asked for or put changes no other range, a page
+/// that is taken from the room becomes one of the tree's, and one that is given to it leaves them.
 pub fn steps_are_changes()
     ensures got { (place : Place) (old : Caching) (m : Holding) (pages : List ℕ) (room : Room)
         (new : Caching) (n : Holding) (at : ℕ) → Contains pages at → Stays old new m n
@@ -166,27 +169,34 @@ pub fn steps_are_changes()
         (before after : Room) (at : ℕ) → IsCurrent cache m
         → Takes place.block_length at before after
         → Changes place cache m (front ++ back) before cache m (front ++ at ∷ back) after }
+    ensures given { (place : Place) (cache : Caching) (m : Holding) (front back : List ℕ)
+        (before after : Room) (at : ℕ) → IsCurrent cache m
+        → Gives place.block_length at before after
+        → Exchanges place cache m (front ++ at ∷ back) before cache m (front ++ back) after (at ∷ []) }
 {}
 
 /// Changes in a key cache follow one another, and one of some pages is one of all. After each the pages may
 /// still be changed and each of them be put, and what stands at the places of an index file was traded.
 pub fn cached_changes_follow()
     ensures follow { (place : Place) (a b c : Caching) (m n k : Holding) (olds mids news : List ℕ)
-        (before between after : Room) → Changes place a m olds before b n mids between
-        → Changes place b n mids between c k news after
-        → Changes place a m olds before c k news after }
+        (before between after : Room) (some others : List ℕ)
+        → Exchanges place a m olds before b n mids between some
+        → Exchanges place b n mids between c k news after others
+        → Exchanges place a m olds before c k news after (some ++ others) }
     ensures part { (place : Place) (old new : Caching) (m n : Holding) (front olds news back : List ℕ)
-        (before after : Room) → Changes place old m olds before new n news after
-        → Changes place old m ((front ++ olds) ++ back) before new n ((front ++ news) ++ back) after }
+        (before after : Room) (given : List ℕ) → Exchanges place old m olds before new n news after given
+        → Exchanges place old m ((front ++ olds) ++ back) before new n ((front ++ news) ++ back) after
+        given }
     ensures still { (place : Place) (old new : Caching) (m n : Holding) (olds news : List ℕ)
-        (before after : Room) → 0 < place.block_length → CanChange place old m olds before
-        → Changes place old m olds before new n news after → CanChange place new n news after }
+        (before after : Room) (given : List ℕ) → 0 < place.block_length
+        → CanChange place old m olds before
+        → Exchanges place old m olds before new n news after given → CanChange place new n news after }
     ensures put { (place : Place) (cache : Caching) (m : Holding) (pages : List ℕ) (room : Room)
         (at len : ℕ) → len ≡ place.block_length → CanChange place cache m pages room
         → Contains pages at → CanPut cache m at len }
     ensures trades { (place : Place) (old new : Caching) (m n : Holding) (olds news : List ℕ)
-        (before after : Room) → 0 < place.block_length
-        → Changes place old m olds before new n news after
+        (before after : Room) (given : List ℕ) → 0 < place.block_length
+        → Exchanges place old m olds before new n news after given
         → Trades place.block_length (node_lent place old m) (node_lent place new n) olds before
         after news }
 {}
@@ -196,15 +206,15 @@ pub fn cached_changes_follow()
 /// its root.
 pub fn other_trees_stay()
     ensures stands { (place other : Place) (old new : Caching) (m n : Holding) (olds news : List ℕ)
-        (before after : Room) (height at : ℕ) (w : Walked) → 0 < other.block_length
-        → Changes place old m olds before new n news after
+        (before after : Room) (given : List ℕ) (height at : ℕ) (w : Walked) → 0 < other.block_length
+        → Exchanges place old m olds before new n news after given
         → walk_of (node_lent other old m) height at ≡ Some w
         → ((x : ℕ) → cover other.block_length w.pages x
         + (cover place.block_length olds x + stock before x) ≤ 1)
         → walk_of (node_lent other new n) height at ≡ Some w }
     ensures clear { (place other : Place) (old new : Caching) (m n : Holding)
-        (olds news pages : List ℕ) (before after : Room) → 0 < place.block_length
-        → 0 < other.block_length → Changes place old m olds before new n news after
+        (olds news pages : List ℕ) (before after : Room) (given : List ℕ) → 0 < place.block_length
+        → 0 < other.block_length → Exchanges place old m olds before new n news after given
         → NoneMeets other old pages
         → ((x : ℕ) → cover other.block_length pages x
         + (cover place.block_length olds x + stock before x) ≤ 1)

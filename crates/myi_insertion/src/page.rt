@@ -2,7 +2,7 @@
 //!
 //! `read_pairs` reads a `PageData` from the bytes of a page, `place_of` seeks a pair in it, and
 //! `PageData::with` puts other pairs and children into it.
-ghost use Rattle.std.specs.Prelude.{◌≡◌, ◌≤◌, ◌<◌, ◌+◌, ◌-◌, ◌^◌, ◌++◌, ◌∷◌, [], ℕ, List, take, drop, length, IfOk, IfErr, OnOk, option_map, IfSome, Some};
+ghost use Rattle.std.specs.Prelude.{◌≡◌, ◌≤◌, ◌<◌, ◌+◌, ◌-◌, ◌^◌, ◌++◌, ◌∷◌, [], ℕ, List, take, drop, length, slice_index_or, IfOk, IfErr, OnOk, option_map, IfSome, Some};
 ghost use Rattle.std.specs.Option.{option_to_list};
 ghost use Rattle.std.specs.Ordering.{is_gt};
 ghost use Rattle.myi_keys.specs.Comparing.{key_front, IsCode};
@@ -11,7 +11,7 @@ ghost use Rattle.myi_keys.specs.Limits.{IsKey};
 ghost use Rattle.myi_keylist.specs.declared.pair.Pair.{Pair};
 ghost use Rattle.myi_keylist.specs.PairOrder.{pair_with, pair_cmp};
 ghost use Rattle.myi_btree.specs.Nodes.{node_in};
-ghost use Rattle.myi_insertion.specs.Ordered.{AreBefore, BeginsBehind};
+ghost use Rattle.myi_insertion.specs.Ordered.{AreBefore, BeginsBehind, begins_with};
 ghost use Rattle.myi_insertion.specs.Written.{page_node, CanWrite};
 
 use myi_keylist::PairList;
@@ -119,6 +119,74 @@ fn push_pairs(
     Ok(())
 }
 
+/// The pairs of a list, with others in the place of pair `i`.
+pub(crate) fn replace_pair(
+    alloc: Global,
+    pairs: &PairList,
+    i: usize,
+    others: &PairList,
+) -> Result<PairList, AllocError>
+    requires inside { i < length pairs.now }
+    ensures { IfOk result (λ made. made ≡ (take i pairs.now ++ others.now) ++ drop (i + 1) pairs.now) }
+{
+    let count = pairs.len();
+    let mut made = PairList::new(alloc);
+    push_pairs(&mut made, pairs, 0, i)?;
+    push_pairs(&mut made, others, 0, others.len())?;
+    push_pairs(&mut made, pairs, i + 1, count)?;
+    Ok(made)
+}
+
+/// A pair of a list, alone.
+pub(crate) fn pair_at(alloc: Global, pairs: &PairList, i: usize) -> Result<PairList, AllocError>
+    requires inside { i < length pairs.now }
+    ensures { (other : Pair) → IfOk result (λ made. made ≡ slice_index_or pairs.now i other ∷ []) }
+{
+    let mut made = PairList::new(alloc);
+    made.push(pairs.code(i), pairs.row(i))?;
+    Ok(made)
+}
+
+/// What stands on two pages, and pair `i` of a list between it.
+pub(crate) fn join_pages(
+    alloc: Global,
+    left: &PageData,
+    pairs: &PairList,
+    i: usize,
+    right: &PageData,
+) -> Result<PageData, AllocError>
+    requires inside { i < length pairs.now }
+    ensures pairs { (other : Pair) → IfOk result (λ page. page.pairs
+        ≡ left.now.pairs ++ slice_index_or pairs.now i other ∷ right.now.pairs) }
+    ensures children { IfOk result (λ page. page.children.items ≡ left.now.children.items
+        ++ right.now.children.items) }
+{
+    let mut both = PairList::new(alloc);
+    push_pairs(&mut both, &left.pairs, 0, left.pairs.len())?;
+    both.push(pairs.code(i), pairs.row(i))?;
+    push_pairs(&mut both, &right.pairs, 0, right.pairs.len())?;
+    let mut children: Vec<u64> = Vec::new(alloc);
+    children.extend_from_slice(&left.children)?;
+    children.extend_from_slice(&right.children)?;
+    Ok(PageData {
+        pairs: both,
+        children,
+    })
+}
+
+/// Whether the pair of a code and a row stands at `i` of a list.
+pub(crate) fn is_at(pairs: &PairList, i: usize, code: &[u8], row: u64) -> bool
+    requires { IsCode code.now }
+    ensures { result ≡ begins_with (pair_with (key_front code.now) row) (drop i pairs.now) }
+{
+    if i >= pairs.len() {
+        return false;
+    }
+    compare_codes(code, pairs.code(i))
+        .then(row.cmp(&pairs.row(i)))
+        .is_eq()
+}
+
 impl PageData {
     /// The leaf with a pair put in at `i`.
     pub(crate) fn with_pair(
@@ -168,6 +236,64 @@ impl PageData {
         children.extend_from_slice(&self.children[..i])?;
         children.extend_from_slice(places)?;
         children.extend_from_slice(&self.children[i + 1..])?;
+        Ok(PageData { pairs, children })
+    }
+
+    /// The leaf without pair `i`.
+    pub(crate) fn without_pair(&self, alloc: Global, i: usize) -> Result<PageData, AllocError>
+        requires inside { i < length self.now.pairs }
+        ensures pairs { IfOk result (λ page. page.pairs
+            ≡ take i self.now.pairs ++ drop (i + 1) self.now.pairs) }
+        ensures children { IfOk result (λ page. page.children.items ≡ []) }
+    {
+        let none = PairList::new(alloc);
+        let pairs = replace_pair(alloc, &self.pairs, i, &none)?;
+        Ok(PageData {
+            pairs,
+            children: Vec::new(alloc),
+        })
+    }
+
+    /// The node with another pair in the place of pair `i`.
+    pub(crate) fn with_other(
+        &self,
+        alloc: Global,
+        i: usize,
+        other: &PairList,
+    ) -> Result<PageData, AllocError>
+        requires inside { i < length self.now.pairs }
+        ensures pairs { IfOk result (λ page. page.pairs
+            ≡ (take i self.now.pairs ++ other.now) ++ drop (i + 1) self.now.pairs) }
+        ensures children { IfOk result (λ page. page.children.items ≡ self.now.children.items) }
+    {
+        let pairs = replace_pair(alloc, &self.pairs, i, other)?;
+        let mut children: Vec<u64> = Vec::new(alloc);
+        children.extend_from_slice(&self.children)?;
+        Ok(PageData { pairs, children })
+    }
+
+    /// The node with trees side by side in the place of the children `i` and `i + 1`, and of the pair between
+    /// them.
+    pub(crate) fn with_joined(
+        &self,
+        alloc: Global,
+        i: usize,
+        places: &[u64],
+        separators: &PairList,
+    ) -> Result<PageData, AllocError>
+        requires inside { i < length self.now.pairs }
+        requires child { i + 1 < length self.now.children.items }
+        ensures pairs { IfOk result (λ page. page.pairs
+            ≡ (take i self.now.pairs ++ separators.now) ++ drop (i + 1) self.now.pairs) }
+        ensures children { IfOk result (λ page. page.children.items
+            ≡ (take i self.now.children.items ++ places.now)
+            ++ drop (i + 2) self.now.children.items) }
+    {
+        let pairs = replace_pair(alloc, &self.pairs, i, separators)?;
+        let mut children: Vec<u64> = Vec::new(alloc);
+        children.extend_from_slice(&self.children[..i])?;
+        children.extend_from_slice(places)?;
+        children.extend_from_slice(&self.children[i + 2..])?;
         Ok(PageData { pairs, children })
     }
 }

@@ -1,12 +1,12 @@
-//! Taking pages out of a room.
+//! Taking pages out of a room, and giving them back.
 //!
 //! `take_page` hands out a free page of the length that is asked for, and goes to the end of the room where
-//! there is none.
+//! there is none. `give_page` makes a page free.
 ghost use Rattle.std.specs.Prelude.{◌≡◌, ◌+◌, ◌%◌, ◌^◌, ◌<◌, ◌++◌, ◌∷◌, ℕ, [], length, slice_index_or, IfOk, IfErr, IfSome, OnOk, OnErr, IsNone};
 ghost use Rattle.std.specs.List.{AllByRecursion};
 ghost use Rattle.myi_btree.specs.declared.fault.TreeFault.TheVariants.{Memory};
 ghost use Rattle.myi_keypage.specs.Page.{IsPlace};
-ghost use Rattle.myi_insertion.specs.Rooms.{IsWhole, TakesFree, Takes};
+ghost use Rattle.myi_insertion.specs.Rooms.{IsWhole, TakesFree, Takes, Gives};
 
 use myi_base::Sequence;
 use myi_btree::{Room, TreeFault};
@@ -62,4 +62,17 @@ fn take_free(room: &mut Room, i: usize) -> u64
     let (at, _) = free.remove(i);
     room.free = Sequence::new(free);
     at
+}
+
+/// Gives a page to a room: its bytes are free afterwards.
+pub fn give_page(room: &mut Room, at: u64, len: u16) -> Result<(), TreeFault>
+    ensures given { OnOk result (Gives len at room.old room.new) }
+    ensures whole { at % 1024 ≡ 0 → IsWhole room.old → OnOk result (IsWhole room.new) }
+    ensures memory { IfErr result (λ fault. fault ≡ Memory) }
+{
+    let alloc = room.free.allocator();
+    let mut free = replace(&mut room.free, Sequence::new(Vec::new(alloc))).into_vec();
+    free.push((at, len))?;
+    room.free = Sequence::new(free);
+    Ok(())
 }

@@ -1,0 +1,213 @@
+use Rattle.std.proofs.Common.{◌≡◌, ℕ, ◌<◌, true, false, List, [], length, take, drop, get_or, refl, sym, ap, subst, ◌∙◌, arith}
+use Rattle.std.proofs.lemmas.Bool.{eqb-true, eqb-false}
+use Rattle.std.proofs.lemmas.Result.{err_from_is_err_and}
+use Rattle.myi_base.specs.Holding.{OthersStay}
+use Rattle.myi_base.proofs.CallerLemmas.{told_then}
+use Rattle.myi_keys.specs.Comparing.{key_front}
+use Rattle.myi_keylist.specs.declared.pair.Pair.{Pair}
+use Rattle.myi_keylist.specs.PairOrder.{pair_with}
+use Rattle.myi_btree.specs.CachedTrees.{node_lent}
+use Rattle.myi_insertion.specs.declared.page.PageData.{PageData}
+use Rattle.myi_insertion.specs.Written.{page_node}
+use Rattle.myi_insertion.specs.Ordered.{AreBefore, BeginsBehind, begins_with}
+use Rattle.myi_insertion.proofs.LoadLaws.{got, can_get, if_err}
+use Rattle.myi_insertion.proofs.PageLaws.{pair_again, is_code_of, begins_inside}
+use Rattle.myi_insertion.proofs.SplitLaws.{nil_of, if_some, if_none}
+use Rattle.myi_insertion.proofs.PuttingLaws.{in_root, no_root, child_is, Never, never_below}
+use Rattle.myi_insertion.proofs.RemovalLaws.{TakesLast, NeverLast, TakesPair, SeeksPair, pair_in_leaf, none_in_leaf, pair_below, pair_in_node, none_below, other_holds, other_inside, never_last_below, never_found_closes, never_pair_closes}
+use Rattle.myi_insertion.proofs.removal.+without_pair.Goals as goal
+
+pub returns-in_err-page-clause-never : goal.returns-in_err-page-clause-never
+returns-in_err-page-clause-never g t c =
+    let place = c.args.task.now.setup.place in
+    let e = err_from_is_err_and c.from_residual.result c.from_residual.ensures.1 in
+    if_err c.from_residual.result e.0 _ e.1
+    (λ p d m held h w walk can sorted. no_root (node_lent place c.args.cache.now m) h c.args.at w walk
+    ((c.in_err-page.ensures.damaged p (sym e.2 ∙ d)).1 m held (can_get place c.args.cache.now m w.pages c.args.room.now c.args.at can (in_root (node_lent place c.args.cache.now m) h c.args.at w walk))))
+
+pub place_of-i-requires : goal.place_of-i-requires
+place_of-i-requires g t c = is_code_of c.code-code.result.now c.args.task.now.pair.now c.code-code.ensures.key c.code-code.ensures.value
+
+pub is_at-found-requires : goal.is_at-found-requires
+is_at-found-requires g t c = is_code_of c.code-code.result.now c.args.task.now.pair.now c.code-code.ensures.key c.code-code.ensures.value
+
+pub returns-then-not-found-clause-sought : goal.returns-then-not-found-clause-sought
+returns-then-not-found-clause-sought g t c =
+    let place = c.args.task.now.setup.place in
+    let p : Pair = c.args.task.now.pair.now in
+    let same : pair_with (key_front c.code-code.result.now) p.row ≡ p = pair_again c.code-code.result.now p.row p c.code-code.ensures.key c.code-code.ensures.value refl in
+    let ps : List Pair = c.in_ok-page.page.pairs in
+    let cs : List ℕ = c.in_ok-page.page.children.items in
+    let i : ℕ = c.place_of-i.result in
+    let none : cs ≡ [] = nil_of cs (sym c.in_ok-page.page.children.ok.0 ∙ eqb-true _ _ (sym c.is_empty.ensures ∙ c.if-is_empty.true)) in
+    let missed : begins_with p (drop i ps) ≡ false = ap (λ (q : Pair). begins_with q (drop i ps)) (sym same) ∙ sym c.is_at-found.ensures ∙ c.if-not-found.true in
+    none_in_leaf p place c.args.cache.now (g.F.Files.holds c.args.files.now) (g.F.Files.holds c.load.new.files) c.load.new.cache c.args.at i ps cs c.args.room.now
+    (let l = c.requires.placed.least in omega arith)
+    (λ m held pages room can here. got place c.args.cache.now m pages room (g.F.Files.holds c.args.files.now) (g.F.Files.holds c.load.new.files) c.load.new.cache c.args.at (page_node c.in_ok-page.page) c.requires.placed held c.in_ok-page.ensures.node c.load.ensures.stays c.load.ensures.added c.load.ensures.others c.load.ensures.name can here)
+    c.in_ok-page.ensures.written.branches none (subst (λ (q : Pair). AreBefore q (take i ps)) same c.place_of-i.ensures.before) (subst (λ (q : Pair). BeginsBehind q (drop i ps)) same c.place_of-i.ensures.behind) missed
+
+pub returns-then-is_empty-clause-taken : goal.returns-then-is_empty-clause-taken
+returns-then-is_empty-clause-taken g t c =
+    let place = c.args.task.now.setup.place in
+    let p : Pair = c.args.task.now.pair.now in
+    let same : pair_with (key_front c.code-code.result.now) p.row ≡ p = pair_again c.code-code.result.now p.row p c.code-code.ensures.key c.code-code.ensures.value refl in
+    let ps : List Pair = c.in_ok-page.page.pairs in
+    let cs : List ℕ = c.in_ok-page.page.children.items in
+    let i : ℕ = c.place_of-i.result in
+    let none : cs ≡ [] = nil_of cs (sym c.in_ok-page.page.children.ok.0 ∙ eqb-true _ _ (sym c.is_empty.ensures ∙ c.if-is_empty.true)) in
+    let found : begins_with p (drop i ps) ≡ true = ap (λ (q : Pair). begins_with q (drop i ps)) (sym same) ∙ sym c.is_at-found.ensures ∙ c.if-not-found.false in
+    pair_in_leaf p place c.args.cache.now (g.F.Files.holds c.args.files.now) (g.F.Files.holds c.load.new.files) c.load.new.cache c.args.at i ps c.in_ok-leaf.leaf.pairs cs c.in_ok-leaf.leaf.children.items c.args.room.now
+    (let l = c.requires.placed.least in omega arith)
+    (λ m held pages room can here. got place c.args.cache.now m pages room (g.F.Files.holds c.args.files.now) (g.F.Files.holds c.load.new.files) c.load.new.cache c.args.at (page_node c.in_ok-page.page) c.requires.placed held c.in_ok-page.ensures.node c.load.ensures.stays c.load.ensures.added c.load.ensures.others c.load.ensures.name can here)
+    c.in_ok-page.ensures.written.branches none found c.in_ok-leaf.ensures.pairs c.in_ok-leaf.ensures.children
+
+pub returns-in_err-inner-clause-never : goal.returns-in_err-inner-clause-never
+returns-in_err-inner-clause-never g t c =
+    let place = c.args.task.now.setup.place in
+    let p : Pair = c.args.task.now.pair.now in
+    let same : pair_with (key_front c.code-code.result.now) p.row ≡ p = pair_again c.code-code.result.now p.row p c.code-code.ensures.key c.code-code.ensures.value refl in
+    let ps : List Pair = c.in_ok-page.page.pairs in
+    let cs : List ℕ = c.in_ok-page.page.children.items in
+    let i : ℕ = c.place_of-i.result in
+    let some : 0 < length cs = let ne = eqb-false _ _ (sym c.is_empty.ensures ∙ c.if-is_empty.false) in omega (arith, ne, c.in_ok-page.page.children.ok.0) in
+    let child : c.index-child.result.now ≡ get_or cs i 0 = child_is ps cs i c.index-child.result.now c.in_ok-page.ensures.written.branches some c.place_of-i.ensures.inside c.index-child.ensures in
+    let e = err_from_is_err_and c.from_residual-in_err-inner.result c.from_residual-in_err-inner.ensures.1 in
+    if_err c.from_residual-in_err-inner.result e.0 _ e.1
+    (λ q d m held h w walk can sorted. never_last_below place c.args.cache.now (g.F.Files.holds c.args.files.now) (g.F.Files.holds c.load.new.files) c.load.new.cache c.args.at i ps cs c.args.room.now (let l = c.requires.placed.least in omega arith)
+    (λ m held pages room can here. got place c.args.cache.now m pages room (g.F.Files.holds c.args.files.now) (g.F.Files.holds c.load.new.files) c.load.new.cache c.args.at (page_node c.in_ok-page.page) c.requires.placed held c.in_ok-page.ensures.node c.load.ensures.stays c.load.ensures.added c.load.ensures.others c.load.ensures.name can here)
+    c.in_ok-page.ensures.written.branches some c.place_of-i.ensures.inside
+    (subst (λ (n : ℕ). NeverLast place c.load.new.cache (g.F.Files.holds c.load.new.files) c.args.room.now n) child (c.in_err-inner.ensures.never q (sym e.2 ∙ d))) m held h w walk can)
+
+pub write_child-requires-clause-pending : goal.write_child-requires-clause-pending
+write_child-requires-clause-pending g t c κs within =
+    let place = c.args.task.now.setup.place in
+    let p : Pair = c.args.task.now.pair.now in
+    let same : pair_with (key_front c.code-code.result.now) p.row ≡ p = pair_again c.code-code.result.now p.row p c.code-code.ensures.key c.code-code.ensures.value refl in
+    let ps : List Pair = c.in_ok-page.page.pairs in
+    let cs : List ℕ = c.in_ok-page.page.children.items in
+    let i : ℕ = c.place_of-i.result in
+    let some : 0 < length cs = let ne = eqb-false _ _ (sym c.is_empty.ensures ∙ c.if-is_empty.false) in omega (arith, ne, c.in_ok-page.page.children.ok.0) in
+    let found : begins_with p (drop i ps) ≡ true = ap (λ (q : Pair). begins_with q (drop i ps)) (sym same) ∙ sym c.is_at-found.ensures ∙ c.if-found.true in
+    let lt : i < length ps = begins_inside p ps i found in
+    record {
+      page = other_holds place.rec_ref i ps c.in_ok-node.node.pairs cs c.in_ok-node.node.children.items c.in_ok-inner.last c.in_ok-page.ensures.written lt c.in_ok-inner.ensures.one c.in_ok-node.ensures.pairs c.in_ok-node.ensures.children;
+      some = subst (λ (t : List ℕ). 0 < length t) (sym c.in_ok-node.ensures.children) some;
+      inside = other_inside place.rec_ref i ps c.in_ok-node.node.pairs c.in_ok-inner.last lt c.in_ok-inner.ensures.one c.in_ok-node.ensures.pairs;
+      inner = c.in_ok-inner.ensures.shape;
+    }
+
+pub returns-in_err-made-clause-never : goal.returns-in_err-made-clause-never
+returns-in_err-made-clause-never g t c =
+    let place = c.args.task.now.setup.place in
+    let p : Pair = c.args.task.now.pair.now in
+    let same : pair_with (key_front c.code-code.result.now) p.row ≡ p = pair_again c.code-code.result.now p.row p c.code-code.ensures.key c.code-code.ensures.value refl in
+    let ps : List Pair = c.in_ok-page.page.pairs in
+    let cs : List ℕ = c.in_ok-page.page.children.items in
+    let i : ℕ = c.place_of-i.result in
+    let some : 0 < length cs = let ne = eqb-false _ _ (sym c.is_empty.ensures ∙ c.if-is_empty.false) in omega (arith, ne, c.in_ok-page.page.children.ok.0) in
+    let child : c.index-child.result.now ≡ get_or cs i 0 = child_is ps cs i c.index-child.result.now c.in_ok-page.ensures.written.branches some c.place_of-i.ensures.inside c.index-child.ensures in
+    let found : begins_with p (drop i ps) ≡ true = ap (λ (q : Pair). begins_with q (drop i ps)) (sym same) ∙ sym c.is_at-found.ensures ∙ c.if-found.true in
+    let inner = c.in_ok-inner.inner in
+    let e = err_from_is_err_and c.from_residual-in_err-made.result c.from_residual-in_err-made.ensures.1 in
+    if_err c.from_residual-in_err-made.result e.0 _ e.1
+    (λ q d m held h w walk can sorted. never_found_closes p place c.args.cache.now (g.F.Files.holds c.args.files.now) (g.F.Files.holds c.load.new.files) (g.F.Files.holds c.without_last.new.files) c.load.new.cache c.without_last.new.cache c.args.at i ps c.in_ok-node.node.pairs cs c.in_ok-node.node.children.items inner.pairs inner.children.items c.in_ok-inner.last c.args.room.now c.without_last.new.room
+    (let l = c.requires.placed.least in omega arith)
+    (λ m held pages room can here. got place c.args.cache.now m pages room (g.F.Files.holds c.args.files.now) (g.F.Files.holds c.load.new.files) c.load.new.cache c.args.at (page_node c.in_ok-page.page) c.requires.placed held c.in_ok-page.ensures.node c.load.ensures.stays c.load.ensures.added c.load.ensures.others c.load.ensures.name can here)
+    c.in_ok-page.ensures.written.branches some c.place_of-i.ensures.inside found (subst (λ (n : ℕ). TakesLast place c.load.new.cache (g.F.Files.holds c.load.new.files) c.args.room.now n (g.F.Files.holds c.without_last.new.files) c.without_last.new.cache c.without_last.new.room inner.pairs inner.children.items c.in_ok-inner.last) child c.in_ok-inner.ensures.opened)
+    c.in_ok-inner.ensures.one.one c.in_ok-node.ensures.pairs c.in_ok-node.ensures.children (c.in_err-made.ensures.never q (sym e.2 ∙ d)) m held h w walk can)
+
+pub returns-then-found-clause-taken : goal.returns-then-found-clause-taken
+returns-then-found-clause-taken g t c =
+    let place = c.args.task.now.setup.place in
+    let p : Pair = c.args.task.now.pair.now in
+    let same : pair_with (key_front c.code-code.result.now) p.row ≡ p = pair_again c.code-code.result.now p.row p c.code-code.ensures.key c.code-code.ensures.value refl in
+    let ps : List Pair = c.in_ok-page.page.pairs in
+    let cs : List ℕ = c.in_ok-page.page.children.items in
+    let i : ℕ = c.place_of-i.result in
+    let some : 0 < length cs = let ne = eqb-false _ _ (sym c.is_empty.ensures ∙ c.if-is_empty.false) in omega (arith, ne, c.in_ok-page.page.children.ok.0) in
+    let child : c.index-child.result.now ≡ get_or cs i 0 = child_is ps cs i c.index-child.result.now c.in_ok-page.ensures.written.branches some c.place_of-i.ensures.inside c.index-child.ensures in
+    let found : begins_with p (drop i ps) ≡ true = ap (λ (q : Pair). begins_with q (drop i ps)) (sym same) ∙ sym c.is_at-found.ensures ∙ c.if-found.true in
+    let inner = c.in_ok-inner.inner in
+    let made = c.in_ok-made.made in
+    pair_in_node p place c.args.cache.now (g.F.Files.holds c.args.files.now) (g.F.Files.holds c.load.new.files) (g.F.Files.holds c.without_last.new.files) (g.F.Files.holds c.write_child.new.files) c.load.new.cache c.without_last.new.cache c.write_child.new.cache c.args.at i ps c.in_ok-node.node.pairs made.pairs cs c.in_ok-node.node.children.items made.children.items inner.pairs inner.children.items c.in_ok-inner.last c.args.room.now c.without_last.new.room c.write_child.new.room
+    (let l = c.requires.placed.least in omega arith)
+    (λ m held pages room can here. got place c.args.cache.now m pages room (g.F.Files.holds c.args.files.now) (g.F.Files.holds c.load.new.files) c.load.new.cache c.args.at (page_node c.in_ok-page.page) c.requires.placed held c.in_ok-page.ensures.node c.load.ensures.stays c.load.ensures.added c.load.ensures.others c.load.ensures.name can here)
+    c.in_ok-page.ensures.written.branches some c.place_of-i.ensures.inside found (subst (λ (n : ℕ). TakesLast place c.load.new.cache (g.F.Files.holds c.load.new.files) c.args.room.now n (g.F.Files.holds c.without_last.new.files) c.without_last.new.cache c.without_last.new.room inner.pairs inner.children.items c.in_ok-inner.last) child c.in_ok-inner.ensures.opened)
+    c.in_ok-inner.ensures.one.one c.in_ok-node.ensures.pairs c.in_ok-node.ensures.children c.in_ok-made.ensures.written
+
+pub returns-then-found-clause-others : goal.returns-then-found-clause-others
+returns-then-found-clause-others g t c =
+    let one = told_then (g.F.Files.holds c.args.files.now) (g.F.Files.holds c.load.new.files) (g.F.Files.holds c.without_last.new.files) (OthersStay c.args.cache.now.name) (OthersStay c.load.new.cache.name) (OthersStay c.args.cache.now.name) c.load.ensures.others c.without_last.ensures.others
+    (λ m n k before after q other. after q (λ e. other (e ∙ c.load.ensures.name)) ∙ before q other) in
+    told_then (g.F.Files.holds c.args.files.now) (g.F.Files.holds c.without_last.new.files) (g.F.Files.holds c.write_child.new.files) (OthersStay c.args.cache.now.name) (OthersStay c.without_last.new.cache.name) (OthersStay c.args.cache.now.name) one c.write_child.ensures.others
+    (λ m n k before after q other. after q (λ e. other (e ∙ c.without_last.ensures.name ∙ c.load.ensures.name)) ∙ before q other)
+
+pub returns-in_err-taken-clause-never : goal.returns-in_err-taken-clause-never
+returns-in_err-taken-clause-never g t c =
+    let place = c.args.task.now.setup.place in
+    let p : Pair = c.args.task.now.pair.now in
+    let same : pair_with (key_front c.code-code.result.now) p.row ≡ p = pair_again c.code-code.result.now p.row p c.code-code.ensures.key c.code-code.ensures.value refl in
+    let ps : List Pair = c.in_ok-page.page.pairs in
+    let cs : List ℕ = c.in_ok-page.page.children.items in
+    let i : ℕ = c.place_of-i.result in
+    let some : 0 < length cs = let ne = eqb-false _ _ (sym c.is_empty.ensures ∙ c.if-is_empty.false) in omega (arith, ne, c.in_ok-page.page.children.ok.0) in
+    let child : c.index-child.result.now ≡ get_or cs i 0 = child_is ps cs i c.index-child.result.now c.in_ok-page.ensures.written.branches some c.place_of-i.ensures.inside c.index-child.ensures in
+    let e = err_from_is_err_and c.from_residual-in_err-taken.result c.from_residual-in_err-taken.ensures.1 in
+    if_err c.from_residual-in_err-taken.result e.0 _ e.1
+    (λ q d. never_below place c.args.cache.now (g.F.Files.holds c.args.files.now) (g.F.Files.holds c.load.new.files) c.load.new.cache c.args.at i ps cs c.args.room.now (let l = c.requires.placed.least in omega arith)
+    (λ m held pages room can here. got place c.args.cache.now m pages room (g.F.Files.holds c.args.files.now) (g.F.Files.holds c.load.new.files) c.load.new.cache c.args.at (page_node c.in_ok-page.page) c.requires.placed held c.in_ok-page.ensures.node c.load.ensures.stays c.load.ensures.added c.load.ensures.others c.load.ensures.name can here)
+    c.in_ok-page.ensures.written.branches some c.place_of-i.ensures.inside
+    (subst (λ (n : ℕ). Never place c.load.new.cache (g.F.Files.holds c.load.new.files) c.args.room.now n) child (c.in_err-taken.ensures.never q (sym e.2 ∙ d))))
+
+pub returns-in_default-clause-sought : goal.returns-in_default-clause-sought
+returns-in_default-clause-sought g t c =
+    let place = c.args.task.now.setup.place in
+    let p : Pair = c.args.task.now.pair.now in
+    let same : pair_with (key_front c.code-code.result.now) p.row ≡ p = pair_again c.code-code.result.now p.row p c.code-code.ensures.key c.code-code.ensures.value refl in
+    let ps : List Pair = c.in_ok-page.page.pairs in
+    let cs : List ℕ = c.in_ok-page.page.children.items in
+    let i : ℕ = c.place_of-i.result in
+    let some : 0 < length cs = let ne = eqb-false _ _ (sym c.is_empty.ensures ∙ c.if-is_empty.false) in omega (arith, ne, c.in_ok-page.page.children.ok.0) in
+    let child : c.index-child.result.now ≡ get_or cs i 0 = child_is ps cs i c.index-child.result.now c.in_ok-page.ensures.written.branches some c.place_of-i.ensures.inside c.index-child.ensures in
+    let missed : begins_with p (drop i ps) ≡ false = ap (λ (q : Pair). begins_with q (drop i ps)) (sym same) ∙ sym c.is_at-found.ensures ∙ c.if-found.false in
+    none_below p place c.args.cache.now (g.F.Files.holds c.args.files.now) (g.F.Files.holds c.load.new.files) (g.F.Files.holds c.without_pair-2.new.files) c.load.new.cache c.without_pair-2.new.cache c.args.at i ps cs c.args.room.now
+    (let l = c.requires.placed.least in omega arith)
+    (λ m held pages room can here. got place c.args.cache.now m pages room (g.F.Files.holds c.args.files.now) (g.F.Files.holds c.load.new.files) c.load.new.cache c.args.at (page_node c.in_ok-page.page) c.requires.placed held c.in_ok-page.ensures.node c.load.ensures.stays c.load.ensures.added c.load.ensures.others c.load.ensures.name can here)
+    c.in_ok-page.ensures.written.branches some c.place_of-i.ensures.inside (subst (λ (q : Pair). AreBefore q (take i ps)) same c.place_of-i.ensures.before) (subst (λ (q : Pair). BeginsBehind q (drop i ps)) same c.place_of-i.ensures.behind) missed
+    (subst (λ (n : ℕ). SeeksPair p place c.load.new.cache (g.F.Files.holds c.load.new.files) c.args.room.now n (g.F.Files.holds c.without_pair-2.new.files) c.without_pair-2.new.cache) child (if_none c.in_ok-taken.taken (SeeksPair p place c.load.new.cache (g.F.Files.holds c.load.new.files) c.args.room.now c.index-child.result.now (g.F.Files.holds c.without_pair-2.new.files) c.without_pair-2.new.cache) c.in_default.is c.in_ok-taken.ensures.sought))
+
+pub returns-in_err-left-clause-never : goal.returns-in_err-left-clause-never
+returns-in_err-left-clause-never g t c =
+    let place = c.args.task.now.setup.place in
+    let p : Pair = c.args.task.now.pair.now in
+    let same : pair_with (key_front c.code-code.result.now) p.row ≡ p = pair_again c.code-code.result.now p.row p c.code-code.ensures.key c.code-code.ensures.value refl in
+    let ps : List Pair = c.in_ok-page.page.pairs in
+    let cs : List ℕ = c.in_ok-page.page.children.items in
+    let i : ℕ = c.place_of-i.result in
+    let some : 0 < length cs = let ne = eqb-false _ _ (sym c.is_empty.ensures ∙ c.if-is_empty.false) in omega (arith, ne, c.in_ok-page.page.children.ok.0) in
+    let child : c.index-child.result.now ≡ get_or cs i 0 = child_is ps cs i c.index-child.result.now c.in_ok-page.ensures.written.branches some c.place_of-i.ensures.inside c.index-child.ensures in
+    let inner = c.in-Some.inner in
+    let e = err_from_is_err_and c.from_residual-in_err-left.result c.from_residual-in_err-left.ensures.1 in
+    if_err c.from_residual-in_err-left.result e.0 _ e.1
+    (λ q d. never_pair_closes p place c.args.cache.now (g.F.Files.holds c.args.files.now) (g.F.Files.holds c.load.new.files) (g.F.Files.holds c.without_pair-2.new.files) c.load.new.cache c.without_pair-2.new.cache c.args.at i ps cs inner.pairs inner.children.items c.args.room.now c.without_pair-2.new.room
+    (let l = c.requires.placed.least in omega arith)
+    (λ m held pages room can here. got place c.args.cache.now m pages room (g.F.Files.holds c.args.files.now) (g.F.Files.holds c.load.new.files) c.load.new.cache c.args.at (page_node c.in_ok-page.page) c.requires.placed held c.in_ok-page.ensures.node c.load.ensures.stays c.load.ensures.added c.load.ensures.others c.load.ensures.name can here)
+    c.in_ok-page.ensures.written.branches some c.place_of-i.ensures.inside (subst (λ (n : ℕ). TakesPair p place c.load.new.cache (g.F.Files.holds c.load.new.files) c.args.room.now n (g.F.Files.holds c.without_pair-2.new.files) c.without_pair-2.new.cache c.without_pair-2.new.room inner.pairs inner.children.items) child (if_some c.in_ok-taken.taken inner (λ (page : PageData). TakesPair p place c.load.new.cache (g.F.Files.holds c.load.new.files) c.args.room.now c.index-child.result.now (g.F.Files.holds c.without_pair-2.new.files) c.without_pair-2.new.cache c.without_pair-2.new.room page.pairs page.children.items) c.in-Some.is c.in_ok-taken.ensures.taken))
+    (c.in_err-left.ensures.never q (sym e.2 ∙ d)))
+
+pub returns-clause-taken : goal.returns-clause-taken
+returns-clause-taken g t c =
+    let place = c.args.task.now.setup.place in
+    let p : Pair = c.args.task.now.pair.now in
+    let same : pair_with (key_front c.code-code.result.now) p.row ≡ p = pair_again c.code-code.result.now p.row p c.code-code.ensures.key c.code-code.ensures.value refl in
+    let ps : List Pair = c.in_ok-page.page.pairs in
+    let cs : List ℕ = c.in_ok-page.page.children.items in
+    let i : ℕ = c.place_of-i.result in
+    let some : 0 < length cs = let ne = eqb-false _ _ (sym c.is_empty.ensures ∙ c.if-is_empty.false) in omega (arith, ne, c.in_ok-page.page.children.ok.0) in
+    let child : c.index-child.result.now ≡ get_or cs i 0 = child_is ps cs i c.index-child.result.now c.in_ok-page.ensures.written.branches some c.place_of-i.ensures.inside c.index-child.ensures in
+    let inner = c.in-Some.inner in
+    let left = c.in_ok-left.left in
+    pair_below p place c.args.cache.now (g.F.Files.holds c.args.files.now) (g.F.Files.holds c.load.new.files) (g.F.Files.holds c.without_pair-2.new.files) (g.F.Files.holds c.write_child-2.new.files) c.load.new.cache c.without_pair-2.new.cache c.write_child-2.new.cache c.args.at i ps left.pairs cs left.children.items inner.pairs inner.children.items c.args.room.now c.without_pair-2.new.room c.write_child-2.new.room
+    (let l = c.requires.placed.least in omega arith)
+    (λ m held pages room can here. got place c.args.cache.now m pages room (g.F.Files.holds c.args.files.now) (g.F.Files.holds c.load.new.files) c.load.new.cache c.args.at (page_node c.in_ok-page.page) c.requires.placed held c.in_ok-page.ensures.node c.load.ensures.stays c.load.ensures.added c.load.ensures.others c.load.ensures.name can here)
+    c.in_ok-page.ensures.written.branches some c.place_of-i.ensures.inside (subst (λ (n : ℕ). TakesPair p place c.load.new.cache (g.F.Files.holds c.load.new.files) c.args.room.now n (g.F.Files.holds c.without_pair-2.new.files) c.without_pair-2.new.cache c.without_pair-2.new.room inner.pairs inner.children.items) child (if_some c.in_ok-taken.taken inner (λ (page : PageData). TakesPair p place c.load.new.cache (g.F.Files.holds c.load.new.files) c.args.room.now c.index-child.result.now (g.F.Files.holds c.without_pair-2.new.files) c.without_pair-2.new.cache c.without_pair-2.new.room page.pairs page.children.items) c.in-Some.is c.in_ok-taken.ensures.taken)) c.in_ok-left.ensures.written
