@@ -178,7 +178,8 @@ impl RowAt {
         ensures told { OnOk result (IfTold (F.holds files.old) (λ m.
             (b : Block) → Heads (bytes_of name.now m) block.now b
             → self.new.bytes.items ≡ self.old.bytes.items ++ b.bytes)) }
-        ensures seen { OnOk result (self.new.blocks.items ≡ self.old.blocks.items ++ noted block.now) }
+        ensures seen { OnOk result
+            (self.new.blocks.items ≡ self.old.blocks.items ++ noted block.now) }
         ensures cut { IfErr result CutsOff }
         ensures holds { F.holds files.new ≡ F.holds files.old }
         ensures cause { HasCause OrderFault.File (F.faults files.old) (F.faults files.new) result }
@@ -200,7 +201,8 @@ impl RowAt {
         ensures told { IfOk result (λ link. IfTold (F.holds files.old) (λ m.
             length (bytes_of name.now m) ≡ end
             → (bs : List Block) → IsChain (block_of (bytes_of name.now m)) at [] bs
-            → GoesOn (block_of (bytes_of name.now m)) bs link self.new.bytes.items self.new.blocks.items)) }
+            → GoesOn (block_of (bytes_of name.now m)) bs link self.new.bytes.items
+            self.new.blocks.items)) }
         ensures few { IfOk result (λ link. length self.new.bytes.items + left_of link < 2 ^ 32) }
         ensures cut { IfErr result CutsOff }
         ensures holds { F.holds files.new ≡ F.holds files.old }
@@ -230,7 +232,8 @@ impl RowAt {
             length (bytes_of name.now m) ≡ end → (bs : List Block)
             → Remains (block_of (bytes_of name.now m)) bs at left self.old.bytes.items
             self.old.blocks.items
-            → GoesOn (block_of (bytes_of name.now m)) bs link self.new.bytes.items self.new.blocks.items)) }
+            → GoesOn (block_of (bytes_of name.now m)) bs link self.new.bytes.items
+            self.new.blocks.items)) }
         ensures few { IfOk result (λ link. length self.new.bytes.items + left_of link < 2 ^ 32) }
         ensures falls { IfOk result (λ link. left_of link < left) }
         ensures cut { IfErr result CutsOff }
