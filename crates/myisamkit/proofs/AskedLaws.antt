@@ -7,7 +7,7 @@ use Rattle.std.proofs.lemmas.Bool.{cases_Bool, false_from_ne_true}
 use Rattle.std.proofs.lemmas.Slice.Eq.{bytes_eq-Decides}
 use Rattle.myisamkit.specs.declared.options.Options.{Options}
 use Rattle.myisamkit.specs.declared.options.Flag.{Flag}
-use Rattle.myisamkit.specs.Words.{Request, usage, chk, create, dump, plan, plan_chk, plan_create, plan_dump, create_of, dump_of, are_accepted, is_empty, is_name, names_in, flags_in, table_name}
+use Rattle.myisamkit.specs.Words.{Request, usage, chk, create, dump, plan, plan_chk, plan_create, plan_dump, create_of, dump_of, are_accepted, is_empty, is_name, names_in, flags_in, spelled_out, table_name}
 use Rattle.myisamkit.specs.Options.{is_mode, is_extend, is_force, at_most_one, go_together, options_in}
 use Rattle.myisamkit.specs.Asked.{AreChk, AreCreate, AreDump, AreRefused, create_option, create_names, create_bad_name, dump_option, dump_names, dump_bad_name, no_command, no_name, bad_name, unknown_option, two_modes, extend_twice, force_twice}
 
@@ -33,38 +33,38 @@ not_false true e = refl
 not_false false e = sym e
 
 -- the accepted words behind the command
-accepted : (others : List (List ℕ)) (o : Options) (tables : List (List ℕ)) → plan_chk others ≡ chk o tables → AreChk (codes "chk" ∷ others) o tables
-accepted others o tables is = by_case (cases_Bool (are_accepted others))
+accepted : (others : List (List ℕ)) (o : Options) (tables : List (List ℕ)) → plan_chk (spelled_out others) ≡ chk o tables → AreChk (codes "chk" ∷ others) o tables
+accepted others o tables is = by_case (cases_Bool (are_accepted (spelled_out others)))
   where
-    of_parts : are_accepted others ≡ true → options_in (flags_in others) ≡ o → map table_name (names_in others) ≡ tables → AreChk (codes "chk" ∷ others) o tables
+    of_parts : are_accepted (spelled_out others) ≡ true → options_in (flags_in (spelled_out others)) ≡ o → map table_name (names_in (spelled_out others)) ≡ tables → AreChk (codes "chk" ∷ others) o tables
     of_parts all options names =
-        let first = first_holds (not (is_empty (names_in others)) && list_all is_name (names_in others)) _ all in
-        let second = second_holds (not (is_empty (names_in others)) && list_all is_name (names_in others)) (go_together (flags_in others)) all in
-        let rest = second_holds (at_most_one is_mode (flags_in others)) _ (second_holds (list_all is_some (flags_in others)) _ second) in
-        subst (λ t. AreChk (codes "chk" ∷ others) o t) names (subst (λ p. AreChk (codes "chk" ∷ others) p (map table_name (names_in others))) options record {
+        let first = first_holds (not (is_empty (names_in (spelled_out others))) && list_all is_name (names_in (spelled_out others))) _ all in
+        let second = second_holds (not (is_empty (names_in (spelled_out others))) && list_all is_name (names_in (spelled_out others))) (go_together (flags_in (spelled_out others))) all in
+        let rest = second_holds (at_most_one is_mode (flags_in (spelled_out others))) _ (second_holds (list_all is_some (flags_in (spelled_out others))) _ second) in
+        subst (λ t. AreChk (codes "chk" ∷ others) o t) names (subst (λ p. AreChk (codes "chk" ∷ others) p (map table_name (names_in (spelled_out others)))) options record {
           others = others;
           command = refl;
-          named = not_true _ (first_holds (not (is_empty (names_in others))) _ first);
-          in_form = second_holds (not (is_empty (names_in others))) _ first;
+          named = not_true _ (first_holds (not (is_empty (names_in (spelled_out others)))) _ first);
+          in_form = second_holds (not (is_empty (names_in (spelled_out others)))) _ first;
           tables_are = refl;
-          known = first_holds (list_all is_some (flags_in others)) _ second;
-          one_mode = first_holds (at_most_one is_mode (flags_in others)) _ (second_holds (list_all is_some (flags_in others)) _ second);
-          extend_once = first_holds (at_most_one is_extend (flags_in others)) _ rest;
-          force_once = second_holds (at_most_one is_extend (flags_in others)) _ rest;
+          known = first_holds (list_all is_some (flags_in (spelled_out others))) _ second;
+          one_mode = first_holds (at_most_one is_mode (flags_in (spelled_out others))) _ (second_holds (list_all is_some (flags_in (spelled_out others))) _ second);
+          extend_once = first_holds (at_most_one is_extend (flags_in (spelled_out others))) _ rest;
+          force_once = second_holds (at_most_one is_extend (flags_in (spelled_out others))) _ rest;
           mode = refl;
           extend = refl;
           force = refl;
           silent = refl;
         })
 
-    by_case : (are_accepted others ≡ true) ⊎ (are_accepted others ≡ false) → AreChk (codes "chk" ∷ others) o tables
+    by_case : (are_accepted (spelled_out others) ≡ true) ⊎ (are_accepted (spelled_out others) ≡ false) → AreChk (codes "chk" ∷ others) o tables
     by_case (inl all) =
-        let e : chk (options_in (flags_in others)) (map table_name (names_in others)) ≡ chk o tables = sym (ap (λ b. if b then chk (options_in (flags_in others)) (map table_name (names_in others)) else usage) all) ∙ is in
-        let options : options_in (flags_in others) ≡ o = cc in
-        let names : map table_name (names_in others) ≡ tables = cc in
+        let e : chk (options_in (flags_in (spelled_out others))) (map table_name (names_in (spelled_out others))) ≡ chk o tables = sym (ap (λ b. if b then chk (options_in (flags_in (spelled_out others))) (map table_name (names_in (spelled_out others))) else usage) all) ∙ is in
+        let options : options_in (flags_in (spelled_out others)) ≡ o = cc in
+        let names : map table_name (names_in (spelled_out others)) ≡ tables = cc in
         of_parts all options names
     by_case (inr none) =
-        let e : usage ≡ chk o tables = sym (ap (λ b. if b then chk (options_in (flags_in others)) (map table_name (names_in others)) else usage) none) ∙ is in
+        let e : usage ≡ chk o tables = sym (ap (λ b. if b then chk (options_in (flags_in (spelled_out others))) (map table_name (names_in (spelled_out others))) else usage) none) ∙ is in
         absurd cc
 
 -- what words behind each command ask for, if they are not refused
@@ -165,20 +165,20 @@ command_of command = by (cases_Bool (bytes_eq command (codes "chk"))) (cases_Boo
 matches : (command word : List ℕ) → command ≡ word → bytes_eq command word ≡ true
 matches command word same = (bytes_eq-Decides command word).1 same
 
-chk_plan : (command : List ℕ) (others : List (List ℕ)) → command ≡ codes "chk" → plan (command ∷ others) ≡ plan_chk others
-chk_plan command others same = ap (λ b. if b then plan_chk others else other_plan command others) (matches command (codes "chk") same)
+chk_plan : (command : List ℕ) (others : List (List ℕ)) → command ≡ codes "chk" → plan (command ∷ others) ≡ plan_chk (spelled_out others)
+chk_plan command others same = ap (λ b. if b then plan_chk (spelled_out others) else other_plan command others) (matches command (codes "chk") same)
 
 create_plan : (command : List ℕ) (others : List (List ℕ)) → bytes_eq command (codes "chk") ≡ false → command ≡ codes "create" → plan (command ∷ others) ≡ plan_create others
-create_plan command others a same = ap (λ b. if b then plan_chk others else other_plan command others) a ∙ ap (λ b. if b then plan_create others else last_plan command others) (matches command (codes "create") same)
+create_plan command others a same = ap (λ b. if b then plan_chk (spelled_out others) else other_plan command others) a ∙ ap (λ b. if b then plan_create others else last_plan command others) (matches command (codes "create") same)
 
 dump_plan : (command : List ℕ) (others : List (List ℕ)) → bytes_eq command (codes "chk") ≡ false → bytes_eq command (codes "create") ≡ false → command ≡ codes "dump" → plan (command ∷ others) ≡ plan_dump others
 dump_plan command others a b same =
-    ap (λ k. if k then plan_chk others else other_plan command others) a
+    ap (λ k. if k then plan_chk (spelled_out others) else other_plan command others) a
     ∙ (ap (λ k. if k then plan_create others else last_plan command others) b ∙ ap (λ k. if k then plan_dump others else usage) (matches command (codes "dump") same))
 
 no_plan : (command : List ℕ) (others : List (List ℕ)) → bytes_eq command (codes "chk") ≡ false → bytes_eq command (codes "create") ≡ false → bytes_eq command (codes "dump") ≡ false → plan (command ∷ others) ≡ usage
 no_plan command others a b c =
-    ap (λ k. if k then plan_chk others else other_plan command others) a
+    ap (λ k. if k then plan_chk (spelled_out others) else other_plan command others) a
     ∙ (ap (λ k. if k then plan_create others else last_plan command others) b ∙ ap (λ k. if k then plan_dump others else usage) c)
 
 pub words_accepted : (words : List (List ℕ)) (o : Options) (tables : List (List ℕ)) → plan words ≡ chk o tables → AreChk words o tables
@@ -231,7 +231,7 @@ words_created [] table file is = absurd cc
 words_created (command ∷ others) table file is = by (command_of command)
   where
     by : Command command → AreCreate (command ∷ others) table file
-    by (is_chk same) = absurd (checked_no_create others table file (sym (chk_plan command others same) ∙ is))
+    by (is_chk same) = absurd (checked_no_create (spelled_out others) table file (sym (chk_plan command others same) ∙ is))
     by (is_create a same) = subst (λ c. AreCreate (c ∷ others) table file) (sym same) (created_parts others table file (flags_in others) (names_in others) refl refl (sym (create_plan command others a same) ∙ is))
     by (is_dump a b same) = absurd (dumped_no_create others table file (sym (dump_plan command others a b same) ∙ is))
     by (is_none a b c) =
@@ -259,7 +259,7 @@ words_dumped [] table is = absurd cc
 words_dumped (command ∷ others) table is = by (command_of command)
   where
     by : Command command → AreDump (command ∷ others) table
-    by (is_chk same) = absurd (checked_no_dump others table (sym (chk_plan command others same) ∙ is))
+    by (is_chk same) = absurd (checked_no_dump (spelled_out others) table (sym (chk_plan command others same) ∙ is))
     by (is_create a same) = absurd (created_no_dump others table (sym (create_plan command others a same) ∙ is))
     by (is_dump a b same) = subst (λ c. AreDump (c ∷ others) table) (sym same) (dumped_parts others table (flags_in others) (names_in others) refl refl (sym (dump_plan command others a b same) ∙ is))
     by (is_none a b c) =
@@ -267,28 +267,28 @@ words_dumped (command ∷ others) table is = by (command_of command)
         absurd cc
 
 -- which of the reasons holds of the words behind `chk`
-why : (others : List (List ℕ)) → are_accepted others ≡ false → AreRefused (codes "chk" ∷ others)
-why others none = by_parts (one_fails (not (is_empty (names_in others)) && list_all is_name (names_in others)) _ none)
+why : (others : List (List ℕ)) → are_accepted (spelled_out others) ≡ false → AreRefused (codes "chk" ∷ others)
+why others none = by_parts (one_fails (not (is_empty (names_in (spelled_out others))) && list_all is_name (names_in (spelled_out others))) _ none)
   where
-    by_rest : (at_most_one is_extend (flags_in others) ≡ false) ⊎ (at_most_one is_force (flags_in others) ≡ false) → AreRefused (codes "chk" ∷ others)
+    by_rest : (at_most_one is_extend (flags_in (spelled_out others)) ≡ false) ⊎ (at_most_one is_force (flags_in (spelled_out others)) ≡ false) → AreRefused (codes "chk" ∷ others)
     by_rest (inl extend) = extend_twice others refl extend
     by_rest (inr force) = force_twice others refl force
 
-    by_mode : (at_most_one is_mode (flags_in others) ≡ false) ⊎ ((at_most_one is_extend (flags_in others) && at_most_one is_force (flags_in others)) ≡ false) → AreRefused (codes "chk" ∷ others)
+    by_mode : (at_most_one is_mode (flags_in (spelled_out others)) ≡ false) ⊎ ((at_most_one is_extend (flags_in (spelled_out others)) && at_most_one is_force (flags_in (spelled_out others))) ≡ false) → AreRefused (codes "chk" ∷ others)
     by_mode (inl modes) = two_modes others refl modes
-    by_mode (inr rest) = by_rest (one_fails (at_most_one is_extend (flags_in others)) _ rest)
+    by_mode (inr rest) = by_rest (one_fails (at_most_one is_extend (flags_in (spelled_out others))) _ rest)
 
-    by_flags : (list_all is_some (flags_in others) ≡ false) ⊎ ((at_most_one is_mode (flags_in others) && (at_most_one is_extend (flags_in others) && at_most_one is_force (flags_in others))) ≡ false) → AreRefused (codes "chk" ∷ others)
+    by_flags : (list_all is_some (flags_in (spelled_out others)) ≡ false) ⊎ ((at_most_one is_mode (flags_in (spelled_out others)) && (at_most_one is_extend (flags_in (spelled_out others)) && at_most_one is_force (flags_in (spelled_out others)))) ≡ false) → AreRefused (codes "chk" ∷ others)
     by_flags (inl unknown) = unknown_option others refl unknown
-    by_flags (inr rest) = by_mode (one_fails (at_most_one is_mode (flags_in others)) _ rest)
+    by_flags (inr rest) = by_mode (one_fails (at_most_one is_mode (flags_in (spelled_out others))) _ rest)
 
-    by_names : (not (is_empty (names_in others)) ≡ false) ⊎ (list_all is_name (names_in others) ≡ false) → AreRefused (codes "chk" ∷ others)
+    by_names : (not (is_empty (names_in (spelled_out others))) ≡ false) ⊎ (list_all is_name (names_in (spelled_out others)) ≡ false) → AreRefused (codes "chk" ∷ others)
     by_names (inl empty) = no_name others refl (not_false _ empty)
     by_names (inr form) = bad_name others refl form
 
-    by_parts : ((not (is_empty (names_in others)) && list_all is_name (names_in others)) ≡ false) ⊎ (go_together (flags_in others) ≡ false) → AreRefused (codes "chk" ∷ others)
-    by_parts (inl names) = by_names (one_fails (not (is_empty (names_in others))) _ names)
-    by_parts (inr options) = by_flags (one_fails (list_all is_some (flags_in others)) _ options)
+    by_parts : ((not (is_empty (names_in (spelled_out others))) && list_all is_name (names_in (spelled_out others))) ≡ false) ⊎ (go_together (flags_in (spelled_out others)) ≡ false) → AreRefused (codes "chk" ∷ others)
+    by_parts (inl names) = by_names (one_fails (not (is_empty (names_in (spelled_out others)))) _ names)
+    by_parts (inr options) = by_flags (one_fails (list_all is_some (flags_in (spelled_out others))) _ options)
 
 -- which holds of the words behind `create`
 why_create : (others : List (List ℕ)) (flags : List (Option Flag)) (names : List (List ℕ)) → flags_in others ≡ flags → names_in others ≡ names → create_of flags names ≡ usage → AreRefused (codes "create" ∷ others)
@@ -320,7 +320,7 @@ pub words_refused : (words : List (List ℕ)) → plan words ≡ usage → AreRe
 words_refused [] is = no_command (λ others e. cc) (λ others e. cc) (λ others e. cc)
 words_refused (command ∷ others) is = by (command_of command)
   where
-    not_refused : (b : Bool) → (if b then chk (options_in (flags_in others)) (map table_name (names_in others)) else usage) ≡ usage → b ≡ false
+    not_refused : (b : Bool) → (if b then chk (options_in (flags_in (spelled_out others))) (map table_name (names_in (spelled_out others))) else usage) ≡ usage → b ≡ false
     not_refused true e = absurd cc
     not_refused false e = refl
 
@@ -328,7 +328,7 @@ words_refused (command ∷ others) is = by (command_of command)
     is_no word other rest e = let same : command ≡ word = cc in let both = (bytes_eq-Decides command word).1 same in let clash : true ≡ false = sym both ∙ other in cc
 
     by : Command command → AreRefused (command ∷ others)
-    by (is_chk same) = subst (λ c. AreRefused (c ∷ others)) (sym same) (why others (not_refused (are_accepted others) (sym (chk_plan command others same) ∙ is)))
+    by (is_chk same) = subst (λ c. AreRefused (c ∷ others)) (sym same) (why others (not_refused (are_accepted (spelled_out others)) (sym (chk_plan command others same) ∙ is)))
     by (is_create a same) = subst (λ c. AreRefused (c ∷ others)) (sym same) (why_create others (flags_in others) (names_in others) refl refl (sym (create_plan command others a same) ∙ is))
     by (is_dump a b same) = subst (λ c. AreRefused (c ∷ others)) (sym same) (why_dump others (flags_in others) (names_in others) refl refl (sym (dump_plan command others a b same) ∙ is))
     by (is_none a b c) = no_command (is_no (codes "chk") a) (is_no (codes "create") b) (is_no (codes "dump") c)
@@ -343,8 +343,8 @@ right_fails : (a b : Bool) → b ≡ false → (a && b) ≡ false
 right_fails true b e = e
 right_fails false b e = refl
 
-not_accepted : (words others : List (List ℕ)) → words ≡ codes "chk" ∷ others → are_accepted others ≡ false → plan words ≡ usage
-not_accepted words others is none = ap plan is ∙ (chk_plan (codes "chk") others refl ∙ ap (λ b. if b then chk (options_in (flags_in others)) (map table_name (names_in others)) else usage) none)
+not_accepted : (words others : List (List ℕ)) → words ≡ codes "chk" ∷ others → are_accepted (spelled_out others) ≡ false → plan words ≡ usage
+not_accepted words others is none = ap plan is ∙ (chk_plan (codes "chk") others refl ∙ ap (λ b. if b then chk (options_in (flags_in (spelled_out others))) (map table_name (names_in (spelled_out others))) else usage) none)
 
 not_created : (words others : List (List ℕ)) → words ≡ codes "create" ∷ others → plan_create others ≡ usage → plan words ≡ usage
 not_created words others is none = ap plan is ∙ (create_plan (codes "create") others refl refl ∙ none)
@@ -389,14 +389,14 @@ dump_misnamed : (flags : List (Option Flag)) (name : List ℕ) → is_name name 
 dump_misnamed [] name bad = ap (λ c. if c then dump (table_name name) else usage) bad
 dump_misnamed (f ∷ flags) name bad = refl
 
-flags_fail : (others : List (List ℕ)) → go_together (flags_in others) ≡ false → are_accepted others ≡ false
-flags_fail others none = right_fails (not (is_empty (names_in others)) && list_all is_name (names_in others)) _ none
+flags_fail : (others : List (List ℕ)) → go_together (flags_in (spelled_out others)) ≡ false → are_accepted (spelled_out others) ≡ false
+flags_fail others none = right_fails (not (is_empty (names_in (spelled_out others))) && list_all is_name (names_in (spelled_out others))) _ none
 
-rest_fails : (others : List (List ℕ)) → (at_most_one is_mode (flags_in others) && (at_most_one is_extend (flags_in others) && at_most_one is_force (flags_in others))) ≡ false → are_accepted others ≡ false
-rest_fails others none = flags_fail others (right_fails (list_all is_some (flags_in others)) _ none)
+rest_fails : (others : List (List ℕ)) → (at_most_one is_mode (flags_in (spelled_out others)) && (at_most_one is_extend (flags_in (spelled_out others)) && at_most_one is_force (flags_in (spelled_out others)))) ≡ false → are_accepted (spelled_out others) ≡ false
+rest_fails others none = flags_fail others (right_fails (list_all is_some (flags_in (spelled_out others))) _ none)
 
-twice_fails : (others : List (List ℕ)) → (at_most_one is_extend (flags_in others) && at_most_one is_force (flags_in others)) ≡ false → are_accepted others ≡ false
-twice_fails others none = rest_fails others (right_fails (at_most_one is_mode (flags_in others)) _ none)
+twice_fails : (others : List (List ℕ)) → (at_most_one is_extend (flags_in (spelled_out others)) && at_most_one is_force (flags_in (spelled_out others))) ≡ false → are_accepted (spelled_out others) ≡ false
+twice_fails others none = rest_fails others (right_fails (at_most_one is_mode (flags_in (spelled_out others))) _ none)
 
 pub reasons_refuse : (words : List (List ℕ)) → AreRefused words → plan words ≡ usage
 reasons_refuse words (no_command checks creates dumps) = by words checks creates dumps
@@ -407,12 +407,12 @@ reasons_refuse words (no_command checks creates dumps) = by words checks creates
     by : (words : List (List ℕ)) → ((others : List (List ℕ)) → words ≢ codes "chk" ∷ others) → ((others : List (List ℕ)) → words ≢ codes "create" ∷ others) → ((others : List (List ℕ)) → words ≢ codes "dump" ∷ others) → plan words ≡ usage
     by [] checks creates dumps = refl
     by (command ∷ others) checks creates dumps = no_plan command others (no_word command others (codes "chk") checks) (no_word command others (codes "create") creates) (no_word command others (codes "dump") dumps)
-reasons_refuse words (no_name others is none) = not_accepted words others is (left_fails _ (go_together (flags_in others)) (left_fails _ (list_all is_name (names_in others)) (ap not none)))
-reasons_refuse words (bad_name others is bad) = not_accepted words others is (left_fails _ (go_together (flags_in others)) (right_fails (not (is_empty (names_in others))) _ bad))
-reasons_refuse words (unknown_option others is unknown) = not_accepted words others is (flags_fail others (left_fails _ (at_most_one is_mode (flags_in others) && (at_most_one is_extend (flags_in others) && at_most_one is_force (flags_in others))) unknown))
-reasons_refuse words (two_modes others is two) = not_accepted words others is (rest_fails others (left_fails _ (at_most_one is_extend (flags_in others) && at_most_one is_force (flags_in others)) two))
-reasons_refuse words (extend_twice others is twice) = not_accepted words others is (twice_fails others (left_fails _ (at_most_one is_force (flags_in others)) twice))
-reasons_refuse words (force_twice others is twice) = not_accepted words others is (twice_fails others (right_fails (at_most_one is_extend (flags_in others)) _ twice))
+reasons_refuse words (no_name others is none) = not_accepted words others is (left_fails _ (go_together (flags_in (spelled_out others))) (left_fails _ (list_all is_name (names_in (spelled_out others))) (ap not none)))
+reasons_refuse words (bad_name others is bad) = not_accepted words others is (left_fails _ (go_together (flags_in (spelled_out others))) (right_fails (not (is_empty (names_in (spelled_out others)))) _ bad))
+reasons_refuse words (unknown_option others is unknown) = not_accepted words others is (flags_fail others (left_fails _ (at_most_one is_mode (flags_in (spelled_out others)) && (at_most_one is_extend (flags_in (spelled_out others)) && at_most_one is_force (flags_in (spelled_out others)))) unknown))
+reasons_refuse words (two_modes others is two) = not_accepted words others is (rest_fails others (left_fails _ (at_most_one is_extend (flags_in (spelled_out others)) && at_most_one is_force (flags_in (spelled_out others))) two))
+reasons_refuse words (extend_twice others is twice) = not_accepted words others is (twice_fails others (left_fails _ (at_most_one is_force (flags_in (spelled_out others))) twice))
+reasons_refuse words (force_twice others is twice) = not_accepted words others is (twice_fails others (right_fails (at_most_one is_extend (flags_in (spelled_out others))) _ twice))
 reasons_refuse words (create_option others is some) = not_created words others is (create_refused (flags_in others) (names_in others) some)
 reasons_refuse words (create_names others is other) = not_created words others is (create_counted (flags_in others) (names_in others) other)
 reasons_refuse words (create_bad_name others is bad) = not_created words others is (create_misnamed (flags_in others) (names_in others) bad)

@@ -5,7 +5,7 @@ use Rattle.std.specs.List.{flat_map}
 use Rattle.myisamkit.specs.declared.options.Flag.{Flag}
 use Rattle.myisamkit.specs.Words.{Request, usage, create, create_of, is_end, is_option, is_name, flags_of, flags_in, names_in, before_end, after_end, table_name}
 use Rattle.myisamkit.specs.Reading.{both_names, one_name_more, create_left}
-use Rattle.myisamkit.proofs.WordLaws.{names_among, flags_among}
+use Rattle.myisamkit.proofs.ValueLaws.{names_among, flags_among}
 use Rattle.myisamkit.proofs.DumpLaws.{has_flag}
 
 -- the names of these, behind two that came or not

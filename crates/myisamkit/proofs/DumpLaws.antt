@@ -6,7 +6,7 @@ use Rattle.myisamkit.specs.declared.options.Flag.{Flag}
 use Rattle.myisamkit.specs.Options.{letter_flag, long_flag}
 use Rattle.myisamkit.specs.Words.{Request, usage, dump, dump_of, is_end, is_option, is_name, is_long, flags_of, flags_in, names_in, before_end, after_end, table_name}
 use Rattle.myisamkit.specs.Reading.{dump_left}
-use Rattle.myisamkit.proofs.WordLaws.{names_among, flags_among}
+use Rattle.myisamkit.proofs.ValueLaws.{names_among, flags_among}
 
 -- the only name of these, behind one that came
 abbrev pub only : Option (List ℕ) → List (List ℕ) → Option (List ℕ)

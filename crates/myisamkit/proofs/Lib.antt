@@ -1,4 +1,5 @@
 pub mod OptionLaws
+pub mod ValueLaws
 pub mod WordLaws
 pub mod DumpLaws
 pub mod CreateWordLaws

@@ -15,12 +15,18 @@ use Rattle.myi_repair.specs.declared.fault.RepairFault.{RepairFault}
 use Rattle.myi_repair.specs.Names.{FourNames, names_for}
 use Rattle.myi_repair.specs.Opening.{Table, table_in}
 use Rattle.myisamkit.specs.declared.options.Mode.{Mode}
-use Rattle.myisamkit.specs.declared.options.Mode.TheVariants.{Check, Recover, Describe}
+use Rattle.myisamkit.specs.declared.options.Mode.TheVariants.{Check, Recover, Describe, Analyze, Sort}
 use Rattle.myisamkit.specs.declared.options.Options.{Options}
 use Rattle.myisamkit.specs.declared.status.Status.{Status}
 use Rattle.myisamkit.specs.declared.status.Status.TheVariants as status
 use Rattle.myisamkit.specs.Words.{Request, usage, chk, create, dump}
-use Rattle.myisamkit.specs.Turns.{replaced, repair_turn, without_extend, goes_on, check_turn_by, turn, turn_by, CheckCutOff, CutsTurnOff, CutsTurnOffBy, TurnDone, FailsInTurn, FailsInTurnBy}
+use Rattle.myi_opening.specs.Opening as opening
+use Rattle.myi_opening.specs.Names.{index_file}
+use Rattle.myi_repair.specs.Names.{new_index_file}
+use Rattle.myi_order.specs.declared.fault.OrderFault.{OrderFault}
+use Rattle.myi_order.specs.Analyzing as analyzing
+use Rattle.myi_order.specs.Sorting as sorting
+use Rattle.myisamkit.specs.Turns.{replaced, with_index, analyzed_turn, sorted_turn, repair_turn, without_extend, goes_on, check_turn_by, turn, turn_by, CheckCutOff, CutsTurnOff, CutsTurnOffBy, TurnDone, FailsInTurn, FailsInTurnBy}
 use Rattle.myisamkit.specs.Creates.{made, made_turn, CreateLeaves}
 use Rattle.myisamkit.specs.Runs.{TablesDone, CutsTablesOff, FailsInTables, TablesLeave, Leaves, IsApart, IsNoFileOf, KeepsOthers}
 
@@ -41,6 +47,22 @@ repair_keeps : (o : Options) (now : ℕ) (name : List ℕ) (t : Result Table Rep
 repair_keeps o now name (Err f) m q apart = refl
 repair_keeps o now name (Ok t) m q apart = replaced_keeps (names_for name) (new_data t.0 o.extend t.1) (new_index t.0 o.extend t.1 now) m q apart
 
+indexed_keeps : (name x : List ℕ) (m : Holding) (q : List ℕ) → IsApart q (names_for name) → with_index name x m q ≡ m q
+indexed_keeps name x m q apart = by_names (bytes_eq q (index_file name)) (bytes_eq q (new_index_file name)) (other_name q (index_file name) apart.index) (other_name q (new_index_file name) apart.new_index)
+  where
+    by_names : (a b : Bool) → a ≡ false → b ≡ false → (if a then Some x else (if b then None else m q)) ≡ m q
+    by_names true b index trees = absurd cc
+    by_names false true index trees = absurd cc
+    by_names false false index trees = refl
+
+analyzed_keeps : (o : Options) (name : List ℕ) (t : Result opening.Table OrderFault) (m : Holding) (q : List ℕ) → IsApart q (names_for name) → (analyzed_turn o name t m).files q ≡ m q
+analyzed_keeps o name (Err f) m q apart = refl
+analyzed_keeps o name (Ok t) m q apart = indexed_keeps name (analyzing.analyzed_index t) m q apart
+
+sorted_keeps : (o : Options) (now key : ℕ) (name : List ℕ) (t : Result opening.Table OrderFault) (m : Holding) (q : List ℕ) → IsApart q (names_for name) → (sorted_turn o now key name t m).files q ≡ m q
+sorted_keeps o now key name (Err f) m q apart = refl
+sorted_keeps o now key name (Ok t) m q apart = replaced_keeps (names_for name) (sorting.sorted_data t key) (sorting.sorted_index t key now) m q apart
+
 turn_keeps : (o : Options) (now : ℕ) (name : List ℕ) (m : Holding) (q : List ℕ) → IsApart q (names_for name) → (turn o now name m).files q ≡ m q
 unfolding turn
 turn_keeps o now name m q apart = by_mode o.mode
@@ -53,6 +75,8 @@ turn_keeps o now name m q apart = by_mode o.mode
     by_mode (Recover parallel) = repair_keeps o now name (table_in (names_for name) m) m q apart
     by_mode Check = by_check (goes_on o name m)
     by_mode Describe = refl
+    by_mode Analyze = analyzed_keeps o name (analyzing.table_in name m) m q apart
+    by_mode (Sort key) = sorted_keeps o now key name (sorting.table_in name key m) m q apart
 
 cut_keeps : (o : Options) (now told before after : ℕ) (name : List ℕ) (m n : Holding) (q : List ℕ) → IsApart q (names_for name) → CutsTurnOff o now told before after name m n → n q ≡ m q
 unfolding CutsTurnOff
@@ -66,6 +90,9 @@ cut_keeps o now told before after name m n q apart cut = by_mode o.mode cut
     by_mode (Recover parallel) cut = cut.others q apart.rows apart.index apart.new_rows apart.new_index
     by_mode Check cut = by_check (goes_on o name m) cut
     by_mode Describe cut = ap (λ (h : Holding). h q) cut
+    by_mode Analyze (inl none) = none.others q apart.index apart.new_index
+    by_mode Analyze (inr done) = ap (λ (h : Holding). h q) done.files ∙ analyzed_keeps o name (analyzing.table_in name m) m q apart
+    by_mode (Sort key) cut = cut.others q apart.rows apart.index apart.new_rows apart.new_index
 
 fail_keeps : (o : Options) (now : ℕ) (name : List ℕ) (m n : Holding) (q : List ℕ) → IsApart q (names_for name) → FailsInTurn o now name m n → n q ≡ m q
 unfolding FailsInTurn
@@ -79,6 +106,8 @@ fail_keeps o now name m n q apart fails = by_mode o.mode fails
     by_mode Check (inl same) = ap (λ (h : Holding). h q) same
     by_mode Check (inr done) = by_done done
     by_mode Describe same = ap (λ (h : Holding). h q) same
+    by_mode Analyze done = by_done done
+    by_mode (Sort key) done = by_done done
 
 done_keeps : (o : Options) (now : ℕ) (names : List (List ℕ)) (m n : Holding) (q : List ℕ) → IsNoFileOf q names → TablesDone o now names m n → n q ≡ m q
 done_keeps o now [] m n q apart done = ap (λ (h : Holding). h q) done

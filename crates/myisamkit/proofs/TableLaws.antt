@@ -5,7 +5,6 @@ use Rattle.std.proofs.Math.Seq.{take-append-add, drop-cons}
 use Rattle.std.proofs.Common.{add-one}
 use Rattle.std.proofs.lemmas.List.{take-append-le}
 use Rattle.std.proofs.lemmas.Bool.{cases_Bool}
-use Rattle.myisamkit.proofs.WordLaws.{names_among}
 use Rattle.myisamkit.proofs.TurnLaws.{cut_earlier}
 use Rattle.myi_base.specs.Holding.{Holding, IfTold, Told}
 use Rattle.myi_base.specs.Output.{AppendsPart}
@@ -15,14 +14,11 @@ use Rattle.myisamkit.specs.declared.status.Stop.{Stop}
 use Rattle.myisamkit.specs.declared.status.Stop.TheVariants as stop
 use Rattle.myisamkit.specs.declared.options.Options.{Options}
 use Rattle.myisamkit.specs.Statuses.{number_of, worse}
-use Rattle.myisamkit.specs.Words.{is_end, is_option, names_table, names_in, before_end, after_end, table_name}
+use Rattle.myisamkit.specs.declared.words.Names.{Names}
+use Rattle.myisamkit.specs.Words.{table_name}
+use Rattle.myisamkit.specs.Reading.{is_table, names_behind, tables_left}
 use Rattle.myisamkit.specs.Turns.{turn, TurnDone, TurnStops}
 use Rattle.myisamkit.specs.Runs.{tables_run, TablesDone, CutsTablesOff, FailsInTables, TablesStop}
-
--- the tables from a word on, behind the word -- or not
-abbrev pub names_from : Bool → List (List ℕ) → List (List ℕ)
-names_from true words = map table_name words
-names_from false words = map table_name (names_in words)
 
 -- what was written so far, and what the tables that are left will write, are the text
 pub record Said (text left : List ℕ) (before now : Option (List ℕ)) : Type 0 where
@@ -76,19 +72,6 @@ said_part text w0 w v line rest said wrote b was =
     subst (λ t. AppendsPart t v b) p.2
     (length p.0 + q.0, omega (arith, q.1, length-append p.0 (line ++ rest), length-append line rest), q.2 ∙ ap Some (append_assoc b p.0 (take q.0 line) ∙ ap (λ l. b ++ l) (sym (take_so p.0 line rest q.0 q.1))))
 
--- which tables are left
-pub names_end : (word : List ℕ) (words : List (List ℕ)) → is_end word ≡ true → names_from false (word ∷ words) ≡ names_from true words
-names_end word words is = ap (λ e. map table_name (names_among (if e then [] else word ∷ before_end words) ++ (if e then words else after_end words))) is
-
-names_open : (word : List ℕ) (words : List (List ℕ)) → is_end word ≡ false → names_from false (word ∷ words) ≡ map table_name ((if not (is_option word) then word ∷ names_among (before_end words) else names_among (before_end words)) ++ after_end words)
-names_open word words is = ap (λ e. map table_name (names_among (if e then [] else word ∷ before_end words) ++ (if e then words else after_end words))) is
-
-pub names_option : (word : List ℕ) (words : List (List ℕ)) → is_end word ≡ false → is_option word ≡ true → names_from false (word ∷ words) ≡ names_from false words
-names_option word words other is = names_open word words other ∙ ap (λ o. map table_name ((if not o then word ∷ names_among (before_end words) else names_among (before_end words)) ++ after_end words)) is
-
-pub names_next : (word : List ℕ) (words : List (List ℕ)) → is_end word ≡ false → is_option word ≡ false → names_from false (word ∷ words) ≡ table_name word ∷ names_from false words
-names_next word words other is = names_open word words other ∙ ap (λ o. map table_name ((if not o then word ∷ names_among (before_end words) else names_among (before_end words)) ++ after_end words)) is
-
 -- what holds of two statuses holds of the worse
 pub worse_keeps : (P : Status → Type 0) (a b : Status) → P a → P b → P (worse a b)
 worse_keeps P a b of_a of_b = by_order (nat_lt (number_of a) (number_of b))
@@ -97,41 +80,18 @@ worse_keeps P a b of_a of_b = by_order (nat_lt (number_of a) (number_of b))
     by_order true = of_b
     by_order false = of_a
 
-true_is_false : true ≡ false → ⊥
-true_is_false e = cc
-
--- a word that names no table
-pub names_skip : (ended : Bool) (word : List ℕ) (words : List (List ℕ)) → names_table ended word ≡ false → names_from ended (word ∷ words) ≡ names_from (ended || is_end word) words
-names_skip true word words none = absurd cc
-names_skip false word words none = by_end (cases_Bool (is_end word)) (cases_Bool (is_option word))
-  where
-    by_end : (is_end word ≡ true) ⊎ (is_end word ≡ false) → (is_option word ≡ true) ⊎ (is_option word ≡ false) → names_from false (word ∷ words) ≡ names_from (is_end word) words
-    by_end (inl end) option = names_end word words end ∙ ap (λ e. names_from e words) (sym end)
-    by_end (inr other) (inl option) = names_option word words other option ∙ ap (λ e. names_from e words) (sym other)
-    by_end (inr other) (inr name) = absurd (true_is_false (sym (ap (λ e. not (e || is_option word)) other ∙ ap not name) ∙ none))
-
--- a word that names a table
-pub names_take : (ended : Bool) (word : List ℕ) (words : List (List ℕ)) → names_table ended word ≡ true → names_from ended (word ∷ words) ≡ table_name word ∷ names_from ended words
-names_take true word words one = refl
-names_take false word words one = by_end (cases_Bool (is_end word)) (cases_Bool (is_option word))
-  where
-    by_end : (is_end word ≡ true) ⊎ (is_end word ≡ false) → (is_option word ≡ true) ⊎ (is_option word ≡ false) → names_from false (word ∷ words) ≡ table_name word ∷ names_from false words
-    by_end (inr other) (inr name) = names_next word words other name
-    by_end (inl end) option = absurd (true_is_false (sym one ∙ ap (λ e. not (e || is_option word)) end))
-    by_end (inr other) (inl option) = absurd (true_is_false (sym one ∙ (ap (λ e. not (e || is_option word)) other ∙ ap not option)))
-
 -- the word at a place of a list, and those behind it
 at_word : {X : Type 0} (f : X → List ℕ) (words : List X) (i : ℕ) (item : X) (word : List ℕ) → i < length words → item ≡ get_or words i item → word ≡ f item
     → map f (drop i words) ≡ word ∷ map f (drop (i + 1) words)
 at_word f words i item word within is of = ap (map f) (drop-cons words i item within) ∙ (ap (λ x. f x ∷ map f (drop (suc i) words)) (sym is) ∙ (ap (λ x. x ∷ map f (drop (suc i) words)) (sym of) ∙ ap (λ k. word ∷ map f (drop k words)) (sym (add-one i))))
 
-pub left_past : {X : Type 0} (f : X → List ℕ) (words : List X) (i : ℕ) (item : X) (word : List ℕ) (ended : Bool) → i < length words → item ≡ get_or words i item → word ≡ f item → names_table ended word ≡ false
-    → names_from ended (map f (drop i words)) ≡ names_from (ended || is_end word) (map f (drop (i + 1) words))
-left_past f words i item word ended within is of none = ap (names_from ended) (at_word f words i item word within is of) ∙ names_skip ended word (map f (drop (i + 1) words)) none
+pub left_past : {X : Type 0} (f : X → List ℕ) (words : List X) (i : ℕ) (item : X) (word : List ℕ) (names : Names) → i < length words → item ≡ get_or words i item → word ≡ f item → is_table names word ≡ false
+    → tables_left names (map f (drop i words)) ≡ tables_left (names_behind names word) (map f (drop (i + 1) words))
+left_past f words i item word names within is of none = ap (tables_left names) (at_word f words i item word within is of) ∙ rw none refl
 
-pub left_here : {X : Type 0} (f : X → List ℕ) (words : List X) (i : ℕ) (item : X) (word name : List ℕ) (ended : Bool) → i < length words → item ≡ get_or words i item → word ≡ f item → names_table ended word ≡ true → name ≡ table_name word
-    → names_from ended (map f (drop i words)) ≡ name ∷ names_from ended (map f (drop (i + 1) words))
-left_here f words i item word name ended within is of one named = ap (names_from ended) (at_word f words i item word within is of) ∙ (names_take ended word (map f (drop (i + 1) words)) one ∙ ap (λ n. n ∷ names_from ended (map f (drop (i + 1) words))) (sym named))
+pub left_here : {X : Type 0} (f : X → List ℕ) (words : List X) (i : ℕ) (item : X) (word name : List ℕ) (names : Names) → i < length words → item ≡ get_or words i item → word ≡ f item → is_table names word ≡ true → name ≡ table_name word
+    → tables_left names (map f (drop i words)) ≡ name ∷ tables_left (names_behind names word) (map f (drop (i + 1) words))
+left_here f words i item word name names within is of one named = ap (tables_left names) (at_word f words i item word within is of) ∙ (rw one (ap (λ n. n ∷ tables_left (names_behind names word) (map f (drop (i + 1) words))) (sym named)))
 
 -- a stop in a table's turn
 pub stops_in : (o : Options) (now : ℕ) (all left : List (List ℕ)) (name : List ℕ) (s : Status) (m0 m n : Holding) (w0 w : Option (List ℕ)) (before at after : ℕ) (stop : Stop)

@@ -1,5 +1,5 @@
 -- What a table's turn leaves.
-use Rattle.std.proofs.Common.{arith, ◌≡◌, ◌≢◌, ◌≤◌, ◌+◌, ℕ, take, Bool, true, false, List, Option, Some, None, Result, Ok, Err, refl, sym, subst, ap, ◌∙◌}
+use Rattle.std.proofs.Common.{arith, ◌≡◌, ◌≢◌, ◌≤◌, ◌+◌, ℕ, take, Bool, true, false, List, Option, Some, None, Result, Ok, Err, refl, sym, subst, ap, ◌∙◌, inl, inr, length}
 use Rattle.std.specs.Prelude.{◌||◌, if◌then◌else◌}
 use Rattle.std.specs.Str.{bytes_eq}
 use Rattle.std.proofs.Math.Path.{fun_ext}
@@ -16,9 +16,20 @@ use Rattle.myi_repair.specs.Faults.{RoseAtMost}
 use Rattle.myi_repair.specs.Opening.{table_in}
 use Rattle.myi_repair.specs.Repaired.{LeavesRepaired, OldOrNew}
 use Rattle.myisamkit.specs.declared.options.Mode.{Mode}
-use Rattle.myisamkit.specs.declared.options.Mode.TheVariants.{Check, Recover, Describe}
+use Rattle.myisamkit.specs.declared.options.Mode.TheVariants.{Check, Recover, Describe, Analyze, Sort}
 use Rattle.myisamkit.specs.declared.options.Options.{Options}
-use Rattle.myisamkit.specs.Turns.{AreSound, replaced, repair_turn, without_extend, goes_on, RepairDone, RepairCutOff, CheckCutOff, CutsTurnOff, CutsTurnOffBy}
+use Rattle.myi_opening.specs.Opening as opening
+use Rattle.myi_opening.specs.Names.{index_file, rows_file}
+use Rattle.myi_repair.specs.Names.{new_index_file}
+use Rattle.myi_data.specs.Stored.{SizedRow}
+use Rattle.myi_pair.specs.Rebuilt.{Rebuilt}
+use Rattle.myi_order.specs.declared.key_parts.KeyParts.{KeyParts}
+use Rattle.myi_order.specs.Analyzing as analyzing
+use Rattle.myi_order.specs.Faults as order
+use Rattle.myi_order.specs.Sorting as sorting
+use Rattle.myi_order.specs.Numbers.{all_per, IsAnalyzed}
+use Rattle.myi_order.specs.KeyParts.{key_parts}
+use Rattle.myisamkit.specs.Turns.{AreSound, with_index, analyzed_turn, sorted_turn, AnalyzeDone, StoresNone, AnalyzeCutOff, SortDone, SortCutOff, replaced, repair_turn, without_extend, goes_on, RepairDone, RepairCutOff, CheckCutOff, CutsTurnOff, CutsTurnOffBy}
 
 -- what a name has that is none of these
 pub not_named : (q name : List ℕ) → bytes_eq q name ≡ false → q ≢ name
@@ -51,6 +62,12 @@ is_replaced t d x m n holds keeps = fun_ext (replaced_at t d x m n holds keeps)
 pub repair_earlier : (o : Options) (now told before at after : ℕ) (name : List ℕ) (m n : Holding) → before ≤ at → RepairCutOff o now told at after name m n → RepairCutOff o now told before after name m n
 repair_earlier o now told before at after name m n later cut = record { whole = cut.whole; others = cut.others; cleared = λ more rose. cut.cleared more (omega (arith, rose.0, later), rose.1) }
 
+none_earlier : (told before at after : ℕ) (name : List ℕ) (m n : Holding) → before ≤ at → StoresNone told at after name m n → StoresNone told before after name m n
+none_earlier told before at after name m n later none = record { both = none.both; others = none.others; cleared = λ rose. none.cleared (omega (arith, rose.0, later), rose.1) }
+
+sort_earlier : (now key told before at after : ℕ) (name : List ℕ) (m n : Holding) → before ≤ at → SortCutOff now key told at after name m n → SortCutOff now key told before after name m n
+sort_earlier now key told before at after name m n later cut = record { whole = cut.whole; others = cut.others; cleared = λ more rose. cut.cleared more (omega (arith, rose.0, later), rose.1) }
+
 pub cut_earlier : (o : Options) (now told before at after : ℕ) (name : List ℕ) (m n : Holding) → before ≤ at → CutsTurnOff o now told at after name m n → CutsTurnOff o now told before after name m n
 unfolding CutsTurnOff
 cut_earlier o now told before at after name m n later cut = by_mode o.mode cut
@@ -63,6 +80,9 @@ cut_earlier o now told before at after name m n later cut = by_mode o.mode cut
     by_mode (Recover parallel) cut = repair_earlier o now told before at after name m n later cut
     by_mode Check cut = by_check (goes_on o name m) cut
     by_mode Describe cut = cut
+    by_mode Analyze (inl none) = inl (none_earlier told before at after name m n later none)
+    by_mode Analyze (inr done) = inr done
+    by_mode (Sort key) cut = sort_earlier now key told before at after name m n later cut
 
 some_same : {A : Type 0} (x y : A) (o : Option A) → o ≡ Some x → o ≡ Some y → x ≡ y
 some_same x y o a b = let e : Some x ≡ Some y = sym a ∙ b in cc
@@ -104,6 +124,111 @@ pub repair_cut : (o : Options) (now told before after : ℕ) (name : List ℕ) (
     → ((more : ℕ) → RoseAtMost (told + more) before after → Told old new (Clears more (names_for name)))
     → Told old new (RepairCutOff o now told before after name)
 repair_cut o now told before after name old new whole others cleared = record {
+  told = λ m is.
+      let n = whole.told m is in
+      let k = others.told m is in (
+        n.0,
+        n.1,
+        record {
+          whole = n.2;
+          others = subst (λ h. KeepsBut (names_for name) m h) (some_same k.0 n.0 new k.1 n.1) k.2;
+          cleared = λ more rose. let z = (cleared more rose).told m is in subst (λ h. Clears more (names_for name) m h) (some_same z.0 n.0 new z.1 n.1) z.2;
+        },
+      );
+  untold = whole.untold;
+}
+
+-- ---- tables that are analyzed
+
+-- the index file is replaced, and the working file is gone
+indexed_at : (name x : List ℕ) (m n : Holding) → n (index_file name) ≡ Some x → n (new_index_file name) ≡ None → analyzing.OthersStay name m n → (q : List ℕ) → n q ≡ with_index name x m q
+indexed_at name x m n index gone keeps q = by_index (bytes_eq q (index_file name)) refl
+  where
+    by_work : (b : Bool) → bytes_eq q (new_index_file name) ≡ b → q ≢ index_file name → n q ≡ (if b then None else m q)
+    by_work true is other = ap n ((bytes_eq-Decides q (new_index_file name)).0 is) ∙ gone
+    by_work false is other = keeps q other (not_named q (new_index_file name) is)
+
+    by_index : (b : Bool) → bytes_eq q (index_file name) ≡ b → n q ≡ (if b then Some x else (if bytes_eq q (new_index_file name) then None else m q))
+    by_index true is = ap n ((bytes_eq-Decides q (index_file name)).0 is) ∙ index
+    by_index false other = by_work (bytes_eq q (new_index_file name)) refl (not_named q (index_file name) other)
+
+-- a table was analyzed
+pub analyze_done : (o : Options) (name : List ℕ) (parts : List KeyParts) (old new : Option Holding)
+    → Told old new (analyzing.Analyzes name parts) → Told old new (analyzing.OthersStay name) → Told old new (AnalyzeDone o name)
+analyze_done o name parts old new done others = record {
+  told = λ m told.
+      let r = done.told m told in
+      let k = others.told m told in
+      let keeps = subst (λ n. analyzing.OthersStay name m n) (some_same k.0 r.0 new k.1 r.1) k.2 in (
+        r.0,
+        r.1,
+        record {
+          files = subst (λ t. r.0 ≡ (analyzed_turn o name t m).files) (sym r.2.is) (fun_ext (indexed_at name _ m r.0 r.2.stored r.2.gone keeps));
+          numbers = λ t is. subst (λ u. IsAnalyzed u.defs (length (analyzing.rows_in u)) (all_per (key_parts u.defs (analyzing.rows_in u))) u.index (analyzing.analyzed_index u)) (ok_same r.2.table t (analyzing.table_in name m) r.2.is is) r.2.numbers;
+        },
+      );
+  untold = done.untold;
+}
+
+-- an analysis stored nothing
+pub stores_none : (o : Options) (told before after : ℕ) (name : List ℕ) (old new : Option Holding)
+    → Told old new (analyzing.KeepsBoth name) → Told old new (analyzing.OthersStay name)
+    → (RoseAtMost told before after → Told old new (order.Clears (new_index_file name)))
+    → Told old new (AnalyzeCutOff o told before after name)
+stores_none o told before after name old new both others cleared = record {
+  told = λ m is.
+      let n = both.told m is in
+      let k = others.told m is in (
+        n.0,
+        n.1,
+        inl record {
+          both = n.2;
+          others = subst (λ h. analyzing.OthersStay name m h) (some_same k.0 n.0 new k.1 n.1) k.2;
+          cleared = λ rose. let z = (cleared rose).told m is in subst (λ h. order.Clears (new_index_file name) m h) (some_same z.0 n.0 new z.1 n.1) z.2;
+        },
+      );
+  untold = both.untold;
+}
+
+-- memory was wanting behind an analysis
+pub done_behind : (o : Options) (told before after : ℕ) (name : List ℕ) (old new : Option Holding) → Told old new (AnalyzeDone o name) → Told old new (AnalyzeCutOff o told before after name)
+done_behind o told before after name old new done = record {
+  told = λ m is. let n = done.told m is in (n.0, n.1, inr n.2);
+  untold = done.untold;
+}
+
+-- ---- tables that are sorted
+
+-- what is made anew of rows is sound
+sound_rebuilt : (defs : Defs) (rows : List SizedRow) (now : ℕ) (e y : List ℕ) → Rebuilt defs rows now e y → AreSound e y
+sound_rebuilt defs rows now e y made = (record defs { raw = take (num_at 6 2 defs.raw) y }, made.definitions, none_where_clean _ e y made.definitions made.clean)
+
+-- a table was sorted
+pub sort_done : (o : Options) (now key : ℕ) (name : List ℕ) (said : Report) (old new : Option Holding)
+    → Told old new (sorting.LeavesOrdered name key now said) → Told old new (KeepsBut (names_for name)) → Told old new (SortDone o now key name)
+sort_done o now key name said old new done others = record {
+  told = λ m told.
+      let r = done.told m told in
+      let k = others.told m told in
+      let keeps = subst (λ n. KeepsBut (names_for name) m n) (some_same k.0 r.0 new k.1 r.1) k.2 in (
+        r.0,
+        r.1,
+        record {
+          files = subst (λ t. r.0 ≡ (sorted_turn o now key name t m).files) (sym r.2.is) (is_replaced (names_for name) _ _ m r.0 r.2.holds keeps);
+          sorted = λ t is.
+              let ordered = subst (λ u. sorting.Ordered u key now (sorting.sorted_data u key) (sorting.sorted_index u key now)) (ok_same r.2.table t (sorting.table_in name key m) r.2.is is) r.2.ordered in
+              (ordered, sound_rebuilt t.defs (sorting.sorted_rows t key) now _ _ ordered.rebuilt);
+        },
+      );
+  untold = done.untold;
+}
+
+-- sorting was cut off
+pub sort_cut : (now key told before after : ℕ) (name : List ℕ) (old new : Option Holding)
+    → Told old new (sorting.OldOrNew name key now) → Told old new (KeepsBut (names_for name))
+    → ((more : ℕ) → RoseAtMost (told + more) before after → Told old new (Clears more (names_for name)))
+    → Told old new (SortCutOff now key told before after name)
+sort_cut now key told before after name old new whole others cleared = record {
   told = λ m is.
       let n = whole.told m is in
       let k = others.told m is in (

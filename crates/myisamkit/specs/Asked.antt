@@ -3,24 +3,24 @@ use Rattle.std.specs.Prelude.{◌≡◌, ◌≢◌, false, true, List, [], ◌�
 use Rattle.std.specs.List.{list_all, list_any}
 use Rattle.myisamkit.specs.declared.options.Options.{Options}
 use Rattle.myisamkit.specs.declared.options.Mode.TheVariants.{Check}
-use Rattle.myisamkit.specs.Words.{is_empty, is_name, names_in, flags_in, table_name}
+use Rattle.myisamkit.specs.Words.{is_empty, is_name, names_in, flags_in, spelled_out, table_name}
 use Rattle.myisamkit.specs.Options.{is_mode, is_extend, is_force, is_silent, at_most_one, mode_or}
 
 -- these words are `chk` with these options and tables
 pub record AreChk (words : List (List ℕ)) (o : Options) (tables : List (List ℕ)) : Type 0 where
   pub others : List (List ℕ)
   pub command : words ≡ codes "chk" ∷ others
-  pub named : is_empty (names_in others) ≡ false
-  pub in_form : list_all is_name (names_in others) ≡ true
-  pub tables_are : tables ≡ map table_name (names_in others)
-  pub known : list_all is_some (flags_in others) ≡ true
-  pub one_mode : at_most_one is_mode (flags_in others) ≡ true
-  pub extend_once : at_most_one is_extend (flags_in others) ≡ true
-  pub force_once : at_most_one is_force (flags_in others) ≡ true
-  pub mode : o.mode ≡ mode_or Check (flags_in others)
-  pub extend : o.extend ≡ list_any is_extend (flags_in others)
-  pub force : o.force ≡ list_any is_force (flags_in others)
-  pub silent : o.silent ≡ list_any is_silent (flags_in others)
+  pub named : is_empty (names_in (spelled_out others)) ≡ false
+  pub in_form : list_all is_name (names_in (spelled_out others)) ≡ true
+  pub tables_are : tables ≡ map table_name (names_in (spelled_out others))
+  pub known : list_all is_some (flags_in (spelled_out others)) ≡ true
+  pub one_mode : at_most_one is_mode (flags_in (spelled_out others)) ≡ true
+  pub extend_once : at_most_one is_extend (flags_in (spelled_out others)) ≡ true
+  pub force_once : at_most_one is_force (flags_in (spelled_out others)) ≡ true
+  pub mode : o.mode ≡ mode_or Check (flags_in (spelled_out others))
+  pub extend : o.extend ≡ list_any is_extend (flags_in (spelled_out others))
+  pub force : o.force ≡ list_any is_force (flags_in (spelled_out others))
+  pub silent : o.silent ≡ list_any is_silent (flags_in (spelled_out others))
 
 -- these words are `create` with this table and this file
 pub record AreCreate (words : List (List ℕ)) (table file : List ℕ) : Type 0 where
@@ -46,12 +46,12 @@ pub record AreDump (words : List (List ℕ)) (table : List ℕ) : Type 0 where
 -- why words are refused: the command is none, or of the words behind it one of these holds
 pub data AreRefused (words : List (List ℕ)) : Type 0 where
   no_command : ((others : List (List ℕ)) → words ≢ codes "chk" ∷ others) → ((others : List (List ℕ)) → words ≢ codes "create" ∷ others) → ((others : List (List ℕ)) → words ≢ codes "dump" ∷ others) → AreRefused words
-  no_name : (others : List (List ℕ)) → words ≡ codes "chk" ∷ others → is_empty (names_in others) ≡ true → AreRefused words
-  bad_name : (others : List (List ℕ)) → words ≡ codes "chk" ∷ others → list_all is_name (names_in others) ≡ false → AreRefused words
-  unknown_option : (others : List (List ℕ)) → words ≡ codes "chk" ∷ others → list_all is_some (flags_in others) ≡ false → AreRefused words
-  two_modes : (others : List (List ℕ)) → words ≡ codes "chk" ∷ others → at_most_one is_mode (flags_in others) ≡ false → AreRefused words
-  extend_twice : (others : List (List ℕ)) → words ≡ codes "chk" ∷ others → at_most_one is_extend (flags_in others) ≡ false → AreRefused words
-  force_twice : (others : List (List ℕ)) → words ≡ codes "chk" ∷ others → at_most_one is_force (flags_in others) ≡ false → AreRefused words
+  no_name : (others : List (List ℕ)) → words ≡ codes "chk" ∷ others → is_empty (names_in (spelled_out others)) ≡ true → AreRefused words
+  bad_name : (others : List (List ℕ)) → words ≡ codes "chk" ∷ others → list_all is_name (names_in (spelled_out others)) ≡ false → AreRefused words
+  unknown_option : (others : List (List ℕ)) → words ≡ codes "chk" ∷ others → list_all is_some (flags_in (spelled_out others)) ≡ false → AreRefused words
+  two_modes : (others : List (List ℕ)) → words ≡ codes "chk" ∷ others → at_most_one is_mode (flags_in (spelled_out others)) ≡ false → AreRefused words
+  extend_twice : (others : List (List ℕ)) → words ≡ codes "chk" ∷ others → at_most_one is_extend (flags_in (spelled_out others)) ≡ false → AreRefused words
+  force_twice : (others : List (List ℕ)) → words ≡ codes "chk" ∷ others → at_most_one is_force (flags_in (spelled_out others)) ≡ false → AreRefused words
   create_option : (others : List (List ℕ)) → words ≡ codes "create" ∷ others → flags_in others ≢ [] → AreRefused words
   create_names : (others : List (List ℕ)) → words ≡ codes "create" ∷ others → length (names_in others) ≢ 2 → AreRefused words
   create_bad_name : (others : List (List ℕ)) → words ≡ codes "create" ∷ others → list_all is_name (names_in others) ≡ false → AreRefused words

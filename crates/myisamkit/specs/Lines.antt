@@ -10,6 +10,9 @@ use Rattle.myi_pair.specs.declared.finding.Finding.TheVariants as finding
 use Rattle.myi_repair.specs.declared.report.Report.{Report}
 use Rattle.myi_repair.specs.declared.fault.RepairFault.{RepairFault}
 use Rattle.myi_repair.specs.declared.fault.RepairFault.TheVariants as repair
+use Rattle.myi_order.specs.declared.fault.OrderFault.{OrderFault}
+use Rattle.myi_order.specs.declared.fault.OrderFault.TheVariants as order
+use Rattle.myi_order.specs.declared.key_parts.KeyParts.{KeyParts}
 use Rattle.myi_opening.specs.Names.{file_of}
 
 abbrev pub usage_line : List ℕ
@@ -93,3 +96,35 @@ finding_line name f = name ++ (codes ": error: " ++ (finding_text f ++ codes "\n
 
 abbrev pub finding_lines : List ℕ → List Finding → List ℕ
 finding_lines name found = flat_map (finding_line name) found
+
+abbrev pub number_text : ℕ → List ℕ
+number_text n = codes " " ++ decimal n
+
+-- how many rows go to one prefix of a key: of one segment, of two, and so on
+unfoldable pub parts_line : List ℕ → KeyParts → List ℕ
+parts_line name p = name ++ (codes ": key " ++ (decimal p.key ++ (codes " rows per prefix" ++ (flat_map number_text p.per ++ codes "\n"))))
+
+-- a table was analyzed
+abbrev pub analyzed_line : List ℕ → List ℕ
+analyzed_line name = name ++ codes ": analyzed\n"
+
+abbrev pub analyzed_lines : List ℕ → List KeyParts → List ℕ
+analyzed_lines name parts = flat_map (parts_line name) parts ++ analyzed_line name
+
+-- the rows of a table were sorted by the key of this number: how many they are, and the data file's lengths before and after
+abbrev pub sorted_line : List ℕ → ℕ → Report → List ℕ
+sorted_line name key r =
+    name ++ (codes ": sorted " ++ (decimal r.kept ++ (codes " rows by key " ++ (decimal key ++ (codes ", data " ++ (decimal r.old_length ++ (codes " to " ++ (decimal r.new_length ++ codes " bytes\n"))))))))
+
+abbrev pub no_key : ℕ → List ℕ
+no_key key = codes "no key " ++ decimal key
+
+-- why a table is not sorted by the key of this number, or not analyzed, which asks for none; the faults that cut work off have
+-- no line
+abbrev pub order_line : List ℕ → ℕ → OrderFault → List ℕ
+order_line name key (order.Absent f) = absent_line (file_of f name)
+order_line name key (order.Def f) = refused_line name (reason_of f)
+order_line name key (order.NoKey keys) = refused_line name (no_key key)
+order_line name key (order.Damaged f) = finding_line name f
+order_line name key order.File = []
+order_line name key order.Memory = []

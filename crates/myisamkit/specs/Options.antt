@@ -1,23 +1,42 @@
--- The options of `chk` (MySQL Reference Manual, "myisamchk General Options", "Check Options", "Repair Options").
-use Rattle.std.specs.Prelude.{ℕ, Bool, true, false, List, [], ◌∷◌, Option, None, Some, ◌==◌, ◌&&◌, not, if◌then◌else◌, codes, is_some}
+-- The options of `chk` (MySQL Reference Manual, "myisamchk General Options", "Check Options", "Repair Options", "Other myisamchk Options").
+use Rattle.std.specs.Prelude.{ℕ, Bool, true, false, List, [], ◌∷◌, length, take, drop, nat_lt, nat_le, Option, None, Some, option_map, ◌==◌, ◌&&◌, not, if◌then◌else◌, codes, is_some}
 use Rattle.std.specs.List.{list_all, list_any}
 use Rattle.std.specs.Str.{bytes_eq}
+use Rattle.myi_defs.specs.Text.{is_digit, value}
 use Rattle.myisamkit.specs.declared.options.Mode.{Mode}
-use Rattle.myisamkit.specs.declared.options.Mode.TheVariants.{Check, Recover, Describe}
+use Rattle.myisamkit.specs.declared.options.Mode.TheVariants.{Check, Recover, Describe, Analyze, Sort}
 use Rattle.myisamkit.specs.declared.options.Flag.{Flag}
 use Rattle.myisamkit.specs.declared.options.Flag.TheVariants as flag
 use Rattle.myisamkit.specs.declared.options.Options.{Options}
 
--- what a letter says: c, r, p, d, e, f, s
+-- what a letter says: c, r, p, d, a, e, f, s
 abbrev pub letter_flag : ℕ → Option Flag
 letter_flag letter =
     if letter == 99 then Some (flag.Mode Check) else
     (if letter == 114 then Some (flag.Mode (Recover false)) else
     (if letter == 112 then Some (flag.Mode (Recover true)) else
     (if letter == 100 then Some (flag.Mode Describe) else
+    (if letter == 97 then Some (flag.Mode Analyze) else
     (if letter == 101 then Some flag.Extend else
     (if letter == 102 then Some flag.Force else
-    (if letter == 115 then Some flag.Silent else None))))))
+    (if letter == 115 then Some flag.Silent else None)))))))
+
+-- the number of a key, from 1 to 64, in decimal digits, at most twenty
+abbrev pub key_of : List ℕ → Option ℕ
+key_of word =
+    if (nat_lt 0 (length word) && nat_le (length word) 20) && (list_all is_digit word && (nat_lt 0 (value word) && nat_le (value word) 64)) then Some (value word) else None
+
+-- what the option that sorts rows says with this value
+abbrev pub sort_flag : List ℕ → Option Flag
+sort_flag word = option_map (λ key. flag.Mode (Sort key)) (key_of word)
+
+-- the name of that option with a value behind it
+abbrev pub sort_records : List ℕ
+sort_records = codes "sort-records="
+
+-- what a long option says that has its value behind it
+abbrev pub valued_flag : List ℕ → Option Flag
+valued_flag name = if bytes_eq (take 13 name) sort_records then sort_flag (drop 13 name) else None
 
 -- what a long option says, by its name
 abbrev pub long_flag : List ℕ → Option Flag
@@ -26,9 +45,11 @@ long_flag name =
     (if bytes_eq name (codes "recover") then Some (flag.Mode (Recover false)) else
     (if bytes_eq name (codes "parallel-recover") then Some (flag.Mode (Recover true)) else
     (if bytes_eq name (codes "description") then Some (flag.Mode Describe) else
+    (if bytes_eq name (codes "analyze") then Some (flag.Mode Analyze) else
     (if bytes_eq name (codes "extend-check") then Some flag.Extend else
     (if bytes_eq name (codes "force") then Some flag.Force else
-    (if bytes_eq name (codes "silent") then Some flag.Silent else None))))))
+    (if bytes_eq name (codes "silent") then Some flag.Silent else
+    valued_flag name)))))))
 
 -- Below, a list of options has None where one is not known.
 

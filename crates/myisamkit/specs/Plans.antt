@@ -1,7 +1,8 @@
 -- The request that a plan is.
 use Rattle.myisamkit.specs.declared.words.Plan.{Plan}
 use Rattle.myisamkit.specs.declared.words.Plan.TheVariants as plan
-use Rattle.myisamkit.specs.Words.{Request, usage, chk, create, dump, tables_named}
+use Rattle.myisamkit.specs.Words.{Request, usage, chk, create, dump}
+use Rattle.myisamkit.specs.Reading.{tables_named}
 
 abbrev pub asked : Plan → Request
 asked plan.Usage = usage

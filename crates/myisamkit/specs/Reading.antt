@@ -1,5 +1,6 @@
--- How words are read, one after the other, and the request that a plan is.
-use Rattle.std.specs.Prelude.{ℕ, Bool, ◌&&◌, ◌||◌, not, is_none, is_some, true, false, List, [], ◌∷◌, Option, None, Some, option_and_then, option_map, if◌then◌else◌}
+-- How words are read, one after the other.
+use Rattle.std.specs.Prelude.{ℕ, Bool, ◌&&◌, ◌||◌, not, is_none, is_some, true, false, List, [], ◌∷◌, Option, None, Some, option_and_then, option_map, map, String, string_bytes, if◌then◌else◌}
+use Rattle.std.specs.declared.alloc.Global.{Global}
 use Rattle.myisamkit.specs.declared.options.Mode.{Mode}
 use Rattle.myisamkit.specs.declared.options.Mode.TheVariants.{Check}
 use Rattle.myisamkit.specs.declared.options.Flag.{Flag}
@@ -7,7 +8,9 @@ use Rattle.myisamkit.specs.declared.options.Flag.TheVariants as flag
 use Rattle.myisamkit.specs.declared.options.Options.{Options}
 use Rattle.myisamkit.specs.declared.options.Seen.{Seen}
 use Rattle.myisamkit.specs.declared.words.Read.{Read}
-use Rattle.myisamkit.specs.Words.{is_end, is_option, is_name, names_table, flags_of}
+use Rattle.myisamkit.specs.declared.words.Names.{Names}
+use Rattle.myisamkit.specs.Options.{sort_flag}
+use Rattle.myisamkit.specs.Words.{is_end, is_option, is_name, names_table, flags_of, before_valued, has_dash, table_name}
 
 abbrev pub seen_with_mode : Seen → Option Mode → Mode → Option Seen
 seen_with_mode seen None mode = Some (record seen { mode = Some mode })
@@ -37,16 +40,27 @@ options_seen seen = record { mode = mode_seen seen.mode; extend = seen.extend; f
 abbrev pub read_name : Read → List ℕ → Option Read
 read_name read word = if is_name word then Some (record read { named = true }) else None
 
--- options more
+-- options more, of which the last one may wait for its value
+abbrev pub read_flags_by : Option (List ℕ) → Read → List ℕ → Option Read
+read_flags_by None read word = option_map (λ seen. record read { seen = seen }) (seen_after read.seen (flags_of word))
+read_flags_by (Some front) read word = option_map (λ seen. record read { seen = seen; waits = true }) (seen_after read.seen (flags_of front))
+
 abbrev pub read_flags : Read → List ℕ → Option Read
-read_flags read word = option_map (λ seen. record read { seen = seen }) (seen_after read.seen (flags_of word))
+read_flags read word = read_flags_by (before_valued word) read word
+
+-- the option that waits for its value, with this one
+abbrev pub read_value : Read → List ℕ → Option Read
+read_value read word =
+    if has_dash word then None else
+    option_map (λ seen. record read { seen = seen; waits = false }) (option_and_then (seen_with read.seen) (sort_flag word))
 
 -- a word more
 abbrev pub read_word : Read → List ℕ → Option Read
 read_word read word =
-    if read.ended then read_name read word else
+    if read.waits then read_value read word else
+    (if read.ended then read_name read word else
     (if is_end word then Some (record read { ended = true }) else
-    (if is_option word then read_flags read word else read_name read word))
+    (if is_option word then read_flags read word else read_name read word)))
 
 -- words one after the other
 abbrev pub read_words : Read → List (List ℕ) → Option Read
@@ -55,11 +69,11 @@ read_words read (word ∷ words) = option_and_then (λ next. read_words next wor
 
 -- nothing was read
 abbrev pub read_none : Read
-read_none = record { seen = record { mode = None; extend = false; force = false; silent = false }; ended = false; named = false }
+read_none = record { seen = record { mode = None; extend = false; force = false; silent = false }; waits = false; ended = false; named = false }
 
--- the options of what was read, where there was a name
+-- the options of what was read, where there was a name, and no option waits for its value
 abbrev pub options_read : Read → Option Options
-options_read read = if read.named then Some (options_seen read.seen) else None
+options_read read = if read.named && not read.waits then Some (options_seen read.seen) else None
 
 -- the options among the words behind `chk`, where they are accepted
 abbrev pub chk_options : List (List ℕ) → Option Options
@@ -90,3 +104,24 @@ create_left ended name file [] = both_names name file
 create_left ended name file (word ∷ words) =
     if names_table ended word then option_and_then (λ both. create_left ended both.0 both.1 words) (one_name_more name file word) else
     (if is_end word then create_left true name file words else None)
+
+-- ---- the tables that words name, one word after the other
+
+-- no word was gone past
+abbrev pub names_none : Names
+names_none = record { ended = false; waits = false }
+
+-- the next word is a name of a table, and no value of the option before it
+abbrev pub is_table : Names → List ℕ → Bool
+is_table names word = not (names.waits && not (has_dash word)) && names_table names.ended word
+
+abbrev pub names_behind : Names → List ℕ → Names
+names_behind names word = record { ended = names.ended || is_end word; waits = not names.ended && is_some (before_valued word) }
+
+-- the tables that the words from here on name
+abbrev pub tables_left : Names → List (List ℕ) → List (List ℕ)
+tables_left names [] = []
+tables_left names (word ∷ words) = if is_table names word then table_name word ∷ tables_left (names_behind names word) words else tables_left (names_behind names word) words
+
+abbrev pub tables_named : List (String Global) → List (List ℕ)
+tables_named words = tables_left names_none (map (λ w. string_bytes w) words)

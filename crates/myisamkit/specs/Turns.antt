@@ -1,6 +1,6 @@
 -- A table's turn in a run: what is said, answered and done, by the options and by what the files hold. Each mode has a case
 -- in each definition.
-use Rattle.std.specs.Prelude.{◌≡◌, ◌⊎◌, ◌+◌, ◌||◌, ◌&&◌, ℕ, Bool, true, false, List, [], ◌∷◌, ◌++◌, if◌then◌else◌, Some, None, Result, Ok, Err}
+use Rattle.std.specs.Prelude.{◌≡◌, ◌⊎◌, ◌+◌, ◌||◌, ◌&&◌, ℕ, Bool, true, false, List, [], ◌∷◌, ◌++◌, length, if◌then◌else◌, Some, None, Result, Ok, Err}
 use Rattle.std.specs.Str.{bytes_eq}
 use Rattle.myi_base.specs.Holding.{Holding}
 use Rattle.myi_defs.specs.declared.types.Defs.{Defs}
@@ -15,19 +15,26 @@ use Rattle.myi_pair.specs.Recovered.{Recovered}
 use Rattle.myi_check.specs.Checking.{findings_in}
 use Rattle.myi_repair.specs.declared.fault.RepairFault.{RepairFault}
 use Rattle.myi_repair.specs.declared.fault.RepairFault.TheVariants as repair
-use Rattle.myi_repair.specs.Names.{FourNames, names_for, KeepsBut, Clears}
+use Rattle.myi_repair.specs.Names.{FourNames, names_for, new_index_file, KeepsBut, Clears}
 use Rattle.myi_repair.specs.Faults.{repair_fault, RoseAtMost}
 use Rattle.myi_repair.specs.Opening.{Table, table_in, IsTable}
 use Rattle.myi_repair.specs.Gathering.{report_of}
 use Rattle.myi_repair.specs.Repaired.{OldOrNew}
+use Rattle.myi_order.specs.declared.fault.OrderFault.{OrderFault}
+use Rattle.myi_order.specs.declared.fault.OrderFault.TheVariants as order
+use Rattle.myi_order.specs.KeyParts.{key_parts}
+use Rattle.myi_order.specs.Numbers.{all_per, IsAnalyzed}
+use Rattle.myi_order.specs.Analyzing as analyzing
+use Rattle.myi_order.specs.Sorting as sorting
+use Rattle.myi_order.specs.Faults as analyzing_faults
 use Rattle.myisamkit.specs.declared.status.Status.{Status}
 use Rattle.myisamkit.specs.declared.status.Status.TheVariants as status
 use Rattle.myisamkit.specs.declared.status.Stop.{Stop}
 use Rattle.myisamkit.specs.declared.status.Stop.TheVariants as stop
 use Rattle.myisamkit.specs.declared.options.Mode.{Mode}
-use Rattle.myisamkit.specs.declared.options.Mode.TheVariants.{Check, Recover, Describe}
+use Rattle.myisamkit.specs.declared.options.Mode.TheVariants.{Check, Recover, Describe, Analyze, Sort}
 use Rattle.myisamkit.specs.declared.options.Options.{Options}
-use Rattle.myisamkit.specs.Lines.{recovered_line, fault_line, ok_line, finding_lines}
+use Rattle.myisamkit.specs.Lines.{recovered_line, fault_line, ok_line, finding_lines, analyzed_lines, sorted_line, order_line}
 use Rattle.myisamkit.specs.Descriptions.{description}
 
 -- what a turn comes to that nothing cuts off: its lines, its status, and what the files hold then
@@ -160,10 +167,6 @@ CheckStops o now before after name stop.File m n = CheckCutOff (goes_on o name m
 CheckStops o now before after name stop.Memory m n = CheckCutOff (goes_on o name m) o now 0 before after name m n
 CheckStops o now before after name stop.Sink m n = (n ≡ m) ⊎ CheckDone o now name m n
 
--- a check with these options may answer that something was found
-abbrev pub MayFind : Options → Type 0
-MayFind o = (o.mode ≡ Check) × (o.force ≡ false)
-
 -- ---- description
 
 abbrev pub described_text : Options → List ℕ → Result opening.Table TableFault → List ℕ
@@ -178,12 +181,108 @@ described_status (Ok t) = status.Ok
 abbrev pub describe_turn : Options → List ℕ → Holding → Turn
 describe_turn o name m = record { text = described_text o name (opening.table_in (index_file name) (rows_file name) m); status = described_status (opening.table_in (index_file name) (rows_file name) m); files = m }
 
+-- ---- analysis and sorting
+
+-- the status of a fault
+abbrev pub order_status : OrderFault → Status
+order_status (order.Absent f) = status.Absent
+order_status (order.Def f) = status.Refused
+order_status (order.NoKey keys) = status.Refused
+order_status (order.Damaged f) = status.Findings
+order_status order.File = status.FileFault
+order_status order.Memory = status.Memory
+
+-- the index file of a table holds these bytes, and its working file is gone
+abbrev pub with_index : List ℕ → List ℕ → Holding → Holding
+with_index name x m q = if bytes_eq q (index_file name) then Some x else (if bytes_eq q (new_index_file name) then None else m q)
+
+-- a table with which something is wrong keeps its files
+abbrev pub analyzed_turn : Options → List ℕ → Result opening.Table OrderFault → Holding → Turn
+analyzed_turn o name (Err f) m = record { text = order_line name 0 f; status = order_status f; files = m }
+analyzed_turn o name (Ok t) m = record {
+  text = unless_silent o.silent (analyzed_lines name (key_parts t.defs (analyzing.rows_in t)));
+  status = status.Ok;
+  files = with_index name (analyzing.analyzed_index t) m;
+}
+
+abbrev pub analyze_turn : Options → List ℕ → Holding → Turn
+analyze_turn o name m = analyzed_turn o name (analyzing.table_in name m) m
+
+-- of a table with which nothing is wrong the index file gets the numbers of its rows, and keeps all other bytes
+abbrev pub StoresNumbers : List ℕ → Holding → Type 0
+StoresNumbers name m = (t : opening.Table) → analyzing.table_in name m ≡ Ok t
+    → IsAnalyzed t.defs (length (analyzing.rows_in t)) (all_per (key_parts t.defs (analyzing.rows_in t))) t.index (analyzing.analyzed_index t)
+
+-- a table was analyzed, or refused
+pub record AnalyzeDone (o : Options) (name : List ℕ) (m n : Holding) : Type 0 where
+  pub files : n ≡ (analyze_turn o name m).files
+  pub numbers : StoresNumbers name m
+
+-- No numbers were stored, the files' count of faults having risen from the one number to the other, of which the status tells
+-- so many: both files of the table and all others are as before, but the working index file; it is not left where no other
+-- file call failed.
+pub record StoresNone (told before after : ℕ) (name : List ℕ) (m n : Holding) : Type 0 where
+  pub both : analyzing.KeepsBoth name m n
+  pub others : analyzing.OthersStay name m n
+  pub cleared : RoseAtMost told before after → analyzing_faults.Clears (new_index_file name) m n
+
+-- an analysis was cut off: where memory was wanting, perhaps behind it
+abbrev pub AnalyzeCutOff : Options → ℕ → ℕ → ℕ → List ℕ → Holding → Holding → Type 0
+AnalyzeCutOff o told before after name m n = StoresNone told before after name m n ⊎ AnalyzeDone o name m n
+
+-- what a stop leaves of the turn of a table that is analyzed
+abbrev pub AnalyzeStops : Options → ℕ → ℕ → List ℕ → Stop → Holding → Holding → Type 0
+AnalyzeStops o before after name stop.File m n = AnalyzeCutOff o 1 before after name m n
+AnalyzeStops o before after name stop.Memory m n = AnalyzeCutOff o 0 before after name m n
+AnalyzeStops o before after name stop.Sink m n = AnalyzeDone o name m n
+
+-- a table that has no such key, or with which something is wrong, keeps its files
+abbrev pub sorted_turn : Options → ℕ → ℕ → List ℕ → Result opening.Table OrderFault → Holding → Turn
+sorted_turn o now key name (Err f) m = record { text = order_line name key f; status = order_status f; files = m }
+sorted_turn o now key name (Ok t) m = record {
+  text = unless_silent o.silent (sorted_line name key (sorting.report_of t key));
+  status = status.Ok;
+  files = replaced (names_for name) (sorting.sorted_data t key) (sorting.sorted_index t key now) m;
+}
+
+abbrev pub sort_turn : Options → ℕ → ℕ → List ℕ → Holding → Turn
+sort_turn o now key name m = sorted_turn o now key name (sorting.table_in name key m) m
+
+-- what sorting makes of a table is a table of the same rows in the order of the key, and nothing is wrong with it
+abbrev pub IsSortedBy : ℕ → ℕ → List ℕ → Holding → Type 0
+IsSortedBy now key name m = (t : opening.Table) → sorting.table_in name key m ≡ Ok t
+    → sorting.Ordered t key now (sorting.sorted_data t key) (sorting.sorted_index t key now) × AreSound (sorting.sorted_data t key) (sorting.sorted_index t key now)
+
+-- a table was sorted, or refused
+pub record SortDone (o : Options) (now key : ℕ) (name : List ℕ) (m n : Holding) : Type 0 where
+  pub files : n ≡ (sort_turn o now key name m).files
+  pub sorted : IsSortedBy now key name m
+
+-- sorting was cut off, as a repair may be
+pub record SortCutOff (now key told before after : ℕ) (name : List ℕ) (m n : Holding) : Type 0 where
+  pub whole : sorting.OldOrNew name key now m n
+  pub others : KeepsBut (names_for name) m n
+  pub cleared : (more : ℕ) → RoseAtMost (told + more) before after → Clears more (names_for name) m n
+
+-- what a stop leaves of the turn of a table that is sorted
+abbrev pub SortStops : Options → ℕ → ℕ → ℕ → ℕ → List ℕ → Stop → Holding → Holding → Type 0
+SortStops o now key before after name stop.File m n = SortCutOff now key 1 before after name m n
+SortStops o now key before after name stop.Memory m n = SortCutOff now key 0 before after name m n
+SortStops o now key before after name stop.Sink m n = SortDone o now key name m n
+
+-- that something was found may be answered by a check with these options, without force, by an analysis, and where rows are
+-- to be sorted
+abbrev pub MayFind : Options → Type 0
+MayFind o = ((o.mode ≡ Check) × (o.force ≡ false)) ⊎ ((o.mode ≡ Analyze) ⊎ ((key : ℕ) × (o.mode ≡ Sort key)))
+
 -- ---- all modes: whether trees are laid side by side makes no difference
 
 abbrev pub turn_by : Mode → Options → ℕ → List ℕ → Holding → Turn
 turn_by (Recover parallel) o now name m = recover_turn o now name m
 turn_by Check o now name m = check_turn o now name m
 turn_by Describe o now name m = describe_turn o name m
+turn_by Analyze o now name m = analyze_turn o name m
+turn_by (Sort key) o now name m = sort_turn o now key name m
 
 -- the turn of the table of this name
 unfoldable pub turn : Options → ℕ → List ℕ → Holding → Turn
@@ -193,8 +292,10 @@ abbrev pub TurnRecoversBy : Mode → Options → ℕ → List ℕ → Holding �
 TurnRecoversBy (Recover parallel) o now name m = IsRecovered o now name m
 TurnRecoversBy Check o now name m = CheckRecovers (goes_on o name m) o now name m
 TurnRecoversBy Describe o now name m = Unit {0}
+TurnRecoversBy Analyze o now name m = StoresNumbers name m
+TurnRecoversBy (Sort key) o now name m = IsSortedBy now key name m
 
--- what is repaired in a turn is recovered
+-- what is repaired in a turn is recovered, what is analyzed stores its numbers, and what is sorted is in order
 unfoldable pub TurnRecovers : Options → ℕ → List ℕ → Holding → Type 0
 TurnRecovers o now name m = TurnRecoversBy o.mode o now name m
 
@@ -202,6 +303,8 @@ abbrev pub CutsTurnOffBy : Mode → Options → ℕ → ℕ → ℕ → ℕ → 
 CutsTurnOffBy (Recover parallel) o now told before after name m n = RepairCutOff o now told before after name m n
 CutsTurnOffBy Check o now told before after name m n = CheckCutOff (goes_on o name m) o now told before after name m n
 CutsTurnOffBy Describe o now told before after name m n = n ≡ m
+CutsTurnOffBy Analyze o now told before after name m n = AnalyzeCutOff o told before after name m n
+CutsTurnOffBy (Sort key) o now told before after name m n = SortCutOff now key told before after name m n
 
 -- a file fault or want of memory cut the turn off
 unfoldable pub CutsTurnOff : Options → ℕ → ℕ → ℕ → ℕ → List ℕ → Holding → Holding → Type 0
@@ -212,12 +315,14 @@ pub record TurnDone (o : Options) (now : ℕ) (name : List ℕ) (m n : Holding) 
   pub files : n ≡ (turn o now name m).files
   pub recovers : TurnRecovers o now name m
 
--- the output failed in a turn: a repair is done before its line is written, but the lines on what a check found are written
+-- the output failed in a turn: a repair, an analysis and sorting are done before their lines are written, but the lines on what a check found are written
 -- before a repair begins
 abbrev pub FailsInTurnBy : Mode → Options → ℕ → List ℕ → Holding → Holding → Type 0
 FailsInTurnBy (Recover parallel) o now name m n = TurnDone o now name m n
 FailsInTurnBy Check o now name m n = (n ≡ m) ⊎ TurnDone o now name m n
 FailsInTurnBy Describe o now name m n = n ≡ m
+FailsInTurnBy Analyze o now name m n = TurnDone o now name m n
+FailsInTurnBy (Sort key) o now name m n = TurnDone o now name m n
 
 unfoldable pub FailsInTurn : Options → ℕ → List ℕ → Holding → Holding → Type 0
 FailsInTurn o now name m n = FailsInTurnBy o.mode o now name m n

@@ -1,12 +1,12 @@
 -- What the words of a command line ask for (MySQL Reference Manual, "myisamchk"; the commands are this
 -- project's own).
-use Rattle.std.specs.Prelude.{◌-◌, ◌&&◌, ◌||◌, true, false, ◌==◌, not, nat_lt, nat_le, ℕ, Bool, List, [], ◌∷◌, ◌++◌, length, take, drop, map, filter, slice_index, if◌then◌else◌, codes, String, string_bytes, Option}
+use Rattle.std.specs.Prelude.{◌-◌, None, Some, ◌&&◌, ◌||◌, true, false, ◌==◌, not, nat_lt, nat_le, ℕ, Bool, List, [], ◌∷◌, ◌++◌, length, take, drop, map, filter, slice_index, if◌then◌else◌, codes, String, string_bytes, Option}
 use Rattle.std.specs.List.{list_all, flat_map}
 use Rattle.std.specs.Str.{bytes_eq}
 use Rattle.std.specs.declared.alloc.Global.{Global}
 use Rattle.myisamkit.specs.declared.options.Flag.{Flag}
 use Rattle.myisamkit.specs.declared.options.Options.{Options}
-use Rattle.myisamkit.specs.Options.{letter_flag, long_flag, go_together, options_in}
+use Rattle.myisamkit.specs.Options.{letter_flag, long_flag, sort_records, go_together, options_in}
 
 -- A command with its options and the names of its tables, or a refusal. `create` makes one table, by the text of a file, and
 -- `dump` prints one.
@@ -26,7 +26,7 @@ is_end word = bytes_eq word (codes "--")
 abbrev pub is_option : List ℕ → Bool
 is_option word = nat_lt 1 (length word) && (slice_index word 0 == 45)
 
--- the word names a table, where the word -- came before or not
+-- the word is a name, where the word -- came before or not
 abbrev pub names_table : Bool → List ℕ → Bool
 names_table ended word = ended || not (is_end word || is_option word)
 
@@ -37,6 +37,16 @@ is_long word = bytes_eq (take 2 word) (codes "--")
 -- the options that a word is: a long one, or one for each letter
 abbrev pub flags_of : List ℕ → List (Option Flag)
 flags_of word = if is_long word then long_flag (drop 2 word) ∷ [] else map letter_flag (drop 1 word)
+
+-- what a word says before its last option, where the value of that option is the word behind it
+abbrev pub before_valued : List ℕ → Option (List ℕ)
+before_valued word =
+    if bytes_eq word (codes "--sort-records") then Some [] else
+    (if (is_option word && not (is_long word)) && (slice_index word (length word - 1) == 82) then Some (take (length word - 1) word) else None)
+
+-- a word that is no value
+abbrev pub has_dash : List ℕ → Bool
+has_dash word = slice_index word 0 == 45
 
 -- a name has 1 to 200 bytes, none of them below 32
 abbrev pub is_name : List ℕ → Bool
@@ -51,6 +61,24 @@ abbrev pub table_name : List ℕ → List ℕ
 table_name word = if names_index word then take (length word - 4) word else word
 
 -- ---- what a list of words is
+
+-- letters, where there are some
+abbrev pub letters_alone : List ℕ → List (List ℕ)
+letters_alone word = if nat_lt 1 (length word) then word ∷ [] else []
+
+-- an option and the words behind it, of which the first is its value, but where that begins with a dash
+abbrev pub joined : List ℕ → List ℕ → List (List ℕ) → List (List ℕ)
+joined front word [] = word ∷ []
+joined front word (next ∷ words) = if has_dash next then word ∷ (next ∷ words) else letters_alone front ++ ((codes "--" ++ (sort_records ++ next)) ∷ words)
+
+abbrev pub spelled_by : Option (List ℕ) → List ℕ → List (List ℕ) → List (List ℕ)
+spelled_by None word words = word ∷ words
+spelled_by (Some front) word words = joined front word words
+
+-- the same words, in which each option that has a value is long and has it behind it
+abbrev pub spelled_out : List (List ℕ) → List (List ℕ)
+spelled_out [] = []
+spelled_out (word ∷ words) = if is_end word then word ∷ words else spelled_by (before_valued word) word (spelled_out words)
 
 -- the words before the first --, and those behind it
 abbrev pub before_end : List (List ℕ) → List (List ℕ)
@@ -73,11 +101,11 @@ abbrev pub is_empty : List (List ℕ) → Bool
 is_empty [] = true
 is_empty (word ∷ words) = false
 
--- the words behind a command have a name, all names are in form, and the options go together
+-- words that are spelled out have a name, all names are in form, and the options go together
 abbrev pub are_accepted : List (List ℕ) → Bool
 are_accepted words = (not (is_empty (names_in words)) && list_all is_name (names_in words)) && go_together (flags_in words)
 
--- what the words behind the command ask for
+-- what words that are spelled out ask for, behind the command
 abbrev pub plan_chk : List (List ℕ) → Request
 plan_chk words = if are_accepted words then chk (options_in (flags_in words)) (map table_name (names_in words)) else usage
 
@@ -105,13 +133,9 @@ plan_dump words = dump_of (flags_in words) (names_in words)
 abbrev pub plan : List (List ℕ) → Request
 plan [] = usage
 plan (command ∷ words) =
-    if bytes_eq command (codes "chk") then plan_chk words else
+    if bytes_eq command (codes "chk") then plan_chk (spelled_out words) else
     (if bytes_eq command (codes "create") then plan_create words else
     (if bytes_eq command (codes "dump") then plan_dump words else usage))
-
--- the tables that the words behind a command name
-abbrev pub tables_named : List (String Global) → List (List ℕ)
-tables_named words = map table_name (names_in (map (λ w. string_bytes w) words))
 
 -- what these words ask for
 abbrev pub request_of : List (String Global) → Request

@@ -20,6 +20,7 @@
 //! `crates/myi_tests/src/failing_calls.rt` runs it, over `MemFiles`.
 #![tactic(auto)]
 
+mod analyze;
 mod check;
 mod create;
 mod describe;
@@ -29,8 +30,10 @@ mod host;
 mod laws;
 mod lines;
 mod options;
+mod ordering;
 mod recover;
 mod say;
+mod sort;
 mod status;
 mod tables;
 mod top;

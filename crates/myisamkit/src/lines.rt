@@ -1,10 +1,12 @@
 //! The lines that a run prints.
 ghost use Rattle.std.specs.Prelude.{◌≡◌, ◌++◌, string_bytes, IfOk};
+ghost use Rattle.std.specs.List.{flat_map};
 ghost use Rattle.myi_opening.specs.Names.{file_of};
 ghost use Rattle.myisamkit.specs.Lines as spec;
 
 use myi_defs::DefFault;
 use myi_opening::TableFile;
+use myi_order::KeyParts;
 use myi_pair::{Finding, HeaderItem};
 use myi_repair::Report;
 use std::alloc::{AllocError, Global};
@@ -128,6 +130,84 @@ pub(crate) fn push_finding(
         Finding::Key { key, at } => write!(text, "{name}: error: key {key} at {at}\n"),
         Finding::Rows { at } => write!(text, "{name}: error: data at {at}\n"),
     }
+}
+
+pub(crate) fn sorted_line(
+    alloc: Global,
+    name: &str,
+    key: u8,
+    report: Report,
+) -> Result<String, AllocError>
+    ensures { IfOk result (λ line. string_bytes line ≡ spec.sorted_line name.now key report) }
+{
+    let Report {
+        kept,
+        repeats: _,
+        old_length,
+        new_length,
+    } = report;
+    format!(in alloc;
+        "{name}: sorted {kept} rows by key {key}, data {old_length} to {new_length} bytes\n"
+    )
+}
+
+pub(crate) fn no_key_line(alloc: Global, name: &str, key: u8) -> Result<String, AllocError>
+    ensures { IfOk result (λ line.
+        string_bytes line ≡ spec.refused_line name.now (spec.no_key key)) }
+{
+    format!(in alloc; "{name}: refused: no key {key}\n")
+}
+
+/// The lines on a table that was analyzed.
+pub(crate) fn analyzed_lines(
+    alloc: Global,
+    name: &str,
+    parts: &[KeyParts],
+) -> Result<String, AllocError>
+    ensures { IfOk result (λ text. string_bytes text ≡ spec.analyzed_lines name.now parts.now) }
+{
+    let mut text = String::new(alloc);
+    push_all_parts(&mut text, name, parts)?;
+    push_analyzed(&mut text, name)?;
+    Ok(text)
+}
+
+fn push_all_parts(text: &mut String, name: &str, parts: &[KeyParts]) -> Result<(), AllocError>
+    ensures { IfOk result (λ _. string_bytes text.new
+        ≡ string_bytes text.old ++ flat_map (spec.parts_line name.now) parts.now) }
+{
+    for key in parts {
+        push_parts(text, name, key)?;
+    }
+    Ok(())
+}
+
+fn push_analyzed(text: &mut String, name: &str) -> Result<(), AllocError>
+    ensures { IfOk result (λ _. string_bytes text.new
+        ≡ string_bytes text.old ++ spec.analyzed_line name.now) }
+{
+    write!(text, "{name}: analyzed\n")
+}
+
+fn push_parts(text: &mut String, name: &str, parts: &KeyParts) -> Result<(), AllocError>
+    ensures { IfOk result (λ _. string_bytes text.new
+        ≡ string_bytes text.old ++ spec.parts_line name.now parts.now) }
+{
+    let key = parts.key;
+    write!(text, "{name}: key {key} rows per prefix")?;
+    push_numbers(text, parts.per.as_slice())?;
+    text.push('\n')
+}
+
+fn push_numbers(text: &mut String, numbers: &[u64]) -> Result<(), AllocError>
+    ensures { IfOk result (λ _. string_bytes text.new
+        ≡ string_bytes text.old ++ flat_map spec.number_text numbers.now) }
+{
+    for number in numbers {
+        let number = *number;
+        write!(text, " {number}")?;
+    }
+    Ok(())
 }
 
 fn item_word(item: HeaderItem) -> &'static str

@@ -1,6 +1,8 @@
 //! The options of a command: `Flag` is what one of them says, `Seen` which were met so far, and `Options`
 //! what all of them ask for.
-ghost use Rattle.std.specs.Prelude.{◌≡◌};
+ghost use Rattle.std.specs.Prelude.{◌≡◌, None, Some, nat_le, if◌then◌else◌};
+ghost use Rattle.std.specs.List.{list_all};
+ghost use Rattle.myi_defs.specs.Text.{is_digit, value};
 ghost use Rattle.myisamkit.specs.Options as spec;
 ghost use Rattle.myisamkit.specs.Reading.{seen_with, options_seen};
 ghost use Rattle.myisamkit.specs.Turns.{without_extend};
@@ -12,6 +14,10 @@ pub(crate) enum Mode {
     /// The trees are laid by workers side by side, or one after the other; the files are the same either way.
     Recover { parallel: bool },
     Describe,
+    /// The rows per prefix of each key are counted, printed and stored.
+    Analyze,
+    /// The rows are put in the order of the key of this number, from 1.
+    Sort { key: u8 },
 }
 
 /// What one option says.
@@ -112,6 +118,7 @@ pub(crate) fn letter_flag(letter: u8) -> Option<Flag>
         b'r' => Some(Flag::Mode(Mode::Recover { parallel: false })),
         b'p' => Some(Flag::Mode(Mode::Recover { parallel: true })),
         b'd' => Some(Flag::Mode(Mode::Describe)),
+        b'a' => Some(Flag::Mode(Mode::Analyze)),
         b'e' => Some(Flag::Extend),
         b'f' => Some(Flag::Force),
         b's' => Some(Flag::Silent),
@@ -128,9 +135,68 @@ pub(crate) fn long_flag(name: &str) -> Option<Flag>
         "recover" => Some(Flag::Mode(Mode::Recover { parallel: false })),
         "parallel-recover" => Some(Flag::Mode(Mode::Recover { parallel: true })),
         "description" => Some(Flag::Mode(Mode::Describe)),
+        "analyze" => Some(Flag::Mode(Mode::Analyze)),
         "extend-check" => Some(Flag::Extend),
         "force" => Some(Flag::Force),
         "silent" => Some(Flag::Silent),
-        _ => None,
+        _ => valued_flag(name),
     }
+}
+
+// What a long option says that has its value behind it.
+fn valued_flag(name: &str) -> Option<Flag>
+    ensures { result ≡ spec.valued_flag name.now }
+{
+    match name.strip_prefix("sort-records=") {
+        Some(value) => sort_flag(value),
+        None => None,
+    }
+}
+
+/// What the option that sorts rows says with this value.
+pub(crate) fn sort_flag(value: &str) -> Option<Flag>
+    ensures { result ≡ spec.sort_flag value.now }
+{
+    let key = key_of(value.as_bytes())?;
+    Some(Flag::Mode(Mode::Sort { key }))
+}
+
+// The number of a key, of which a table has at most 64, in at most twenty digits.
+fn key_of(digits: &[u8]) -> Option<u8>
+    ensures { result ≡ spec.key_of digits.now }
+{
+    if digits.is_empty() || digits.len() > 20 || !are_digits(digits) {
+        return None;
+    }
+    let key = number_up_to_64(digits)?;
+    if key == 0 {
+        return None;
+    }
+    Some(key)
+}
+
+fn are_digits(word: &[u8]) -> bool
+    ensures { result ≡ list_all is_digit word.now }
+{
+    word.iter().all(|byte| is_digit(*byte))
+}
+
+fn is_digit(byte: u8) -> bool
+    ensures { result ≡ is_digit byte }
+{
+    byte >= b'0' && byte <= b'9'
+}
+
+// The number that digits write, where it is at most 64.
+fn number_up_to_64(digits: &[u8]) -> Option<u8>
+    ensures { result ≡ (if nat_le (value digits.now) 64 then Some (value digits.now) else None) }
+{
+    let mut number = 0u16;
+    for digit in digits {
+        number = number * 10 + (*digit as u16).saturating_sub(48);
+        if number > 64 {
+            return None;
+        }
+    }
+    Some(number as u8)
 }

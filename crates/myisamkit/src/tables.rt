@@ -3,7 +3,7 @@ ghost use Rattle.std.specs.Prelude.{◌≡◌, ◌≢◌, ◌+◌, ℕ, Err, IfO
 ghost use Rattle.myi_base.specs.Holding.{IfTold, Told};
 ghost use Rattle.myi_base.specs.Output.{Appends, AppendsPart};
 ghost use Rattle.myi_base.specs.Causes.{HasCause};
-ghost use Rattle.myisamkit.specs.Words.{tables_named};
+ghost use Rattle.myisamkit.specs.Reading.{tables_named};
 ghost use Rattle.myisamkit.specs.Statuses.{IsFault};
 ghost use Rattle.myisamkit.specs.Turns.{MayFind};
 ghost use Rattle.myisamkit.specs.Runs.{tables_run, TablesDone, TablesStop};
@@ -12,7 +12,7 @@ use crate::host::Host;
 use crate::options::Options;
 use crate::status::{Status, Stop};
 use crate::turn::run_table;
-use crate::words::{is_end, names_table, table_name};
+use crate::words::{Names, table_name};
 use myi_io::{Files, Sink};
 use std::thread::Threads;
 
@@ -50,11 +50,10 @@ pub(crate) fn run_tables<R: Threads + Sync, F: Files, O: Sink>(
     ensures sink { HasCause Stop.Sink (O.faults out.old) (O.faults out.new) result }
 {
     let mut status = Status::Ok;
-    let mut ended = false;
+    let mut names = Names::new();
     for word in words {
         let word = word.as_str();
-        if !names_table(word, ended) {
-            ended = ended || is_end(word);
+        if !names.take(word) {
             continue;
         }
         let table = run_table(host, files, out, options, table_name(word), now)?;

@@ -6,11 +6,13 @@ ghost use Rattle.myi_base.specs.Causes.{HasCause};
 ghost use Rattle.myisamkit.specs.Statuses.{IsFault};
 ghost use Rattle.myisamkit.specs.Turns.{turn, MayFind, TurnDone, TurnStops};
 
+use crate::analyze::analyze_table;
 use crate::check::check_table;
 use crate::describe::describe_table;
 use crate::host::Host;
 use crate::options::{Mode, Options};
 use crate::recover::recover_table;
+use crate::sort::{Order, sort_table};
 use crate::status::{Status, Stop};
 use myi_io::{Files, Sink};
 use std::thread::Threads;
@@ -45,6 +47,11 @@ pub(crate) fn run_table<R: Threads + Sync, F: Files, O: Sink>(
     match options.mode {
         Mode::Recover { .. } => recover_table(host, files, out, options, name, now),
         Mode::Describe => describe_table(host.alloc, files, out, options, name),
+        Mode::Analyze => analyze_table(host.alloc, files, out, options, name),
+        Mode::Sort { key } => {
+            let order = Order { key, now };
+            sort_table(host.alloc, files, out, options, name, order)
+        }
         Mode::Check => check_table(host, files, out, options, name, now),
     }
 }

@@ -6,7 +6,7 @@ ghost use Rattle.myisamkit.specs.Options.{letter_flag};
 ghost use Rattle.myisamkit.specs.Reading as reading;
 ghost use Rattle.myisamkit.specs.Plans.{asked};
 
-use crate::options::{Options, Seen, letter_flag, long_flag};
+use crate::options::{Options, Seen, letter_flag, long_flag, sort_flag};
 
 /// What the words ask for.
 #[derive(Clone, Copy)]
@@ -28,6 +28,8 @@ pub(crate) enum Plan<'a> {
 #[derive(Clone, Copy)]
 pub(crate) struct Read {
     pub(crate) seen: Seen,
+    /// The last option has its value in the next word.
+    pub(crate) waits: bool,
     /// The word came behind which all are names.
     pub(crate) ended: bool,
     /// A name came.
@@ -47,7 +49,7 @@ pub(crate) fn read_words(words: &[String]) -> Plan<'_>
 }
 
 fn plan_chk(words: &[String]) -> Plan<'_>
-    ensures { asked result ≡ spec.plan_chk (map (λ w. string_bytes w) words.now) }
+    ensures { asked result ≡ spec.plan_chk (spec.spelled_out (map (λ w. string_bytes w) words.now)) }
 {
     match chk_options(words) {
         Some(options) => Plan::Chk { options, words },
@@ -131,7 +133,7 @@ fn chk_options(words: &[String]) -> Option<Options>
     ensures { result ≡ reading.chk_options (map (λ w. string_bytes w) words.now) }
 {
     let read = read_all(words)?;
-    if read.named {
+    if read.named && !read.waits {
         Some(read.seen.options())
     } else {
         None
@@ -148,6 +150,7 @@ fn read_all(words: &[String]) -> Option<Read>
             force: false,
             silent: false,
         },
+        waits: false,
         ended: false,
         named: false,
     };
@@ -160,7 +163,9 @@ fn read_all(words: &[String]) -> Option<Read>
 fn read_word(read: Read, word: &str) -> Option<Read>
     ensures { result ≡ reading.read_word read word.now }
 {
-    if read.ended {
+    if read.waits {
+        read_value(read, word)
+    } else if read.ended {
         read_name(read, word)
     } else if is_end(word) {
         Some(Read {
@@ -190,8 +195,95 @@ fn read_name(read: Read, word: &str) -> Option<Read>
 fn read_flags(read: Read, word: &str) -> Option<Read>
     ensures { result ≡ reading.read_flags read word.now }
 {
-    let seen = seen_after(read.seen, word)?;
-    Some(Read { seen, ..read })
+    match before_valued(word) {
+        None => {
+            let seen = seen_after(read.seen, word)?;
+            Some(Read { seen, ..read })
+        }
+        Some(front) => {
+            let seen = seen_after(read.seen, front)?;
+            Some(Read {
+                seen,
+                waits: true,
+                ..read
+            })
+        }
+    }
+}
+
+fn read_value(read: Read, word: &str) -> Option<Read>
+    ensures { result ≡ reading.read_value read word.now }
+{
+    if has_dash(word) {
+        return None;
+    }
+    let seen = read.seen.with(sort_flag(word)?)?;
+    Some(Read {
+        seen,
+        waits: false,
+        ..read
+    })
+}
+
+// What a word says before its last option, where the value of that option is the word behind it.
+fn before_valued(word: &str) -> Option<&str>
+    ensures { option_map (λ front. front.now) result ≡ spec.before_valued word.now }
+{
+    if word == "--sort-records" {
+        Some("")
+    } else if is_option(word) && !is_long(word) {
+        word.strip_suffix("R")
+    } else {
+        None
+    }
+}
+
+fn is_long(word: &str) -> bool
+    ensures { result ≡ spec.is_long word.now }
+{
+    word.starts_with("--")
+}
+
+// A word that begins with a dash, and so is no value.
+fn has_dash(word: &str) -> bool
+    ensures { result ≡ spec.has_dash word.now }
+{
+    word.starts_with("-")
+}
+
+/// Where one stands among the words behind `chk` that are gone through for the tables that they name.
+#[derive(Clone, Copy)]
+pub(crate) struct Names {
+    /// The word came behind which all are names.
+    pub(crate) ended: bool,
+    /// The last option has its value in the next word.
+    pub(crate) waits: bool,
+}
+
+impl Names {
+    ghost use Rattle.std.specs.Prelude.{◌≡◌};
+    ghost use Rattle.myisamkit.specs.Reading as reading;
+
+    pub(crate) fn new() -> Self
+        ensures { result ≡ reading.names_none }
+    {
+        Names {
+            ended: false,
+            waits: false,
+        }
+    }
+
+    /// Goes past a word, and answers whether it names a table.
+    pub(crate) fn take(&mut self, word: &str) -> bool
+        ensures named { result ≡ reading.is_table self.old word.now }
+        ensures behind { self.new ≡ reading.names_behind self.old word.now }
+    {
+        let is_value = self.waits && !has_dash(word);
+        let named = !is_value && names_table(word, self.ended);
+        self.waits = !self.ended && before_valued(word).is_some();
+        self.ended = self.ended || is_end(word);
+        named
+    }
 }
 
 // The options of one word after those that were met.
@@ -217,8 +309,8 @@ fn seen_letters(seen: Seen, letters: &[u8]) -> Option<Seen>
     Some(seen)
 }
 
-/// All words behind this one are names.
-pub(crate) fn is_end(word: &str) -> bool
+// All words behind this one are names.
+fn is_end(word: &str) -> bool
     ensures { result ≡ spec.is_end word.now }
 {
     word == "--"
@@ -231,8 +323,8 @@ fn is_option(word: &str) -> bool
     bytes.len() > 1 && bytes[0] == b'-'
 }
 
-/// The word names a table, where the word behind which all are names came before or not.
-pub(crate) fn names_table(word: &str, ended: bool) -> bool
+// The word is a name, where the word behind which all are names came before or not.
+fn names_table(word: &str, ended: bool) -> bool
     ensures { result ≡ spec.names_table ended word.now }
 {
     ended || !(is_end(word) || is_option(word))

@@ -4,21 +4,21 @@ use Rattle.std.proofs.lemmas.Result.{err_from_is_err_and}
 use Rattle.myi_base.specs.Holding.{Told, IfTold}
 use Rattle.myi_base.specs.Output.{AppendsPart}
 use Rattle.myisamkit.specs.declared.status.Status.TheVariants as status
-use Rattle.myisamkit.specs.Words.{names_table}
+use Rattle.myisamkit.specs.Reading.{is_table, tables_left, names_none, names_behind}
 use Rattle.myisamkit.specs.Statuses.{IsFault}
 use Rattle.myisamkit.specs.Runs.{tables_run, TablesStop}
 use Rattle.myisamkit.specs.Turns.{MayFind}
-use Rattle.myisamkit.proofs.TableLaws.{names_from, Reached, reached_next, worse_keeps, left_here, stops_told, part_told}
+use Rattle.myisamkit.proofs.TableLaws.{Reached, reached_next, worse_keeps, left_here, stops_told, part_told}
 use Rattle.myisamkit.proofs.tables.run_tables.Goals as goal
 
 pub returns-in_err-table-clause-part : goal.returns-in_err-table-clause-part
 returns-in_err-table-clause-part g c =
     let e = err_from_is_err_and c.from_residual.result c.from_residual.ensures.1 in
     let within : c.loop-word.word-index < length c.args.words.now = omega arith in
-    let one : names_table c.loop-word.ended c.as_str-word.result.now ≡ true = sym c.names_table.ensures ∙ c.if-not-names_table.false in
-    let here = left_here (λ w. string_bytes w) c.args.words.now c.loop-word.word-index c.word-item.result c.as_str-word.result.now c.table_name.result.now c.loop-word.ended within c.word-item.is c.as_str-word.ensures.value one c.table_name.ensures in
+    let one : is_table c.loop-word.names c.as_str-word.result.now ≡ true = sym c.take.ensures.named ∙ c.if-not-take.false in
+    let here = left_here (λ w. string_bytes w) c.args.words.now c.loop-word.word-index c.word-item.result c.as_str-word.result.now c.table_name.result.now c.loop-word.names within c.word-item.is c.as_str-word.ensures.value one c.table_name.ensures in
     subst
-    (λ r. OnErr r (IfTold (g.F.Files.holds c.args.files.now) (λ m. IfTold (g.O.Sink.written c.args.out.now) (AppendsPart (tables_run status.Ok c.args.options.now c.args.now (names_from false (map (λ w. string_bytes w) c.args.words.now)) m).text (g.O.Sink.written c.run_table.new.out)))))
+    (λ r. OnErr r (IfTold (g.F.Files.holds c.args.files.now) (λ m. IfTold (g.O.Sink.written c.args.out.now) (AppendsPart (tables_run status.Ok c.args.options.now c.args.now (tables_left names_none (map (λ w. string_bytes w) c.args.words.now)) m).text (g.O.Sink.written c.run_table.new.out)))))
     (sym (e.1 ∙ ap Err e.2))
     (part_told _ _ _ _ _ _ _ _ _ _ _ _ here c.loop-word.invariant.so_far c.in_err-table.ensures.part)
 
@@ -26,18 +26,18 @@ pub returns-in_err-table-clause-stops : goal.returns-in_err-table-clause-stops
 returns-in_err-table-clause-stops g c =
     let e = err_from_is_err_and c.from_residual.result c.from_residual.ensures.1 in
     let within : c.loop-word.word-index < length c.args.words.now = omega arith in
-    let one : names_table c.loop-word.ended c.as_str-word.result.now ≡ true = sym c.names_table.ensures ∙ c.if-not-names_table.false in
-    let here = left_here (λ w. string_bytes w) c.args.words.now c.loop-word.word-index c.word-item.result c.as_str-word.result.now c.table_name.result.now c.loop-word.ended within c.word-item.is c.as_str-word.ensures.value one c.table_name.ensures in
+    let one : is_table c.loop-word.names c.as_str-word.result.now ≡ true = sym c.take.ensures.named ∙ c.if-not-take.false in
+    let here = left_here (λ w. string_bytes w) c.args.words.now c.loop-word.word-index c.word-item.result c.as_str-word.result.now c.table_name.result.now c.loop-word.names within c.word-item.is c.as_str-word.ensures.value one c.table_name.ensures in
     subst
-    (λ r. IfErr r (λ stop. Told (g.F.Files.holds c.args.files.now) (g.F.Files.holds c.run_table.new.files) (TablesStop c.args.options.now c.args.now (g.F.Files.faults c.args.files.now) (g.F.Files.faults c.run_table.new.files) (names_from false (map (λ w. string_bytes w) c.args.words.now)) stop)))
+    (λ r. IfErr r (λ stop. Told (g.F.Files.holds c.args.files.now) (g.F.Files.holds c.run_table.new.files) (TablesStop c.args.options.now c.args.now (g.F.Files.faults c.args.files.now) (g.F.Files.faults c.run_table.new.files) (tables_left names_none (map (λ w. string_bytes w) c.args.words.now)) stop)))
     (sym (e.1 ∙ ap Err e.2))
     (stops_told _ _ _ _ _ _ _ _ _ _ _ _ _ _ _ _ c.loop-word.invariant.later here c.loop-word.invariant.untold c.loop-word.invariant.so_far c.in_err-table.ensures.stops)
 
 pub loop-word-preserved : goal.loop-word-preserved
 loop-word-preserved g c =
     let within : c.loop-word.word-index < length c.args.words.now = omega arith in
-    let one : names_table c.loop-word.ended c.as_str-word.result.now ≡ true = sym c.names_table.ensures ∙ c.if-not-names_table.false in
-    let here = left_here (λ w. string_bytes w) c.args.words.now c.loop-word.word-index c.word-item.result c.as_str-word.result.now c.table_name.result.now c.loop-word.ended within c.word-item.is c.as_str-word.ensures.value one c.table_name.ensures in
+    let one : is_table c.loop-word.names c.as_str-word.result.now ≡ true = sym c.take.ensures.named ∙ c.if-not-take.false in
+    let here = left_here (λ w. string_bytes w) c.args.words.now c.loop-word.word-index c.word-item.result c.as_str-word.result.now c.table_name.result.now c.loop-word.names within c.word-item.is c.as_str-word.ensures.value one c.table_name.ensures in
     record {
       plain = subst (λ s. IsFault s → ⊥) (sym c.worse-status.ensures) (worse_keeps (λ s. IsFault s → ⊥) _ _ c.loop-word.invariant.plain c.in_ok-table.ensures.plain);
       usage = subst (λ s. s ≢ status.Usage) (sym c.worse-status.ensures) (worse_keeps (λ s. s ≢ status.Usage) _ _ c.loop-word.invariant.usage c.in_ok-table.ensures.usage);
@@ -50,7 +50,8 @@ loop-word-preserved g c =
           let n = c.in_ok-table.ensures.done.told r.0 r.1 in (
             n.0,
             n.1,
-            subst (λ s. Reached c.args.options.now c.args.now (names_from false (map (λ w. string_bytes w) c.args.words.now)) (names_from c.loop-word.ended (map (λ w. string_bytes w) (drop (c.loop-word.word-index + 1) c.args.words.now))) s m0 n.0 (g.O.Sink.written c.args.out.now) (g.O.Sink.written c.run_table.new.out)) (sym c.worse-status.ensures)
-                (reached_next _ _ _ _ _ _ _ _ _ _ _ _ _ (subst (λ l. Reached c.args.options.now c.args.now (names_from false (map (λ w. string_bytes w) c.args.words.now)) l c.loop-word.status m0 r.0 (g.O.Sink.written c.args.out.now) (g.O.Sink.written c.loop-word.out)) here r.2) (c.in_ok-table.ensures.status r.0 r.1) n.2 (c.in_ok-table.ensures.said r.0 r.1)),
+            subst (λ k. Reached c.args.options.now c.args.now (tables_left names_none (map (λ w. string_bytes w) c.args.words.now)) (tables_left k (map (λ w. string_bytes w) (drop (c.loop-word.word-index + 1) c.args.words.now))) c.worse-status.result m0 n.0 (g.O.Sink.written c.args.out.now) (g.O.Sink.written c.run_table.new.out)) (sym c.take.ensures.behind)
+                (subst (λ s. Reached c.args.options.now c.args.now (tables_left names_none (map (λ w. string_bytes w) c.args.words.now)) (tables_left (names_behind c.loop-word.names c.as_str-word.result.now) (map (λ w. string_bytes w) (drop (c.loop-word.word-index + 1) c.args.words.now))) s m0 n.0 (g.O.Sink.written c.args.out.now) (g.O.Sink.written c.run_table.new.out)) (sym c.worse-status.ensures)
+                (reached_next _ _ _ _ _ _ _ _ _ _ _ _ _ (subst (λ l. Reached c.args.options.now c.args.now (tables_left names_none (map (λ w. string_bytes w) c.args.words.now)) l c.loop-word.status m0 r.0 (g.O.Sink.written c.args.out.now) (g.O.Sink.written c.loop-word.out)) here r.2) (c.in_ok-table.ensures.status r.0 r.1) n.2 (c.in_ok-table.ensures.said r.0 r.1))),
           );
     }

@@ -19,3 +19,13 @@ pub returns-in-Check-clause-part : goal.returns-in-Check-clause-part
 unfolding turn
 returns-in-Check-clause-part g c =
     subst (λ mode. OnErr c.check_table.result (IfTold (g.F.Files.holds c.args.files.now) (λ m. IfTold (g.O.Sink.written c.args.out.now) (AppendsPart (turn_by mode c.args.options.now c.args.now c.args.name.now m).text (g.O.Sink.written c.check_table.new.out))))) (sym c.in-Check.is) c.check_table.ensures.part
+
+pub returns-in-Analyze-clause-part : goal.returns-in-Analyze-clause-part
+unfolding turn
+returns-in-Analyze-clause-part g c =
+    subst (λ mode. OnErr c.analyze_table.result (IfTold (g.F.Files.holds c.args.files.now) (λ m. IfTold (g.O.Sink.written c.args.out.now) (AppendsPart (turn_by mode c.args.options.now c.args.now c.args.name.now m).text (g.O.Sink.written c.analyze_table.new.out))))) (sym c.in-Analyze.is) c.analyze_table.ensures.part
+
+pub returns-in-Sort-clause-part : goal.returns-in-Sort-clause-part
+unfolding turn
+returns-in-Sort-clause-part g c =
+    subst (λ mode. OnErr c.sort_table.result (IfTold (g.F.Files.holds c.args.files.now) (λ m. IfTold (g.O.Sink.written c.args.out.now) (AppendsPart (turn_by mode c.args.options.now c.args.now c.args.name.now m).text (g.O.Sink.written c.sort_table.new.out))))) (sym c.in-Sort.is) c.sort_table.ensures.part
