@@ -5,6 +5,7 @@
 #![tactic(auto)]
 
 mod caches;
+mod changes;
 mod files;
 mod pairs;
 mod searches;
@@ -22,6 +23,9 @@ impl Calls for TheCalls {
             return Some(answer);
         }
         if let Some(answer) = searches::answer(words, name, args) {
+            return Some(answer);
+        }
+        if let Some(answer) = changes::answer(words, name, args) {
             return Some(answer);
         }
         if let Some(answer) = caches::answer(words, name, args) {

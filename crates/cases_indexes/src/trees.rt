@@ -20,7 +20,7 @@ use std::alloc::{AllocError, Global};
 const NAME: &str = "t.MYI";
 
 /// Where the first page stands.
-const FIRST: u64 = 1024;
+pub(crate) const FIRST: u64 = 1024;
 
 fn is_placed(place: &Place) -> bool
     ensures { result ≡ true → IsPlaced place.now }
@@ -32,7 +32,8 @@ fn is_placed(place: &Place) -> bool
         && place.rec_ref <= 8
 }
 
-fn is_row(rec_ref: u8, row: u64) -> bool
+/// Whether a row fits into so many bytes.
+pub(crate) fn is_row(rec_ref: u8, row: u64) -> bool
     requires { rec_ref ≤ 8 }
     ensures { result ≡ true → row < 256 ^ rec_ref }
 {
@@ -195,8 +196,12 @@ fn build(words: &Words, args: &[&str]) -> Result<String, Fault> {
     Ok(out)
 }
 
-// The pairs of a tree, each with its page.
-fn walked(alloc: Global, index: &mut Index, place: Place) -> Result<Vec<(Pair, u64)>, TreeFault>
+/// The pairs of a tree, each with its page.
+pub(crate) fn walked(
+    alloc: Global,
+    index: &mut Index,
+    place: Place,
+) -> Result<Vec<(Pair, u64)>, TreeFault>
     requires { IsPlaced place }
 {
     let Index { files, cache, .. } = index;
