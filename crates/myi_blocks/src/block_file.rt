@@ -2,7 +2,8 @@
 //!
 //! It is the blocks of the file (`RowBlocks`) and, once they were looked up, the positions at which rows stand:
 //! a block that looks like a row's first may stand inside a row or a deleted block, so that the bytes at a position
-//! alone do not tell. They are noted by one scan at the first call that needs them, and each change keeps them.
+//! alone do not tell. They are noted by one scan at the first call that needs them, and each change keeps them, where memory for
+//! that is there.
 use crate::row_blocks::RowBlocks;
 use myi_defs::Defs;
 use myi_header::State;
@@ -114,7 +115,7 @@ impl BlockFile {
 
     /// Puts a new row into the deleted blocks from the head of the list, and behind the end what they do not
     /// hold, and answers its position. `Full` comes exactly where row pointers would not reach the whole
-    /// file, `Damaged` exactly where a block that is read is not what the list needs there. Both change
+    /// file, `Damaged` only where a block that is read is not what the list needs there. Both change
     /// nothing.
     pub fn insert<F: Files>(&mut self, files: &mut F, row: &Row) -> Result<u64, DataFault>
         requires writable { IsTrue F.writable }
@@ -240,7 +241,7 @@ impl BlockFile {
 
     /// Deletes a row: its blocks are released, from the first to the last. `NoRow` comes exactly where no row stands
     /// at the position, by the positions that are noted: where none are, the file is scanned once for them. Then
-    /// `Full` comes exactly where row pointers do not reach the whole file, and then `Damaged` exactly where a
+    /// `Full` comes exactly where row pointers do not reach the whole file, and then `Damaged` only where a
     /// block that is read is not what the row or the list needs there. All change nothing in the file.
     pub fn delete_at<F: Files>(&mut self, files: &mut F, at: u64) -> Result<(), DataFault>
         requires writable { IsTrue F.writable }
@@ -287,8 +288,8 @@ impl BlockFile {
 
     /// Puts other values in the place of a row: into its blocks, then into the deleted ones from the head of the
     /// list, and behind the end what they do not hold; what it leaves of its blocks is released. `NoRow` comes
-    /// exactly where no row stands at the position, as for `delete_at`. Then `Full` comes exactly where row
-    /// pointers would not reach the whole file, and `Damaged` exactly where a block that is read is not what the
+    /// exactly where no row stands at the position, as for `delete_at`. Then `Full` comes only where row
+    /// pointers would not reach the whole file, and `Damaged` only where a block that is read is not what the
     /// row or the list needs there. All change nothing in the file.
     pub fn update_at<F: Files>(
         &mut self,
@@ -341,8 +342,8 @@ impl BlockFile {
     }
 
     /// The row at a position. `NoRow` comes exactly where none stands there, by the positions that are noted: where
-    /// none are, the file is scanned once for them. `Damaged` comes only where a block is not the one that a row
-    /// needs there.
+    /// none are, the file is scanned once for them. `Damaged` comes only where no row
+    /// stands there.
     pub fn read_at<F: Files>(&mut self, files: &mut F, at: u64) -> Result<Row, DataFault>
         requires long { IfTold (F.holds files.old) (IsLong self.old.file) }
         ensures told { IfTold (F.holds files.old) (ReadsNoted self.old at result) }
@@ -368,9 +369,8 @@ impl BlockFile {
         self.blocks.read_row(files, at)
     }
 
-    /// The row at a position where one stands, as an index names it. `Damaged` comes only where none does,
-    /// at a block that is not the one that a row needs there. Nothing before the row is read, and of the row
-    /// nothing twice.
+    /// The row at a position where one stands, as an index names it, in no more reads than its blocks may count
+    /// for. `Damaged` comes only where files tell nothing.
     pub fn row_at<F: Files>(&mut self, files: &mut F, at: u64) -> Result<Row, DataFault>
         requires long { IfTold (F.holds files.old) (IsLong self.old.file) }
         requires there { IfTold (F.holds files.old) (HasRow self.old.file at) }

@@ -6,8 +6,9 @@
 //! they do not hold; `insert_at_end` behind the end whatever is deleted; `update_at` puts other values in the place
 //! of a row, into its own blocks first; `delete_at` releases the blocks of a row. `row_at` reads the row at a
 //! position that an index names, block by block; `read_at` the row at any position. `update_at`, `delete_at` and
-//! `read_at` say whether a row stands there, for which the file is scanned once. `counts` and `holes` give the numbers that the index file is to keep. Which
-//! blocks are read and written for a change is the deleted list's part (`myi_dellist`).
+//! `read_at` say whether a row stands there, for which the file is scanned once. `counts` gives the numbers that
+//! the index file is to keep. Which blocks are read and written for a change is the deleted list's part
+//! (`myi_dellist`).
 //!
 //! The model (`specs/Places`) is that of every data file that changes (`specs/SlotFile` of `myi_slots`) and, once they
 //! were looked up, the positions at which rows stand: where the file and the numbers stand for a state of the table

@@ -231,7 +231,7 @@ impl RowBlocks {
 
     /// Puts a new row into the deleted blocks from the head of the list, and behind the end what they do not
     /// hold, and answers its position. `Full` comes exactly where row pointers would not reach the whole
-    /// file, `Damaged` exactly where a block that is read is not what the list needs there. Both change
+    /// file, `Damaged` only where a block that is read is not what the list needs there. Both change
     /// nothing.
     pub(crate) fn insert<F: Files>(&mut self, files: &mut F, row: &Row) -> Result<u64, DataFault>
         requires writable { IsTrue F.writable }
@@ -302,7 +302,7 @@ impl RowBlocks {
     }
 
     /// Releases the blocks of the row at a position, where one stands. `Full` comes exactly where row pointers do
-    /// not reach the whole file, and then `Damaged` exactly where a block that is read is not what the row or
+    /// not reach the whole file, and then `Damaged` only where a block that is read is not what the row or
     /// the list needs there. Both change nothing.
     pub(crate) fn delete<F: Files>(&mut self, files: &mut F, at: u64) -> Result<(), DataFault>
         requires writable { IsTrue F.writable }
@@ -377,8 +377,8 @@ impl RowBlocks {
     }
 
     /// Puts other values in the place of the row at a position, where one stands: into its blocks, then into the
-    /// deleted ones from the head of the list, and behind the end what they do not hold. `Full` comes exactly where
-    /// row pointers would not reach the whole file, `Damaged` exactly where a block that is read is not what the
+    /// deleted ones from the head of the list, and behind the end what they do not hold. `Full` comes only where
+    /// row pointers would not reach the whole file, `Damaged` only where a block that is read is not what the
     /// row or the list needs there. Both change nothing.
     pub(crate) fn update<F: Files>(
         &mut self,
@@ -416,8 +416,7 @@ impl RowBlocks {
         Ok(())
     }
 
-    /// Reads the row at a position. `Damaged` comes only where none stands there, at a block that is not the one
-    /// that a row needs there.
+    /// Reads the row at a position. `Damaged` comes only where none stands there.
     pub(crate) fn read_row<F: Files>(&mut self, files: &mut F, at: u64) -> Result<Row, DataFault>
         requires long { IfTold (F.holds files.old) (IsLong self.old) }
         ensures told { IfOk result (λ row. IfTold (F.holds files.old) (IsRowAt self.old at row)) }

@@ -2,7 +2,7 @@
 //! of its row.
 //!
 //! Where each pair of a tree is above the one before it and is that of a row, and the pairs are as many as
-//! the rows, they are the key list. So nothing of the rows is held in memory. Where this is not so of
+//! the rows, they are the key list. So no list of keys is held in memory. Where this is not so of
 //! some tree nothing is told, and `keys` looks for what is wrong.
 ghost use Rattle.std.specs.Prelude.{◌≡◌, ◌<◌, ◌+◌, ◌-◌, ◌^◌, ◌∷◌, ℕ, List, [], true, false, length, All};
 ghost use Rattle.std.specs.Prelude.{IfOk, IfErr, OnOk, IfSome, is_some, Some};
@@ -187,7 +187,7 @@ fn ask_tree<F: Files>(
     follow_asking(files, &mut cache, key, busy, buffers)
 }
 
-// Walks the tree of the key that comes next, and says whether its pairs are the key list. If not, nothing
+// Walks the tree of the key that comes next. It says true only where its pairs are the key list. If not, nothing
 // is added.
 fn ask_key<F: Files>(
     files: &mut F,
@@ -217,6 +217,7 @@ fn ask_key<F: Files>(
     Ok(true)
 }
 
+// True only of the definitions of a static table.
 fn is_static(defs: &Defs) -> bool
     ensures { result ≡ true → defs.now.format ≡ Static }
 {

@@ -1,7 +1,8 @@
 //! The check of a table.
 //!
 //! `check` opens the table, and then goes through the data file once (`rows`), follows the list of deleted
-//! blocks (`list`) and walks the tree of each key (`keys`). What the header says is compared with
+//! blocks (`list`) and walks the tree of each key (`asking`, and where that does not serve, behind another pass for
+//! the keys of all rows, `keys`). What the header says is compared with
 //! what these found (`header`). The sections' findings are put together at the end.
 ghost use Rattle.std.specs.Prelude.{◌≡◌, ◌⊎◌, ◌++◌, ℕ, false, List, [], length, map, Some, IfOk, IfErr};
 ghost use Rattle.std.specs.Option.{option_to_list};
@@ -145,7 +146,7 @@ fn keys_found<F: Files>(
     compare_keys(files, index, rows, opened, roots)
 }
 
-// The same, beside the sorted keys of all rows.
+// What is found in the keys, beside the sorted keys of all rows.
 fn compare_keys<F: Files>(
     files: &mut F,
     index: &str,

@@ -1,4 +1,4 @@
-//! The pairs that a walk of a tree meets, beside the sorted pairs of its key.
+//! The pairs that a walk of a tree meets, which are to be the sorted pairs of its key.
 ghost use Rattle.std.specs.Prelude.{◌≡◌, ◌<◌, ◌+◌, ◌-◌, ◌^◌, ◌&&◌, ◌∷◌, Bool, List, [], Some, None};
 ghost use Rattle.std.specs.Prelude.{is_none, true, false, length, drop, slice_index_or};
 ghost use Rattle.std.specs.Ordering.{is_eq};
@@ -136,7 +136,7 @@ impl PairsMet {
         self.bad.is_none() && self.count as u64 == records
     }
 
-    /// Notes a place where no page of the tree stands.
+    /// Notes the page of a bad thing, if it is the first.
     pub(crate) fn note_bad(&mut self, at: u64)
         ensures noted { self.new ≡ record self.old { bad = option_or self.old.bad (Some at) } }
         ensures bad { is_none self.new.bad ≡ false }

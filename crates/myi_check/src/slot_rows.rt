@@ -1,6 +1,6 @@
 //! The rows of a static table, read one by one at the slots that pairs point to.
 //!
-//! `has_pair` says whether a pair is that of a readable row: it reads the slot that the pair points to,
+//! `has_pair` says true only where a pair is that of a readable row: it reads the slot that the pair points to,
 //! and compares the code of the row's key with the code of the pair's. The buffers serve for all
 //! pairs.
 ghost use Rattle.std.specs.Prelude.{◌≡◌, ◌<◌, true, IfOk, IfErr};
@@ -146,7 +146,7 @@ fn read_slot<F: Files>(
     Ok(count == slot.len())
 }
 
-/// Whether the pair is that of a readable row.
+/// True only where the pair is that of a readable row.
 pub(crate) fn has_pair<F: Files>(
     files: &mut F,
     key: &RowsKey<'_>,

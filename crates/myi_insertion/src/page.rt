@@ -1,7 +1,7 @@
 //! A page as lists: its pairs, with the codes of their keys in one buffer, and its children.
 //!
 //! `read_pairs` reads a `PageData` from the bytes of a page, `place_of` seeks a pair in it, and
-//! `PageData::with` puts other pairs and children into it.
+//! `with_pair`, `with_strip`, `with_joined`, `with_other` and `without_pair` make another page of it.
 ghost use Rattle.std.specs.Prelude.{◌≡◌, ◌≤◌, ◌<◌, ◌+◌, ◌-◌, ◌^◌, ◌++◌, ◌∷◌, [], ℕ, List, take, drop, length, slice_index_or, IfOk, IfErr, OnOk, option_map, IfSome, Some};
 ghost use Rattle.std.specs.Option.{option_to_list};
 ghost use Rattle.std.specs.Ordering.{is_gt};

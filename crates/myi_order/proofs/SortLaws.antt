@@ -166,6 +166,14 @@ Shorter = (d : Defs) (longer shorter : ℕ) → IsSound d → shorter ≤ longer
 abbrev pub MadeAnew : Type 0
 MadeAnew = (d : Defs) (rows : List SizedRow) (now : ℕ) → CanBeRebuilt d rows now → Rebuilt d rows now (rebuilt d rows now).0 (rebuilt d rows now).1
 
+no_longer : (name : List ℕ) (d : Defs) (size k : ℕ) (m : Holding) → AreDefs d → HoldsBytes m → NoLonger → (o : IsOpened name d size m) → length (stored_file d (rows_of d k o.data_file)) ≤ length o.data_file
+no_longer name d size k m are holds long o =
+    let x : List ℕ = o.data_file in
+    let here : bytes_of (rows_file name) m ≡ x = ap (λ (b : Option (List ℕ)). unwrap_or b []) o.rows_there in
+    let bytes : AreBytes x = subst AreBytes here (holds (rows_file name)) in
+    let permuted : IsPermutation (map (sized_row d) (readable d false x)) (rows_of d k x ++ []) = subst (IsPermutation (map (sized_row d) (readable d false x))) (sym (append-nil (rows_of d k x))) (IsPermutation-map (sized_row d) (readable d false x) (in_order d k (readable d false x)) (order_same d k (readable d false x))) in
+    long d false x are bytes (rows_of d k x) [] permuted
+
 can_be : (name : List ℕ) (d : Defs) (size k now : ℕ) (m : Holding) → AreDefs d → AreBytes d.raw → HoldsBytes m → now < 2 ^ 64 → NoLonger → Shorter → (o : IsOpened name d size m) → CanBeRebuilt d (rows_of d k o.data_file) now
 can_be name d size k now m are header holds early long short o =
     let x : List ℕ = o.data_file in
@@ -194,6 +202,7 @@ leaves_ordered name t d size k now said m n named are header holds early long sh
       holds = done.0;
       ordered = record {
         rows = is_in_order d k (readable d false x);
+        shorter = no_longer name d size k m are holds long o;
         rebuilt = made d (rows_of d k x) now (can_be name d size k now m are header holds early long short o);
       };
       report = done.1;

@@ -1,4 +1,4 @@
--- The faults of an analysis: those of opening its table, and those that are no refusal.
+-- The faults of an analysis and of sorting: those of opening the table, and those that are no refusal.
 use Rattle.std.specs.Prelude.{◌≡◌, ◌⊎◌, ℕ, List, Option, None}
 use Rattle.myi_base.specs.Holding.{Holding, Told}
 use Rattle.myi_opening.specs.declared.fault.TableFault.{TableFault}
@@ -7,7 +7,7 @@ use Rattle.myi_repair.specs.Faults.{RoseAtMost}
 use Rattle.myi_order.specs.declared.fault.OrderFault.{OrderFault}
 use Rattle.myi_order.specs.declared.fault.OrderFault.TheVariants as order
 
--- the fault of an analysis that one of opening its table is
+-- the fault that one of opening the table is
 abbrev pub order_fault : TableFault → OrderFault
 order_fault (table.Absent f) = order.Absent f
 order_fault (table.Def f) = order.Def f

@@ -6,7 +6,7 @@ pub mod Prefixes
 pub mod KeyParts
 -- the numbers of an index file that an analysis sets
 pub mod Numbers
--- the faults of an analysis
+-- the faults of an analysis and of sorting
 pub mod Faults
 -- what an analysis answers and leaves
 pub mod Analyzing

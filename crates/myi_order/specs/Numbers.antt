@@ -52,7 +52,7 @@ with_numbers d rows per x = overwritten (rows_place d) (number_bytes rows per) (
 abbrev pub IsElsewhere : Defs → ℕ → ℕ → Type 0
 IsElsewhere d parts i = (i ≢ changed_place) × ((i < rows_place d) ⊎ (part_place d parts ≤ i))
 
--- what an index file says that is analyzed: the numbers are these, and all other bytes are those of the file before
+-- the index file of a table that was analyzed: the numbers are these, and all other bytes are those of the file before
 pub record IsAnalyzed (d : Defs) (rows : ℕ) (per old new : List ℕ) : Type 0 where
   pub long : length new ≡ length old
   pub bits : changed_bits new ≡ analyzed_bits (changed_bits old)

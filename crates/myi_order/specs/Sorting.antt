@@ -1,6 +1,6 @@
 -- Whether the rows of a table can be sorted by a key, what sorting leaves and says, or why it is refused (MySQL Reference Manual,
 -- "myisamchk Other Options", `--sort-records`).
-use Rattle.std.specs.Prelude.{◌≡◌, ◌&&◌, nat_lt, nat_le, ℕ, Bool, false, if◌then◌else◌, List, length, map, Option, Result, Ok, Err}
+use Rattle.std.specs.Prelude.{◌≡◌, ◌≤◌, ◌&&◌, nat_lt, nat_le, ℕ, Bool, false, if◌then◌else◌, List, length, map, Option, Result, Ok, Err}
 use Rattle.myi_base.specs.Holding.{Holding, IfTold}
 use Rattle.myi_defs.specs.declared.types.Defs.{Defs}
 use Rattle.myi_opening.specs.declared.fault.TableFault.{TableFault}
@@ -67,9 +67,11 @@ report_of t k = record {
   new_length = length (sorted_data t k);
 }
 
--- the files (e, y) are a clean table of the same rows, in the order of the key, each stored anew
+-- The files (e, y) are a clean table of the same rows, in the order of the key (that e has them so is `rebuilt.read`), each
+-- stored anew; the data file is no longer than it was.
 pub record Ordered (t : Table) (k now : ℕ) (e y : List ℕ) : Type 0 where
   pub rows : IsInOrder t.defs k (readable t.defs false t.rows) (in_order t.defs k (readable t.defs false t.rows))
+  pub shorter : length e ≤ length t.rows
   pub rebuilt : Rebuilt t.defs (sorted_rows t k) now e y
 
 -- the table can be sorted, and its files are so; the working files are gone, and this is said of it

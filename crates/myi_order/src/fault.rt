@@ -20,7 +20,7 @@ pub enum OrderFault {
     /// The definitions are refused, not for want of memory.
     #[error("the definitions are refused")]
     Def(DefFault),
-    /// The table has no key of that number; so many it has.
+    /// The table has no key of that number; so many it has. Never of an analysis.
     #[error("the table has no such key")]
     NoKey { keys: u8 },
     /// The first thing that a check finds wrong with the table.

@@ -14,6 +14,7 @@ use Rattle.myi_blocks.specs.RowReading as dynamic
 use Rattle.myi_rows.specs.declared.row_file.Rows.{Rows}
 use Rattle.myi_rows.specs.declared.row_file.Rows.TheVariants as rows
 
+-- a file with its noted positions, of which a static one has none
 abbrev pub noted_of : Rows → NotedFile
 noted_of (rows.Static f) = record { file = f; places = None }
 noted_of (rows.Dynamic f) = f
@@ -50,7 +51,7 @@ ReadsFew f at reads now m = ReadsFewBy f.defs.format f at reads now m
 -- the position is said to be that of no row
 abbrev pub SaysNoRow : DataFault → Type 0
 SaysNoRow fault.Full = ⊥
-SaysNoRow (fault.NoRow at) = at ≡ at
+SaysNoRow (fault.NoRow at) = Unit {0}
 SaysNoRow (fault.Damaged at) = ⊥
 SaysNoRow fault.File = ⊥
 SaysNoRow fault.Memory = ⊥

@@ -88,9 +88,9 @@ impl RowFile {
         }
     }
 
-    /// Puts a new row into the first deleted slot or blocks, or behind the end, and answers its position. `Full`
-    /// comes where row pointers would not reach the whole file, `Damaged` where the deleted list is not one; both
-    /// change nothing.
+    /// Puts a new row into the first deleted slot, or into deleted blocks and behind the end what they do not hold,
+    /// and answers its position. Of a file that stands for a state `Full` comes as the step's reply, and `Damaged`
+    /// never; both change nothing.
     pub fn insert<F: Files>(&mut self, files: &mut F, row: &Row) -> Result<u64, DataFault>
         requires writable { IsTrue F.writable }
         requires fits { IsTrue (fits self.old.file.defs row.now) }
@@ -118,8 +118,8 @@ impl RowFile {
         }
     }
 
-    /// Puts a new row behind the end, whatever is deleted, and answers its position. `Full` comes where row
-    /// pointers would not reach the whole file, and changes nothing.
+    /// Puts a new row behind the end, whatever is deleted, and answers its position. Of a file that stands for a
+    /// state `Full` comes as the step's reply; it changes nothing.
     pub fn insert_at_end<F: Files>(&mut self, files: &mut F, row: &Row) -> Result<u64, DataFault>
         requires writable { IsTrue F.writable }
         requires fits { IsTrue (fits self.old.file.defs row.now) }
@@ -146,9 +146,8 @@ impl RowFile {
         }
     }
 
-    /// Takes the row at a position away. `NoRow` comes where none stands there, `Full` where row pointers do not
-    /// reach the whole file, and `Damaged` where the row's blocks or the deleted list are not what they must be; all
-    /// change nothing.
+    /// Takes the row at a position away. Of a file that stands for a state `NoRow` and `Full` come as the step's
+    /// reply, and `Damaged` never; all change nothing.
     pub fn delete_at<F: Files>(&mut self, files: &mut F, at: u64) -> Result<(), DataFault>
         requires writable { IsTrue F.writable }
         requires long { IfTold (F.holds files.old) (IsLong self.old.file) }
@@ -173,9 +172,8 @@ impl RowFile {
         }
     }
 
-    /// Puts other values in the place of the row at a position, which it keeps. `NoRow` comes where none stands
-    /// there, `Full` where row pointers would not reach the whole file, and `Damaged` as of `delete_at`; all change
-    /// nothing.
+    /// Puts other values in the place of the row at a position, which it keeps. Of a file that stands for a state
+    /// `NoRow` and `Full` come as the step's reply, and `Damaged` never; all change nothing.
     pub fn update_at<F: Files>(
         &mut self,
         files: &mut F,
@@ -206,10 +204,12 @@ impl RowFile {
         }
     }
 
-    /// The row at any position. `NoRow` comes where none stands there.
+    /// The row at any position, and of a file that stands for a state `NoRow` where the state has none there.
     pub fn read_at<F: Files>(&mut self, files: &mut F, at: u64) -> Result<Row, DataFault>
         requires long { IfTold (F.holds files.old) (IsLong self.old.file) }
         ensures told { IfTold (F.holds files.old) (ReadsNoted self.old at result) }
+        ensures there { IfOk result (λ row. IfTold (F.holds files.old)
+            (IsRowAt self.old.file at row)) }
         ensures kept { IfTold (F.holds files.old) (StaysNoted self.old self.new) }
         ensures file { self.new.file ≡ self.old.file }
         ensures holds { F.holds files.new ≡ F.holds files.old }
@@ -221,7 +221,8 @@ impl RowFile {
         }
     }
 
-    /// The row at a position where one stands, as an index names it. Nothing before the row is read.
+    /// The row at a position where one stands, as an index names it. It is read in no more reads than its
+    /// slot or its blocks may count for.
     pub fn row_at<F: Files>(&mut self, files: &mut F, at: u64) -> Result<Row, DataFault>
         requires long { IfTold (F.holds files.old) (IsLong self.old.file) }
         requires there { IfTold (F.holds files.old) (HasRow self.old.file at) }

@@ -22,6 +22,7 @@ use Rattle.myi_opening.specs.Opening as opening
 use Rattle.myi_opening.specs.Names.{index_file, rows_file}
 use Rattle.myi_repair.specs.Names.{new_index_file}
 use Rattle.myi_data.specs.Stored.{SizedRow}
+use Rattle.myi_pair.specs.Clean.{IsClean}
 use Rattle.myi_pair.specs.Rebuilt.{Rebuilt}
 use Rattle.myi_order.specs.declared.key_parts.KeyParts.{KeyParts}
 use Rattle.myi_order.specs.Analyzing as analyzing
@@ -164,7 +165,7 @@ analyze_done o name parts old new done others = record {
         r.1,
         record {
           files = subst (λ t. r.0 ≡ (analyzed_turn o name t m).files) (sym r.2.is) (fun_ext (indexed_at name _ m r.0 r.2.stored r.2.gone keeps));
-          numbers = λ t is. subst (λ u. IsAnalyzed u.defs (length (analyzing.rows_in u)) (all_per (key_parts u.defs (analyzing.rows_in u))) u.index (analyzing.analyzed_index u)) (ok_same r.2.table t (analyzing.table_in name m) r.2.is is) r.2.numbers;
+          numbers = λ t is. subst (λ u. IsAnalyzed u.defs (length (analyzing.rows_in u)) (all_per (key_parts u.defs (analyzing.rows_in u))) u.index (analyzing.analyzed_index u) × IsClean u.rows (analyzing.analyzed_index u)) (ok_same r.2.table t (analyzing.table_in name m) r.2.is is) (r.2.numbers, r.2.clean);
         },
       );
   untold = done.untold;

@@ -9,6 +9,7 @@ use Rattle.myi_opening.specs.declared.fault.TableFault.{TableFault}
 use Rattle.myi_opening.specs.Names.{rows_file, index_file}
 use Rattle.myi_opening.specs.Opening as opening
 use Rattle.myi_pair.specs.declared.finding.Finding.{Finding}
+use Rattle.myi_pair.specs.Clean.{IsClean}
 use Rattle.myi_pair.specs.Findings.{findings}
 use Rattle.myi_pair.specs.RecoveredBytes.{new_data, new_index}
 use Rattle.myi_pair.specs.Recovered.{Recovered}
@@ -196,7 +197,7 @@ order_status order.Memory = status.Memory
 abbrev pub with_index : List ℕ → List ℕ → Holding → Holding
 with_index name x m q = if bytes_eq q (index_file name) then Some x else (if bytes_eq q (new_index_file name) then None else m q)
 
--- a table with which something is wrong keeps its files
+-- a table that is refused, or not there, or with which something is wrong keeps its files
 abbrev pub analyzed_turn : Options → List ℕ → Result opening.Table OrderFault → Holding → Turn
 analyzed_turn o name (Err f) m = record { text = order_line name 0 f; status = order_status f; files = m }
 analyzed_turn o name (Ok t) m = record {
@@ -208,10 +209,10 @@ analyzed_turn o name (Ok t) m = record {
 abbrev pub analyze_turn : Options → List ℕ → Holding → Turn
 analyze_turn o name m = analyzed_turn o name (analyzing.table_in name m) m
 
--- of a table with which nothing is wrong the index file gets the numbers of its rows, and keeps all other bytes
+-- of a table with which nothing is wrong the index file gets the numbers of its rows, and keeps all other bytes; it is clean again
 abbrev pub StoresNumbers : List ℕ → Holding → Type 0
 StoresNumbers name m = (t : opening.Table) → analyzing.table_in name m ≡ Ok t
-    → IsAnalyzed t.defs (length (analyzing.rows_in t)) (all_per (key_parts t.defs (analyzing.rows_in t))) t.index (analyzing.analyzed_index t)
+    → IsAnalyzed t.defs (length (analyzing.rows_in t)) (all_per (key_parts t.defs (analyzing.rows_in t))) t.index (analyzing.analyzed_index t) × IsClean t.rows (analyzing.analyzed_index t)
 
 -- a table was analyzed, or refused
 pub record AnalyzeDone (o : Options) (name : List ℕ) (m n : Holding) : Type 0 where
@@ -226,7 +227,7 @@ pub record StoresNone (told before after : ℕ) (name : List ℕ) (m n : Holding
   pub others : analyzing.OthersStay name m n
   pub cleared : RoseAtMost told before after → analyzing_faults.Clears (new_index_file name) m n
 
--- an analysis was cut off: where memory was wanting, perhaps behind it
+-- an analysis was cut off: no numbers were stored, or it was done, and memory for its lines was wanting
 abbrev pub AnalyzeCutOff : Options → ℕ → ℕ → ℕ → List ℕ → Holding → Holding → Type 0
 AnalyzeCutOff o told before after name m n = StoresNone told before after name m n ⊎ AnalyzeDone o name m n
 
@@ -236,7 +237,7 @@ AnalyzeStops o before after name stop.File m n = AnalyzeCutOff o 1 before after 
 AnalyzeStops o before after name stop.Memory m n = AnalyzeCutOff o 0 before after name m n
 AnalyzeStops o before after name stop.Sink m n = AnalyzeDone o name m n
 
--- a table that has no such key, or with which something is wrong, keeps its files
+-- a table that is refused, or not there, has no such key, or with which something is wrong, keeps its files
 abbrev pub sorted_turn : Options → ℕ → ℕ → List ℕ → Result opening.Table OrderFault → Holding → Turn
 sorted_turn o now key name (Err f) m = record { text = order_line name key f; status = order_status f; files = m }
 sorted_turn o now key name (Ok t) m = record {

@@ -66,7 +66,8 @@ table_name word = if names_index word then take (length word - 4) word else word
 abbrev pub letters_alone : List ℕ → List (List ℕ)
 letters_alone word = if nat_lt 1 (length word) then word ∷ [] else []
 
--- an option and the words behind it, of which the first is its value, but where that begins with a dash
+-- a word and those behind it, of which the first is the value of its last option, but where that begins with a dash; the front is
+-- what the word says before that option
 abbrev pub joined : List ℕ → List ℕ → List (List ℕ) → List (List ℕ)
 joined front word [] = word ∷ []
 joined front word (next ∷ words) = if has_dash next then word ∷ (next ∷ words) else letters_alone front ++ ((codes "--" ++ (sort_records ++ next)) ∷ words)

@@ -24,8 +24,9 @@ pub fn dumping_words_are_a_command()
 {}
 
 /// Words are refused exactly where they have one of these reasons: no command that is known; behind
-/// `chk`, which are spelled out, no name, or one out of form, an option that is not known or has no value where it
-/// needs one, two modes, or another option twice, but the silent one; behind `create` an option, or other than two names in form; behind `dump` an option, or other than
+/// `chk`, when they are spelled out, no name, or one out of form, an option that is not known or whose
+/// value is missing or no number of a key, two modes, or another option twice, but the silent one;
+/// behind `create` an option, or other than two names in form; behind `dump` an option, or other than
 /// one name in form.
 pub fn refused_words_have_a_reason()
     ensures reason { (words : List (List ℕ)) → plan words ≡ usage → AreRefused words }

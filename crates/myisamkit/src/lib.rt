@@ -5,7 +5,7 @@
 //! name. Each table has its turn (`turn.rt`), one after the other (`tables.rt`). What a turn and a whole
 //! run say, answer and do is defined over what the files hold before (`Turns`, `Runs`), and the files
 //! that a repair leaves over the bytes of the two files before it (`Rattle.myi_pair.specs`,
-//! `RecoveredBytes` and `Recovered`), what a check finds over the same bytes (`Findings`). Of the commands
+//! `RecoveredBytes` and `Recovered`), what a check finds over the same bytes (`Findings`); analysis and sorting are those of `myi_order`. Of the commands
 //! `chk`, `create` and `dump` are built.
 //!
 //! ```

@@ -11,7 +11,7 @@ use std::alloc::AllocError;
 #[derive(Clone, Copy, Debug, PartialEq, Eq)]
 pub enum Status {
     Ok,
-    /// A check found something.
+    /// A check found something, also one before an analysis or sorting.
     Findings,
     /// The words are refused.
     Usage,

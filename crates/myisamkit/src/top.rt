@@ -53,11 +53,12 @@ pub fn kit<R: Threads + Sync, F: Files, O: Sink>(
         IsOrFault (run_of (request_of words.now) now m).status result) }
     ensures usage { IsFault result ⊎ ((request_of words.now ≡ usage) ↔ (result ≡ Status.Usage)) }
 
-    // That something was found is answered by a check without force alone.
+    // That something was found is answered by a check without force, an analysis, or sorting, alone.
     ensures findings { result ≡ Status.Findings → MayFindAny (request_of words.now) }
 
     // The tables are done, or done up to the one in whose turn a fault came; what is repaired is
-    // recovered, the files of a table are the old ones or whole new ones, other files stay.
+    // recovered, what is sorted is in order; the files of a table are the old ones, or a new data file
+    // beside the old or the new index file; other files stay.
     ensures files { Told (F.holds files.old) (F.holds files.new)
         (Leaves (request_of words.now) now (F.faults files.old) (F.faults files.new) result) }
 

@@ -13,7 +13,7 @@ use crate::options::{Options, Seen, letter_flag, long_flag, sort_flag};
 pub(crate) enum Plan<'a> {
     /// The words are refused.
     Usage,
-    /// Tables are checked, repaired or described, those that the words name which are no options.
+    /// Work is done on the tables that the words name.
     Chk {
         options: Options,
         words: &'a [String],
@@ -251,7 +251,7 @@ fn has_dash(word: &str) -> bool
     word.starts_with("-")
 }
 
-/// Where one stands among the words behind `chk` that are gone through for the tables that they name.
+/// What was read of the words behind `chk`, for the tables that they name.
 #[derive(Clone, Copy)]
 pub(crate) struct Names {
     /// The word came behind which all are names.
@@ -273,7 +273,7 @@ impl Names {
         }
     }
 
-    /// Goes past a word, and answers whether it names a table.
+    /// Reads the next word, and answers whether it names a table.
     pub(crate) fn take(&mut self, word: &str) -> bool
         ensures named { result ≡ reading.is_table self.old word.now }
         ensures behind { self.new ≡ reading.names_behind self.old word.now }
