@@ -17,5 +17,6 @@ pub mod ShowsLaws
 pub mod WalkLaws
 pub mod KeysLaws
 pub mod AskedLaws
-pub mod SlotLaws
+pub mod ChainLaws
+pub mod ReadLaws
 pub mod AskedWalks

@@ -1,9 +1,10 @@
 -- What was met, and one item more.
-use Rattle.std.proofs.Common.{◌≡◌, ℕ, zero, suc, ◌+◌, true, List, [], ◌∷◌, ◌++◌, length, Option, Some, Result, Ok, unwrap_or, refl, sym, ap, subst, ◌∙◌, arith, append_assoc}
+use Rattle.std.proofs.Common.{◌≡◌, ℕ, zero, suc, ◌+◌, true, List, [], ◌∷◌, ◌++◌, length, ◌⊎◌, inl, inr, Option, Some, Result, Ok, unwrap_or, refl, sym, ap, subst, ◌∙◌, arith, append_assoc}
 use Rattle.std.specs.Prelude.{map, replicate}
-use Rattle.std.specs.List.{AllByRecursion}
+use Rattle.std.specs.List.{AllByRecursion, Contains}
 use Rattle.std.proofs.lemmas.List.{append-nil, map-append, length-map, length_push, length-append, length-replicate}
 use Rattle.std.proofs.lemmas.List.Concat.{flat_map-append}
+use Rattle.std.proofs.lemmas.List.Elements.{Contains-append_left, Contains-append_right}
 use Rattle.myi_base.specs.Holding.{Holding, IfTold}
 use Rattle.myi_base.specs.Ranges.{Range}
 use Rattle.myi_defs.specs.declared.types.Defs.{Defs}
@@ -28,7 +29,7 @@ use Rattle.myi_pair.specs.KeyList.{pointer, pair_of, pairs_of}
 use Rattle.myi_pair.specs.Clean.{values_of, placed_row}
 use Rattle.myi_check.specs.declared.met.Met.{Met}
 use Rattle.myi_check.specs.HeldBytes.{SameBytes, EndsNear}
-use Rattle.myi_check.specs.Rows.{pair_lists}
+use Rattle.myi_check.specs.Rows.{pair_lists, IsPlaceOf, ArePlacesOf}
 use Rattle.myi_check.specs.Met.{HasMet, NotesPairs, NotesBlocks, NotesFree, Takes, Reads, MeetsAll}
 use Rattle.myi_check.proofs.HeldLemmas.{same_then, same_append, same_of}
 
@@ -58,6 +59,24 @@ pairs_next d rows r = each (key_numbers d)
     each (k ∷ ks) =
         ap (λ ps. ps ∷ with_pairs (pointer d r.at) (map (λ j. key_of d j (values_of d r)) ks) (map (λ j. pairs_of d j (map (placed_row d) rows)) ks)) (one k)
         ∙ ap (λ ls. pairs_of d k (map (placed_row d) (rows ++ r ∷ [])) ∷ ls) (each ks)
+
+-- ---- the places
+
+places_kept : (rows more : List Row) (ps : List ℕ) → ArePlacesOf rows ps → ArePlacesOf (rows ++ more) ps
+places_kept rows more [] all = tt
+places_kept rows more (p ∷ ps) all =
+    (record { row = all.0.row; among = Contains-append_left rows more all.0.row all.0.among; at = all.0.at }, places_kept rows more ps all.1)
+
+places_push : (rows : List Row) (ps : List ℕ) (p : ℕ) → ArePlacesOf rows ps → IsPlaceOf rows p → ArePlacesOf rows (ps ++ p ∷ [])
+places_push rows [] p all is = (is, tt)
+places_push rows (q ∷ ps) p all is = (all.0, places_push rows ps p all.1 is)
+
+places_next : (rows : List Row) (r : Row) (old new : List ℕ) → ArePlacesOf rows old → (new ≡ old) ⊎ (new ≡ old ++ r.at ∷ []) → ArePlacesOf (rows ++ r ∷ []) new
+places_next rows r old new all (inl same) = subst (ArePlacesOf (rows ++ r ∷ [])) (sym same) (places_kept rows (r ∷ []) old all)
+places_next rows r old new all (inr more) =
+    let last : Contains (r ∷ []) r = (0, omega arith, refl) in
+    let here : IsPlaceOf (rows ++ r ∷ []) r.at = record { row = r; among = Contains-append_right rows (r ∷ []) r last; at = refl } in
+    subst (ArePlacesOf (rows ++ r ∷ [])) (sym more) (places_push (rows ++ r ∷ []) old r.at (places_kept rows (r ∷ []) old all) here)
 
 -- ---- an item more
 
@@ -92,6 +111,8 @@ row_taken d r blocks old mid new pairs noted are is has =
       lists = ap (λ (ls : List (List Pair)). length ls) noted.keys ∙ pairs.lists ∙ has.lists;
       records = noted.records ∙ pairs.records ∙ ap (λ n. n + 1) has.records ∙ sym number;
       split = noted.split ∙ ap (λ n. n + length blocks) (pairs.split ∙ has.split) ∙ sym count;
+      places = subst (λ (rs : List Row). ArePlacesOf rs new.places.items) (sym (rows_with is r))
+          (subst (ArePlacesOf (rows_of is ++ r ∷ [])) (sym noted.places) (places_next (rows_of is) r old.places.items mid.places.items has.places pairs.places));
       held = same_then _ _ _ (same_of _ _ all)
           (same_then _ _ _ (same_append (ranges_of (rows_of is)) mid.held (ranges_at blocks) (subst (SameBytes (ranges_of (rows_of is))) (sym pairs.held) has.held)) noted.held);
       frees = ap ranges_at (noted.frees ∙ pairs.frees) ∙ has.frees ∙ sym (frees_past is r);
@@ -108,18 +129,20 @@ free_taken d at size old new noted near is has = record {
   lists = ap (λ (ls : List (List Pair)). length ls) noted.keys ∙ has.lists;
   records = noted.records ∙ has.records ∙ ap (λ (rs : List Row). length rs) (sym (rows_past is (at, at + size)));
   split = noted.split ∙ has.split ∙ ap (λ rs. length (ranges_of rs)) (sym (rows_past is (at, at + size)));
+  places = subst (λ (rs : List Row). ArePlacesOf rs new.places.items) (sym (rows_past is (at, at + size))) (subst (ArePlacesOf (rows_of is)) (sym noted.places) has.places);
   held = same_then _ _ _ (same_of _ _ (ap ranges_of (rows_past is (at, at + size)))) (subst (SameBytes (ranges_of (rows_of is))) (sym noted.held) has.held);
   frees = ap ranges_at noted.frees ∙ map-append (λ (b : ℕ × ℕ). (b.0, b.0 + b.1)) old.frees.items ((at, size) ∷ []) ∙ ap (λ rs. rs ++ (at, at + size) ∷ []) has.frees ∙ sym (frees_with is (at, at + size));
   near = subst (AllByRecursion EndsNear) (sym noted.frees) (near_push old.frees.items (at, size) has.near near);
 }
 
 -- nothing was met
-pub none_met : (d : Defs) (met : Met) → met.keys ≡ replicate (length d.keys) [] → met.records ≡ 0 → met.split ≡ 0 → met.held ≡ [] → met.frees.items ≡ [] → HasMet d [] met
-none_met d met keys records split held frees = record {
+pub none_met : (d : Defs) (met : Met) → met.keys ≡ replicate (length d.keys) [] → met.places.items ≡ [] → met.records ≡ 0 → met.split ≡ 0 → met.held ≡ [] → met.frees.items ≡ [] → HasMet d [] met
+none_met d met keys places records split held frees = record {
   keys = λ on. keys ∙ no_pairs d;
   lists = ap (λ (ls : List (List Pair)). length ls) keys ∙ length-replicate {A = List Pair} (length d.keys) [];
   records = records;
   split = split;
+  places = subst (ArePlacesOf []) (sym places) tt;
   held = same_of [] met.held (sym held);
   frees = ap ranges_at frees;
   near = subst (AllByRecursion EndsNear) (sym frees) tt;

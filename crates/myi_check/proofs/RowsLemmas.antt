@@ -30,7 +30,7 @@ use Rattle.myi_pair.specs.Findings.{deleted_places, rows_bad}
 use Rattle.myi_check.specs.declared.met.Met.{Met}
 use Rattle.myi_check.specs.declared.rows.RowsFound.{RowsFound}
 use Rattle.myi_check.specs.HeldBytes.{SameBytes, EndsNear, AreJoined, front_of, gap_behind, is_free}
-use Rattle.myi_check.specs.Rows.{IsAscending, ArePointed, HasRows}
+use Rattle.myi_check.specs.Rows.{IsAscending, ArePointed, ArePlacesOf, HasRows}
 use Rattle.myi_check.specs.Met.{HasMet}
 use Rattle.myi_check.proofs.HeldLemmas.{same_then, same_append, same_of}
 use Rattle.myi_check.proofs.GapLemmas.{gap_same, gap_front}
@@ -203,15 +203,16 @@ deleted_pointed d x s static =
 
 pub rows_found : (d : Defs) (x : List ℕ) (met : Met) (h joined last : List Range) (kept : List (ℕ × ℕ)) (r : RowsFound) → RangesRise 0 (frees_of (items_in d false x)) → HasMet d (items_in d false x) met
     → SameBytes met.held h → kept ≡ filter (is_free h) met.frees.items → SameBytes (h ++ ranges_at kept) joined → SameBytes joined last → AreJoined 0 last
-    → r.keys ≡ met.keys → r.records ≡ met.records → r.split ≡ met.split → r.deleted.items ≡ map (λ b. b.0) kept → r.empty ≡ sum_by (λ b. b.1) kept → r.gap ≡ gap_behind (cond (is_addressable d (length x)) (front_of last) 0) (length x) → IsSound d → HasRows d met.with_keys x r
+    → r.keys ≡ met.keys → r.places.items ≡ met.places.items → r.records ≡ met.records → r.split ≡ met.split → r.deleted.items ≡ map (λ b. b.0) kept → r.empty ≡ sum_by (λ b. b.1) kept → r.gap ≡ gap_behind (cond (is_addressable d (length x)) (front_of last) 0) (length x) → IsSound d → HasRows d met.with_keys x r
 unfolding readable
-rows_found d x met h joined last kept r rise has first is second third order keys records split places empty gap s =
+rows_found d x met h joined last kept r rise has first is second third order keys where_rows records split places empty gap s =
     let are = deleted_found d x met h kept rise has first is in
     let at : r.deleted.items ≡ deleted_places d x = places ∙ places_of kept ∙ ap (map (λ (a : Range). a.0)) are in
     record {
       keys = λ on. keys ∙ has.keys on;
       records = records ∙ has.records;
       split = split ∙ has.split;
+      places = subst (ArePlacesOf (readable d false x)) (sym where_rows) has.places;
       deleted = at;
       ascends = subst IsAscending (sym at) (deleted_ascend d x rise);
       pointed = subst (ArePointed d (length x)) (sym at) (deleted_pointed d x s);

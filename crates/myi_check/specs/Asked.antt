@@ -3,22 +3,21 @@ use Rattle.std.specs.Prelude.{◌≡◌, ◌≤◌, ◌+◌, ◌*◌, ◌&&◌, 
 use Rattle.std.specs.List.{AllByRecursion, Contains}
 use Rattle.std.specs.declared.cmp.Ordering.TheVariants.{Less}
 use Rattle.myi_base.specs.Holding.{Holding, IfTold}
-use Rattle.myi_defs.specs.declared.types.RowFormat.TheVariants.{Static}
 use Rattle.myi_defs.specs.declared.types.Defs.{Defs}
 use Rattle.myi_defs.specs.Sound.{IsSound}
 use Rattle.myi_data.specs.Keys.{IsKeyNumber}
 use Rattle.myi_keylist.specs.declared.pair.Pair.{Pair}
 use Rattle.myi_keylist.specs.PairOrder.{pair_cmp, sorted}
 use Rattle.myi_btree.specs.Events.{Event}
-use Rattle.myi_data.specs.Readable.{readable}
 use Rattle.myi_pair.specs.FirstBad.{repeats_last}
 use Rattle.myi_pair.specs.KeyList.{pairs_of}
-use Rattle.myi_check.specs.Rows.{rows_in}
+use Rattle.myi_check.specs.Rows.{IsScanned, rows_in}
 use Rattle.myi_check.specs.declared.busy.BusyPages.{BusyPages}
 use Rattle.myi_check.specs.declared.pairs_met.PairsMet.{PairsMet}
 use Rattle.myi_check.specs.declared.walks.TreeKey.{TreeKey}
 use Rattle.myi_check.specs.declared.walks.TreeWalk.{TreeWalk}
 use Rattle.myi_check.specs.declared.keys.KeysSoFar.{KeysSoFar}
+use Rattle.myi_check.specs.declared.row_reads.RowsKey.{RowsKey}
 use Rattle.myi_check.specs.declared.asking.AskedKey.{AskedKey}
 use Rattle.myi_check.specs.Walks.{last_key, ShowsApart, events_in}
 use Rattle.myi_check.specs.Keys.{Adds}
@@ -32,9 +31,9 @@ pub record IsSlot (size number : ℕ) (x bytes : List ℕ) : Type 0 where
 abbrev pub row_pairs : Defs → ℕ → List ℕ → List Pair
 row_pairs d k x = pairs_of d k (rows_in d x)
 
--- where the files are told, the pair is that of a readable row in the file of that name
-abbrev pub IsOfRow : Option Holding → List ℕ → Defs → ℕ → Pair → Type 0
-IsOfRow told rows d k p = IfTold told (λ m. (x : List ℕ) → m rows ≡ Some x → Contains (row_pairs d k x) p)
+-- where the files are told, and the data file was scanned, the pair is that of a readable row in it
+abbrev pub IsOfRow : Option Holding → RowsKey → Pair → Type 0
+IsOfRow told key p = IfTold told (λ m. (x : List ℕ) → m key.file.name.now ≡ Some x → IsScanned key.defs.now key.file x → Contains (row_pairs key.defs.now key.number x) p)
 
 -- the pair is above the last one, if any
 abbrev pub IsAbove : Option Pair → Pair → Type 0
@@ -73,19 +72,18 @@ IsGood walk = is_none walk.met.bad ≡ true
 
 -- ---- a key of a table
 
--- the definitions are sound and of a static table, which has a key of that number
+-- the definitions are sound, and have a key of that number
 pub record CanBeAsked (key : AskedKey) : Type 0 where
   pub sound : IsSound key.of_rows.defs.now
-  pub static : key.of_rows.defs.now.format ≡ Static
   pub number : IsKeyNumber key.of_rows.defs.now key.of_rows.number
 
 -- where the files are told, the pair is that of a readable row for the key
 abbrev pub OfKey : Option Holding → AskedKey → Pair → Type 0
-OfKey told key p = IsOfRow told key.of_rows.rows.now key.of_rows.defs.now key.of_rows.number p
+OfKey told key p = IsOfRow told key.of_rows p
 
--- Where the data file has as many readable rows as were asked for, the walk of the key's tree in the index file was added,
+-- Where the data file was scanned, the walk of the key's tree in the index file was added,
 -- beside the key list.
 abbrev pub AddsAsked : List ℕ → AskedKey → KeysSoFar → KeysSoFar → Holding → Type 0
-AddsAsked index key old new m = (x d : List ℕ) → m index ≡ Some x → m key.of_rows.rows.now ≡ Some d
-    → key.records ≡ length (readable key.of_rows.defs.now false d)
+AddsAsked index key old new m = (x d : List ℕ) → m index ≡ Some x → m key.of_rows.file.name.now ≡ Some d
+    → IsScanned key.of_rows.defs.now key.of_rows.file d
     → Adds key.tree (sorted (row_pairs key.of_rows.defs.now key.of_rows.number d)) (events_in key.tree.place x) old new

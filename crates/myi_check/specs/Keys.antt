@@ -1,5 +1,5 @@
 -- What the walks of all trees show, and how far a check of them has come.
-use Rattle.std.specs.Prelude.{◌≡◌, ◌+◌, ◌-◌, ◌&&◌, ℕ, suc, true, false, is_none, List, [], ◌∷◌, ◌++◌, length, map, drop, if◌then◌else◌, Option, Some, None}
+use Rattle.std.specs.Prelude.{◌≡◌, ◌+◌, ◌-◌, ◌&&◌, ℕ, suc, true, is_none, List, [], ◌∷◌, ◌++◌, length, map, drop, if◌then◌else◌, Option, Some, None}
 use Rattle.std.specs.List.{flat_map}
 use Rattle.std.specs.Option.{option_to_list}
 use Rattle.myi_base.specs.Holding.{Holding}
@@ -16,9 +16,9 @@ use Rattle.myi_pair.specs.KeyList.{PlacedRow}
 use Rattle.myi_pair.specs.Trees.{block_of_key, total}
 use Rattle.myi_pair.specs.FirstBad.{walk_bad}
 use Rattle.myi_pair.specs.Findings.{KeyWalk, key_walks, all_walks, all_walk, walk_pages, page_bytes, key_findings, told}
-use Rattle.myi_data.specs.Readable.{readable}
 use Rattle.myi_check.specs.declared.header.StoredHeader.{StoredHeader}
-use Rattle.myi_check.specs.Rows.{rows_in}
+use Rattle.myi_check.specs.declared.rows.ScannedFile.{ScannedFile}
+use Rattle.myi_check.specs.Rows.{IsScanned, rows_in}
 use Rattle.myi_check.specs.declared.busy.TreePages.{TreePages}
 use Rattle.myi_check.specs.declared.walks.TreeKey.{TreeKey}
 use Rattle.myi_check.specs.declared.walks.TreeWalk.{TreeWalk}
@@ -31,10 +31,10 @@ pub record HasKeys (d : Defs) (x : List ℕ) (rows : List PlacedRow) (r : KeysFo
   pub findings : r.findings.items ≡ flat_map (key_findings d rows) (all_walks d x)
   pub page_bytes : r.page_bytes ≡ (if all_walk (all_walks d x) then Some (told (page_bytes d (all_walks d x))) else None)
 
--- the keys of a table with the mark were looked at, by the roots in its header and as many readable rows
-abbrev pub FindsKeys : List ℕ → List ℕ → Defs → StoredHeader → ℕ → KeysFound → Holding → Type 0
-FindsKeys index rows d header records r m = (x data_file : List ℕ) → m index ≡ Some x → m rows ≡ Some data_file
-    → header.state.roots ≡ (state_of d x).roots → records ≡ length (readable d false data_file)
+-- the keys of a table with the mark were looked at, by the roots in its header and what a scan found of its data file
+abbrev pub FindsKeys : List ℕ → ScannedFile → Defs → StoredHeader → KeysFound → Holding → Type 0
+FindsKeys index file d header r m = (x data_file : List ℕ) → m index ≡ Some x → m file.name.now ≡ Some data_file
+    → header.state.roots ≡ (state_of d x).roots → IsScanned d file data_file
     → header.marked ≡ true → HasKeys d x (rows_in d data_file) r
 
 -- how the pages of a key are made, by its number, with its root

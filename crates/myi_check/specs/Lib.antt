@@ -16,6 +16,8 @@ pub mod ListMet
 pub mod WalksBusy
 -- the walk of a tree, as far as it went
 pub mod Walks
+-- how a row goes on behind a block of it
+pub mod ChainReads
 -- the walk of a tree of which each pair is asked of its row
 pub mod Asked
 -- what the walks of all trees show

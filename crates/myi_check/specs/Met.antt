@@ -1,5 +1,5 @@
 -- What was met of a data file so far, and how the next item changes it.
-use Rattle.std.specs.Prelude.{◌≡◌, ◌≤◌, ◌<◌, ◌+◌, ℕ, Bool, true, false, List, [], ◌∷◌, ◌++◌, length, Option, Some}
+use Rattle.std.specs.Prelude.{◌≡◌, ◌⊎◌, ◌≤◌, ◌<◌, ◌+◌, ℕ, Bool, true, false, List, [], ◌∷◌, ◌++◌, length, Option, Some}
 use Rattle.std.specs.List.{AllByRecursion}
 use Rattle.myi_base.specs.Holding.{Holding, IfTold}
 use Rattle.myi_defs.specs.declared.types.Defs.{Defs}
@@ -14,7 +14,7 @@ use Rattle.myi_rowkeys.specs.RowLists.{with_pairs}
 use Rattle.myi_pair.specs.KeyList.{pointer}
 use Rattle.myi_check.specs.declared.met.Met.{Met}
 use Rattle.myi_check.specs.HeldBytes.{SameBytes, EndsNear}
-use Rattle.myi_check.specs.Rows.{pair_lists}
+use Rattle.myi_check.specs.Rows.{pair_lists, ArePlacesOf}
 
 -- these items were met
 pub record HasMet (d : Defs) (items : List Item) (met : Met) : Type 0 where
@@ -22,6 +22,7 @@ pub record HasMet (d : Defs) (items : List Item) (met : Met) : Type 0 where
   pub lists : length met.keys ≡ length d.keys
   pub records : met.records ≡ length (rows_of items)
   pub split : met.split ≡ length (ranges_of (rows_of items))
+  pub places : ArePlacesOf (rows_of items) met.places.items
   pub held : SameBytes (ranges_of (rows_of items)) met.held
   pub frees : ranges_at met.frees.items ≡ frees_of items
   pub near : AllByRecursion EndsNear met.frees.items
@@ -30,22 +31,28 @@ pub record HasMet (d : Defs) (items : List Item) (met : Met) : Type 0 where
 abbrev pub Takes : Defs → Item → Met → Met → Type 0
 Takes d item old new = (items : List Item) → HasMet d items old → HasMet d (items ++ item ∷ []) new
 
+-- the place of a row was noted, or is not
+abbrev pub NotesPlace : ℕ → Met → Met → Type 0
+NotesPlace at old new = (new.places.items ≡ old.places.items) ⊎ (new.places.items ≡ old.places.items ++ at ∷ [])
+
 -- the pairs of a row of these bytes were noted, where they are noted
 pub record NotesKeys (d : Defs) (at : ℕ) (bytes : List ℕ) (old new : Met) : Type 0 where
   pub with_keys : new.with_keys ≡ old.with_keys
   pub keys : old.with_keys ≡ true → (values : Values) × (row_of d bytes ≡ Some values) × (new.keys ≡ with_pairs (pointer d at) (row_keys d values) old.keys)
   pub lists : length new.keys ≡ length old.keys
   pub records : new.records ≡ old.records
+  pub places : new.places.items ≡ old.places.items
   pub split : new.split ≡ old.split
   pub held : new.held ≡ old.held
   pub frees : new.frees.items ≡ old.frees.items
 
--- a row of these bytes was noted, with its pairs
+-- a row of these bytes was noted, with its pairs or its place
 pub record NotesPairs (d : Defs) (at : ℕ) (bytes : List ℕ) (old new : Met) : Type 0 where
   pub with_keys : new.with_keys ≡ old.with_keys
   pub keys : old.with_keys ≡ true → (values : Values) × (row_of d bytes ≡ Some values) × (new.keys ≡ with_pairs (pointer d at) (row_keys d values) old.keys)
   pub lists : length new.keys ≡ length old.keys
   pub records : new.records ≡ old.records + 1
+  pub places : NotesPlace at old new
   pub split : new.split ≡ old.split
   pub held : new.held ≡ old.held
   pub frees : new.frees.items ≡ old.frees.items
@@ -57,6 +64,7 @@ pub record NotesBlocks (blocks : List (ℕ × ℕ)) (old new : Met) : Type 0 whe
   pub with_keys : new.with_keys ≡ old.with_keys
   pub keys : new.keys ≡ old.keys
   pub records : new.records ≡ old.records
+  pub places : new.places.items ≡ old.places.items
   pub frees : new.frees.items ≡ old.frees.items
 
 -- a deleted block was noted
@@ -64,6 +72,7 @@ pub record NotesFree (at size : ℕ) (old new : Met) : Type 0 where
   pub with_keys : new.with_keys ≡ old.with_keys
   pub keys : new.keys ≡ old.keys
   pub records : new.records ≡ old.records
+  pub places : new.places.items ≡ old.places.items
   pub split : new.split ≡ old.split
   pub held : new.held ≡ old.held
   pub frees : new.frees.items ≡ old.frees.items ++ (at, size) ∷ []

@@ -1,5 +1,5 @@
-//! `ask_keys`: the trees of all keys of a static table, walked one after the other, with each pair asked
-//! of its row.
+//! `ask_keys`: the trees of all keys of a table, walked one after the other, with each pair asked of its
+//! row.
 //!
 //! Where each pair of a tree is above the one before it and is that of a row, and the pairs are as many as
 //! the rows, they are the key list. So no list of keys is held in memory. Where this is not so of
@@ -9,7 +9,6 @@ ghost use Rattle.std.specs.Prelude.{IfOk, IfErr, OnOk, IfSome, is_some, Some};
 ghost use Rattle.myi_base.specs.Holding.{IfTold};
 ghost use Rattle.myi_base.specs.Causes.{HasCause};
 ghost use Rattle.myi_opening.specs.Opening.{IsCutOff};
-ghost use Rattle.myi_defs.specs.declared.types.RowFormat.TheVariants.{Static};
 ghost use Rattle.myi_defs.specs.ReadDefs.{AreDefs};
 ghost use Rattle.myi_header.specs.StateOf.{state_of};
 ghost use Rattle.myi_keycache.specs.Kept.{AllWritten};
@@ -19,8 +18,7 @@ ghost use Rattle.myi_btree.specs.CachedTrees.{node_lent};
 ghost use Rattle.myi_btree.specs.Events.{MeetsTree};
 ghost use Rattle.myi_btree.specs.Events as events;
 ghost use Rattle.myi_btree.specs.Cursors.{event_of};
-ghost use Rattle.myi_data.specs.Readable.{readable};
-ghost use Rattle.myi_check.specs.Rows.{rows_in};
+ghost use Rattle.myi_check.specs.Rows.{IsScanned, rows_in};
 ghost use Rattle.myi_check.specs.WalksBusy.{HasBytes};
 ghost use Rattle.myi_check.specs.Walks.{EventList, events_in};
 ghost use Rattle.myi_check.specs.Keys.{HasKeys};
@@ -29,21 +27,21 @@ ghost use Rattle.myi_check.specs.Asked.{AsksApart, IsNextAsked, IsGood, CanBeAsk
 use crate::busy::BusyPages;
 use crate::keys::{KeysFound, KeysSoFar, tree_key};
 use crate::pairs_met::PairsMet;
-use crate::slot_rows::{RowsKey, SlotBuffers, has_pair};
+use crate::row_reads::{RowBuffers, RowsKey, has_pair};
+use crate::rows::ScannedFile;
 use crate::walks::{SETUP, TreeKey, TreeWalk, of_tree};
 use myi_btree::{Event, Events, Pair};
-use myi_defs::{Defs, RowFormat};
+use myi_defs::Defs;
 use myi_header::first_page;
 use myi_io::Files;
 use myi_keycache::KeyCache;
 use myi_opening::TableFault;
 
-/// A key whose pairs are asked of the rows, of which there are so many.
+/// A key whose pairs are asked of the rows.
 #[derive(Clone, Copy)]
 pub(crate) struct AskedKey<'a> {
     pub(crate) of_rows: RowsKey<'a>,
     pub(crate) tree: TreeKey,
-    pub(crate) records: u64,
 }
 
 // Whether the pair may be met next: fewer pairs than rows were met, it is above the last one, it does not
@@ -51,7 +49,7 @@ pub(crate) struct AskedKey<'a> {
 fn is_next<F: Files>(
     files: &mut F,
     key: &AskedKey<'_>,
-    buffers: &mut SlotBuffers,
+    buffers: &mut RowBuffers,
     met: &PairsMet,
     pair: &Pair,
 ) -> Result<bool, TableFault>
@@ -63,7 +61,7 @@ fn is_next<F: Files>(
     ensures holds { F.holds files.new ≡ F.holds files.old }
     ensures cause { HasCause TableFault.File (F.faults files.old) (F.faults files.new) result }
 {
-    if met.count as u64 >= key.records || !met.rises_to(key.tree.unique, pair) {
+    if met.count as u64 >= key.of_rows.file.records || !met.rises_to(key.tree.unique, pair) {
         return Ok(false);
     }
     has_pair(files, &key.of_rows, buffers, pair)
@@ -73,7 +71,7 @@ fn is_next<F: Files>(
 fn note_pair<F: Files>(
     files: &mut F,
     key: &AskedKey<'_>,
-    buffers: &mut SlotBuffers,
+    buffers: &mut RowBuffers,
     walk: &mut TreeWalk,
     pair: Pair,
     at: u64,
@@ -100,7 +98,7 @@ fn note<F: Files>(
     files: &mut F,
     key: &AskedKey<'_>,
     busy: &BusyPages,
-    buffers: &mut SlotBuffers,
+    buffers: &mut RowBuffers,
     walk: &mut TreeWalk,
     event: Event,
 ) -> Result<(), TableFault>
@@ -130,7 +128,7 @@ fn follow_asking<F: Files>(
     cache: &mut KeyCache,
     key: &AskedKey<'_>,
     busy: &BusyPages,
-    buffers: &mut SlotBuffers,
+    buffers: &mut RowBuffers,
 ) -> Result<TreeWalk, TableFault>
     requires asked { CanBeAsked key.now }
     requires placed { IsPlaced key.now.tree.place }
@@ -166,7 +164,7 @@ fn ask_tree<F: Files>(
     index: &str,
     key: &AskedKey<'_>,
     busy: &BusyPages,
-    buffers: &mut SlotBuffers,
+    buffers: &mut RowBuffers,
 ) -> Result<TreeWalk, TableFault>
     requires asked { CanBeAsked key.now }
     requires placed { IsPlaced key.now.tree.place }
@@ -193,7 +191,7 @@ fn ask_key<F: Files>(
     files: &mut F,
     index: &str,
     key: &AskedKey<'_>,
-    buffers: &mut SlotBuffers,
+    buffers: &mut RowBuffers,
     found: &mut KeysSoFar,
 ) -> Result<bool, TableFault>
     requires asked { CanBeAsked key.now }
@@ -209,7 +207,7 @@ fn ask_key<F: Files>(
     ensures cause { HasCause TableFault.File (F.faults files.old) (F.faults files.new) result }
 {
     let walk = ask_tree(files, index, key, &found.busy, buffers)?;
-    if !walk.met.is_whole(key.records) {
+    if !walk.met.is_whole(key.of_rows.file.records) {
         return Ok(false);
     }
     found.add_pages(key.tree.place.block_length, walk)?;
@@ -217,51 +215,36 @@ fn ask_key<F: Files>(
     Ok(true)
 }
 
-// True only of the definitions of a static table.
-fn is_static(defs: &Defs) -> bool
-    ensures { result ≡ true → defs.now.format ≡ Static }
-{
-    match defs.format {
-        RowFormat::Static => true,
-        RowFormat::Dynamic => false,
-    }
-}
-
-/// What the walks of all trees show, where the table is static and the pairs of each tree are its key list;
-/// of the table there are so many rows.
+/// What the walks of all trees show, where the pairs of each tree are its key list. The data file was scanned.
 pub(crate) fn ask_keys<F: Files>(
     files: &mut F,
     index: &str,
-    rows: &str,
+    file: &ScannedFile<'_>,
     defs: &Defs,
     roots: &[Option<u64>],
-    records: u64,
 ) -> Result<Option<KeysFound>, TableFault>
     requires defs { AreDefs defs.now }
     requires roots { length roots.now ≡ length defs.now.keys }
     ensures found { IfOk result (λ o. IfSome o (λ r. IfTold (F.holds files.old) (λ m.
-        (x d : List ℕ) → m index.now ≡ Some x → m rows.now ≡ Some d
-        → roots.now ≡ (state_of defs.now x).roots → records ≡ length (readable defs.now false d)
+        (x d : List ℕ) → m index.now ≡ Some x → m file.now.name.now ≡ Some d
+        → roots.now ≡ (state_of defs.now x).roots → IsScanned defs.now file.now d
         → HasKeys defs.now x (rows_in defs.now d) r))) }
     ensures cut { IfErr result IsCutOff }
     ensures holds { F.holds files.new ≡ F.holds files.old }
     ensures cause { HasCause TableFault.File (F.faults files.old) (F.faults files.new) result }
 {
-    if !is_static(defs) {
-        return Ok(None);
-    }
     let alloc = defs.raw.allocator();
-    let mut buffers = SlotBuffers::new(alloc);
+    let mut buffers = RowBuffers::new(alloc);
     let mut found = KeysSoFar::new(alloc, first_page(defs));
     for _key in 0..roots.len() {
         let number = found.number as usize;
-        let of_rows = RowsKey { rows, defs, number };
-        let tree = tree_key(defs, number, roots[number - 1]);
-        let key = AskedKey {
-            of_rows,
-            tree,
-            records,
+        let of_rows = RowsKey {
+            file: *file,
+            defs,
+            number,
         };
+        let tree = tree_key(defs, number, roots[number - 1]);
+        let key = AskedKey { of_rows, tree };
         if !ask_key(files, index, &key, &mut buffers, &mut found)? {
             return Ok(None);
         }

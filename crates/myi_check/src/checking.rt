@@ -20,7 +20,7 @@ use crate::asking::ask_keys;
 use crate::header::{Shown, StoredHeader, header_item, room_left, stored_header};
 use crate::keys::{KeysFound, check_keys};
 use crate::list::check_list;
-use crate::rows::{RowsFound, find_rows};
+use crate::rows::{RowsFound, ScannedFile, find_rows};
 use myi_io::Files;
 use myi_opening::{OpenedTable, TableFault, TableFile, open_table};
 use myi_pair::{Finding, HeaderItem};
@@ -90,6 +90,7 @@ fn check_sections<F: Files>(
     let found = find_rows(alloc, files, rows, defs, opened.length, false)?;
     let RowsFound {
         keys: _,
+        places,
         records,
         split,
         deleted,
@@ -98,7 +99,13 @@ fn check_sections<F: Files>(
     } = found;
     let head = header.state.dellink;
     let listed = check_list(files, rows, defs, opened.length, &deleted, head)?;
-    let keys = keys_found(files, index, rows, opened, &header, records)?;
+    let file = ScannedFile {
+        name: rows,
+        length: opened.length,
+        records,
+        places: &places,
+    };
+    let keys = keys_found(files, index, &file, opened, &header)?;
     let shown = Shown {
         records,
         del: deleted.len() as u64,
@@ -112,22 +119,21 @@ fn check_sections<F: Files>(
     Ok(all_findings(alloc, item, listed, keys.findings, gap)?)
 }
 
-// What is wrong with the keys of a table with the mark and so many readable rows. Those of a foreign one are
-// not looked at.
+// What is wrong with the keys of a table with the mark, whose data file was scanned. Those of a foreign one
+// are not looked at.
 fn keys_found<F: Files>(
     files: &mut F,
     index: &str,
-    rows: &str,
+    file: &ScannedFile<'_>,
     opened: &OpenedTable,
     header: &StoredHeader,
-    records: u64,
 ) -> Result<KeysFound, TableFault>
     requires defs { AreDefs opened.now.defs }
     requires long { IfTold (F.holds files.old) (λ m.
-        (d : List ℕ) × (m rows.now ≡ Some d) × (opened.now.length ≡ length d)) }
+        (d : List ℕ) × (m file.now.name.now ≡ Some d) × (opened.now.length ≡ length d)) }
     requires roots { length header.now.state.roots ≡ length opened.now.defs.keys }
     ensures found { IfOk result (λ r. IfTold (F.holds files.old)
-        (FindsKeys index.now rows.now opened.now.defs header.now records r)) }
+        (FindsKeys index.now file.now opened.now.defs header.now r)) }
     ensures foreign { IfOk result (λ r. header.now.marked ≡ false → r.findings.items ≡ []) }
     ensures cut { IfErr result IsCutOff }
     ensures holds { F.holds files.new ≡ F.holds files.old }
@@ -140,10 +146,10 @@ fn keys_found<F: Files>(
         });
     }
     let roots = header.state.roots.as_slice();
-    if let Some(found) = ask_keys(files, index, rows, &opened.defs, roots, records)? {
+    if let Some(found) = ask_keys(files, index, file, &opened.defs, roots)? {
         return Ok(found);
     }
-    compare_keys(files, index, rows, opened, roots)
+    compare_keys(files, index, file.name, opened, roots)
 }
 
 // What is found in the keys, beside the sorted keys of all rows.
@@ -170,6 +176,7 @@ fn compare_keys<F: Files>(
     let alloc = defs.raw.allocator();
     let RowsFound {
         keys,
+        places: _,
         records: _,
         split: _,
         deleted: _,

@@ -7,13 +7,13 @@
 //!
 //! `check` opens the table, goes through the data file once in order (blocks of a row that the
 //! window does not hold are read besides), follows the list of deleted blocks by short reads, and
-//! walks the tree of each key. In a static table each pair of a tree is asked of its row, which is read at
-//! its slot (`asking`, `slot_rows`): where the pairs rise, each is that of a row, and they are as many as the
-//! rows, they are the key's sorted list. Where a tree is not so, and in a dynamic table, the data file is
-//! gone through once more for the keys of its rows, and each tree is walked beside the key's sorted list
-//! (`keys`), so that the first bad thing is found. In memory are the places of deleted blocks and of
-//! pages, what of rows' blocks stands apart from those before it, in the second case the keys of the
-//! table's rows, and no file as a whole.
+//! walks the tree of each key. Each pair of a tree is asked of its row, which is read at its slot, or block by
+//! block from its place (`asking`, `row_reads`, `chain_reads`): where the pairs rise, each is that of a row,
+//! and they are as many as the rows, they are the key's sorted list. Where a tree is not so, the data file
+//! is gone through once more for the keys of its rows, and each tree is walked beside the key's sorted list
+//! (`keys`), so that the first bad thing is found. In memory are the places of deleted blocks, of pages and
+//! of dynamic rows, what of rows' blocks stands apart from those before it, in the second case the keys of
+//! the table's rows, and no file as a whole.
 //!
 //! ```
 //! match check(alloc, files, name) {
@@ -28,6 +28,7 @@
 
 mod asking;
 mod busy;
+mod chain_reads;
 mod checking;
 mod header;
 mod held_bytes;
@@ -35,8 +36,8 @@ mod keys;
 mod list;
 mod met;
 mod pairs_met;
+mod row_reads;
 mod rows;
-mod slot_rows;
 mod walks;
 
 pub use checking::check;

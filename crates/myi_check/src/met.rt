@@ -27,6 +27,8 @@ pub(crate) struct Met {
     pub(crate) with_keys: bool,
     /// These pairs, a list for each key of the table. The lists are empty where none is noted.
     pub(crate) keys: RowKeys,
+    /// Of a dynamic table the places of the rows, in order, where their pairs are not noted.
+    pub(crate) places: Vec<u64>,
     pub(crate) records: u64,
     /// How many blocks the rows have.
     pub(crate) split: u64,
@@ -48,7 +50,7 @@ impl Met {
     ghost use Rattle.myi_data.specs.Readable.{packs};
     ghost use Rattle.myi_data.specs.Scanning.{IsAsKnown};
     ghost use Rattle.myi_check.specs.HeldBytes.{EndsNear};
-    ghost use Rattle.myi_check.specs.Met.{HasMet, ReadsIf, NotesKeys, NotesPairs, NotesBlocks, NotesFree};
+    ghost use Rattle.myi_check.specs.Met.{HasMet, ReadsIf, NotesKeys, NotesPlace, NotesPairs, NotesBlocks, NotesFree};
 
     /// Nothing was met yet, of a table with these definitions.
     pub(crate) fn new(alloc: Global, defs: &Defs, with_keys: bool) -> Result<Met, AllocError>
@@ -58,6 +60,7 @@ impl Met {
         Ok(Met {
             with_keys,
             keys: RowKeys::new(alloc, defs.keys.as_slice().len())?,
+            places: Vec::new(alloc),
             records: 0,
             split: 0,
             held: HeldBytes::new(alloc),
@@ -99,7 +102,7 @@ impl Met {
         }
     }
 
-    // Notes a row and its pairs.
+    // Notes a row, and its pairs or its place.
     fn note_pairs(&mut self, defs: &Defs, at: u64, bytes: &[u8]) -> Result<(), AllocError>
         requires defs { AreDefs defs.now }
         requires packed { packs defs.now bytes.now ≡ true }
@@ -108,6 +111,7 @@ impl Met {
         ensures { OnOk result (NotesPairs defs.now at bytes.now self.old self.new) }
     {
         self.note_keys(defs, at, bytes)?;
+        self.note_place(defs, at)?;
         self.records = sum(self.records, 1)?;
         Ok(())
     }
@@ -125,6 +129,18 @@ impl Met {
         }
         let row = view_packed(defs, bytes);
         self.keys.push(defs, &row, pointer(defs, at))?;
+        Ok(())
+    }
+
+    // Notes the place of a row of a dynamic table, where its pairs are not noted.
+    fn note_place(&mut self, defs: &Defs, at: u64) -> Result<(), AllocError>
+        ensures place { OnOk result (NotesPlace at self.old self.new) }
+        ensures rest { self.new ≡ record self.old { places = self.new.places } }
+    {
+        match defs.format {
+            RowFormat::Dynamic if !self.with_keys => self.places.push(at)?,
+            _ => {}
+        }
         Ok(())
     }
 

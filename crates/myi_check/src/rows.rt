@@ -36,6 +36,8 @@ pub(crate) struct RowsFound {
     /// The pairs of the readable rows, a list for each key of the table, in the order of the rows. The lists
     /// are empty where they were not wanted.
     pub(crate) keys: RowKeys,
+    /// The places of the rows of a dynamic table, in order, where the pairs were not wanted.
+    pub(crate) places: Vec<u64>,
     pub(crate) records: u64,
     /// How many blocks the rows have.
     pub(crate) split: u64,
@@ -45,6 +47,18 @@ pub(crate) struct RowsFound {
     pub(crate) empty: u64,
     /// The lowest byte that belongs to no row and to no deleted block.
     pub(crate) gap: Option<u64>,
+}
+
+/// A data file that was scanned.
+#[derive(Clone, Copy)]
+pub(crate) struct ScannedFile<'a> {
+    pub(crate) name: &'a str,
+    /// How many bytes it has.
+    pub(crate) length: u64,
+    /// How many readable rows it has.
+    pub(crate) records: u64,
+    /// The places of these rows, in order, if they are dynamic.
+    pub(crate) places: &'a [u64],
 }
 
 /// Goes through a data file of that length once, and notes the pairs of its rows where they are wanted.
@@ -110,6 +124,7 @@ fn into_found(alloc: Global, met: Met, defs: &Defs, length: u64) -> Result<RowsF
     let Met {
         with_keys: _,
         keys,
+        places: row_places,
         records,
         split,
         mut held,
@@ -121,6 +136,7 @@ fn into_found(alloc: Global, met: Met, defs: &Defs, length: u64) -> Result<RowsF
     held.put_in_order()?;
     Ok(RowsFound {
         keys,
+        places: row_places,
         records,
         split,
         deleted: places(alloc, &deleted)?,

@@ -8,7 +8,7 @@ use Rattle.myi_check.proofs.AskedWalks.{all_asked, none_after, pairs_many}
 use Rattle.myi_check.proofs.asking.ask_key.Goals as goal
 
 pub returns-clause-shows : goal.returns-clause-shows
-returns-clause-shows g c = λ whole m held x d there file records.
+returns-clause-shows g c = λ whole m held x d there file scanned.
     let key = c.args.key.now in
     let tree = key.tree in
     let walk = c.in_ok-walk.walk in
@@ -17,8 +17,8 @@ returns-clause-shows g c = λ whole m held x d there file records.
     let new : KeysSoFar = record c.add_pages.new.self { number = c.add_pages.new.self.number + 1 } in
     let list = row_pairs key.of_rows.defs.now key.of_rows.number d in
     let good = c.is_whole.ensures.none c.if-not-is_whole.false in
-    let count = c.is_whole.ensures.all c.if-not-is_whole.false ∙ records ∙ sym (pairs_many key.of_rows.defs.now key.of_rows.number d) in
-    let shows = all_asked (OfKey (g.F.Files.holds c.args.files.now) key) tree old.busy walk (events_in tree.place x) list (λ p of. of m held d file) count (c.in_ok-walk.ensures.asks good m held x there) in
+    let count = c.is_whole.ensures.all c.if-not-is_whole.false ∙ scanned.records ∙ sym (pairs_many key.of_rows.defs.now key.of_rows.number d) in
+    let shows = all_asked (OfKey (g.F.Files.holds c.args.files.now) key) tree old.busy walk (events_in tree.place x) list (λ p of. of m held d file scanned) count (c.in_ok-walk.ensures.asks good m held x there) in
     adds tree (sorted list) (events_in tree.place x) walk None old new (record {
       findings = ap (λ v. v.items) last.findings ∙ sym (append-nil old.findings.items);
       walks = last.walks;

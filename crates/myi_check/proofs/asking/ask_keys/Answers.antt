@@ -19,7 +19,7 @@ loop-key-init g c = record {
   sized = none_sized c.new-found.result.busy.trees.items c.new-found.ensures.none;
   holds = refl;
   faults = omega arith;
-  so_far = λ m held x d there file roots records. found_first c.args.defs.now x (rows_in c.args.defs.now d) c.new-found.result c.new-found.ensures.findings (c.new-found.ensures.first ∙ c.first_page.ensures.value) c.new-found.ensures.none c.new-found.ensures.walks c.new-found.ensures.bytes;
+  so_far = λ m held x d there file roots scanned. found_first c.args.defs.now x (rows_in c.args.defs.now d) c.new-found.result c.new-found.ensures.findings (c.new-found.ensures.first ∙ c.first_page.ensures.value) c.new-found.ensures.none c.new-found.ensures.walks c.new-found.ensures.bytes;
 }
 
 pub ask_key-requires-clause-asked : goal.ask_key-requires-clause-asked
@@ -27,7 +27,6 @@ ask_key-requires-clause-asked g c κs lives =
     let was = c.loop-key.invariant in
     record {
       sound = sound c.args.defs.now c.requires.defs;
-      static = c.is_static.ensures c.if-not-is_static.false;
       number = (omega (arith, was.number), omega (arith, was.number, c.loop-key-test.true, c.requires.roots));
     }
 
@@ -55,13 +54,13 @@ loop-key-preserved g c =
       sized = one.sized on;
       holds = c.ask_key.ensures.holds ∙ was.holds;
       faults = omega (arith, was.faults, c.ask_key.ensures.cause.later);
-      so_far = λ m held x file there is roots records.
+      so_far = λ m held x file there is roots scanned.
           let rows = rows_in d file in
           let numbered : c.loop-key.found.number ≡ suc i = was.number ∙ sym next in
           subst (λ n. HasSoFar d x rows n c.ask_key.new.found) next
-          (key_next d x rows i c.args.roots.now _ c.tree_key-tree.result (pairs_of d c.loop-key.found.number rows) c.loop-key.found c.ask_key.new.found inside c.requires.roots roots was.number c.tree_key-tree.ensures (ap (λ k. pairs_of d k rows) numbered) (one.shows on m (was.holds ∙ held) x file there is records) (was.so_far m held x file there is roots records));
+          (key_next d x rows i c.args.roots.now _ c.tree_key-tree.result (pairs_of d c.loop-key.found.number rows) c.loop-key.found c.ask_key.new.found inside c.requires.roots roots was.number c.tree_key-tree.ensures (ap (λ k. pairs_of d k rows) numbered) (one.shows on m (was.holds ∙ held) x file there is scanned) (was.so_far m held x file there is roots scanned));
     }
 
 pub returns-clause-found : goal.returns-clause-found
-returns-clause-found g c = λ m held x d there file roots records.
-    found_all c.args.defs.now x (rows_in c.args.defs.now d) c.loop-key._key c.loop-key.found c.into_found.result (omega (arith, c.loop-key-test.false, c.requires.roots, c.loop-key.auto)) c.into_found.ensures.fits (ap (λ v. v.items) c.into_found.ensures.findings) c.into_found.ensures.bytes (c.loop-key.invariant.so_far m held x d there file roots records)
+returns-clause-found g c = λ m held x d there file roots scanned.
+    found_all c.args.defs.now x (rows_in c.args.defs.now d) c.loop-key._key c.loop-key.found c.into_found.result (omega (arith, c.loop-key-test.false, c.requires.roots, c.loop-key.auto)) c.into_found.ensures.fits (ap (λ v. v.items) c.into_found.ensures.findings) c.into_found.ensures.bytes (c.loop-key.invariant.so_far m held x d there file roots scanned)

@@ -25,6 +25,7 @@ returns c = record {
   keys = λ on. (c.view_packed-row.result, c.view_packed-row.ensures.found, c.in_ok-push.ensures ∙ ap (λ at. with_pairs at (row_keys c.args.defs.now c.view_packed-row.result) c.args.self.now.keys) c.pointer.ensures);
   lists = ap (λ (ls : List (List Pair)). length ls) c.in_ok-push.ensures ∙ length-with _ (row_keys c.args.defs.now c.view_packed-row.result) c.args.self.now.keys;
   records = refl;
+  places = refl;
   split = refl;
   held = refl;
   frees = refl;

@@ -1,7 +1,7 @@
--- A row that is read in a slot is a readable row of its file.
+-- A row that is read where a pair points to is a readable row of its file.
 use Rattle.std.proofs.Common.{◌≡◌, ℕ, zero, suc, ◌+◌, ◌*◌, ◌/◌, ◌<◌, ◌≤◌, Bool, true, false, eqb, not, cond, List, [], ◌∷◌, ◌++◌, length, take, drop, map, Option, Some, None, refl, sym, ap, subst, ◌∙◌, arith, inl, inr, ◌⊎◌}
 use Rattle.std.specs.Prelude.{◌&&◌, slice_index, is_some, unwrap_or, option_and_then}
-use Rattle.std.specs.List.{Contains, flat_map}
+use Rattle.std.specs.List.{AllByRecursion, Contains, flat_map}
 use Rattle.std.proofs.lemmas.List.{drop-drop}
 use Rattle.std.proofs.lemmas.List.Elements.{Contains-append_left, Contains-append_right}
 use Rattle.std.proofs.lemmas.Nat.{le-div, div-mul-add}
@@ -12,14 +12,18 @@ use Rattle.myi_keylist.specs.declared.pair.Pair.{Pair}
 use Rattle.myi_keys.specs.declared.values.KeySeg.{KeySeg}
 use Rattle.myi_pack.specs.Packed.{Values}
 use Rattle.myi_pack.specs.Unpacking.{Cut, row_of, parts_of, ended, fields_of}
-use Rattle.myi_chain.specs.Readable.{Row, Item, row_in, rows_of}
+use Rattle.myi_frames.specs.Block.{Block, block_of}
+use Rattle.myi_chain.specs.Chain.{AreLinked, row_bytes}
+use Rattle.myi_chain.specs.Meeting.{IsItemOf, IsRowOf}
+use Rattle.myi_chain.proofs.CallerLemmas.{blocks_read, rest_fine}
+use Rattle.myi_chain.specs.Readable.{Row, Item, row_in, rows_of, rest}
 use Rattle.myi_chain.specs.Readable as chains
 use Rattle.myi_data.specs.Slots.{Slot, slots, slots_in}
 use Rattle.myi_data.specs.Keys.{key_of}
 use Rattle.myi_data.specs.Readable.{packs, slot_range, slot_row, slot_items, items_at, items_by, items_in, readable}
 use Rattle.myi_pair.specs.KeyList.{pointer_by, pointer, pair_of}
 use Rattle.myi_pair.specs.Clean.{values_of, placed_row}
-use Rattle.myi_check.specs.Rows.{rows_in}
+use Rattle.myi_check.specs.Rows.{IsPlaceOf, ArePlacesOf, rows_in}
 use Rattle.myi_check.specs.Asked.{IsSlot, row_pairs}
 
 -- ---- items of a list
@@ -126,6 +130,12 @@ zero_more n = omega arith
 pair_is : (p : Pair) (key : List KeySeg) (row : ℕ) → key ≡ p.key → row ≡ p.row → ◌≡◌ {A = Pair} (record { key = key; row = row }) p
 pair_is p key row e f = ap (λ k. record { key = k; row = row }) e ∙ ap (λ n. record { key = p.key; row = n }) f
 
+-- the pair of a readable row
+pair_in : (d : Defs) (k : ℕ) (p : Pair) (x : List ℕ) (r : Row) (row : Values) → Contains (readable d false x) r → row_of d r.bytes ≡ Some row → key_of d k row ≡ p.key → pointer d r.at ≡ p.row → Contains (row_pairs d k x) p
+pair_in d k p x r row among read key pointed =
+    let keyed : key_of d k (values_of d r) ≡ p.key = ap (λ (o : Option Values). key_of d k (unwrap_or o [])) read ∙ key in
+    subst (Contains (row_pairs d k x)) (pair_is p (key_of d k (values_of d r)) (pointer d r.at) keyed pointed) (in_map (pair_of d k) (placed_row d r) (rows_in d x) (in_map (placed_row d) r (readable d false x) among))
+
 pub row_read : (d : Defs) (k : ℕ) (p : Pair) (x bytes : List ℕ) (row : Values) → d.format ≡ Static → 0 < d.slot_length → IsSlot d.slot_length p.row x bytes → row_of d bytes ≡ Some row → key_of d k row ≡ p.key → Contains (row_pairs d k x) p
 row_read d k p x bytes row static some slot read key =
     let size = d.slot_length in
@@ -136,9 +146,41 @@ row_read d k p x bytes row static some slot read key =
     let item : Contains (slot_items (packs d) s) (chains.row (slot_row s)) = subst (λ (t : List Item). Contains t (chains.row (slot_row s))) (sym (item_of d s row static own)) (first (chains.row (slot_row s)) []) in
     let rows : Contains (readable d false x) (slot_row s) = subst (λ (t : List Row). Contains t (slot_row s)) (sym (rows_static d x static))
     (in_flat row_in (chains.row (slot_row s)) (slot_row s) (flat_map (slot_items (packs d)) (slots_in 0 size x)) (in_flat (slot_items (packs d)) s (chains.row (slot_row s)) (slots_in 0 size x) there item) (first (slot_row s) [])) in
-    let keyed : key_of d k (values_of d (slot_row s)) ≡ p.key = ap (λ (o : Option Values). key_of d k (unwrap_or o [])) own ∙ key in
     let pointed : pointer d s.at ≡ p.row = ap (λ f. pointer_by f size s.at) static ∙ ap (λ n. n / size) (zero_more (p.row * size)) ∙ div-mul-add p.row size 0 some in
-    subst (Contains (row_pairs d k x)) (pair_is p (key_of d k (values_of d (slot_row s))) (pointer d s.at) keyed pointed) (in_map (pair_of d k) (placed_row d (slot_row s)) (rows_in d x) (in_map (placed_row d) (slot_row s) (readable d false x) rows))
+    pair_in d k p x (slot_row s) row rows own key pointed
 
 pub never_dynamic : (d : Defs) → d.format ≡ Static → d.format ≡ Dynamic → ⊥
 never_dynamic d static dynamic = let k : ◌≡◌ {A = RowFormat} Static Dynamic = sym static ∙ dynamic in absurd cc
+
+-- ---- the row of a chain
+
+all_of : {A : Type 0} (P : A → Type 0) (x : A) (xs : List A) → AllByRecursion P xs → Contains xs x → P x
+all_of P x [] all is = absurd (none x is)
+all_of {A} P x (y ∷ ys) all is = by (all_of P x ys all.1) (cases y x ys is)
+  where
+    by : (Contains ys x → P x) → (y ≡ x) ⊎ Contains ys x → P x
+    by go (inl e) = subst P e all.0
+    by go (inr more) = go more
+
+-- the rows of a dynamic table are chains
+items_stand : (d : Defs) (x : List ℕ) (is : List Item) → AllByRecursion (IsItemOf (block_of x) (packs d)) is → AllByRecursion (IsRowOf (block_of x) (packs d)) (rows_of is)
+items_stand d x [] all = tt
+items_stand d x (chains.free a ∷ is) all = items_stand d x is all.1
+items_stand d x (chains.row r ∷ is) all = (all.0, items_stand d x is all.1)
+
+rows_dynamic : (d : Defs) (x : List ℕ) → d.format ≡ Dynamic → AllByRecursion (IsRowOf (block_of x) (packs d)) (readable d false x)
+unfolding readable items_in items_at chains.items_in
+rows_dynamic d x e = subst (λ (f : RowFormat). AllByRecursion (IsRowOf (block_of x) (packs d)) (rows_of (items_by f d false x))) (sym e) (items_stand d x (rest false (block_of x) (length x) (packs d) 0 []) (rest_fine (block_of x) (length x) (blocks_read x) false (packs d) 0 []).0)
+
+-- the bytes are those of the blocks that a row at a place has
+abbrev pub IsRowFrom : List ℕ → ℕ → List ℕ → Type 0
+IsRowFrom x at bytes = (all : List Block) → AreLinked (block_of x) at all → bytes ≡ row_bytes all
+
+pub row_met : (d : Defs) (k : ℕ) (p : Pair) (x bytes places : List ℕ) (row : Values) → d.format ≡ Dynamic → ArePlacesOf (readable d false x) places → Contains places p.row → IsRowFrom x p.row bytes → row_of d bytes ≡ Some row → key_of d k row ≡ p.key → Contains (row_pairs d k x) p
+row_met d k p x bytes places row dynamic are among told read key =
+    let here : IsPlaceOf (readable d false x) p.row = all_of (IsPlaceOf (readable d false x)) p.row places are among in
+    let r = here.row in
+    let stands : IsRowOf (block_of x) (packs d) r = all_of (IsRowOf (block_of x) (packs d)) r (readable d false x) (rows_dynamic d x dynamic) here.among in
+    let own : r.bytes ≡ bytes = stands.bytes ∙ sym (told stands.chain (subst (λ n. AreLinked (block_of x) n stands.chain) here.at stands.is.linked)) in
+    let pointed : pointer d r.at ≡ p.row = ap (λ f. pointer_by f d.slot_length r.at) dynamic ∙ here.at in
+    pair_in d k p x r row here.among (ap (row_of d) own ∙ read) key pointed

@@ -3,11 +3,10 @@ use Rattle.std.proofs.lemmas.Bool.Decides.{Decides-eqb}
 use Rattle.std.proofs.lemmas.Slice.Eq.{slice_eq-Decides}
 use Rattle.myi_pack.proofs.CallerLemmas.{row-fits}
 use Rattle.myi_keys.proofs.CallerLemmas.{one_key}
-use Rattle.myi_check.proofs.SlotLaws.{never_dynamic}
-use Rattle.myi_check.proofs.slot_rows.CodeBuffers.has_key.Goals as goal
+use Rattle.myi_check.proofs.row_reads.CodeBuffers.has_key.Goals as goal
 
 pub write-requires-clause-row : goal.write-requires-clause-row
-write-requires-clause-row c = row-fits c.args.defs.now c.in-Some.row c.args.slot.now c.requires.sound c.in-Some.ensures.packs (λ dynamic. absurd (never_dynamic c.args.defs.now c.requires.format dynamic))
+write-requires-clause-row c = row-fits c.args.defs.now c.in-Some.row c.args.bytes.now c.requires.sound c.in-Some.ensures.packs c.requires.few
 
 pub returns : goal.returns
 returns c = λ has.
