@@ -1,3 +1,4 @@
+pub mod CallerLemmas
 pub mod FrameLaws
 pub mod StripLaws
 pub mod SettleLaws

@@ -1,0 +1,45 @@
+use Rattle.std.proofs.Common.{◌<◌, length, sym, subst, ◌∙◌}
+use Rattle.std.proofs.lemmas.Result.{err_from_is_err_and}
+use Rattle.myi_search.specs.Least.{IsLeastRow}
+use Rattle.myi_keytrees.specs.Trees.{Trees}
+use Rattle.myi_keytrees.specs.Standing.{list_of, IfStand, StillStand, CanSearch}
+use Rattle.myi_keytrees.proofs.StandLaws.{object}
+use Rattle.myi_keytrees.proofs.SearchLaws.{can_walk, sought, never_sought, searched}
+use Rattle.myi_keytrees.proofs.ToldLaws.{if_err}
+use Rattle.myi_keytrees.proofs.key_trees.KeyTrees.find.Goals as goal
+
+pub find-requires-clause-kept : goal.find-requires-clause-kept
+find-requires-clause-kept g c = λ κs lives.
+    let t : Trees = object c.self.inside.places.items c.self.inside.room c.self.inside.cache in
+    can_walk g.F.Files.writable (g.F.Files.holds c.args.files.now) t c.args.key c.index.result.now c.index.ensures (subst (λ (u : Trees). c.args.key < length u.places) (sym c.self.view_is) c.requires.key) c.self.invariant
+    (subst (λ (u : Trees). CanSearch g.F.Files.writable (g.F.Files.holds c.args.files.now) u) (sym c.self.view_is) c.requires.kept)
+
+pub returns-in_err-row-clause-stand : goal.returns-in_err-row-clause-stand
+returns-in_err-row-clause-stand g c =
+    let t : Trees = object c.self.inside.places.items c.self.inside.room c.self.inside.cache in
+    let new : Trees = object c.self.inside.places.items c.self.inside.room c.find.new.cache in
+    subst (λ (u : Trees). StillStand (g.F.Files.holds c.args.files.now) (g.F.Files.holds c.find.new.files) u new) c.self.view_is
+    (searched t (g.F.Files.holds c.args.files.now) (g.F.Files.holds c.find.new.files) c.find.new.cache c.args.key c.index.result.now c.index.ensures (subst (λ (u : Trees). c.args.key < length u.places) (sym c.self.view_is) c.requires.key) c.self.invariant
+    c.walks_add_their_own.ensures.kept c.find.ensures.stays c.find.ensures.added c.find.ensures.cache)
+
+pub returns-in_err-row-clause-never : goal.returns-in_err-row-clause-never
+returns-in_err-row-clause-never g c =
+    let t : Trees = object c.self.inside.places.items c.self.inside.room c.self.inside.cache in
+    let e = err_from_is_err_and c.from_residual.result c.from_residual.ensures.1 in
+    if_err c.from_residual.result e.0 _ e.1
+    (λ p d. subst (λ (u : Trees). IfStand (g.F.Files.holds c.args.files.now) u (λ m own lists. ⊥)) c.self.view_is
+    (never_sought t (g.F.Files.holds c.args.files.now) c.args.key c.index.result.now c.index.ensures (subst (λ (u : Trees). c.args.key < length u.places) (sym c.self.view_is) c.requires.key) (c.in_err-row.ensures.never p (sym e.2 ∙ d))))
+
+pub returns-clause-least : goal.returns-clause-least
+returns-clause-least g c =
+    let t : Trees = object c.self.inside.places.items c.self.inside.room c.self.inside.cache in
+    subst (λ (u : Trees). IfStand (g.F.Files.holds c.args.files.now) u (λ m own lists. IsLeastRow c.args.value.now (list_of lists c.args.key) c.in_ok-row.row)) c.self.view_is
+    (sought t (g.F.Files.holds c.args.files.now) c.args.key c.index.result.now (λ xs. IsLeastRow c.args.value.now xs c.in_ok-row.row) c.index.ensures (subst (λ (u : Trees). c.args.key < length u.places) (sym c.self.view_is) c.requires.key) c.in_ok-row.ensures.least)
+
+pub returns-clause-stand : goal.returns-clause-stand
+returns-clause-stand g c =
+    let t : Trees = object c.self.inside.places.items c.self.inside.room c.self.inside.cache in
+    let new : Trees = object c.self.inside.places.items c.self.inside.room c.find.new.cache in
+    subst (λ (u : Trees). StillStand (g.F.Files.holds c.args.files.now) (g.F.Files.holds c.find.new.files) u new) c.self.view_is
+    (searched t (g.F.Files.holds c.args.files.now) (g.F.Files.holds c.find.new.files) c.find.new.cache c.args.key c.index.result.now c.index.ensures (subst (λ (u : Trees). c.args.key < length u.places) (sym c.self.view_is) c.requires.key) c.self.invariant
+    c.walks_add_their_own.ensures.kept c.find.ensures.stays c.find.ensures.added c.find.ensures.cache)

@@ -1,0 +1,54 @@
+//! Laws over the definitions of this crate. Each is the contract of a function that does nothing, so that
+//! it is proved with the crate and stands for the crates above.
+ghost use Rattle.std.specs.Prelude.{◌≡◌, ◌+◌, ◌<◌, ◌≤◌, ℕ, List, [], ◌∷◌, Some};
+ghost use Rattle.std.specs.List.{AllByRecursion};
+ghost use Rattle.myi_base.specs.Holding.{Holding, bytes_of};
+ghost use Rattle.myi_keycache.specs.Kept.{AllWritten};
+ghost use Rattle.myi_keycache.specs.Lent.{bytes_at};
+ghost use Rattle.myi_keycache.specs.Caching.{pages_of, lends, IsCurrent};
+ghost use Rattle.myi_keylist.specs.declared.pair.Pair.{Pair};
+ghost use Rattle.myi_btree.specs.Sizes.{IsPlaced};
+ghost use Rattle.myi_btree.specs.Walk.{Walked};
+ghost use Rattle.myi_keytrees.specs.Trees.{Trees};
+ghost use Rattle.myi_keytrees.specs.Standing.{Stand};
+ghost use Rattle.myi_keytrees.specs.InFile.{HaveWalks, EndAt, AreAscending, contents_of, bytes_owned, StandIn};
+ghost use Rattle.myi_keytrees.specs.InFile.{bytes_of_pages, bytes_of_free};
+
+/// Where all pages are written, the trees stand in the bytes of the file, each with its pairs, behind the first bytes that are no
+/// page; and what is lent of these first bytes is what the file has.
+pub fn written_trees_stand_in_the_file()
+    ensures trees { (trees : Trees) (m : Holding) (own : ℕ → ℕ) (lists : List (List Pair))
+        (first : ℕ) → 0 < first → AllByRecursion IsPlaced trees.places
+        → AllWritten (pages_of trees.cache) → ((x : ℕ) → x < first → own x ≡ 0)
+        → (s : Stand trees m own lists) → StandIn (bytes_of trees.cache.name m) first
+        trees.room.end trees.places lists s.pages }
+    ensures first { (trees : Trees) (m : Holding) (own : ℕ → ℕ) (lists : List (List Pair))
+        (first : ℕ) (bytes : List ℕ) → AllWritten (pages_of trees.cache)
+        → Stand trees m own lists → lends trees.cache m 0 first ≡ Some bytes
+        → bytes_at (bytes_of trees.cache.name m) 0 first ≡ Some bytes }
+{}
+
+/// Where nothing is kept or free and the trees of the file have walks with pairs in order, whose pages end before the room,
+/// the trees stand for the pairs of these walks.
+pub fn opened_trees_stand()
+    ensures { (trees : Trees) (m : Holding) (first : ℕ) (walks : List Walked)
+        → pages_of trees.cache ≡ [] → IsCurrent trees.cache m
+        → trees.room ≡ record { end = trees.room.end; free = [] }
+        → AreAscending (contents_of walks)
+        → HaveWalks (bytes_of trees.cache.name m) ((0, first) ∷ []) trees.places walks
+        → EndAt trees.room.end trees.places walks
+        → Stand trees m (bytes_owned trees walks) (contents_of walks) }
+{}
+
+/// The pages of the trees and the free pages have as many bytes more as the end of the room went on, whatever
+/// calls came between, and all of them lie before that end.
+pub fn bytes_are_counted()
+    ensures counted { (old new : Trees) (m n : Holding) (own : ℕ → ℕ) (xs ys : List (List Pair))
+        → AllByRecursion IsPlaced old.places → AllByRecursion IsPlaced new.places
+        → (s : Stand old m own xs) (t : Stand new n own ys)
+        → (bytes_of_pages new.places t.pages + bytes_of_free new.room.free) + old.room.end
+        ≡ (bytes_of_pages old.places s.pages + bytes_of_free old.room.free) + new.room.end }
+    ensures inside { (trees : Trees) (m : Holding) (own : ℕ → ℕ) (lists : List (List Pair))
+        → AllByRecursion IsPlaced trees.places → (s : Stand trees m own lists)
+        → bytes_of_pages trees.places s.pages + bytes_of_free trees.room.free ≤ trees.room.end }
+{}
