@@ -118,9 +118,9 @@ stock_is : (room : Room) (x : ℕ) → stock room x ≡ from_end room.end x + co
 unfolding stock
 stock_is room x = refl
 
-own_total : (t : Trees) (m : Holding) (own : ℕ → ℕ) (lists : List (List Pair)) (n : ℕ) → AllByRecursion IsPlaced t.places → t.room.end ≤ n → (s : Stand t m own lists)
+own_total : (t : Trees) (m : Holding) (own : ℕ → ℕ) (lists : List (List Pair)) (n : ℕ) → t.room.end ≤ n → (s : Stand t m own lists)
     → total own n + t.room.end ≡ (bytes_of_pages t.places s.pages + bytes_of_free t.room.free) + n
-own_total t m own lists n placed le s =
+own_total t m own lists n le s =
     let each : ℕ → ℕ = cover_each t.places s.pages in
     let ends : ℕ → ℕ = from_end t.room.end in
     let free : ℕ → ℕ = covers t.room.free in
@@ -128,20 +128,20 @@ own_total t m own lists n placed le s =
     let sum = total_same own (λ x. cover_each t.places s.pages x + (from_end t.room.end x + covers t.room.free x)) n parts in
     let one = total_both (cover_each t.places s.pages) (λ x. from_end t.room.end x + covers t.room.free x) n in
     let two = total_both (from_end t.room.end) (covers t.room.free) n in
-    let a = each_total n t.room.end t.places s.pages le placed (λ x. omega (arith, s.once x, parts x)) in
+    let a = each_total n t.room.end t.places s.pages le s.placed (λ x. omega (arith, s.once x, parts x)) in
     let b = free_total n t.room.end t.room.free le (λ x. omega (arith, s.once x, parts x)) in
     let c = end_total t.room.end n le in
     omega (arith, sum, one, two, a, b, c)
 
-pub counted : (old new : Trees) (m n : Holding) (own : ℕ → ℕ) (xs ys : List (List Pair)) → AllByRecursion IsPlaced old.places → AllByRecursion IsPlaced new.places → (s : Stand old m own xs) (t : Stand new n own ys)
+pub counted : (old new : Trees) (m n : Holding) (own : ℕ → ℕ) (xs ys : List (List Pair)) (s : Stand old m own xs) (t : Stand new n own ys)
     → (bytes_of_pages new.places t.pages + bytes_of_free new.room.free) + old.room.end ≡ (bytes_of_pages old.places s.pages + bytes_of_free old.room.free) + new.room.end
-counted old new m n own xs ys before after s t =
+counted old new m n own xs ys s t =
     let limit : ℕ = old.room.end + new.room.end in
-    let a = own_total old m own xs limit before (omega arith) s in
-    let b = own_total new n own ys limit after (omega arith) t in
+    let a = own_total old m own xs limit (omega arith) s in
+    let b = own_total new n own ys limit (omega arith) t in
     omega (arith, a, b)
 
-pub few : (t : Trees) (m : Holding) (own : ℕ → ℕ) (lists : List (List Pair)) → AllByRecursion IsPlaced t.places → (s : Stand t m own lists) → bytes_of_pages t.places s.pages + bytes_of_free t.room.free ≤ t.room.end
-few t m own lists placed s =
-    let a = own_total t m own lists t.room.end placed (omega arith) s in
+pub few : (t : Trees) (m : Holding) (own : ℕ → ℕ) (lists : List (List Pair)) (s : Stand t m own lists) → bytes_of_pages t.places s.pages + bytes_of_free t.room.free ≤ t.room.end
+few t m own lists s =
+    let a = own_total t m own lists t.room.end (omega arith) s in
     omega (arith, a, total_most own t.room.end s.once)

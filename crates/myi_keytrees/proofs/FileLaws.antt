@@ -216,19 +216,19 @@ end_in_stock room x = omega arith
 
 -- ---- trees that stand are in the file, once all pages are written
 
-pub stand_in : (t : Trees) (m : Holding) (own : ℕ → ℕ) (lists : List (List Pair)) (first : ℕ) → 0 < first → AllByRecursion IsPlaced t.places → AllWritten (pages_of t.cache) → ((x : ℕ) → x < first → own x ≡ 0) → (s : Stand t m own lists)
+pub stand_in : (t : Trees) (m : Holding) (own : ℕ → ℕ) (lists : List (List Pair)) (first : ℕ) → 0 < first → AllWritten (pages_of t.cache) → ((x : ℕ) → x < first → own x ≡ 0) → (s : Stand t m own lists)
     → StandIn (bytes_of t.cache.name m) first t.room.end t.places lists s.pages
-stand_in t m own lists first some placed written none s =
+stand_in t m own lists first some written none s =
     let header : (x : ℕ) → in_ranges ((0, first) ∷ []) x + cover_each t.places s.pages x ≤ 1 = λ x. elim (cases_lt x first) [
       | inl low ↦ let one = range_most (0, first) x in omega (arith, s.owned x, none x low)
       | inr high ↦ let zero = range_zero (0, first) x (inr high) in omega (arith, s.owned x, s.once x)
     ] in
-    let a = trees_apart t.cache m t.places lists s.pages ((0, first) ∷ []) written s.current placed (some, tt) s.hold header in
+    let a = trees_apart t.cache m t.places lists s.pages ((0, first) ∷ []) written s.current s.placed (some, tt) s.hold header in
     record {
       walks = a.walks;
       have = a.have;
       contents = a.contents;
       pages_are = a.pages_are;
-      inside = all_inside (bytes_of t.cache.name m) ((0, first) ∷ []) t.places a.walks placed a.have;
-      before = all_before t.room.end t.places a.walks placed (λ x. omega (arith, s.owned x, s.once x, end_in_stock t.room x, ap (λ (g : List (List ℕ)). cover_each t.places g x) a.pages_are));
+      inside = all_inside (bytes_of t.cache.name m) ((0, first) ∷ []) t.places a.walks s.placed a.have;
+      before = all_before t.room.end t.places a.walks s.placed (λ x. omega (arith, s.owned x, s.once x, end_in_stock t.room x, ap (λ (g : List (List ℕ)). cover_each t.places g x) a.pages_are));
     }

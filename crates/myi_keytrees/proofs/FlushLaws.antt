@@ -56,6 +56,7 @@ flush_stands t told next new same flushed = λ m held own lists s.
       now = then.0;
       held = then.1;
       stand = record {
+        placed = s.placed;
         pages = s.pages;
         current = both.0;
         hold = all_hold t.cache m new then.0 t.places lists s.pages both.1 back s.hold;

@@ -160,9 +160,10 @@ trees_opened cache m busy (p ∷ ps) (w ∷ ws) none current ascend have = (
   trees_opened cache m (busy ++ pages_on p w) ps ws none current ascend.1 have.1
 )
 
-pub opened : (t : Trees) (m : Holding) (first : ℕ) (ws : List Walked) → pages_of t.cache ≡ [] → IsCurrent t.cache m → t.room ≡ record { end = t.room.end; free = [] } → AreAscending (contents_of ws) → HaveWalks (bytes_of t.cache.name m) ((0, first) ∷ []) t.places ws
+pub opened : (t : Trees) (m : Holding) (first : ℕ) (ws : List Walked) → AllByRecursion IsPlaced t.places → pages_of t.cache ≡ [] → IsCurrent t.cache m → t.room ≡ record { end = t.room.end; free = [] } → AreAscending (contents_of ws) → HaveWalks (bytes_of t.cache.name m) ((0, first) ∷ []) t.places ws
     → EndAt t.room.end t.places ws → Stand t m (bytes_owned t ws) (contents_of ws)
-opened t m first ws none current room ascend have ends = record {
+opened t m first ws placed none current room ascend have ends = record {
+  placed = placed;
   pages = pages_of_walks ws;
   current = current;
   hold = trees_opened t.cache m ((0, first) ∷ []) t.places ws none current ascend have;

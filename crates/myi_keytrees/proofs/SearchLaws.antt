@@ -79,15 +79,15 @@ in_order (p ∷ q ∷ xs) s = λ k d low lt. by (in_order (q ∷ xs) s.1) k d lt
 
 -- ---- a search of one tree
 
-pub walked : (t : Trees) (m : Holding) (own : ℕ → ℕ) (lists : List (List Pair)) (s : Stand t m own lists) (k : ℕ) (p : Place) → IsPlaceOf t k p → k < length t.places → AllByRecursion IsPlaced t.places → HasPages p t.cache m p.root (slice_index_or s.pages k [])
-walked t m own lists s k p at lt placed =
-    has_pages p t.cache m p.root (list_of lists k) (slice_index_or s.pages k []) (placed_here t k p at lt placed) (held_here t m own lists s k p at lt).tree (λ x. omega (arith, own_here t m own lists s k p at lt x, s.once x))
+pub walked : (t : Trees) (m : Holding) (own : ℕ → ℕ) (lists : List (List Pair)) (s : Stand t m own lists) (k : ℕ) (p : Place) → IsPlaceOf t k p → k < length t.places → HasPages p t.cache m p.root (slice_index_or s.pages k [])
+walked t m own lists s k p at lt =
+    has_pages p t.cache m p.root (list_of lists k) (slice_index_or s.pages k []) (placed_here t k p at lt s.placed) (held_here t m own lists s k p at lt).tree (λ x. omega (arith, own_here t m own lists s k p at lt x, s.once x))
 
-pub can_walk : (writable : Bool) (told : Option Holding) (t : Trees) (k : ℕ) (p : Place) → IsPlaceOf t k p → k < length t.places → AllByRecursion IsPlaced t.places → CanSearch writable told t → CanWalk writable told p t.cache
-can_walk writable told t k p at lt placed (inl none) = inl none
-can_walk writable told t k p at lt placed (inr can) = inr (can.0, λ m held current.
+pub can_walk : (writable : Bool) (told : Option Holding) (t : Trees) (k : ℕ) (p : Place) → IsPlaceOf t k p → k < length t.places → CanSearch writable told t → CanWalk writable told p t.cache
+can_walk writable told t k p at lt (inl none) = inl none
+can_walk writable told t k p at lt (inr can) = inr (can.0, λ m held current.
     let st = can.1 m held in
-    is_clear p t.cache m p.root (slice_index_or st.2.pages k []) (walked t m st.0 st.1 st.2 k p at lt placed) (held_here t m st.0 st.1 st.2 k p at lt).meets)
+    is_clear p t.cache m p.root (slice_index_or st.2.pages k []) (walked t m st.0 st.1 st.2 k p at lt) (held_here t m st.0 st.1 st.2 k p at lt).meets)
 
 -- the tree of a key, in order, as a search wants it
 pub sought : (t : Trees) (told : Option Holding) (k : ℕ) (p : Place) (P : List Pair → Type 0) → IsPlaceOf t k p → k < length t.places
@@ -139,9 +139,9 @@ lists_long cache m (p ∷ ps) (xs ∷ lists) (g ∷ pages) hold = ap suc (lists_
 abbrev pub AddsOwn : Type 0
 AddsOwn = (place : Place) (old new : Caching) (m : Holding) → AddsNamed place old m new → AddsItsOwn place old m new
 
-pub searched : (t : Trees) (told next : Option Holding) (new : Caching) (k : ℕ) (p : Place) → IsPlaceOf t k p → k < length t.places → AllByRecursion IsPlaced t.places → AddsOwn → Told told next (λ m n. IsCurrent t.cache m → Stays t.cache new m n)
+pub searched : (t : Trees) (told next : Option Holding) (new : Caching) (k : ℕ) (p : Place) → IsPlaceOf t k p → k < length t.places → AddsOwn → Told told next (λ m n. IsCurrent t.cache m → Stays t.cache new m n)
     → IfTold told (λ m. IsCurrent t.cache m → AddsNamed p t.cache m new) → ReadsOnly told next t.cache new → StillStand told next t (record { places = t.places; room = t.room; cache = new })
-searched t told next new k p at lt placed adds stays added reads = λ m held own lists s.
+searched t told next new k p at lt adds stays added reads = λ m held own lists s.
     let g : List ℕ = slice_index_or s.pages k [] in
     let xs : List Pair = list_of lists k in
     let then = stays.told m held in
@@ -149,11 +149,11 @@ searched t told next new k p at lt placed adds stays added reads = λ m held own
     let same : Stays t.cache new m n = then.2 s.current in
     let rest = reads.others.told m held in
     let others : OthersStay t.cache.name m n = subst (λ (q : Holding). OthersStay t.cache.name m q) (same_Some rest.0 n (sym rest.1 ∙ then.1)) rest.2 in
-    let own_only = adds p t.cache new m (added m held s.current) g (walked t m own lists s k p at lt placed) in
+    let own_only = adds p t.cache new m (added m held s.current) g (walked t m own lists s k p at lt) in
     let pages : AddsPages p.block_length g [] (pages_of t.cache) (pages_of new) = λ at_ len is. elim (own_only at_ len is) [ inl was ↦ inl was | inr a ↦ inr (a.0, inl (among_in g at_ a.1)) ] in
     let hold = held_here t m own lists s k p at lt in
     let stands : StandThen t m own next (record { places = slice_set t.places k p; room = t.room; cache = new }) (slice_set lists k xs) =
-        swapped t m n own lists s k p p xs g [] new t.room next at lt placed then.1 (read_only p t.cache m g t.room new n same pages reads.name others) refl (tree_stays p t.cache m new n p.root xs g same.lent hold.tree) hold.ascend in
+        swapped t m n own lists s k p p xs g [] new t.room next at lt then.1 (read_only p t.cache m g t.room new n same pages reads.name others) refl refl (tree_stays p t.cache m new n p.root xs g same.lent hold.tree) hold.ascend in
     let places : slice_set t.places k p ≡ t.places = ap (λ (r : Place). slice_set t.places k r) at ∙ set_same t.places k p lt in
     let same_lists : slice_set lists k xs ≡ lists = set_same lists k [] (omega (arith, lt, lists_long t.cache m t.places lists s.pages s.hold)) in
     subst (λ (ls : List (List Pair)). StandThen t m own next (record { places = t.places; room = t.room; cache = new }) ls) same_lists

@@ -125,6 +125,10 @@ swap_hold c (p ∷ ps) (xs ∷ lists) (g ∷ pages) (suc k) d q ys placed lt at 
 
 -- ---- the trees of one object
 
+-- a place whose pages are made as those of another
+same_place : (p q : Place) → q.block_length ≡ p.block_length → q.rec_ref ≡ p.rec_ref → q ≡ record p { root = q.root }
+same_place p q long wide = ap (λ (b : ℕ). record { block_length = b; rec_ref = q.rec_ref; root = q.root }) long ∙ ap (λ (r : ℕ). record { block_length = p.block_length; rec_ref = r; root = q.root }) wide
+
 abbrev pub object : List Place → Room → Caching → Trees
 object places room cache = record { places = places; room = room; cache = cache }
 
@@ -134,6 +138,12 @@ IsPlaceOf t k p = p ≡ slice_index_or t.places k p
 
 pub kinds_here : (t : Trees) (k : ℕ) (p q : Place) → IsPlaceOf t k p → k < length t.places → q.block_length ≡ p.block_length → q.rec_ref ≡ p.rec_ref → kinds (slice_set t.places k q) ≡ kinds t.places
 kinds_here t k p q at lt long wide = kinds_set t.places k p q lt (long ∙ ap (λ (r : Place). r.block_length) at) (wide ∙ ap (λ (r : Place). r.rec_ref) at)
+
+pub placed_set : (t : Trees) (k : ℕ) (p q : Place) → IsPlaceOf t k p → k < length t.places → q.block_length ≡ p.block_length → q.rec_ref ≡ p.rec_ref → AllByRecursion IsPlaced t.places → AllByRecursion IsPlaced (slice_set t.places k q)
+placed_set t k p q at lt long wide placed =
+    let was : IsPlaced p = subst IsPlaced (sym at) (all_at IsPlaced t.places k p placed lt) in
+    let rooted : IsPlaced (record p { root = q.root }) = record { whole = was.whole; least = was.least; most = was.most; wide = was.wide; narrow = was.narrow } in
+    all_set IsPlaced t.places k q placed (subst IsPlaced (sym (same_place p q long wide)) rooted)
 
 pub held_here : (t : Trees) (m : Holding) (own : ℕ → ℕ) (lists : List (List Pair)) (s : Stand t m own lists) (k : ℕ) (p : Place) → IsPlaceOf t k p → k < length t.places → HoldsPairs t.cache m p (list_of lists k) (slice_index_or s.pages k [])
 held_here t m own lists s k p at lt = subst (λ (r : Place). HoldsPairs t.cache m r (list_of lists k) (slice_index_or s.pages k [])) (sym at) (held_at t.cache m t.places lists s.pages k p s.hold lt)
@@ -156,12 +166,12 @@ can_change t m own lists s k p at lt = record {
 
 -- The pages of one tree became others, on which it has these pairs.
 pub swapped : (t : Trees) (m n : Holding) (own : ℕ → ℕ) (lists : List (List Pair)) (s : Stand t m own lists) (k : ℕ) (p q : Place) (ys : List Pair) (news given : List ℕ) (new : Caching) (after : Room) (told : Option Holding)
-    → IsPlaceOf t k p → k < length t.places → AllByRecursion IsPlaced t.places → told ≡ Some n → Exchanges p t.cache m (slice_index_or s.pages k []) t.room new n news after given
-    → q.block_length ≡ p.block_length → IsTree q new n q.root ys news → IsStrictlySortedBy pair_cmp ys
+    → IsPlaceOf t k p → k < length t.places → told ≡ Some n → Exchanges p t.cache m (slice_index_or s.pages k []) t.room new n news after given
+    → q.block_length ≡ p.block_length → q.rec_ref ≡ p.rec_ref → IsTree q new n q.root ys news → IsStrictlySortedBy pair_cmp ys
     → StandThen t m own told (record { places = slice_set t.places k q; room = after; cache = new }) (slice_set lists k ys)
-swapped t m n own lists s k p q ys news given new after told at lt placed held f long tree ascend =
+swapped t m n own lists s k p q ys news given new after told at lt held f long wide tree ascend =
     let g : List ℕ = slice_index_or s.pages k [] in
-    let some : 0 < p.block_length = placed_here t k p at lt placed in
+    let some : 0 < p.block_length = placed_here t k p at lt s.placed in
     let c : Swap = record { place = p; old = t.cache; m = m; olds = g; before = t.room; new = new; n = n; news = news; after = after; given = given; done = f; some = some } in
     let still : CanChange p new n news after = exchange_can p t.cache m g t.room new n news after given some (can_change t m own lists s k p at lt) f in
     let meets : NoneMeets q new news = subst (λ (b : ℕ). NoneMeets (record { block_length = b; rec_ref = q.rec_ref; root = q.root }) new news) (sym long) still.meets in
@@ -169,9 +179,10 @@ swapped t m n own lists s k p q ys news given new after told at lt placed held f
       now = n;
       held = held;
       stand = record {
+        placed = placed_set t k p q at lt long wide s.placed;
         pages = slice_set s.pages k news;
         current = still.current;
-        hold = swap_hold c t.places lists s.pages k p q ys placed lt at refl s.hold (λ x. omega (arith, s.owned x, s.once x)) (record { tree = tree; ascend = ascend; meets = meets });
+        hold = swap_hold c t.places lists s.pages k p q ys s.placed lt at refl s.hold (λ x. omega (arith, s.owned x, s.once x)) (record { tree = tree; ascend = ascend; meets = meets });
         spare = still.spare;
         owned = λ x. omega (arith, s.owned x, f.balance x, set_cover t.cache m t.places lists s.pages k p q news x s.hold lt, ap (λ (r : Place). cover r.block_length g x) at, ap (λ (b : ℕ). cover b news x) long);
         once = s.once;
@@ -193,9 +204,6 @@ same_nodes : (p : Place) (root : Option ℕ) (cache : Caching) (m : Holding) →
 unfolding node_lent
 same_nodes p root cache m = refl
 
-same_place : (p q : Place) → q.block_length ≡ p.block_length → q.rec_ref ≡ p.rec_ref → q ≡ record p { root = q.root }
-same_place p q long wide = ap (λ (b : ℕ). record { block_length = b; rec_ref = q.rec_ref; root = q.root }) long ∙ ap (λ (r : ℕ). record { block_length = p.block_length; rec_ref = r; root = q.root }) wide
-
 pub same_tree : (p q : Place) (cache : Caching) (m : Holding) (root : Option ℕ) (xs : List Pair) (pages : List ℕ) → q.block_length ≡ p.block_length → q.rec_ref ≡ p.rec_ref → IsTree p cache m root xs pages → IsTree q cache m root xs pages
 same_tree p q cache m None xs pages long wide tree = tree
 same_tree p q cache m (Some root) xs pages long wide (h, w, e, is, on) =
@@ -203,15 +211,15 @@ same_tree p q cache m (Some root) xs pages long wide (h, w, e, is, on) =
     (h, w, ap (λ (read : Places). walk_of read h root) nodes ∙ e, is, on)
 
 -- what an insertion into the tree of a key says of all trees
-pub put_stands : (t : Trees) (told next : Option Holding) (k : ℕ) (p q : Place) (pair : Pair) (new : Caching) (after : Room) → IsPlaceOf t k p → k < length t.places → AllByRecursion IsPlaced t.places
+pub put_stands : (t : Trees) (told next : Option Holding) (k : ℕ) (p q : Place) (pair : Pair) (new : Caching) (after : Room) → IsPlaceOf t k p → k < length t.places
     → IfTold told (λ m. (xs : List Pair) (pages : List ℕ) → IsTree p t.cache m p.root xs pages → CanChange p t.cache m pages t.room → IsStrictlySortedBy pair_cmp xs → Inserted p t.cache m pages t.room next new after q.root (put_pair pair xs))
     → q.block_length ≡ p.block_length → q.rec_ref ≡ p.rec_ref
     → IfStand told t (λ m own lists. has_pair pair (list_of lists k) ≡ false → StandThen t m own next (record { places = slice_set t.places k q; room = after; cache = new }) (put_in k pair lists))
-put_stands t told next k p q pair new after at lt placed inserted long wide = λ m held own lists s none.
+put_stands t told next k p q pair new after at lt inserted long wide = λ m held own lists s none.
     let xs : List Pair = list_of lists k in
     let hold = held_here t m own lists s k p at lt in
     let done = inserted m held xs (slice_index_or s.pages k []) hold.tree (can_change t m own lists s k p at lt) hold.ascend in
-    swapped t m done.now own lists s k p q (put_pair pair xs) done.pages [] new after next at lt placed done.held done.changes long
+    swapped t m done.now own lists s k p q (put_pair pair xs) done.pages [] new after next at lt done.held done.changes long wide
     (same_tree p q new done.now q.root (put_pair pair xs) done.pages long wide done.tree) (put_sorted pair xs hold.ascend (none_has pair xs none))
 
 -- where a refusal cannot be of a tree, it cannot be of these trees
@@ -238,15 +246,15 @@ sorted_without p (q ∷ xs) s = elim (cases_Bool (is_eq (pair_cmp p q))) [
   | inr other ↦ rw other (all_without (λ r. pair_cmp q r ≡ Less) p xs s.0, sorted_without p xs s.1)
 ]
 
-pub taken_stands : (t : Trees) (told next : Option Holding) (k : ℕ) (p q : Place) (pair : Pair) (new : Caching) (after : Room) → IsPlaceOf t k p → k < length t.places → AllByRecursion IsPlaced t.places
+pub taken_stands : (t : Trees) (told next : Option Holding) (k : ℕ) (p q : Place) (pair : Pair) (new : Caching) (after : Room) → IsPlaceOf t k p → k < length t.places
     → IfTold told (λ m. (xs : List Pair) (pages : List ℕ) → IsTree p t.cache m p.root xs pages → CanChange p t.cache m pages t.room → IsStrictlySortedBy pair_cmp xs → Removed p t.cache m pages t.room next new after q.root (without_pair pair xs))
     → q.block_length ≡ p.block_length → q.rec_ref ≡ p.rec_ref
     → IfStand told t (λ m own lists. StandThen t m own next (record { places = slice_set t.places k q; room = after; cache = new }) (taken_out k pair lists))
-taken_stands t told next k p q pair new after at lt placed removed long wide = λ m held own lists s.
+taken_stands t told next k p q pair new after at lt removed long wide = λ m held own lists s.
     let xs : List Pair = list_of lists k in
     let hold = held_here t m own lists s k p at lt in
     let done = removed m held xs (slice_index_or s.pages k []) hold.tree (can_change t m own lists s k p at lt) hold.ascend in
-    swapped t m done.now own lists s k p q (without_pair pair xs) done.pages done.given new after next at lt placed done.held done.changes long
+    swapped t m done.now own lists s k p q (without_pair pair xs) done.pages done.given new after next at lt done.held done.changes long wide
     (same_tree p q new done.now q.root (without_pair pair xs) done.pages long wide done.tree) (sorted_without pair xs hold.ascend)
 
 -- whether the pair was there

@@ -1,6 +1,7 @@
 -- For which lists of pairs the trees of an index file stand, a list for each key, and what a call does to that. Which bytes are pages
 -- and free room is counted byte by byte, 1 for each page and each free range that a byte lies in.
 use Rattle.std.specs.Prelude.{◌≡◌, ◌⊎◌, ◌+◌, ◌*◌, ◌≤◌, ℕ, Bool, List, [], ◌∷◌, length, sum_by, slice_index_or, slice_set, Option, Some, IsTrue}
+use Rattle.std.specs.List.{AllByRecursion}
 use Rattle.std.specs.List.Sorted.{IsStrictlySortedBy}
 use Rattle.myi_base.specs.Holding.{Holding, IfTold}
 use Rattle.myi_keylist.specs.declared.pair.Pair.{Pair}
@@ -9,6 +10,7 @@ use Rattle.myi_keycache.specs.Kept.{AllWritten}
 use Rattle.myi_keycache.specs.Caching.{Caching, pages_of, IsCurrent}
 use Rattle.myi_btree.specs.declared.place.Place.{Place}
 use Rattle.myi_btree.specs.declared.place.Room.{Room}
+use Rattle.myi_btree.specs.Sizes.{IsPlaced}
 use Rattle.myi_btree.specs.CachedTrees.{NoneMeets}
 use Rattle.myi_insertion.specs.Covers.{cover, stock}
 use Rattle.myi_insertion.specs.CachedChanges.{NoneInRoom, SparesLent}
@@ -48,9 +50,10 @@ HoldLists cache m (place ∷ places) [] pages = ⊥
 HoldLists cache m (place ∷ places) (pairs ∷ lists) [] = ⊥
 HoldLists cache m (place ∷ places) (pairs ∷ lists) (own ∷ pages) = HoldsPairs cache m place pairs own × HoldLists cache m places lists pages
 
--- Where the files hold this, the trees stand for these lists. The pages of all trees and the room have just the bytes of `own`, each
+-- Where the files hold this, the trees stand for these lists. Each has pages of a length that can be; the pages of all trees and the room have just the bytes of `own`, each
 -- once; the file is as the last call of the cache left it, and no page that is kept has a byte of the room, but a free page itself.
 pub record Stand (trees : Trees) (m : Holding) (own : ℕ → ℕ) (lists : List (List Pair)) : Type 0 where
+  pub placed : AllByRecursion IsPlaced trees.places
   pub pages : List (List ℕ)
   pub current : IsCurrent trees.cache m
   pub hold : HoldLists trees.cache m trees.places lists pages

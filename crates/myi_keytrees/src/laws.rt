@@ -18,8 +18,7 @@ ghost use Rattle.myi_keytrees.specs.InFile.{bytes_of_pages, bytes_of_free};
 /// page; and what is lent of these first bytes is what the file has.
 pub fn written_trees_stand_in_the_file()
     ensures trees { (trees : Trees) (m : Holding) (own : ℕ → ℕ) (lists : List (List Pair))
-        (first : ℕ) → 0 < first → AllByRecursion IsPlaced trees.places
-        → AllWritten (pages_of trees.cache) → ((x : ℕ) → x < first → own x ≡ 0)
+        (first : ℕ) → 0 < first → AllWritten (pages_of trees.cache) → ((x : ℕ) → x < first → own x ≡ 0)
         → (s : Stand trees m own lists) → StandIn (bytes_of trees.cache.name m) first
         trees.room.end trees.places lists s.pages }
     ensures first { (trees : Trees) (m : Holding) (own : ℕ → ℕ) (lists : List (List Pair))
@@ -32,7 +31,7 @@ pub fn written_trees_stand_in_the_file()
 /// the trees stand for the pairs of these walks.
 pub fn opened_trees_stand()
     ensures { (trees : Trees) (m : Holding) (first : ℕ) (walks : List Walked)
-        → pages_of trees.cache ≡ [] → IsCurrent trees.cache m
+        → AllByRecursion IsPlaced trees.places → pages_of trees.cache ≡ [] → IsCurrent trees.cache m
         → trees.room ≡ record { end = trees.room.end; free = [] }
         → AreAscending (contents_of walks)
         → HaveWalks (bytes_of trees.cache.name m) ((0, first) ∷ []) trees.places walks
@@ -44,11 +43,10 @@ pub fn opened_trees_stand()
 /// calls came between, and all of them lie before that end.
 pub fn bytes_are_counted()
     ensures counted { (old new : Trees) (m n : Holding) (own : ℕ → ℕ) (xs ys : List (List Pair))
-        → AllByRecursion IsPlaced old.places → AllByRecursion IsPlaced new.places
         → (s : Stand old m own xs) (t : Stand new n own ys)
         → (bytes_of_pages new.places t.pages + bytes_of_free new.room.free) + old.room.end
         ≡ (bytes_of_pages old.places s.pages + bytes_of_free old.room.free) + new.room.end }
     ensures inside { (trees : Trees) (m : Holding) (own : ℕ → ℕ) (lists : List (List Pair))
-        → AllByRecursion IsPlaced trees.places → (s : Stand trees m own lists)
+        → (s : Stand trees m own lists)
         → bytes_of_pages trees.places s.pages + bytes_of_free trees.room.free ≤ trees.room.end }
 {}

@@ -11,7 +11,7 @@ use Rattle.myi_keytrees.proofs.key_trees.KeyTrees.find.Goals as goal
 pub find-requires-clause-kept : goal.find-requires-clause-kept
 find-requires-clause-kept g c = λ κs lives.
     let t : Trees = object c.self.inside.places.items c.self.inside.room c.self.inside.cache in
-    can_walk g.F.Files.writable (g.F.Files.holds c.args.files.now) t c.args.key c.index.result.now c.index.ensures (subst (λ (u : Trees). c.args.key < length u.places) (sym c.self.view_is) c.requires.key) c.self.invariant
+    can_walk g.F.Files.writable (g.F.Files.holds c.args.files.now) t c.args.key c.index.result.now c.index.ensures (subst (λ (u : Trees). c.args.key < length u.places) (sym c.self.view_is) c.requires.key)
     (subst (λ (u : Trees). CanSearch g.F.Files.writable (g.F.Files.holds c.args.files.now) u) (sym c.self.view_is) c.requires.kept)
 
 pub returns-in_err-row-clause-stand : goal.returns-in_err-row-clause-stand
@@ -19,7 +19,7 @@ returns-in_err-row-clause-stand g c =
     let t : Trees = object c.self.inside.places.items c.self.inside.room c.self.inside.cache in
     let new : Trees = object c.self.inside.places.items c.self.inside.room c.find.new.cache in
     subst (λ (u : Trees). StillStand (g.F.Files.holds c.args.files.now) (g.F.Files.holds c.find.new.files) u new) c.self.view_is
-    (searched t (g.F.Files.holds c.args.files.now) (g.F.Files.holds c.find.new.files) c.find.new.cache c.args.key c.index.result.now c.index.ensures (subst (λ (u : Trees). c.args.key < length u.places) (sym c.self.view_is) c.requires.key) c.self.invariant
+    (searched t (g.F.Files.holds c.args.files.now) (g.F.Files.holds c.find.new.files) c.find.new.cache c.args.key c.index.result.now c.index.ensures (subst (λ (u : Trees). c.args.key < length u.places) (sym c.self.view_is) c.requires.key)
     c.walks_add_their_own.ensures.kept c.find.ensures.stays c.find.ensures.added c.find.ensures.cache)
 
 pub returns-in_err-row-clause-never : goal.returns-in_err-row-clause-never
@@ -41,5 +41,5 @@ returns-clause-stand g c =
     let t : Trees = object c.self.inside.places.items c.self.inside.room c.self.inside.cache in
     let new : Trees = object c.self.inside.places.items c.self.inside.room c.find.new.cache in
     subst (λ (u : Trees). StillStand (g.F.Files.holds c.args.files.now) (g.F.Files.holds c.find.new.files) u new) c.self.view_is
-    (searched t (g.F.Files.holds c.args.files.now) (g.F.Files.holds c.find.new.files) c.find.new.cache c.args.key c.index.result.now c.index.ensures (subst (λ (u : Trees). c.args.key < length u.places) (sym c.self.view_is) c.requires.key) c.self.invariant
+    (searched t (g.F.Files.holds c.args.files.now) (g.F.Files.holds c.find.new.files) c.find.new.cache c.args.key c.index.result.now c.index.ensures (subst (λ (u : Trees). c.args.key < length u.places) (sym c.self.view_is) c.requires.key)
     c.walks_add_their_own.ensures.kept c.find.ensures.stays c.find.ensures.added c.find.ensures.cache)

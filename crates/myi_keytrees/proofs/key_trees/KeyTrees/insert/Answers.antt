@@ -21,7 +21,7 @@ returns-clause-inserted g c =
     let new : Trees = object (slice_set c.self.inside.places.items c.args.key c.insert.new.place) c.insert.new.room c.insert.new.cache in
     subst (λ (u : Trees). IfStand (g.F.Files.holds c.args.files.now) u (λ m own lists. has_pair c.args.pair.now (list_of lists c.args.key) ≡ false → StandThen u m own (g.F.Files.holds c.insert.new.files) new (put_in c.args.key c.args.pair.now lists))) c.self.view_is
     (put_stands t (g.F.Files.holds c.args.files.now) (g.F.Files.holds c.insert.new.files) c.args.key c.index.result.now c.insert.new.place c.args.pair.now c.insert.new.cache c.insert.new.room c.index.ensures
-    (subst (λ (u : Trees). c.args.key < length u.places) (sym c.self.view_is) c.requires.key) c.self.invariant c.in_ok-insert.ensures.inserted c.insert.ensures.length c.insert.ensures.pointers)
+    (subst (λ (u : Trees). c.args.key < length u.places) (sym c.self.view_is) c.requires.key) c.in_ok-insert.ensures.inserted c.insert.ensures.length c.insert.ensures.pointers)
 
 pub returns-clause-kinds : goal.returns-clause-kinds
 returns-clause-kinds g c =

@@ -12,7 +12,7 @@ use Rattle.myi_keytrees.proofs.key_trees.KeyTrees.next_after.Goals as goal
 pub next_after-requires-clause-kept : goal.next_after-requires-clause-kept
 next_after-requires-clause-kept g c = λ κs lives.
     let t : Trees = object c.self.inside.places.items c.self.inside.room c.self.inside.cache in
-    can_walk g.F.Files.writable (g.F.Files.holds c.args.files.now) t c.args.key c.index.result.now c.index.ensures (subst (λ (u : Trees). c.args.key < length u.places) (sym c.self.view_is) c.requires.key) c.self.invariant
+    can_walk g.F.Files.writable (g.F.Files.holds c.args.files.now) t c.args.key c.index.result.now c.index.ensures (subst (λ (u : Trees). c.args.key < length u.places) (sym c.self.view_is) c.requires.key)
     (subst (λ (u : Trees). CanSearch g.F.Files.writable (g.F.Files.holds c.args.files.now) u) (sym c.self.view_is) c.requires.kept)
 
 pub returns-in_err-pair-clause-stand : goal.returns-in_err-pair-clause-stand
@@ -20,7 +20,7 @@ returns-in_err-pair-clause-stand g c =
     let t : Trees = object c.self.inside.places.items c.self.inside.room c.self.inside.cache in
     let new : Trees = object c.self.inside.places.items c.self.inside.room c.next_after.new.cache in
     subst (λ (u : Trees). StillStand (g.F.Files.holds c.args.files.now) (g.F.Files.holds c.next_after.new.files) u new) c.self.view_is
-    (searched t (g.F.Files.holds c.args.files.now) (g.F.Files.holds c.next_after.new.files) c.next_after.new.cache c.args.key c.index.result.now c.index.ensures (subst (λ (u : Trees). c.args.key < length u.places) (sym c.self.view_is) c.requires.key) c.self.invariant
+    (searched t (g.F.Files.holds c.args.files.now) (g.F.Files.holds c.next_after.new.files) c.next_after.new.cache c.args.key c.index.result.now c.index.ensures (subst (λ (u : Trees). c.args.key < length u.places) (sym c.self.view_is) c.requires.key)
     c.walks_add_their_own.ensures.kept c.next_after.ensures.stays c.next_after.ensures.added c.next_after.ensures.cache)
 
 pub returns-in_err-pair-clause-never : goal.returns-in_err-pair-clause-never
@@ -42,5 +42,5 @@ returns-clause-stand g c =
     let t : Trees = object c.self.inside.places.items c.self.inside.room c.self.inside.cache in
     let new : Trees = object c.self.inside.places.items c.self.inside.room c.next_after.new.cache in
     subst (λ (u : Trees). StillStand (g.F.Files.holds c.args.files.now) (g.F.Files.holds c.next_after.new.files) u new) c.self.view_is
-    (searched t (g.F.Files.holds c.args.files.now) (g.F.Files.holds c.next_after.new.files) c.next_after.new.cache c.args.key c.index.result.now c.index.ensures (subst (λ (u : Trees). c.args.key < length u.places) (sym c.self.view_is) c.requires.key) c.self.invariant
+    (searched t (g.F.Files.holds c.args.files.now) (g.F.Files.holds c.next_after.new.files) c.next_after.new.cache c.args.key c.index.result.now c.index.ensures (subst (λ (u : Trees). c.args.key < length u.places) (sym c.self.view_is) c.requires.key)
     c.walks_add_their_own.ensures.kept c.next_after.ensures.stays c.next_after.ensures.added c.next_after.ensures.cache)

@@ -27,7 +27,7 @@ returns-clause-removed g c =
     let new : Trees = object (slice_set c.self.inside.places.items c.args.key c.remove.new.place) c.remove.new.room c.remove.new.cache in
     subst (λ (u : Trees). IfStand (g.F.Files.holds c.args.files.now) u (λ m own lists. StandThen u m own (g.F.Files.holds c.remove.new.files) new (taken_out c.args.key c.args.pair.now lists))) c.self.view_is
     (taken_stands t (g.F.Files.holds c.args.files.now) (g.F.Files.holds c.remove.new.files) c.args.key c.index.result.now c.remove.new.place c.args.pair.now c.remove.new.cache c.remove.new.room c.index.ensures
-    (subst (λ (u : Trees). c.args.key < length u.places) (sym c.self.view_is) c.requires.key) c.self.invariant c.in_ok-there.ensures.removed c.remove.ensures.length c.remove.ensures.pointers)
+    (subst (λ (u : Trees). c.args.key < length u.places) (sym c.self.view_is) c.requires.key) c.in_ok-there.ensures.removed c.remove.ensures.length c.remove.ensures.pointers)
 
 pub returns-clause-kinds : goal.returns-clause-kinds
 returns-clause-kinds g c =
