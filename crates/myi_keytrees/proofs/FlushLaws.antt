@@ -1,6 +1,8 @@
--- What was put is written, and all trees still stand.
-use Rattle.std.proofs.Common.{◌≡◌, ◌⊎◌, ℕ, ◌+◌, ◌<◌, ◌≤◌, true, Some, None, Option, List, [], ◌∷◌, sym, ap, ◌∙◌, is_some, inl, inr}
+-- What was put is written, and all trees still stand; calls follow one another.
+use Rattle.std.proofs.Common.{◌≡◌, ◌⊎◌, ℕ, ◌+◌, ◌<◌, ◌≤◌, true, Bool, Some, None, Option, List, [], ◌∷◌, refl, sym, ap, subst, ◌∙◌, is_some, inl, inr}
+use Rattle.std.specs.Prelude.{IsTrue}
 use Rattle.std.specs.List.{AllByRecursion}
+use Rattle.std.proofs.lemmas.Option.{same_Some}
 use Rattle.myi_base.specs.Holding.{Holding, Told}
 use Rattle.myi_keycache.specs.Kept.{Page, is_kept, NoOtherMeets, SameKept}
 use Rattle.myi_keycache.specs.Caching.{Caching, pages_of, IsCurrent, SameLent}
@@ -10,7 +12,7 @@ use Rattle.myi_btree.specs.declared.place.Room.{Room}
 use Rattle.myi_btree.specs.CachedTrees.{NoneMeets}
 use Rattle.myi_insertion.specs.CachedChanges.{NoneInRoom}
 use Rattle.myi_keytrees.specs.Trees.{Trees}
-use Rattle.myi_keytrees.specs.Standing.{HoldLists, Stand, StandThen, StillStand}
+use Rattle.myi_keytrees.specs.Standing.{HoldLists, Stand, StandThen, StillStand, CanSearch}
 use Rattle.myi_keytrees.proofs.SearchLaws.{tree_stays}
 
 all_map : {A : Type 0} (P Q : A → Type 0) (xs : List A) → ((x : A) → P x → Q x) → AllByRecursion P xs → AllByRecursion Q xs
@@ -66,3 +68,19 @@ flush_stands t told next new same flushed = λ m held own lists s.
       };
       lent = λ at len x some off e. both.1 at len x e;
     }
+
+-- ---- one call after another
+
+pub stand_start : (t : Trees) (m : Holding) (own : ℕ → ℕ) (lists : List (List Pair)) → Stand t m own lists → StandThen t m own (Some m) t lists
+stand_start t m own lists s = record { now = m; held = refl; stand = s; lent = λ at len x some off e. e }
+
+pub stand_follow : (a b c : Trees) (m : Holding) (own : ℕ → ℕ) (told next : Option Holding) (xs ys : List (List Pair)) (f : StandThen a m own told b xs) → StandThen b f.now own next c ys → StandThen a m own next c ys
+stand_follow a b c m own told next xs ys f g = record {
+  now = g.now;
+  held = g.held;
+  stand = g.stand;
+  lent = λ at len x some off e. g.lent at len x some off (f.lent at len x some off e);
+}
+
+pub stand_search : (a b : Trees) (m : Holding) (own : ℕ → ℕ) (told : Option Holding) (lists : List (List Pair)) (writable : Bool) → IsTrue writable → StandThen a m own told b lists → CanSearch writable told b
+stand_search a b m own told lists writable can f = inr (can, λ n held. (own, lists, subst (λ (q : Holding). Stand b q own lists) (same_Some f.now n (sym f.held ∙ held)) f.stand))

@@ -1,3 +1,4 @@
+pub mod CallerLemmas
 pub mod StandLaws
 pub mod ToldLaws
 pub mod SearchLaws
@@ -5,3 +6,4 @@ pub mod FlushLaws
 pub mod FileLaws
 pub mod OpenLaws
 pub mod CountLaws
+pub mod OtherFile

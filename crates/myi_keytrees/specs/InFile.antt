@@ -1,8 +1,9 @@
 -- The trees of all keys in the bytes of an index file: the walk of each tree from its root, with what its pages may not meet.
-use Rattle.std.specs.Prelude.{◌≡◌, ◌+◌, ◌*◌, ◌≤◌, ℕ, true, List, [], ◌∷◌, ◌++◌, length, map, Option, Some, None}
+use Rattle.std.specs.Prelude.{◌≡◌, ◌+◌, ◌*◌, ◌<◌, ◌≤◌, ℕ, true, List, [], ◌∷◌, ◌++◌, length, map, Option, Some, None}
 use Rattle.std.specs.List.{AllByRecursion}
 use Rattle.std.specs.List.Sorted.{IsStrictlySortedBy}
 use Rattle.myi_base.specs.Ranges.{Range, is_apart}
+use Rattle.myi_keycache.specs.Lent.{bytes_at}
 use Rattle.myi_keylist.specs.declared.pair.Pair.{Pair}
 use Rattle.myi_keylist.specs.PairOrder.{pair_cmp}
 use Rattle.myi_btree.specs.declared.place.Place.{Place}
@@ -77,3 +78,7 @@ pub record StandIn (file : List ℕ) (first end : ℕ) (places : List Place) (li
   pub pages_are : pages_of_walks walks ≡ pages
   pub inside : EndAt (length file) places walks
   pub before : EndAt end places walks
+
+-- of each range that lies behind a place and before another the files have the same bytes, where the first file has them
+abbrev pub KeepsBetween : ℕ → ℕ → List ℕ → List ℕ → Type 0
+KeepsBetween first end file other = (at len : ℕ) (bytes : List ℕ) → 0 < len → first ≤ at → at + len ≤ end → bytes_at file at len ≡ Some bytes → bytes_at other at len ≡ Some bytes

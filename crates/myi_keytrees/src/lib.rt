@@ -26,4 +26,7 @@ mod key_trees;
 mod laws;
 
 pub use key_trees::KeyTrees;
-pub use laws::{bytes_are_counted, opened_trees_stand, written_trees_stand_in_the_file};
+pub use laws::{
+    bytes_are_counted, calls_follow, opened_trees_stand, walks_stay_between,
+    written_trees_stand_in_the_file,
+};
