@@ -268,7 +268,7 @@ link-below w n small = by_width (w == 0)
     by_width true = tt
     by_width false = by_number (n == 2 ^ 64 - 1) refl
 
-size-below : (k : FrameKind) (header rec_len len unused : ℕ) → header ≤ 20 → (k ≡ Whole → rec_len < 256 ^ 3) → len < 256 ^ 3 → unused < 256 ^ 1 → (block_size k header rec_len len unused < 2 ^ 25) × (data_len k rec_len len < 2 ^ 24)
+size-below : (k : FrameKind) (header rec_len len unused : ℕ) → header ≤ 20 → (k ≡ Whole → rec_len < 256 ^ 3) → len < 256 ^ 3 → unused < 256 ^ 1 → (block_size k header rec_len len unused < 2 ^ 24 + 275) × (data_len k rec_len len < 2 ^ 24)
 size-below Deleted header rec_len len unused short whole l u = (omega arith, omega arith)
 size-below Whole header rec_len len unused short whole l u = let r = whole refl in (omega arith, omega arith)
 size-below Start header rec_len len unused short whole l u = (omega arith, omega arith)

@@ -104,7 +104,7 @@ IsPointer (Some p) = p < 2 ^ 64 - 1
 
 -- how great the numbers of a block are, in a file of bytes
 pub record IsBounded (b : Block) : Type 0 where
-  pub size : b.size < 2 ^ 25
+  pub size : b.size < 2 ^ 24 + 275
   pub bytes : length b.bytes < 2 ^ 24
   pub rec_len : b.rec_len < 2 ^ 32
   pub next : IsPointer b.next

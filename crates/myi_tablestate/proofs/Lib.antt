@@ -4,3 +4,6 @@ pub mod PairLemmas
 pub mod DistinctLemmas
 pub mod HolderLemmas
 pub mod KeyedLemmas
+pub mod CleanLemmas
+pub mod StandLemmas
+pub mod PairedLemmas

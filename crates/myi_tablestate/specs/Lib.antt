@@ -6,3 +6,5 @@ pub mod Keyed
 pub mod Listed
 -- the rows whose key lies between bounds
 pub mod Matching
+-- a pair of files that stands for a table
+pub mod Standing

@@ -3,6 +3,7 @@
 ghost use Rattle.std.specs.Prelude.{◌≡◌, ◌≢◌, ℕ, true, false, List, Option, Some, None, Result, Ok, Err, IsSorted, option_map, map};
 ghost use Rattle.std.specs.List.{AllByRecursion};
 ghost use Rattle.std.specs.List.Sorted.{IsStrictlySortedBy};
+ghost use Rattle.myi_base.specs.Numbers.{AreBytes};
 ghost use Rattle.myi_defs.specs.declared.types.Defs.{Defs};
 ghost use Rattle.myi_defs.specs.Sound.{IsSound};
 ghost use Rattle.myi_pack.specs.Packed.{Values};
@@ -16,8 +17,14 @@ ghost use Rattle.myi_state.specs.Changes.{Change, insert, insert_at_end, delete,
 ghost use Rattle.myi_state.specs.Sound.{IsState, MayCome};
 ghost use Rattle.myi_pair.specs.FirstRows.{is_unique};
 ghost use Rattle.myi_pair.specs.KeyList.{pointer};
+ghost use Rattle.myi_pair.specs.Clean.{IsClean};
 ghost use Rattle.myi_tablestate.specs.Keyed.{IsTable, Holder, holder, lacks_key, KeyedRefusal, without_keys, by_holder, keyed_refusal, keyed_step, after_keyed, keyed_history};
 ghost use Rattle.myi_tablestate.specs.Listed.{pair_at, pair_of_row, listed, position};
+ghost use Rattle.myi_tablestate.specs.Standing.{StandForTable};
+
+use myi_chain::{chains_are_found, rows_are_met};
+use myi_data::rows_are_readable;
+use myi_state::{standing_files_are_read, states_count_their_files};
 
 /// A change that is accepted leads from a table to a table, and so does a step. A table without rows is one.
 pub fn keyed_changes_keep_tables()
@@ -117,3 +124,19 @@ pub fn keyed_histories_are_replayed()
     ensures { (d : Defs) (s : TableState) (changes : List Change)
         → replay d s (keyed_history d s changes) ≡ after_keyed d s changes }
 {}
+
+/// A pair of files that stands for a table is clean, and a clean one stands for exactly one table.
+pub fn clean_pairs_stand_for_tables()
+    ensures clean { (d : Defs) (s : TableState) (b x : List ℕ) → IsSound d
+        → StandForTable d s b x → IsClean b x }
+    ensures stands { (b x : List ℕ) → AreBytes b → (c : IsClean b x)
+        → (s : TableState) × StandForTable c.defs s b x }
+    ensures once { (d : Defs) (s t : TableState) (b x : List ℕ) → IsSound d
+        → StandForTable d s b x → StandForTable d t b x → s ≡ t }
+{
+    chains_are_found();
+    rows_are_met();
+    rows_are_readable();
+    standing_files_are_read();
+    states_count_their_files();
+}
