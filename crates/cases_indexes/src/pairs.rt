@@ -2,8 +2,8 @@
 use case_lines::{Fault, Words, key_of_code, number, push_word, sides};
 use myi_keylist::{PairList, RowPointers};
 
-/// Adds the pair that a word `CODE:ROW` says.
-pub(crate) fn push_pair(pairs: &mut PairList, words: &Words, word: &str) -> Result<(), Fault> {
+// Adds the pair that a word `CODE:ROW` says.
+fn push_pair(pairs: &mut PairList, words: &Words, word: &str) -> Result<(), Fault> {
     let (code, row) = sides(word, ':')?;
     let row = number(row)?;
     let key = key_of_code(words, code)?;

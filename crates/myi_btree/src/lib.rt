@@ -22,7 +22,7 @@
 //! }
 //! ```
 //!
-//! The case `laid` in `crates/cases_indexes/src/trees.rt` runs it, in parts.
+//! The case `laid` in `crates/cases_trees/src/trees.rt` runs it, in parts.
 #![tactic(auto)]
 
 mod build;

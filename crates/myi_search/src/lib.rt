@@ -17,7 +17,7 @@
 //! }
 //! ```
 //!
-//! The case `find` in `crates/cases_indexes/src/searches.rt` runs it.
+//! The case `find` in `crates/cases_trees/src/searches.rt` runs it.
 #![tactic(auto)]
 
 mod bound;

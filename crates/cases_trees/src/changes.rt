@@ -3,8 +3,8 @@ ghost use Rattle.std.specs.Prelude.{OnOk, IfOk};
 ghost use Rattle.myi_btree.specs.Sizes.{IsPlaced};
 ghost use Rattle.myi_insertion.specs.Rooms.{IsWhole};
 
-use crate::trees::{FIRST, Index, index_of, is_row, of_tree, unrooted, walked};
-use case_lines::{Fault, Words, key_of_code, number, push_word, sides};
+use crate::trees::{FIRST, Index, index_of, is_row, of_tree, pair_of, unrooted, walked};
+use case_lines::{Fault, Words, push_word};
 use myi_base::Sequence;
 use myi_btree::{Pair, Place, Room};
 use std::alloc::{AllocError, Global};
@@ -24,14 +24,6 @@ impl Drop for Changed {
             room: _,
         } = self;
     }
-}
-
-// The pair that a word `CODE:ROW` says.
-fn pair_of(words: &Words, word: &str) -> Result<Pair, Fault> {
-    let (code, row) = sides(word, ':')?;
-    let row = number(row)?;
-    let key = key_of_code(words, code)?;
-    Ok(Pair { key, row })
 }
 
 // Puts a pair into the tree.

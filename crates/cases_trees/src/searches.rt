@@ -1,22 +1,19 @@
 //! Searches in trees of an index file, whose first page stands at 1024.
 ghost use Rattle.myi_btree.specs.Sizes.{IsPlaced};
 
-use crate::trees::{Index, index_of, of_tree, unrooted};
-use case_lines::{Fault, Words, key_of_code, number, place, push_word, sides};
+use crate::trees::{Index, index_of, of_tree, pair_of, unrooted};
+use case_lines::{Fault, Words, key_of_code, place, push_word};
 use myi_btree::{Place, TreeFault};
 use myi_keylist::Pair;
 use myi_keys::KeyVal;
 use std::alloc::Global;
 
-// The pair that a word `CODE:ROW` says, and None for `-`.
-fn pair_of(words: &Words, word: &str) -> Result<Option<Pair>, Fault> {
+// The pair that a word says, and None for `-`.
+fn pair_or_none(words: &Words, word: &str) -> Result<Option<Pair>, Fault> {
     if word == "-" {
         return Ok(None);
     }
-    let (code, row) = sides(word, ':')?;
-    let row = number(row)?;
-    let key = key_of_code(words, code)?;
-    Ok(Some(Pair { key, row }))
+    Ok(Some(pair_of(words, word)?))
 }
 
 fn found(
@@ -92,7 +89,7 @@ fn next(words: &Words, args: &[&str]) -> Result<String, Fault> {
         root: place(*root)?,
         ..unrooted(*block_length, *rec_ref)?
     };
-    let after = pair_of(words, *after)?;
+    let after = pair_or_none(words, *after)?;
     let mut index = index_of(alloc, words.bytes(*bytes)?, Vec::new(alloc))?;
     let mut out = String::new(alloc);
     match next_pair(alloc, &mut index, &place, after.as_ref()) {

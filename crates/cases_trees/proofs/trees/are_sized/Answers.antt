@@ -7,7 +7,7 @@ use Rattle.myi_keylist.specs.declared.pair.Pair.{Pair}
 use Rattle.myi_keylist.specs.PairOrder.{pair_with}
 use Rattle.myi_btree.specs.Sizes.{IsSized}
 use Rattle.myi_btree.specs.Nodes.{entry_of}
-use Rattle.cases_indexes.proofs.trees.are_sized.Goals as goal
+use Rattle.cases_trees.proofs.trees.are_sized.Goals as goal
 
 pub loop-i-preserved : goal.loop-i-preserved
 loop-i-preserved c =

@@ -4,9 +4,9 @@ ghost use Rattle.myi_keypage.specs.Page.{entry_with};
 ghost use Rattle.myi_btree.specs.Sizes.{IsPlaced, IsSized, AreSized};
 ghost use Rattle.myi_btree.specs.Building.{AreKeys};
 
-use crate::pairs::push_pair;
 use case_lines::{
-    Fault, PlaceText, Words, four_bytes, number, one_byte, place, push_word, size, two_bytes,
+    Fault, PlaceText, Words, four_bytes, key_of_code, number, one_byte, place, push_word, sides,
+    size, two_bytes,
 };
 use myi_base::Sequence;
 use myi_btree::{Event, Events, Pair, Place, Room, Tree, TreeFault};
@@ -167,10 +167,19 @@ fn push_flushed(out: &mut String, index: &mut Index) -> Result<(), Fault> {
     }
 }
 
+/// The pair that a word `CODE:ROW` says.
+pub(crate) fn pair_of(words: &Words, word: &str) -> Result<Pair, Fault> {
+    let (code, row) = sides(word, ':')?;
+    let row = number(row)?;
+    let key = key_of_code(words, code)?;
+    Ok(Pair { key, row })
+}
+
 fn pairs(words: &Words, args: &[&str]) -> Result<PairList, Fault> {
     let mut pairs = PairList::new(words.alloc());
     for arg in args {
-        push_pair(&mut pairs, words, *arg)?;
+        let pair = pair_of(words, *arg)?;
+        pairs.push(pair.key.code(), pair.row)?;
     }
     Ok(pairs)
 }

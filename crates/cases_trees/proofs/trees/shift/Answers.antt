@@ -1,6 +1,6 @@
 use Rattle.std.proofs.Common.{◌+◌, ◌^◌, ◌<◌, length, refl, arith}
-use Rattle.cases_indexes.proofs.ShiftCase.{movable, root_moves}
-use Rattle.cases_indexes.proofs.trees.shift.Goals as goal
+use Rattle.cases_trees.proofs.ShiftCase.{movable, root_moves}
+use Rattle.cases_trees.proofs.trees.shift.Goals as goal
 
 pub shift-requires-clause-pages : goal.shift-requires-clause-pages
 shift-requires-clause-pages c =
