@@ -23,12 +23,12 @@ single read h c y b m =
     let is : a.0 ∷ [] ≡ m.walks = same_Some (a.0 ∷ []) m.walks a.2 in
     (a.0, a.1, sym (append-nil (content a.0)) ∙ ap (λ (t : List Walked). weave (contents t) []) is ∙ m.content_is, sym (append-nil a.0.pages) ∙ ap all_pages is ∙ m.pages_are)
 
-three : {A : Type 0} (i : ℕ) (xs : List A) (d x : A) → i < length xs → x ≡ get_or xs i d → (take i xs ++ x ∷ []) ++ drop (suc i) xs ≡ xs
+pub three : {A : Type 0} (i : ℕ) (xs : List A) (d x : A) → i < length xs → x ≡ get_or xs i d → (take i xs ++ x ∷ []) ++ drop (suc i) xs ≡ xs
 three i xs d x lt e =
     let one : i + 1 ≡ suc i = omega arith in
     append_assoc (take i xs) (x ∷ []) (drop (suc i) xs) ∙ ap (λ (t : _). take i xs ++ t ∷ drop (suc i) xs) e ∙ ap (λ (n : ℕ). take i xs ++ get_or xs i d ∷ drop n xs) (sym one) ∙ ap (λ (t : List _). take i xs ++ t) (sym (drop_more xs i d lt)) ∙ take-append-drop i xs
 
-two : {A : Type 0} (i : ℕ) (xs : List A) → (take i xs ++ []) ++ drop i xs ≡ xs
+pub two : {A : Type 0} (i : ℕ) (xs : List A) → (take i xs ++ []) ++ drop i xs ≡ xs
 two i xs = ap (λ (t : List _). t ++ drop i xs) (append-nil (take i xs)) ∙ take-append-drop i xs
 
 -- in a leaf the pair is put among the pairs of the page

@@ -17,3 +17,5 @@ pub mod PuttingLaws
 pub mod CachedSettling
 pub mod OpeningLaws
 pub mod RemovalLaws
+pub mod DamageLaws
+pub mod SameNode

@@ -12,6 +12,8 @@ pub mod CachedChanges
 pub mod CachedTree
 -- taking a pair out of a list and a tree
 pub mod Removal
+-- where a change meets damage
+pub mod Damage
 -- what serves private contracts
 
 -- where a pair goes

@@ -1,7 +1,7 @@
 //! Putting a pair into a tree.
 //!
-//! `insert_at` goes down one path of pages to the leaf that the pair goes into, and writes the pages of the path
-//! again, from the leaf up; `raise` puts pages above a root that became several.
+//! `insert_at` goes down one path of pages to the leaf that the pair goes into, and writes that leaf; where it
+//! is cut, the page above it is written too, and so on up; `raise` puts pages above a root that became several.
 ghost use Rattle.std.specs.Prelude.{◌≡◌, ◌+◌, ◌^◌, ◌<◌, ◌≤◌, ℕ, List, Some, length, IfOk, IfErr, OnOk, IsTrue};
 ghost use Rattle.std.specs.List.Sorted.{IsStrictlySortedBy};
 ghost use Rattle.myi_base.specs.Holding.{IfTold, Told, OthersStay};
@@ -19,6 +19,7 @@ ghost use Rattle.myi_keylist.specs.declared.pair.Pair.{Pair};
 ghost use Rattle.myi_insertion.specs.Strips.{IsStrip};
 ghost use Rattle.myi_insertion.specs.CachedTree.{IsTree, Inserted};
 ghost use Rattle.myi_insertion.specs.Steps.{Settles, Rooted};
+ghost use Rattle.myi_insertion.specs.Damage.{IsInFile, LacksPage, goes_behind, IsMissing};
 
 use crate::load::load;
 use crate::page::{PageData, place_of};
@@ -63,6 +64,9 @@ pub(crate) fn insert_at<F: Files>(
         (w : Walked) → walk_of (node_lent task.now.setup.place cache.old m) height at ≡ Some w
         → CanChange task.now.setup.place cache.old m w.pages room.old
         → IsStrictlySortedBy pair_cmp (content w) → ⊥))) }
+    ensures damaged { IfErr result (DamagedAt (λ p. IfTold (F.holds files.old) (λ m.
+        IsInFile cache.old m → LacksPage (node_lent task.now.setup.place cache.old m)
+        (goes_behind task.now.pair.now) at p))) }
     ensures shape { IfOk result (λ strip. IsStripOf task.now.setup.place.rec_ref at
         strip.places.items strip.separators) }
     ensures whole { OnOk result (IsWhole room.new) }
@@ -85,6 +89,10 @@ pub(crate) fn insert_at<F: Files>(
     }
     let child = page.children[i];
     let strip = insert_at(task, files, cache, room, child, levels - 1)?;
+    if strip.places.len() == 1 {
+        let same = Strip::of_page(setup.alloc, at)?;
+        return Ok(same);
+    }
     let grown = page.with_strip(setup.alloc, i, &strip.places, &strip.separators)?;
     let made = settle(setup, files, cache, room, at, &grown)?;
     Ok(made)
@@ -114,6 +122,9 @@ fn put_in<F: Files>(
         → IsTree task.now.setup.place cache.old m task.now.setup.place.root xs pages
         → CanChange task.now.setup.place cache.old m pages room.old
         → IsStrictlySortedBy pair_cmp xs → ⊥))) }
+    ensures damaged { IfErr result (DamagedAt (λ at. IfTold (F.holds files.old) (λ m.
+        IsInFile cache.old m → IsMissing (node_lent task.now.setup.place cache.old m)
+        task.now.pair.now task.now.setup.place.root at))) }
     ensures shape { IfOk result (λ strip. (at : ℕ) × IsStripOf task.now.setup.place.rec_ref at
         strip.places.items strip.separators) }
     ensures whole { OnOk result (IsWhole room.new) }
@@ -200,6 +211,9 @@ pub fn insert<F: Files>(
         (pages : List ℕ) → IsTree place.old cache.old m place.old.root xs pages
         → CanChange place.old cache.old m pages room.old → IsStrictlySortedBy pair_cmp xs
         → ⊥))) }
+    ensures damaged { IfErr result (DamagedAt (λ at. IfTold (F.holds files.old) (λ m.
+        IsInFile cache.old m → IsMissing (node_lent place.old cache.old m) pair.now place.old.root
+        at))) }
     ensures length { place.new.block_length ≡ place.old.block_length }
     ensures pointers { place.new.rec_ref ≡ place.old.rec_ref }
     ensures whole { OnOk result (IsWhole room.new) }

@@ -10,6 +10,7 @@ ghost use Rattle.myi_btree.specs.Sizes.{IsPlaced};
 ghost use Rattle.myi_btree.specs.Faults.{DamagedAt};
 ghost use Rattle.myi_btree.specs.CachedTrees.{node_lent};
 ghost use Rattle.myi_insertion.specs.Written.{page_node, CanWrite};
+ghost use Rattle.myi_insertion.specs.Damage.{IsInFile, ShowsSame};
 
 use crate::page::{PageData, read_pairs};
 use crate::settle::Setup;
@@ -37,6 +38,8 @@ pub(crate) fn load<F: Files>(
         → node_lent setup.place cache.old m at ≡ None))) }
     ensures stays { Told (F.holds files.old) (F.holds files.new)
         (λ m n. CanGet cache.old m at setup.place.block_length → Stays cache.old cache.new m n) }
+    ensures shown { Told (F.holds files.old) (F.holds files.new)
+        (λ m n. IsInFile cache.old m → ShowsSame setup.place cache.old m cache.new n) }
     ensures added { AddsOnly at setup.place.block_length (pages_of cache.old) (pages_of cache.new) }
     ensures others { Told (F.holds files.old) (F.holds files.new) (OthersStay cache.old.name) }
     ensures name { cache.new.name ≡ cache.old.name }

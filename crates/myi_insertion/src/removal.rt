@@ -23,6 +23,7 @@ ghost use Rattle.myi_insertion.specs.CachedChanges.{CanChange};
 ghost use Rattle.myi_insertion.specs.CachedTree.{IsTree};
 ghost use Rattle.myi_insertion.specs.Removal.{has_pair, without_pair, Removed};
 ghost use Rattle.myi_insertion.specs.Written.{CanWrite};
+ghost use Rattle.myi_insertion.specs.Damage.{IsInFile, AreNeighbours, IsNearPath, IsNearPair, goes_last, IsDamage};
 ghost use Rattle.myi_insertion.specs.Openings.{IsLeftOver, IsOnePair, IsPending, CanPend, Opened, TakenOut, Sought, Planted};
 
 use crate::insertion::{MOST_LEVELS, Task, raise};
@@ -106,6 +107,9 @@ fn join_child<F: Files>(
         (xs : List Pair) (pages : List ℕ)
         → IsPending (node_lent setup.place cache.old m) height pending.now xs pages
         → CanChange setup.place cache.old m (at ∷ pages) room.old → ⊥))) }
+    ensures beside { IfErr result (DamagedAt (λ p. AreNeighbours
+        (slice_index_or pending.now.page.now.children.items pending.now.i 0) p
+        pending.now.page.now.children.items)) }
     ensures shape { IfOk result (IsLeftOver setup.place.rec_ref) }
     ensures whole { OnOk result (IsWhole room.new) }
     ensures others { Told (F.holds files.old) (F.holds files.new) (OthersStay cache.old.name) }
@@ -151,6 +155,9 @@ fn write_child<F: Files>(
         (xs : List Pair) (pages : List ℕ)
         → IsPending (node_lent setup.place cache.old m) height pending.now xs pages
         → CanChange setup.place cache.old m (at ∷ pages) room.old → ⊥))) }
+    ensures beside { IfErr result (DamagedAt (λ p. AreNeighbours
+        (slice_index_or pending.now.page.now.children.items pending.now.i 0) p
+        pending.now.page.now.children.items)) }
     ensures shape { IfOk result (IsLeftOver setup.place.rec_ref) }
     ensures whole { OnOk result (IsWhole room.new) }
     ensures others { Told (F.holds files.old) (F.holds files.new) (OthersStay cache.old.name) }
@@ -191,6 +198,8 @@ fn without_last<F: Files>(
     ensures never { IfErr result (DamagedAt (λ p. IfTold (F.holds files.old) (λ m. (height : ℕ)
         (w : Walked) → walk_of (node_lent setup.place cache.old m) height at ≡ Some w
         → CanChange setup.place cache.old m w.pages room.old → ⊥))) }
+    ensures damaged { IfErr result (DamagedAt (λ p. IfTold (F.holds files.old) (λ m.
+        IsInFile cache.old m → IsNearPath (node_lent setup.place cache.old m) goes_last at p))) }
     ensures shape { IfOk result (λ left. IsLeftOver setup.place.rec_ref left.0) }
     ensures one { IfOk result (λ left. IsOnePair setup.place.rec_ref left.1) }
     ensures whole { OnOk result (IsWhole room.new) }
@@ -250,6 +259,9 @@ fn without_pair<F: Files>(
         (w : Walked) → walk_of (node_lent task.now.setup.place cache.old m) height at ≡ Some w
         → CanChange task.now.setup.place cache.old m w.pages room.old
         → IsStrictlySortedBy pair_cmp (content w) → ⊥))) }
+    ensures damaged { IfErr result (DamagedAt (λ p. IfTold (F.holds files.old) (λ m.
+        IsInFile cache.old m → IsNearPair (node_lent task.now.setup.place cache.old m)
+        task.now.pair.now at p))) }
     ensures shape { IfOk result (λ page. IfSome page (IsLeftOver task.now.setup.place.rec_ref)) }
     ensures at { OnOk result (IsPlace at) }
     ensures kept { IfOk result (λ page. IfNone page (room.new ≡ room.old)) }
@@ -364,6 +376,9 @@ pub fn remove<F: Files>(
         (pages : List ℕ) → IsTree place.old cache.old m place.old.root xs pages
         → CanChange place.old cache.old m pages room.old → IsStrictlySortedBy pair_cmp xs
         → ⊥))) }
+    ensures damaged { IfErr result (DamagedAt (λ at. IfTold (F.holds files.old) (λ m.
+        IsInFile cache.old m → IsDamage (node_lent place.old cache.old m) pair.now place.old.root
+        at))) }
     ensures length { place.new.block_length ≡ place.old.block_length }
     ensures pointers { place.new.rec_ref ≡ place.old.rec_ref }
     ensures whole { OnOk result (IsWhole room.new) }

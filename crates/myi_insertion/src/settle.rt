@@ -156,6 +156,16 @@ impl Strip {
         }
     }
 
+    /// One page.
+    pub(crate) fn of_page(alloc: Global, at: u64) -> Result<Strip, AllocError>
+        ensures places { IfOk result (λ strip. strip.places.items ≡ at ∷ []) }
+        ensures separators { IfOk result (λ strip. strip.separators ≡ []) }
+    {
+        let mut strip = Strip::new(alloc);
+        strip.places.push(at)?;
+        Ok(strip)
+    }
+
     /// The page above the trees.
     pub(crate) fn into_page(self) -> PageData
         ensures pairs { result.pairs ≡ self.separators }

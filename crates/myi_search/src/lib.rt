@@ -29,5 +29,5 @@ mod reached;
 mod search;
 
 pub use codes::is_code;
-pub use laws::searches_end_once;
+pub use laws::{searches_are_short, searches_end_once};
 pub use search::{find, next_after};

@@ -15,3 +15,8 @@ pub returns-in_err-strip-clause-never : goal.returns-in_err-strip-clause-never
 returns-in_err-strip-clause-never g c =
     let e = err_from_is_err_and c.from_residual.result c.from_residual.ensures.1 in
     if_err c.from_residual.result e.0 _ e.1 (λ p d. c.in_err-strip.ensures.never p (sym e.2 ∙ d))
+
+pub returns-in_err-strip-clause-damaged : goal.returns-in_err-strip-clause-damaged
+returns-in_err-strip-clause-damaged g c =
+    let e = err_from_is_err_and c.from_residual.result c.from_residual.ensures.1 in
+    if_err c.from_residual.result e.0 _ e.1 (λ p d. c.in_err-strip.ensures.damaged p (sym e.2 ∙ d))

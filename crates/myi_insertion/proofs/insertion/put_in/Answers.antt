@@ -3,9 +3,11 @@ use Rattle.myi_keys.specs.Comparing.{key_front}
 use Rattle.myi_keylist.specs.declared.pair.Pair.{Pair}
 use Rattle.myi_keylist.specs.PairOrder.{pair_with}
 use Rattle.std.proofs.lemmas.Result.{err_from_is_err_and}
+use Rattle.myi_btree.specs.CachedTrees.{node_lent}
 use Rattle.myi_insertion.proofs.LoadLaws.{if_err}
 use Rattle.myi_insertion.proofs.PageLaws.{pair_again, is_code_of}
 use Rattle.myi_insertion.proofs.PuttingLaws.{never_in, into_tree, first_page, one_written}
+use Rattle.myi_insertion.proofs.DamageLaws.{missing_in}
 use Rattle.myi_insertion.proofs.insertion.put_in.Goals as goal
 
 pub returns-in-Some-clause-stands : goal.returns-in-Some-clause-stands
@@ -36,3 +38,9 @@ returns-in_err-strip-clause-never g c =
     let e = err_from_is_err_and c.from_residual.result c.from_residual.ensures.1 in
     if_err c.from_residual.result e.0 _ e.1
     (λ p d. never_in c.args.task.now.setup.place c.args.cache.now (g.F.Files.holds c.args.files.now) c.args.room.now c.in-Some.root c.args.task.now.setup.place.root c.in-Some.is (c.in_err-strip.ensures.never p (sym e.2 ∙ d)))
+
+pub returns-in_err-strip-clause-damaged : goal.returns-in_err-strip-clause-damaged
+returns-in_err-strip-clause-damaged g c =
+    let e = err_from_is_err_and c.from_residual.result c.from_residual.ensures.1 in
+    if_err c.from_residual.result e.0 _ e.1
+    (λ p d m held file. missing_in (node_lent c.args.task.now.setup.place c.args.cache.now m) c.args.task.now.pair.now c.in-Some.root p c.args.task.now.setup.place.root c.in-Some.is (c.in_err-strip.ensures.damaged p (sym e.2 ∙ d) m held file))

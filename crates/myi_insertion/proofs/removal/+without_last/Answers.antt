@@ -1,4 +1,4 @@
-use Rattle.std.proofs.Common.{◌≡◌, ℕ, ◌+◌, ◌-◌, ◌<◌, List, [], length, sym, subst, ◌∙◌, arith}
+use Rattle.std.proofs.Common.{◌≡◌, ℕ, ◌+◌, ◌-◌, ◌<◌, List, [], length, take, inl, sym, subst, ◌∙◌, arith}
 use Rattle.std.proofs.lemmas.Bool.{eqb-true, eqb-false}
 use Rattle.std.proofs.lemmas.Result.{err_from_is_err_and}
 use Rattle.myi_keylist.specs.declared.pair.Pair.{Pair}
@@ -9,6 +9,8 @@ use Rattle.myi_insertion.proofs.PageLaws.{no_pair}
 use Rattle.myi_insertion.proofs.SplitLaws.{nil_of}
 use Rattle.myi_insertion.proofs.PuttingLaws.{in_root, no_root, child_is}
 use Rattle.myi_insertion.proofs.RemovalLaws.{TakesLast, NeverLast, last_of_leaf, last_of_node, leaf_holds, one_holds, never_last_below, never_last_closes}
+use Rattle.myi_insertion.specs.Damage.{goes_last, AreNeighbours}
+use Rattle.myi_insertion.proofs.DamageLaws.{can_ask, goes_by_all, halts_behind_all, goes_into, lacks_here, beside_here, near_up}
 use Rattle.myi_insertion.proofs.removal.+without_last.Goals as goal
 
 pub returns-in_err-page-clause-never : goal.returns-in_err-page-clause-never
@@ -94,3 +96,45 @@ returns-clause-shape g t c = c.in_ok-left-2.ensures.shape
 
 pub returns-clause-one : goal.returns-clause-one
 returns-clause-one g t c = c.in_ok-inner.ensures.one
+
+pub returns-in_err-page-clause-damaged : goal.returns-in_err-page-clause-damaged
+returns-in_err-page-clause-damaged g t c =
+    let place = c.args.setup.place in
+    let e = err_from_is_err_and c.from_residual.result c.from_residual.ensures.1 in
+    if_err c.from_residual.result e.0 _ e.1
+    (λ p d m held file.
+    let missed = c.in_err-page.ensures.damaged p (sym e.2 ∙ d) in
+    inl (lacks_here (node_lent place c.args.cache.now m) goes_last c.args.at p missed.0 (missed.1 m held (can_ask c.args.cache.now m c.args.at place.block_length file))))
+
+pub returns-in_err-inner-clause-damaged : goal.returns-in_err-inner-clause-damaged
+returns-in_err-inner-clause-damaged g t c =
+    let place = c.args.setup.place in
+    let ps : List Pair = c.in_ok-page.page.pairs in
+    let cs : List ℕ = c.in_ok-page.page.children.items in
+    let i : ℕ = c.len-count.result in
+    let some : 0 < length cs = let ne = eqb-false _ _ (sym c.is_empty.ensures ∙ c.if-is_empty.false) in omega (arith, ne, c.in_ok-page.page.children.ok.0) in
+    let child = child_is ps cs i c.index-child.result.now c.in_ok-page.ensures.written.branches some (omega (arith, c.len-count.ensures)) c.index-child.ensures in
+    let e = err_from_is_err_and c.from_residual-in_err-inner.result c.from_residual-in_err-inner.ensures.1 in
+    if_err c.from_residual-in_err-inner.result e.0 _ e.1
+    (λ q d m held file.
+    let n = c.load.ensures.shown.told m held in
+    let shows = n.2 file in
+    near_up (node_lent place c.load.new.cache n.0) (node_lent place c.args.cache.now m) goes_last c.args.at c.index-child.result.now q shows.shown
+    (goes_into (node_lent place c.args.cache.now m) goes_last c.args.at i c.index-child.result.now ps cs (c.in_ok-page.ensures.node m held (can_ask c.args.cache.now m c.args.at place.block_length file)) c.in_ok-page.ensures.written.branches some (omega (arith, c.len-count.ensures))
+    (goes_by_all (take i ps)) (halts_behind_all ps i (omega (arith, c.len-count.ensures))) child)
+    (c.in_err-inner.ensures.damaged q (sym e.2 ∙ d) n.0 n.1 shows.file))
+
+pub returns-in_err-left-2-clause-damaged : goal.returns-in_err-left-2-clause-damaged
+returns-in_err-left-2-clause-damaged g t c =
+    let place = c.args.setup.place in
+    let ps : List Pair = c.in_ok-page.page.pairs in
+    let cs : List ℕ = c.in_ok-page.page.children.items in
+    let i : ℕ = c.len-count.result in
+    let some : 0 < length cs = let ne = eqb-false _ _ (sym c.is_empty.ensures ∙ c.if-is_empty.false) in omega (arith, ne, c.in_ok-page.page.children.ok.0) in
+    let child = child_is ps cs i c.index-child.result.now c.in_ok-page.ensures.written.branches some (omega (arith, c.len-count.ensures)) c.index-child.ensures in
+    let e = err_from_is_err_and c.from_residual-in_err-left-2.result c.from_residual-in_err-left-2.ensures.1 in
+    if_err c.from_residual-in_err-left-2.result e.0 _ e.1
+    (λ q d m held file. beside_here (node_lent place c.args.cache.now m) goes_last c.args.at c.index-child.result.now q ps cs (c.in_ok-page.ensures.node m held (can_ask c.args.cache.now m c.args.at place.block_length file))
+    (goes_into (node_lent place c.args.cache.now m) goes_last c.args.at i c.index-child.result.now ps cs (c.in_ok-page.ensures.node m held (can_ask c.args.cache.now m c.args.at place.block_length file)) c.in_ok-page.ensures.written.branches some (omega (arith, c.len-count.ensures))
+    (goes_by_all (take i ps)) (halts_behind_all ps i (omega (arith, c.len-count.ensures))) child)
+    (subst (λ (k : ℕ). AreNeighbours k q cs) (sym child) (c.in_err-left-2.ensures.beside q (sym e.2 ∙ d))))

@@ -1,4 +1,4 @@
-use Rattle.std.proofs.Common.{◌≡◌, ℕ, ◌<◌, true, false, List, [], length, take, drop, get_or, refl, sym, ap, subst, ◌∙◌, arith}
+use Rattle.std.proofs.Common.{◌≡◌, ℕ, ◌<◌, true, false, List, [], length, take, drop, get_or, inl, refl, sym, ap, subst, ◌∙◌, arith}
 use Rattle.std.proofs.lemmas.Bool.{eqb-true, eqb-false}
 use Rattle.std.proofs.lemmas.Result.{err_from_is_err_and}
 use Rattle.myi_base.specs.Holding.{OthersStay}
@@ -15,6 +15,8 @@ use Rattle.myi_insertion.proofs.PageLaws.{pair_again, is_code_of, begins_inside}
 use Rattle.myi_insertion.proofs.SplitLaws.{nil_of, if_some, if_none}
 use Rattle.myi_insertion.proofs.PuttingLaws.{in_root, no_root, child_is, Never, never_below}
 use Rattle.myi_insertion.proofs.RemovalLaws.{TakesLast, NeverLast, TakesPair, SeeksPair, pair_in_leaf, none_in_leaf, pair_below, pair_in_node, none_below, other_holds, other_inside, never_last_below, never_found_closes, never_pair_closes}
+use Rattle.myi_insertion.specs.Damage.{goes_behind, AreNeighbours}
+use Rattle.myi_insertion.proofs.DamageLaws.{can_ask, halts_behind, goes_into, lacks_here, beside_here, found_here, pair_up}
 use Rattle.myi_insertion.proofs.removal.+without_pair.Goals as goal
 
 pub returns-in_err-page-clause-never : goal.returns-in_err-page-clause-never
@@ -211,3 +213,94 @@ returns-clause-taken g t c =
     (let l = c.requires.placed.least in omega arith)
     (λ m held pages room can here. got place c.args.cache.now m pages room (g.F.Files.holds c.args.files.now) (g.F.Files.holds c.load.new.files) c.load.new.cache c.args.at (page_node c.in_ok-page.page) c.requires.placed held c.in_ok-page.ensures.node c.load.ensures.stays c.load.ensures.added c.load.ensures.others c.load.ensures.name can here)
     c.in_ok-page.ensures.written.branches some c.place_of-i.ensures.inside (subst (λ (n : ℕ). TakesPair p place c.load.new.cache (g.F.Files.holds c.load.new.files) c.args.room.now n (g.F.Files.holds c.without_pair-2.new.files) c.without_pair-2.new.cache c.without_pair-2.new.room inner.pairs inner.children.items) child (if_some c.in_ok-taken.taken inner (λ (page : PageData). TakesPair p place c.load.new.cache (g.F.Files.holds c.load.new.files) c.args.room.now c.index-child.result.now (g.F.Files.holds c.without_pair-2.new.files) c.without_pair-2.new.cache c.without_pair-2.new.room page.pairs page.children.items) c.in-Some.is c.in_ok-taken.ensures.taken)) c.in_ok-left.ensures.written
+
+pub returns-in_err-page-clause-damaged : goal.returns-in_err-page-clause-damaged
+returns-in_err-page-clause-damaged g t c =
+    let place = c.args.task.now.setup.place in
+    let e = err_from_is_err_and c.from_residual.result c.from_residual.ensures.1 in
+    if_err c.from_residual.result e.0 _ e.1
+    (λ p d m held file.
+    let missed = c.in_err-page.ensures.damaged p (sym e.2 ∙ d) in
+    inl (inl (lacks_here (node_lent place c.args.cache.now m) (goes_behind c.args.task.now.pair.now) c.args.at p missed.0 (missed.1 m held (can_ask c.args.cache.now m c.args.at place.block_length file)))))
+
+pub returns-in_err-inner-clause-damaged : goal.returns-in_err-inner-clause-damaged
+returns-in_err-inner-clause-damaged g t c =
+    let place = c.args.task.now.setup.place in
+    let p : Pair = c.args.task.now.pair.now in
+    let same : pair_with (key_front c.code-code.result.now) p.row ≡ p = pair_again c.code-code.result.now p.row p c.code-code.ensures.key c.code-code.ensures.value refl in
+    let ps : List Pair = c.in_ok-page.page.pairs in
+    let cs : List ℕ = c.in_ok-page.page.children.items in
+    let i : ℕ = c.place_of-i.result in
+    let some : 0 < length cs = let ne = eqb-false _ _ (sym c.is_empty.ensures ∙ c.if-is_empty.false) in omega (arith, ne, c.in_ok-page.page.children.ok.0) in
+    let child : c.index-child.result.now ≡ get_or cs i 0 = child_is ps cs i c.index-child.result.now c.in_ok-page.ensures.written.branches some c.place_of-i.ensures.inside c.index-child.ensures in
+    let found : begins_with p (drop i ps) ≡ true = ap (λ (q : Pair). begins_with q (drop i ps)) (sym same) ∙ sym c.is_at-found.ensures ∙ c.if-found.true in
+    let e = err_from_is_err_and c.from_residual-in_err-inner.result c.from_residual-in_err-inner.ensures.1 in
+    if_err c.from_residual-in_err-inner.result e.0 _ e.1
+    (λ q d m held file.
+    let n = c.load.ensures.shown.told m held in
+    let shows = n.2 file in
+    found_here (node_lent place c.load.new.cache n.0) (node_lent place c.args.cache.now m) p c.args.at i c.index-child.result.now q ps cs shows.shown (c.in_ok-page.ensures.node m held (can_ask c.args.cache.now m c.args.at place.block_length file))
+    (goes_into (node_lent place c.args.cache.now m) (goes_behind p) c.args.at i c.index-child.result.now ps cs (c.in_ok-page.ensures.node m held (can_ask c.args.cache.now m c.args.at place.block_length file)) c.in_ok-page.ensures.written.branches some c.place_of-i.ensures.inside
+    (subst (λ (q : Pair). AreBefore q (take i ps)) same c.place_of-i.ensures.before) (halts_behind p (drop i ps) (subst (λ (q : Pair). BeginsBehind q (drop i ps)) same c.place_of-i.ensures.behind)) child)
+    found (c.in_err-inner.ensures.damaged q (sym e.2 ∙ d) n.0 n.1 shows.file))
+
+pub returns-in_err-made-clause-damaged : goal.returns-in_err-made-clause-damaged
+returns-in_err-made-clause-damaged g t c =
+    let place = c.args.task.now.setup.place in
+    let p : Pair = c.args.task.now.pair.now in
+    let same : pair_with (key_front c.code-code.result.now) p.row ≡ p = pair_again c.code-code.result.now p.row p c.code-code.ensures.key c.code-code.ensures.value refl in
+    let ps : List Pair = c.in_ok-page.page.pairs in
+    let cs : List ℕ = c.in_ok-page.page.children.items in
+    let i : ℕ = c.place_of-i.result in
+    let some : 0 < length cs = let ne = eqb-false _ _ (sym c.is_empty.ensures ∙ c.if-is_empty.false) in omega (arith, ne, c.in_ok-page.page.children.ok.0) in
+    let child : c.index-child.result.now ≡ get_or cs i 0 = child_is ps cs i c.index-child.result.now c.in_ok-page.ensures.written.branches some c.place_of-i.ensures.inside c.index-child.ensures in
+    let e = err_from_is_err_and c.from_residual-in_err-made.result c.from_residual-in_err-made.ensures.1 in
+    if_err c.from_residual-in_err-made.result e.0 _ e.1
+    (λ q d m held file. inl (beside_here (node_lent place c.args.cache.now m) (goes_behind p) c.args.at c.index-child.result.now q ps cs (c.in_ok-page.ensures.node m held (can_ask c.args.cache.now m c.args.at place.block_length file))
+    (goes_into (node_lent place c.args.cache.now m) (goes_behind p) c.args.at i c.index-child.result.now ps cs (c.in_ok-page.ensures.node m held (can_ask c.args.cache.now m c.args.at place.block_length file)) c.in_ok-page.ensures.written.branches some c.place_of-i.ensures.inside
+    (subst (λ (q : Pair). AreBefore q (take i ps)) same c.place_of-i.ensures.before) (halts_behind p (drop i ps) (subst (λ (q : Pair). BeginsBehind q (drop i ps)) same c.place_of-i.ensures.behind)) child)
+    (subst (λ (k : ℕ). AreNeighbours k q cs) (sym child) (subst (λ (t : List ℕ). AreNeighbours (get_or t i 0) q t) c.in_ok-node.ensures.children (c.in_err-made.ensures.beside q (sym e.2 ∙ d))))))
+
+pub returns-in_err-taken-clause-damaged : goal.returns-in_err-taken-clause-damaged
+returns-in_err-taken-clause-damaged g t c =
+    let place = c.args.task.now.setup.place in
+    let p : Pair = c.args.task.now.pair.now in
+    let same : pair_with (key_front c.code-code.result.now) p.row ≡ p = pair_again c.code-code.result.now p.row p c.code-code.ensures.key c.code-code.ensures.value refl in
+    let ps : List Pair = c.in_ok-page.page.pairs in
+    let cs : List ℕ = c.in_ok-page.page.children.items in
+    let i : ℕ = c.place_of-i.result in
+    let some : 0 < length cs = let ne = eqb-false _ _ (sym c.is_empty.ensures ∙ c.if-is_empty.false) in omega (arith, ne, c.in_ok-page.page.children.ok.0) in
+    let child : c.index-child.result.now ≡ get_or cs i 0 = child_is ps cs i c.index-child.result.now c.in_ok-page.ensures.written.branches some c.place_of-i.ensures.inside c.index-child.ensures in
+    let e = err_from_is_err_and c.from_residual-in_err-taken.result c.from_residual-in_err-taken.ensures.1 in
+    if_err c.from_residual-in_err-taken.result e.0 _ e.1
+    (λ q d m held file.
+    let n = c.load.ensures.shown.told m held in
+    let shows = n.2 file in
+    pair_up (node_lent place c.load.new.cache n.0) (node_lent place c.args.cache.now m) p c.args.at c.index-child.result.now q shows.shown
+    (goes_into (node_lent place c.args.cache.now m) (goes_behind p) c.args.at i c.index-child.result.now ps cs (c.in_ok-page.ensures.node m held (can_ask c.args.cache.now m c.args.at place.block_length file)) c.in_ok-page.ensures.written.branches some c.place_of-i.ensures.inside
+    (subst (λ (q : Pair). AreBefore q (take i ps)) same c.place_of-i.ensures.before) (halts_behind p (drop i ps) (subst (λ (q : Pair). BeginsBehind q (drop i ps)) same c.place_of-i.ensures.behind)) child)
+    (c.in_err-taken.ensures.damaged q (sym e.2 ∙ d) n.0 n.1 shows.file))
+
+pub returns-in_err-left-clause-damaged : goal.returns-in_err-left-clause-damaged
+returns-in_err-left-clause-damaged g t c =
+    let place = c.args.task.now.setup.place in
+    let p : Pair = c.args.task.now.pair.now in
+    let same : pair_with (key_front c.code-code.result.now) p.row ≡ p = pair_again c.code-code.result.now p.row p c.code-code.ensures.key c.code-code.ensures.value refl in
+    let ps : List Pair = c.in_ok-page.page.pairs in
+    let cs : List ℕ = c.in_ok-page.page.children.items in
+    let i : ℕ = c.place_of-i.result in
+    let some : 0 < length cs = let ne = eqb-false _ _ (sym c.is_empty.ensures ∙ c.if-is_empty.false) in omega (arith, ne, c.in_ok-page.page.children.ok.0) in
+    let child : c.index-child.result.now ≡ get_or cs i 0 = child_is ps cs i c.index-child.result.now c.in_ok-page.ensures.written.branches some c.place_of-i.ensures.inside c.index-child.ensures in
+    let e = err_from_is_err_and c.from_residual-in_err-left.result c.from_residual-in_err-left.ensures.1 in
+    if_err c.from_residual-in_err-left.result e.0 _ e.1
+    (λ q d m held file. inl (beside_here (node_lent place c.args.cache.now m) (goes_behind p) c.args.at c.index-child.result.now q ps cs (c.in_ok-page.ensures.node m held (can_ask c.args.cache.now m c.args.at place.block_length file))
+    (goes_into (node_lent place c.args.cache.now m) (goes_behind p) c.args.at i c.index-child.result.now ps cs (c.in_ok-page.ensures.node m held (can_ask c.args.cache.now m c.args.at place.block_length file)) c.in_ok-page.ensures.written.branches some c.place_of-i.ensures.inside
+    (subst (λ (q : Pair). AreBefore q (take i ps)) same c.place_of-i.ensures.before) (halts_behind p (drop i ps) (subst (λ (q : Pair). BeginsBehind q (drop i ps)) same c.place_of-i.ensures.behind)) child)
+    (subst (λ (k : ℕ). AreNeighbours k q cs) (sym child) (c.in_err-left.ensures.beside q (sym e.2 ∙ d)))))
+
+pub returns-in_err-made-clause-others : goal.returns-in_err-made-clause-others
+returns-in_err-made-clause-others g t c =
+    let one = told_then (g.F.Files.holds c.args.files.now) (g.F.Files.holds c.load.new.files) (g.F.Files.holds c.without_last.new.files) (OthersStay c.args.cache.now.name) (OthersStay c.load.new.cache.name) (OthersStay c.args.cache.now.name) c.load.ensures.others c.without_last.ensures.others
+    (λ m n k before after q other. after q (λ e. other (e ∙ c.load.ensures.name)) ∙ before q other) in
+    told_then (g.F.Files.holds c.args.files.now) (g.F.Files.holds c.without_last.new.files) (g.F.Files.holds c.write_child.new.files) (OthersStay c.args.cache.now.name) (OthersStay c.without_last.new.cache.name) (OthersStay c.args.cache.now.name) one c.write_child.ensures.others
+    (λ m n k before after q other. after q (λ e. other (e ∙ c.without_last.ensures.name ∙ c.load.ensures.name)) ∙ before q other)

@@ -2,9 +2,10 @@ use Rattle.std.proofs.Common.{◌≡◌, ℕ, suc, eqb, ◌+◌, List, ◌++◌,
 use Rattle.std.proofs.lemmas.Result.{err_from_is_err_and}
 use Rattle.myi_keylist.specs.declared.pair.Pair.{Pair}
 use Rattle.myi_insertion.specs.Written.{page_node}
-use Rattle.myi_insertion.proofs.LoadLaws.{got, if_err}
+use Rattle.myi_insertion.proofs.LoadLaws.{got, if_err, same_place}
 use Rattle.myi_insertion.proofs.PageLaws.{no_pair}
 use Rattle.myi_insertion.proofs.RemovalLaws.{branching, beside_stands, beside_joint, beside_holds, joint_holds, joint_written, never_beside, never_uneven, same_flag, other_flag, given_child, place_whole}
+use Rattle.myi_insertion.proofs.DamageLaws.{neighbours, beside_at}
 use Rattle.myi_insertion.proofs.removal.join_child.Goals as goal
 
 pub returns-in_err-other-clause-never : goal.returns-in_err-other-clause-never
@@ -79,3 +80,23 @@ returns-clause-whole g c =
     let p = c.args.pending.now in
     let can = c.requires.pending in
     c.in_ok-give_page.ensures.whole (place_whole p.i p.page.now.children.items c.index.result.now can.page.places (omega (arith, can.inside, branching c.args.setup.place.rec_ref p.page.now.pairs p.page.now.children.items can.page can.some)) c.index.ensures) c.in_ok-strip.ensures.whole
+
+pub returns-in_err-other-clause-beside : goal.returns-in_err-other-clause-beside
+returns-in_err-other-clause-beside g c =
+    let p = c.args.pending.now in
+    let cs : List ℕ = p.page.now.children.items in
+    let can = c.requires.pending in
+    let e = err_from_is_err_and c.from_residual.result c.from_residual.ensures.1 in
+    if_err c.from_residual.result e.0 _ e.1
+    (λ q d. beside_at p.i c.place_beside-beside.result q cs (c.in_err-other.ensures.damaged q (sym e.2 ∙ d)).0
+    (neighbours p.i c.place_beside-beside.result p.page.now.pairs cs can.page.branches can.some can.page.some can.inside
+    (λ e. c.place_beside-beside.ensures.first e ∙ ap (λ (t : List ℕ). get_or t 1 0) c.deref.ensures.value) (λ k e. c.place_beside-beside.ensures.second k e ∙ ap (λ (t : List ℕ). get_or t k 0) c.deref.ensures.value)))
+
+pub returns-then-is_empty-clause-beside : goal.returns-then-is_empty-clause-beside
+returns-then-is_empty-clause-beside g c = λ q damaged.
+    let p = c.args.pending.now in
+    let cs : List ℕ = p.page.now.children.items in
+    let can = c.requires.pending in
+    beside_at p.i c.place_beside-beside.result q cs (same_place c.place_beside-beside.result q damaged)
+    (neighbours p.i c.place_beside-beside.result p.page.now.pairs cs can.page.branches can.some can.page.some can.inside
+    (λ e. c.place_beside-beside.ensures.first e ∙ ap (λ (t : List ℕ). get_or t 1 0) c.deref.ensures.value) (λ k e. c.place_beside-beside.ensures.second k e ∙ ap (λ (t : List ℕ). get_or t k 0) c.deref.ensures.value))

@@ -1,11 +1,13 @@
 use Rattle.std.proofs.Common.{◌≡◌, refl, sym, arith, ◌∙◌}
 use Rattle.std.proofs.lemmas.Result.{err_from_is_err_and}
 use Rattle.myi_insertion.specs.declared.page.PageData.{PageData}
+use Rattle.myi_btree.specs.CachedTrees.{node_lent}
 use Rattle.myi_insertion.specs.Openings.{CanHold}
 use Rattle.myi_insertion.proofs.LoadLaws.{if_err}
 use Rattle.myi_insertion.proofs.SplitLaws.{if_some, if_none}
 use Rattle.myi_insertion.proofs.PuttingLaws.{never_in}
 use Rattle.myi_insertion.proofs.RemovalLaws.{TakesPair, SeeksPair, taken_from, none_from, none_at_all}
+use Rattle.myi_insertion.proofs.DamageLaws.{damage_in}
 use Rattle.myi_insertion.proofs.removal.remove.Goals as goal
 
 pub returns-in_default-clause-there : goal.returns-in_default-clause-there
@@ -49,3 +51,9 @@ returns-clause-removed g c = λ m held xs pages tree can sorted.
     (let l = c.requires.placed.least in omega arith)
     (if_some c.in_ok-taken.taken c.in-Some-taken.page (λ (q : PageData). TakesPair c.args.pair.now c.args.place.now c.args.cache.now (g.F.Files.holds c.args.files.now) c.args.room.now c.in-Some.root (g.F.Files.holds c.without_pair.new.files) c.without_pair.new.cache c.without_pair.new.room q.pairs q.children.items) c.in-Some-taken.is c.in_ok-taken.ensures.taken)
     c.in_ok-top.ensures.rooted c.in-Some.is m held xs pages tree can sorted).1
+
+pub returns-in_err-taken-clause-damaged : goal.returns-in_err-taken-clause-damaged
+returns-in_err-taken-clause-damaged g c =
+    let e = err_from_is_err_and c.from_residual.result c.from_residual.ensures.1 in
+    if_err c.from_residual.result e.0 _ e.1
+    (λ p d m held file. damage_in (node_lent c.args.place.now c.args.cache.now m) c.args.pair.now c.in-Some.root p c.args.place.now.root c.in-Some.is (c.in_err-taken.ensures.damaged p (sym e.2 ∙ d) m held file))
