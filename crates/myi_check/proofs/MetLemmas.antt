@@ -1,12 +1,16 @@
 -- What was met, and one item more.
-use Rattle.std.proofs.Common.{◌≡◌, ℕ, zero, suc, ◌+◌, true, List, [], ◌∷◌, ◌++◌, length, ◌⊎◌, inl, inr, Option, Some, Result, Ok, unwrap_or, refl, sym, ap, subst, ◌∙◌, arith, append_assoc}
-use Rattle.std.specs.Prelude.{map, replicate}
+use Rattle.std.proofs.Common.{◌≡◌, ℕ, zero, suc, ◌+◌, ◌-◌, Bool, true, false, List, [], ◌∷◌, ◌++◌, length, ◌⊎◌, inl, inr, Option, Some, Result, Ok, unwrap_or, refl, sym, ap, subst, ◌∙◌, arith, append_assoc}
+use Rattle.std.specs.Prelude.{◌&&◌, map, replicate}
 use Rattle.std.specs.List.{AllByRecursion, Contains}
 use Rattle.std.proofs.lemmas.List.{append-nil, map-append, length-map, length_push, length-append, length-replicate}
 use Rattle.std.proofs.lemmas.List.Concat.{flat_map-append}
+use Rattle.std.proofs.lemmas.List.Folds.{list_all-append}
+use Rattle.std.proofs.lemmas.List.Sums.{sum_by-cons}
 use Rattle.std.proofs.lemmas.List.Elements.{Contains-append_left, Contains-append_right}
 use Rattle.myi_base.specs.Holding.{Holding, IfTold}
-use Rattle.myi_base.specs.Ranges.{Range}
+use Rattle.myi_base.specs.Ranges.{Range, are_apart, is_apart}
+use Rattle.myi_defs.specs.declared.types.RowFormat.{RowFormat}
+use Rattle.myi_defs.specs.declared.types.RowFormat.TheVariants.{Static, Dynamic}
 use Rattle.myi_defs.specs.declared.types.Defs.{Defs}
 use Rattle.myi_chain.specs.declared.piece.Piece.{Piece}
 use Rattle.myi_chain.specs.declared.piece.Item.{Item}
@@ -27,10 +31,11 @@ use Rattle.myi_rowkeys.specs.TableKeys.{numbers_from, key_numbers, row_keys}
 use Rattle.myi_rowkeys.specs.RowLists.{with_pairs}
 use Rattle.myi_pair.specs.KeyList.{pointer, pair_of, pairs_of}
 use Rattle.myi_pair.specs.Clean.{values_of, placed_row}
+use Rattle.myi_pair.specs.Trees.{total}
 use Rattle.myi_check.specs.declared.met.Met.{Met}
 use Rattle.myi_check.specs.HeldBytes.{SameBytes, EndsNear}
 use Rattle.myi_check.specs.Rows.{pair_lists, IsPlaceOf, ArePlacesOf}
-use Rattle.myi_check.specs.Met.{HasMet, NotesPairs, NotesBlocks, NotesFree, Takes, Reads, MeetsAll}
+use Rattle.myi_check.specs.Met.{held_of, HasFrees, HasMet, KeepsFrees, KeepsRows, NotesPairs, NotesBlocks, NotesFree, Takes, Reads, MeetsAll}
 use Rattle.myi_check.proofs.HeldLemmas.{same_then, same_append, same_of}
 
 -- ---- the pairs
@@ -95,6 +100,50 @@ frees_past is r = flat_map-append free_in is (row r ∷ []) ∙ append-nil (free
 ranges_with : (rows : List Row) (r : Row) → ranges_of (rows ++ r ∷ []) ≡ ranges_of rows ++ r.blocks
 ranges_with rows r = flat_map-append (λ (x : Row). x.blocks) rows (r ∷ []) ∙ ap (λ bs. ranges_of rows ++ bs) (append-nil r.blocks)
 
+-- ---- the bytes of rows, and of deleted slots
+
+three : (a b c : Bool) → ((a && b) && c) ≡ ((a && c) && b)
+three true true c = by c
+  where
+    by : (c : Bool) → c ≡ (c && true)
+    by true = refl
+    by false = refl
+three true false c = by c
+  where
+    by : (c : Bool) → false ≡ (c && false)
+    by true = refl
+    by false = refl
+three false b c = refl
+
+-- the order of the ranges does not count
+same_middle : (u more v : List Range) → SameBytes ((u ++ more) ++ v) ((u ++ v) ++ more)
+same_middle u more v r some =
+    list_all-append (are_apart r) (u ++ more) v ∙ ap (λ b. b && is_apart r v) (list_all-append (are_apart r) u more)
+    ∙ three (is_apart r u) (is_apart r more) (is_apart r v)
+    ∙ sym (list_all-append (are_apart r) (u ++ v) more ∙ ap (λ b. b && is_apart r more) (list_all-append (are_apart r) u v))
+
+ranges_more : (is : List chains.Item) (r : Row) (more : List Range) → more ≡ r.blocks → ranges_of (rows_of (is ++ row r ∷ [])) ≡ ranges_of (rows_of is) ++ more
+ranges_more is r more are = ap ranges_of (rows_with is r) ∙ ranges_with (rows_of is) r ∙ ap (λ bs. ranges_of (rows_of is) ++ bs) (sym are)
+
+held_row : (f : RowFormat) (is : List chains.Item) (r : Row) (more old new : List Range) → more ≡ r.blocks → SameBytes (held_of f is) old → SameBytes (old ++ more) new → SameBytes (held_of f (is ++ row r ∷ [])) new
+held_row Static is r more old new are has adds =
+    let rows = ranges_of (rows_of is) in
+    let all : ranges_of (rows_of (is ++ row r ∷ [])) ++ frees_of (is ++ row r ∷ []) ≡ (rows ++ more) ++ frees_of is =
+    ap (λ xs. xs ++ frees_of (is ++ row r ∷ [])) (ranges_more is r more are) ∙ ap (λ xs. (rows ++ more) ++ xs) (frees_past is r) in
+    same_then _ _ _ (same_of _ _ all) (same_then _ _ _ (same_middle rows more (frees_of is)) (same_then _ _ _ (same_append (rows ++ frees_of is) old more has) adds))
+held_row Dynamic is r more old new are has adds =
+    same_then _ _ _ (same_of _ _ (ranges_more is r more are)) (same_then _ _ _ (same_append (ranges_of (rows_of is)) old more has) adds)
+
+frees_row : (f : RowFormat) (is : List chains.Item) (r : Row) (old mid new : Met) → HasFrees f is old → KeepsFrees old mid → KeepsFrees mid new → HasFrees f (is ++ row r ∷ []) new
+frees_row Static is r old mid new has first second = record {
+  places = second.slots ∙ first.slots ∙ has.places ∙ ap (map (λ (a : Range). a.0)) (sym (frees_past is r));
+  empty = second.empty ∙ first.empty ∙ has.empty ∙ ap total (sym (frees_past is r));
+}
+frees_row Dynamic is r old mid new has first second = record {
+  ranges = ap ranges_at (second.frees ∙ first.frees) ∙ has.ranges ∙ sym (frees_past is r);
+  near = subst (AllByRecursion EndsNear) (sym (second.frees ∙ first.frees)) has.near;
+}
+
 pub row_taken : (d : Defs) (r : Row) (blocks : List (ℕ × ℕ)) (old mid new : Met) → NotesPairs d r.at r.bytes old mid → NotesBlocks blocks mid new → ranges_at blocks ≡ r.blocks → Takes d (row r) old new
 row_taken d r blocks old mid new pairs noted are is has =
     let all : ranges_of (rows_of (is ++ row r ∷ [])) ≡ ranges_of (rows_of is) ++ ranges_at blocks = ap ranges_of (rows_with is r) ∙ ranges_with (rows_of is) r ∙ ap (λ bs. ranges_of (rows_of is) ++ bs) (sym are) in
@@ -113,39 +162,78 @@ row_taken d r blocks old mid new pairs noted are is has =
       split = noted.split ∙ ap (λ n. n + length blocks) (pairs.split ∙ has.split) ∙ sym count;
       places = subst (λ (rs : List Row). ArePlacesOf rs new.places.items) (sym (rows_with is r))
           (subst (ArePlacesOf (rows_of is ++ r ∷ [])) (sym noted.places) (places_next (rows_of is) r old.places.items mid.places.items has.places pairs.places));
-      held = same_then _ _ _ (same_of _ _ all)
-          (same_then _ _ _ (same_append (ranges_of (rows_of is)) mid.held (ranges_at blocks) (subst (SameBytes (ranges_of (rows_of is))) (sym pairs.held) has.held)) noted.held);
-      frees = ap ranges_at (noted.frees ∙ pairs.frees) ∙ has.frees ∙ sym (frees_past is r);
-      near = subst (AllByRecursion EndsNear) (sym (noted.frees ∙ pairs.frees)) has.near;
+      held = held_row d.format is r (ranges_at blocks) mid.held new.held are (subst (SameBytes (held_of d.format is)) (sym pairs.held) has.held) noted.held;
+      frees = frees_row d.format is r old mid new has.frees pairs.frees noted.frees;
     }
 
 near_push : (bs : List (ℕ × ℕ)) (b : ℕ × ℕ) → AllByRecursion EndsNear bs → EndsNear b → AllByRecursion EndsNear (bs ++ b ∷ [])
 near_push [] b all near = (near, tt)
 near_push (x ∷ bs) b all near = (all.0, near_push bs b all.1 near)
 
-pub free_taken : (d : Defs) (at size : ℕ) (old new : Met) → NotesFree at size old new → EndsNear (at, size) → Takes d (free (at, at + size)) old new
-free_taken d at size old new noted near is has = record {
-  keys = λ on. noted.keys ∙ has.keys (sym noted.with_keys ∙ on) ∙ ap (pair_lists d) (sym (rows_past is (at, at + size)));
-  lists = ap (λ (ls : List (List Pair)). length ls) noted.keys ∙ has.lists;
-  records = noted.records ∙ has.records ∙ ap (λ (rs : List Row). length rs) (sym (rows_past is (at, at + size)));
-  split = noted.split ∙ has.split ∙ ap (λ rs. length (ranges_of rs)) (sym (rows_past is (at, at + size)));
-  places = subst (λ (rs : List Row). ArePlacesOf rs new.places.items) (sym (rows_past is (at, at + size))) (subst (ArePlacesOf (rows_of is)) (sym noted.places) has.places);
-  held = same_then _ _ _ (same_of _ _ (ap ranges_of (rows_past is (at, at + size)))) (subst (SameBytes (ranges_of (rows_of is))) (sym noted.held) has.held);
-  frees = ap ranges_at noted.frees ∙ map-append (λ (b : ℕ × ℕ). (b.0, b.0 + b.1)) old.frees.items ((at, size) ∷ []) ∙ ap (λ rs. rs ++ (at, at + size) ∷ []) has.frees ∙ sym (frees_with is (at, at + size));
+total_push : (rs : List Range) (a : Range) → total (rs ++ a ∷ []) ≡ total rs + (a.1 - a.0)
+total_push [] a = sum_by-cons (λ (r : Range). r.1 - r.0) a [] ∙ omega arith
+total_push (r ∷ rs) a =
+    sum_by-cons (λ (x : Range). x.1 - x.0) r (rs ++ a ∷ []) ∙ ap (λ n. (r.1 - r.0) + n) (total_push rs a)
+    ∙ omega arith ∙ ap (λ n. n + (a.1 - a.0)) (sym (sum_by-cons (λ (x : Range). x.1 - x.0) r rs))
+
+rows_stay : (f : RowFormat) (at size : ℕ) (old new : Met) → NotesFree f at size old new → KeepsRows old new
+rows_stay Static at size old new noted = noted.rows
+rows_stay Dynamic at size old new noted = noted.rows
+
+held_free : (f : RowFormat) (is : List chains.Item) (at size : ℕ) (old new : Met) → NotesFree f at size old new → SameBytes (held_of f is) old.held → SameBytes (held_of f (is ++ free (at, at + size) ∷ [])) new.held
+held_free Static is at size old new noted has =
+    let a : Range = (at, at + size) in
+    let rows = ranges_of (rows_of is) in
+    let all : ranges_of (rows_of (is ++ free a ∷ [])) ++ frees_of (is ++ free a ∷ []) ≡ (rows ++ frees_of is) ++ a ∷ [] =
+    ap (λ xs. xs ++ frees_of (is ++ free a ∷ [])) (ap ranges_of (rows_past is a)) ∙ ap (λ xs. rows ++ xs) (frees_with is a) ∙ sym (append_assoc rows (frees_of is) (a ∷ [])) in
+    same_then _ _ _ (same_of _ _ all) (same_then _ _ _ (same_append (rows ++ frees_of is) old.held (a ∷ []) has) noted.held)
+held_free Dynamic is at size old new noted has =
+    same_then _ _ _ (same_of _ _ (ap ranges_of (rows_past is (at, at + size)))) (subst (SameBytes (ranges_of (rows_of is))) (sym noted.held) has)
+
+frees_more : (f : RowFormat) (is : List chains.Item) (at size : ℕ) (old new : Met) → NotesFree f at size old new → EndsNear (at, size) → HasFrees f is old → HasFrees f (is ++ free (at, at + size) ∷ []) new
+frees_more Static is at size old new noted near has =
+    let a : Range = (at, at + size) in
+    let long : size ≡ (at + size) - at = omega arith in
+    record {
+      places = noted.slots ∙ ap (λ ps. ps ++ at ∷ []) has.places ∙ sym (ap (map (λ (x : Range). x.0)) (frees_with is a) ∙ map-append (λ (x : Range). x.0) (frees_of is) (a ∷ []));
+      empty = noted.empty ∙ ap (λ n. n + size) has.empty ∙ ap (λ n. total (frees_of is) + n) long ∙ sym (ap total (frees_with is a) ∙ total_push (frees_of is) a);
+    }
+frees_more Dynamic is at size old new noted near has = record {
+  ranges = ap ranges_at noted.frees ∙ map-append (λ (b : ℕ × ℕ). (b.0, b.0 + b.1)) old.frees.items ((at, size) ∷ []) ∙ ap (λ rs. rs ++ (at, at + size) ∷ []) has.ranges ∙ sym (frees_with is (at, at + size));
   near = subst (AllByRecursion EndsNear) (sym noted.frees) (near_push old.frees.items (at, size) has.near near);
 }
 
+pub free_taken : (d : Defs) (at size : ℕ) (old new : Met) → NotesFree d.format at size old new → EndsNear (at, size) → Takes d (free (at, at + size)) old new
+free_taken d at size old new noted near is has =
+    let stay = rows_stay d.format at size old new noted in
+    record {
+      keys = λ on. stay.keys ∙ has.keys (sym stay.with_keys ∙ on) ∙ ap (pair_lists d) (sym (rows_past is (at, at + size)));
+      lists = ap (λ (ls : List (List Pair)). length ls) stay.keys ∙ has.lists;
+      records = stay.records ∙ has.records ∙ ap (λ (rs : List Row). length rs) (sym (rows_past is (at, at + size)));
+      split = stay.split ∙ has.split ∙ ap (λ rs. length (ranges_of rs)) (sym (rows_past is (at, at + size)));
+      places = subst (λ (rs : List Row). ArePlacesOf rs new.places.items) (sym (rows_past is (at, at + size))) (subst (ArePlacesOf (rows_of is)) (sym stay.places) has.places);
+      held = held_free d.format is at size old new noted has.held;
+      frees = frees_more d.format is at size old new noted near has.frees;
+    }
+
+none_held : (f : RowFormat) (h : List Range) → h ≡ [] → SameBytes (held_of f []) h
+none_held Static h none = same_of [] h (sym none)
+none_held Dynamic h none = same_of [] h (sym none)
+
+none_free : (f : RowFormat) (met : Met) → met.frees.items ≡ [] → met.slots.items ≡ [] → met.empty ≡ 0 → HasFrees f [] met
+none_free Static met frees slots empty = record { places = slots; empty = empty }
+none_free Dynamic met frees slots empty = record { ranges = ap ranges_at frees; near = subst (AllByRecursion EndsNear) (sym frees) tt }
+
 -- nothing was met
-pub none_met : (d : Defs) (met : Met) → met.keys ≡ replicate (length d.keys) [] → met.places.items ≡ [] → met.records ≡ 0 → met.split ≡ 0 → met.held ≡ [] → met.frees.items ≡ [] → HasMet d [] met
-none_met d met keys places records split held frees = record {
+pub none_met : (d : Defs) (met : Met) → met.keys ≡ replicate (length d.keys) [] → met.places.items ≡ [] → met.records ≡ 0 → met.split ≡ 0 → met.held ≡ [] → met.frees.items ≡ [] → met.slots.items ≡ [] → met.empty ≡ 0 → HasMet d [] met
+none_met d met keys places records split held frees slots empty = record {
   keys = λ on. keys ∙ no_pairs d;
   lists = ap (λ (ls : List (List Pair)). length ls) keys ∙ length-replicate {A = List Pair} (length d.keys) [];
   records = records;
   split = split;
   places = subst (ArePlacesOf []) (sym places) tt;
-  held = same_of [] met.held (sym held);
-  frees = ap ranges_at frees;
-  near = subst (AllByRecursion EndsNear) (sym frees) tt;
+  held = none_held d.format met.held held;
+  frees = none_free d.format met frees slots empty;
 }
 
 -- ---- one call
@@ -187,11 +275,11 @@ row_read d h s t at p bytes old mid new answer shows pairs blocks =
           given.1 ∙ ap (λ i. i ∷ items_ahead t m) (row_is given.0 at p s.blocks t.blocks bytes shows given.2);
     }
 
-pub free_read : (d : Defs) (h : Option Holding) (s t : TableScan) (at size : ℕ) (old new : Met) → AfterTable Items h s (Ok (Some (item.Free at size))) t → NotesFree at size old new → Reads d h s t old new
+pub free_read : (d : Defs) (h : Option Holding) (s t : TableScan) (at size : ℕ) (old new : Met) → AfterTable Items h s (Ok (Some (item.Free at size))) t → NotesFree d.format at size old new → Reads d h s t old new
 free_read d h s t at size old new answer noted = record {
   item = free (at, at + size);
   takes = free_taken d at size old new noted answer.0.stands.1.1;
-  with_keys = noted.with_keys;
+  with_keys = (rows_stay d.format at size old new noted).with_keys;
   rises = answer.0.rises;
   within = answer.0.within;
   first = λ m told.

@@ -1,13 +1,13 @@
 -- What was found of a data file, when all was met.
 use Rattle.std.proofs.Common.{◌≡◌, ℕ, zero, suc, ◌+◌, ◌-◌, ◌/◌, ◌<◌, ◌≤◌, Bool, true, false, cond, List, [], ◌∷◌, ◌++◌, length, take, drop, Some, unwrap_or, refl, sym, ap, subst, ◌∙◌, arith, add-one, ◌⊎◌, inl, inr}
-use Rattle.std.specs.Prelude.{map, filter, sum_by}
+use Rattle.std.specs.Prelude.{◌&&◌, ◌||◌, nat_le, map, filter, sum_by}
 use Rattle.std.specs.List.{AllByRecursion, flat_map}
 use Rattle.std.proofs.Math.Nat.{div-eq_of_lt, add-div_right}
-use Rattle.std.proofs.lemmas.Bool.{cases_lt}
+use Rattle.std.proofs.lemmas.Bool.{cases_lt, le-leb}
 use Rattle.std.proofs.lemmas.List.Sums.{sum_by-cons}
 use Rattle.std.proofs.lemmas.List.{take_all, length-drop, length-take-le}
 use Rattle.myi_base.specs.Holding.{Holding, bytes_of}
-use Rattle.myi_base.specs.Ranges.{Range, is_apart}
+use Rattle.myi_base.specs.Ranges.{Range, are_apart, is_apart}
 use Rattle.myi_defs.specs.declared.types.RowFormat.{RowFormat}
 use Rattle.myi_defs.specs.declared.types.RowFormat.TheVariants.{Static, Dynamic}
 use Rattle.myi_defs.specs.declared.types.Defs.{Defs}
@@ -31,7 +31,7 @@ use Rattle.myi_check.specs.declared.met.Met.{Met}
 use Rattle.myi_check.specs.declared.rows.RowsFound.{RowsFound}
 use Rattle.myi_check.specs.HeldBytes.{SameBytes, EndsNear, AreJoined, front_of, gap_behind, is_free}
 use Rattle.myi_check.specs.Rows.{IsAscending, ArePointed, ArePlacesOf, HasRows}
-use Rattle.myi_check.specs.Met.{HasMet}
+use Rattle.myi_check.specs.Met.{held_of, HasSlots, HasBlocks, HasFrees, HasMet}
 use Rattle.myi_check.proofs.HeldLemmas.{same_then, same_append, same_of}
 use Rattle.myi_check.proofs.GapLemmas.{gap_same, gap_front}
 
@@ -118,11 +118,14 @@ same_kept low u v (a ∷ rs) s h =
     let more = same_kept a.1 u v rs s h.2 in
     ap (λ xs. cond (is_apart a u) (a ∷ xs) xs) more ∙ ap (λ b. cond b (a ∷ filter (λ x. is_apart x v) rs) (filter (λ x. is_apart x v) rs)) here
 
-pub deleted_found : (d : Defs) (x : List ℕ) (met : Met) (h : List Range) (kept : List (ℕ × ℕ)) → RangesRise 0 (frees_of (items_in d false x)) → HasMet d (items_in d false x) met → SameBytes met.held h → kept ≡ filter (is_free h) met.frees.items → ranges_at kept ≡ deleted d x
+pub deleted_found : (d : Defs) (x : List ℕ) (met : Met) (h : List Range) (kept : List (ℕ × ℕ)) → RangesRise 0 (frees_of (items_in d false x)) → SameBytes (ranges_of (rows_of (items_in d false x))) met.held → HasBlocks (items_in d false x) met → SameBytes met.held h → kept ≡ filter (is_free h) met.frees.items → ranges_at kept ≡ deleted d x
 unfolding deleted readable
-deleted_found d x met h kept rise has same is =
-    ap ranges_at is ∙ free_kept h met.frees.items ∙ ap (filter (λ a. is_apart a h)) has.frees
-    ∙ sym (same_kept 0 (ranges_of (rows_of (items_in d false x))) h (frees_of (items_in d false x)) (same_then _ _ _ has.held same) rise)
+deleted_found d x met h kept rise held has same is =
+    ap ranges_at is ∙ free_kept h met.frees.items ∙ ap (filter (λ a. is_apart a h)) has.ranges
+    ∙ sym (same_kept 0 (ranges_of (rows_of (items_in d false x))) h (frees_of (items_in d false x)) (same_then _ _ _ held same) rise)
+
+pub blocks_of : (f : RowFormat) (met : Met) (is : List Item) → f ≡ Dynamic → HasFrees f is met → HasBlocks is met
+blocks_of f met is dynamic has = subst (λ g. HasFrees g is met) dynamic has
 
 pub places_of : (bs : List (ℕ × ℕ)) → map (λ b. b.0) bs ≡ map (λ (a : Range). a.0) (ranges_at bs)
 places_of [] = refl
@@ -143,19 +146,93 @@ near_kept p (b ∷ bs) near = by_test (p b) (near_kept p bs near.1)
     by_test true more = (near.0, more)
     by_test false more = more
 
+-- ---- the deleted slots, which meet no row
+
+abbrev StandFrom : ℕ → List Range → Type 0
+StandFrom low rs = AllByRecursion (λ (a : Range). low ≤ a.0) rs
+
+stand_lower : (low more : ℕ) (rs : List Range) → more ≤ low → StandFrom low rs → StandFrom more rs
+stand_lower low more [] le all = tt
+stand_lower low more (a ∷ rs) le all = (omega (arith, all.0), stand_lower low more rs le all.1)
+
+apart_above : (r : Range) (low : ℕ) (rs : List Range) → r.1 ≤ low → StandFrom low rs → is_apart r rs ≡ true
+apart_above r low [] le all = refl
+apart_above r low (s ∷ rs) le all =
+    let here : nat_le r.1 s.0 ≡ true = le-leb _ _ (omega (arith, all.0)) in
+    let more = apart_above r low rs le all.1 in
+    rw (here, more) refl
+
+abbrev AreApartFrom : List Range → List Range → Type 0
+AreApartFrom rows frees = AllByRecursion (λ a. is_apart a rows ≡ true) frees
+
+apart_more : (s : Range) (rows frees : List Range) → StandFrom s.1 frees → AreApartFrom rows frees → AreApartFrom (s ∷ rows) frees
+apart_more s rows [] stand all = tt
+apart_more s rows (a ∷ frees) stand all =
+    let here : nat_le s.1 a.0 ≡ true = le-leb _ _ stand.0 in
+    (rw (here, all.0) (either (nat_le a.1 s.0)), apart_more s rows frees stand.1 all.1)
+  where
+    either : (b : Bool) → ((b || true) && true) ≡ true
+    either true = refl
+    either false = refl
+
+-- what these slots are: rows and deleted slots from a place on, of which none meet
+record SlotsApart (low : ℕ) (is : List Item) : Type 0 where
+  rows : StandFrom low (ranges_of (rows_of is))
+  frees : StandFrom low (frees_of is)
+  apart : AreApartFrom (ranges_of (rows_of is)) (frees_of is)
+
+slots_apart : (accepts : List ℕ → Bool) (n at size : ℕ) (xs : List ℕ) → 0 < size → n ≤ length xs / size → SlotsApart at (flat_map (slot_items accepts) (slots n at size xs))
+slots_apart accepts zero at size xs some few = record { rows = tt; frees = tt; apart = tt }
+slots_apart accepts (suc n) at size xs some few =
+    let inside : size ≤ length xs = has_one (cases_lt (length xs) size) in
+    let rest : length (drop size xs) ≡ length xs - size = length-drop size xs in
+    let all : length xs ≡ length (drop size xs) + size = omega (arith, rest, inside) in
+    let count : length xs / size ≡ suc (length (drop size xs) / size) = ap (λ n. n / size) all ∙ add-div_right (length (drop size xs)) some ∙ add-one (length (drop size xs) / size) in
+    let slot : Slot = record { at = at; bytes = take size xs } in
+    let long : length (take size xs) ≡ size = length-take-le size xs inside in
+    let more : List Item = flat_map (slot_items accepts) (slots n (at + size) size (drop size xs)) in
+    let behind : SlotsApart (at + size) more = slots_apart accepts n (at + size) size (drop size xs) some (omega (arith, few, count)) in
+    let rows = stand_lower (at + size) at (ranges_of (rows_of more)) (omega arith) behind.rows in
+    let frees = stand_lower (at + size) at (frees_of more) (omega arith) behind.frees in
+    slot_cases (λ (is : List Item). SlotsApart at (is ++ more)) accepts slot
+    (λ _. record { rows = rows; frees = (omega arith, frees); apart = (apart_above (at, at + length (take size xs)) (at + size) (ranges_of (rows_of more)) (omega (arith, long)) behind.rows, behind.apart) })
+    (λ _. record { rows = (omega arith, rows); frees = frees; apart = apart_more (at, at + length (take size xs)) (ranges_of (rows_of more)) (frees_of more) (subst (λ e. StandFrom (at + e) (frees_of more)) (sym long) behind.frees) behind.apart })
+    (record { rows = rows; frees = frees; apart = behind.apart })
+  where
+    has_one : (length xs < size) ⊎ (size ≤ length xs) → size ≤ length xs
+    has_one (inl short) = absurd (omega (arith, few, div-eq_of_lt short))
+    has_one (inr le) = le
+
+all_stay : (rows frees : List Range) → AreApartFrom rows frees → filter (λ a. is_apart a rows) frees ≡ frees
+all_stay rows [] all = refl
+all_stay rows (a ∷ frees) all =
+    let here = all.0 in
+    let more = all_stay rows frees all.1 in
+    rw here (ap (λ xs. a ∷ xs) more)
+
+slots_deleted : (d : Defs) (x : List ℕ) → IsSound d → d.format ≡ Static → deleted d x ≡ frees_of (items_in d false x)
+unfolding deleted readable items_in items_at
+slots_deleted d x s static =
+    let apart : SlotsApart 0 (items_by Static d false x) = slots_apart (packs d) (length x / d.slot_length) 0 d.slot_length x (omega (arith, s.slot_pointer static)) (omega arith) in
+    let is : SlotsApart 0 (items_by d.format d false x) = subst (λ f. SlotsApart 0 (items_by f d false x)) (sym static) apart in
+    all_stay _ _ is.apart
+
 -- ---- the gap
 
-pub gap_found : (d : Defs) (x : List ℕ) (met : Met) (h joined last : List Range) (kept : List (ℕ × ℕ)) → HasMet d (items_in d false x) met → ranges_at kept ≡ deleted d x → SameBytes met.held h → SameBytes (h ++ ranges_at kept) joined → SameBytes joined last → AreJoined 0 last → gap_behind (cond (is_addressable d (length x)) (front_of last) 0) (length x) ≡ rows_bad d x
-unfolding rows_bad readable
-gap_found d x met h joined last kept has are first second third order = by_reach (is_addressable d (length x)) refl
+pub gap_by : (d : Defs) (x : List ℕ) (last : List Range) → SameBytes (ranges_of (readable d false x) ++ deleted d x) last → AreJoined 0 last → gap_behind (cond (is_addressable d (length x)) (front_of last) 0) (length x) ≡ rows_bad d x
+unfolding rows_bad
+gap_by d x last all order = by_reach (is_addressable d (length x)) refl
   where
-    all : SameBytes (ranges_of (rows_of (items_in d false x)) ++ deleted d x) last
-    all = same_then _ _ _ (same_append (ranges_of (rows_of (items_in d false x))) h (deleted d x) (same_then _ _ _ has.held first))
-        (same_then _ _ _ (same_of (h ++ deleted d x) (h ++ ranges_at kept) (ap (λ rs. h ++ rs) (sym are))) (same_then _ _ _ second third))
-
-    by_reach : (b : Bool) → is_addressable d (length x) ≡ b → gap_behind (cond b (front_of last) 0) (length x) ≡ first_gap (length x) 0 (cond (is_addressable d (length x)) (ranges_of (rows_of (items_in d false x)) ++ deleted d x) [])
+    by_reach : (b : Bool) → is_addressable d (length x) ≡ b → gap_behind (cond b (front_of last) 0) (length x) ≡ first_gap (length x) 0 (cond (is_addressable d (length x)) (ranges_of (readable d false x) ++ deleted d x) [])
     by_reach true e = rw e (sym (gap_same _ last all (length x) 0 ∙ gap_front last order (length x)))
     by_reach false e = rw e (sym (gap_front [] tt (length x)))
+
+gap_found : (d : Defs) (x : List ℕ) (met : Met) (h joined last : List Range) (kept : List (ℕ × ℕ)) → SameBytes (ranges_of (readable d false x)) met.held → ranges_at kept ≡ deleted d x → SameBytes met.held h → SameBytes (h ++ ranges_at kept) joined → SameBytes joined last → AreJoined 0 last → gap_behind (cond (is_addressable d (length x)) (front_of last) 0) (length x) ≡ rows_bad d x
+gap_found d x met h joined last kept held are first second third order = gap_by d x last all order
+  where
+    all : SameBytes (ranges_of (readable d false x) ++ deleted d x) last
+    all = same_then _ _ _ (same_append (ranges_of (readable d false x)) h (deleted d x) (same_then _ _ _ held first))
+        (same_then _ _ _ (same_of (h ++ deleted d x) (h ++ ranges_at kept) (ap (λ rs. h ++ rs) (sym are))) (same_then _ _ _ second third))
 
 -- ---- all together
 
@@ -201,12 +278,15 @@ deleted_pointed d x s static =
     (subst (λ (is : List Item). AllByRecursion (λ (a : Range). a.0 + d.rec_ref < length x) (frees_of is)) (sym (ap (λ (f : RowFormat). items_by f d false x) static))
     (slots_pointed (packs d) (length x / d.slot_length) 0 d.slot_length d.rec_ref (length x) x (omega (arith, s.slot_pointer static)) (omega arith) (omega arith))))
 
-pub rows_found : (d : Defs) (x : List ℕ) (met : Met) (h joined last : List Range) (kept : List (ℕ × ℕ)) (r : RowsFound) → RangesRise 0 (frees_of (items_in d false x)) → HasMet d (items_in d false x) met
+pub rows_found : (d : Defs) (x : List ℕ) (met : Met) (h joined last : List Range) (kept : List (ℕ × ℕ)) (r : RowsFound) → RangesRise 0 (frees_of (items_in d false x)) → d.format ≡ Dynamic → HasMet d (items_in d false x) met
     → SameBytes met.held h → kept ≡ filter (is_free h) met.frees.items → SameBytes (h ++ ranges_at kept) joined → SameBytes joined last → AreJoined 0 last
     → r.keys ≡ met.keys → r.places.items ≡ met.places.items → r.records ≡ met.records → r.split ≡ met.split → r.deleted.items ≡ map (λ b. b.0) kept → r.empty ≡ sum_by (λ b. b.1) kept → r.gap ≡ gap_behind (cond (is_addressable d (length x)) (front_of last) 0) (length x) → IsSound d → HasRows d met.with_keys x r
 unfolding readable
-rows_found d x met h joined last kept r rise has first is second third order keys where_rows records split places empty gap s =
-    let are = deleted_found d x met h kept rise has first is in
+rows_found d x met h joined last kept r rise dynamic has first is second third order keys where_rows records split places empty gap s =
+    let is_of = items_in d false x in
+    let held : SameBytes (ranges_of (rows_of is_of)) met.held = subst (λ f. SameBytes (held_of f is_of) met.held) dynamic has.held in
+    let blocks : HasBlocks is_of met = subst (λ f. HasFrees f is_of met) dynamic has.frees in
+    let are = deleted_found d x met h kept rise held blocks first is in
     let at : r.deleted.items ≡ deleted_places d x = places ∙ places_of kept ∙ ap (map (λ (a : Range). a.0)) are in
     record {
       keys = λ on. keys ∙ has.keys on;
@@ -217,7 +297,31 @@ rows_found d x met h joined last kept r rise has first is second third order key
       ascends = subst IsAscending (sym at) (deleted_ascend d x rise);
       pointed = subst (ArePointed d (length x)) (sym at) (deleted_pointed d x s);
       empty = empty ∙ total_of kept ∙ ap total are;
-      gap = gap ∙ gap_found d x met h joined last kept has are first second third order;
+      gap = gap ∙ gap_found d x met h joined last kept held are first second third order;
+    }
+
+-- the same of a static table
+pub slots_found : (d : Defs) (x : List ℕ) (met : Met) (last : List Range) (r : RowsFound) → RangesRise 0 (frees_of (items_in d false x)) → d.format ≡ Static → HasMet d (items_in d false x) met → SameBytes met.held last → AreJoined 0 last
+    → r.keys ≡ met.keys → r.places.items ≡ met.places.items → r.records ≡ met.records → r.split ≡ met.split → r.deleted.items ≡ met.slots.items → r.empty ≡ met.empty → r.gap ≡ gap_behind (cond (is_addressable d (length x)) (front_of last) 0) (length x) → IsSound d → HasRows d met.with_keys x r
+unfolding readable
+slots_found d x met last r rise static has first order keys where_rows records split places empty gap s =
+    let is_of = items_in d false x in
+    let held : SameBytes (ranges_of (rows_of is_of) ++ frees_of is_of) met.held = subst (λ f. SameBytes (held_of f is_of) met.held) static has.held in
+    let slots_met : HasSlots is_of met = subst (λ f. HasFrees f is_of met) static has.frees in
+    let are : deleted d x ≡ frees_of is_of = slots_deleted d x s static in
+    let at : r.deleted.items ≡ deleted_places d x = places ∙ slots_met.places ∙ ap (map (λ (a : Range). a.0)) (sym are) in
+    let all : SameBytes (ranges_of (readable d false x) ++ deleted d x) last =
+    same_then _ _ _ (same_of _ _ (ap (λ rs. ranges_of (readable d false x) ++ rs) are)) (same_then _ _ _ held first) in
+    record {
+      keys = λ on. keys ∙ has.keys on;
+      records = records ∙ has.records;
+      split = split ∙ has.split;
+      places = subst (ArePlacesOf (readable d false x)) (sym where_rows) has.places;
+      deleted = at;
+      ascends = subst IsAscending (sym at) (deleted_ascend d x rise);
+      pointed = subst (ArePointed d (length x)) (sym at) (deleted_pointed d x s);
+      empty = empty ∙ slots_met.empty ∙ ap total (sym are);
+      gap = gap ∙ gap_by d x last all order;
     }
 
 -- ---- the whole file

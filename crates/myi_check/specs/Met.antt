@@ -1,7 +1,10 @@
 -- What was met of a data file so far, and how the next item changes it.
-use Rattle.std.specs.Prelude.{◌≡◌, ◌⊎◌, ◌≤◌, ◌<◌, ◌+◌, ℕ, Bool, true, false, List, [], ◌∷◌, ◌++◌, length, Option, Some}
+use Rattle.std.specs.Prelude.{◌≡◌, ◌⊎◌, ◌≤◌, ◌<◌, ◌+◌, ℕ, Bool, true, false, List, [], ◌∷◌, ◌++◌, length, map, Option, Some}
 use Rattle.std.specs.List.{AllByRecursion}
 use Rattle.myi_base.specs.Holding.{Holding, IfTold}
+use Rattle.myi_base.specs.Ranges.{Range}
+use Rattle.myi_defs.specs.declared.types.RowFormat.{RowFormat}
+use Rattle.myi_defs.specs.declared.types.RowFormat.TheVariants.{Static, Dynamic}
 use Rattle.myi_defs.specs.declared.types.Defs.{Defs}
 use Rattle.myi_chain.specs.Chain.{ranges_at}
 use Rattle.myi_chain.specs.Readable.{Item, rows_of, frees_of}
@@ -12,9 +15,29 @@ use Rattle.myi_pack.specs.Unpacking.{row_of}
 use Rattle.myi_rowkeys.specs.TableKeys.{row_keys}
 use Rattle.myi_rowkeys.specs.RowLists.{with_pairs}
 use Rattle.myi_pair.specs.KeyList.{pointer}
+use Rattle.myi_pair.specs.Trees.{total}
 use Rattle.myi_check.specs.declared.met.Met.{Met}
 use Rattle.myi_check.specs.HeldBytes.{SameBytes, EndsNear}
 use Rattle.myi_check.specs.Rows.{pair_lists, ArePlacesOf}
+
+-- the bytes that are noted of these items: those of the rows, and of a static table those of deleted slots
+abbrev pub held_of : RowFormat → List Item → List Range
+held_of Static items = ranges_of (rows_of items) ++ frees_of items
+held_of Dynamic items = ranges_of (rows_of items)
+
+-- the deleted slots among these items are noted by their places and all their bytes
+pub record HasSlots (items : List Item) (met : Met) : Type 0 where
+  pub places : met.slots.items ≡ map (λ (a : Range). a.0) (frees_of items)
+  pub empty : met.empty ≡ total (frees_of items)
+
+-- the deleted blocks among these items are noted by their places and sizes
+pub record HasBlocks (items : List Item) (met : Met) : Type 0 where
+  pub ranges : ranges_at met.frees.items ≡ frees_of items
+  pub near : AllByRecursion EndsNear met.frees.items
+
+abbrev pub HasFrees : RowFormat → List Item → Met → Type 0
+HasFrees Static items met = HasSlots items met
+HasFrees Dynamic items met = HasBlocks items met
 
 -- these items were met
 pub record HasMet (d : Defs) (items : List Item) (met : Met) : Type 0 where
@@ -23,13 +46,26 @@ pub record HasMet (d : Defs) (items : List Item) (met : Met) : Type 0 where
   pub records : met.records ≡ length (rows_of items)
   pub split : met.split ≡ length (ranges_of (rows_of items))
   pub places : ArePlacesOf (rows_of items) met.places.items
-  pub held : SameBytes (ranges_of (rows_of items)) met.held
-  pub frees : ranges_at met.frees.items ≡ frees_of items
-  pub near : AllByRecursion EndsNear met.frees.items
+  pub held : SameBytes (held_of d.format items) met.held
+  pub frees : HasFrees d.format items met
 
 -- one more item was met
 abbrev pub Takes : Defs → Item → Met → Met → Type 0
 Takes d item old new = (items : List Item) → HasMet d items old → HasMet d (items ++ item ∷ []) new
+
+-- what is noted of deleted blocks stays
+pub record KeepsFrees (old new : Met) : Type 0 where
+  pub frees : new.frees.items ≡ old.frees.items
+  pub slots : new.slots.items ≡ old.slots.items
+  pub empty : new.empty ≡ old.empty
+
+-- what is noted of rows stays, but for their bytes
+pub record KeepsRows (old new : Met) : Type 0 where
+  pub with_keys : new.with_keys ≡ old.with_keys
+  pub keys : new.keys ≡ old.keys
+  pub records : new.records ≡ old.records
+  pub places : new.places.items ≡ old.places.items
+  pub split : new.split ≡ old.split
 
 -- the place of a row was noted, or is not
 abbrev pub NotesPlace : ℕ → Met → Met → Type 0
@@ -44,7 +80,7 @@ pub record NotesKeys (d : Defs) (at : ℕ) (bytes : List ℕ) (old new : Met) : 
   pub places : new.places.items ≡ old.places.items
   pub split : new.split ≡ old.split
   pub held : new.held ≡ old.held
-  pub frees : new.frees.items ≡ old.frees.items
+  pub frees : KeepsFrees old new
 
 -- a row of these bytes was noted, with its pairs or its place
 pub record NotesPairs (d : Defs) (at : ℕ) (bytes : List ℕ) (old new : Met) : Type 0 where
@@ -55,7 +91,7 @@ pub record NotesPairs (d : Defs) (at : ℕ) (bytes : List ℕ) (old new : Met) :
   pub places : NotesPlace at old new
   pub split : new.split ≡ old.split
   pub held : new.held ≡ old.held
-  pub frees : new.frees.items ≡ old.frees.items
+  pub frees : KeepsFrees old new
 
 -- the blocks of a row were noted
 pub record NotesBlocks (blocks : List (ℕ × ℕ)) (old new : Met) : Type 0 where
@@ -65,17 +101,24 @@ pub record NotesBlocks (blocks : List (ℕ × ℕ)) (old new : Met) : Type 0 whe
   pub keys : new.keys ≡ old.keys
   pub records : new.records ≡ old.records
   pub places : new.places.items ≡ old.places.items
-  pub frees : new.frees.items ≡ old.frees.items
+  pub frees : KeepsFrees old new
+
+-- a deleted slot was noted
+pub record NotesSlot (at size : ℕ) (old new : Met) : Type 0 where
+  pub rows : KeepsRows old new
+  pub held : SameBytes (old.held ++ (at, at + size) ∷ []) new.held
+  pub slots : new.slots.items ≡ old.slots.items ++ at ∷ []
+  pub empty : new.empty ≡ old.empty + size
 
 -- a deleted block was noted
-pub record NotesFree (at size : ℕ) (old new : Met) : Type 0 where
-  pub with_keys : new.with_keys ≡ old.with_keys
-  pub keys : new.keys ≡ old.keys
-  pub records : new.records ≡ old.records
-  pub places : new.places.items ≡ old.places.items
-  pub split : new.split ≡ old.split
+pub record NotesBlock (at size : ℕ) (old new : Met) : Type 0 where
+  pub rows : KeepsRows old new
   pub held : new.held ≡ old.held
   pub frees : new.frees.items ≡ old.frees.items ++ (at, size) ∷ []
+
+abbrev pub NotesFree : RowFormat → ℕ → ℕ → Met → Met → Type 0
+NotesFree Static at size old new = NotesSlot at size old new
+NotesFree Dynamic at size old new = NotesBlock at size old new
 
 -- an item was read, the first that was left; the others are left
 pub record Reads (d : Defs) (told : Option Holding) (s t : TableScan) (old new : Met) : Type 0 where

@@ -62,8 +62,8 @@ impl HeldBytes {
         }
     }
 
-    // Adds a range.
-    fn add(&mut self, at: u64, end: u64) -> Result<(), AllocError>
+    /// Adds a range.
+    pub(crate) fn add(&mut self, at: u64, end: u64) -> Result<(), AllocError>
         requires { at ≤ end }
         ensures { OnOk result (SameBytes (self.old ++ (at, end) ∷ []) self.new) }
     {

@@ -1,8 +1,10 @@
 //! `Met`: what was met of a data file so far.
 //!
 //! Of each row its pairs are noted, where they are wanted, how many blocks it has and which bytes they hold;
-//! of each deleted block its place and its size. A deleted block is one of the table only if it meets no block of a row, be it
-//! before or behind, so that which of them count is told when all rows have come.
+//! of each deleted block its place and its size. A deleted block of a dynamic table is one of the table only if
+//! it meets no block of a row, be it before or behind, so that which of them count is told when all rows have
+//! come. A deleted slot of a static table meets none, so that its place is noted alone, and its bytes beside
+//! those of the rows.
 ghost use Rattle.std.specs.Prelude.{◌≡◌, ◌+◌, IfOk};
 ghost use Rattle.myi_base.specs.HandsOn.{HandsOn};
 ghost use Rattle.myi_defs.specs.Sound.{IsSound};
@@ -32,10 +34,14 @@ pub(crate) struct Met {
     pub(crate) records: u64,
     /// How many blocks the rows have.
     pub(crate) split: u64,
-    /// The bytes of these blocks.
+    /// The bytes of these blocks, and of deleted slots.
     pub(crate) held: HeldBytes,
-    /// The deleted blocks that were passed, each by its place and its size.
+    /// The deleted blocks of a dynamic table that were passed, each by its place and its size.
     pub(crate) frees: Vec<(u64, u32)>,
+    /// The places of the deleted slots of a static table, in order.
+    pub(crate) slots: Vec<u64>,
+    /// How many bytes these slots have.
+    pub(crate) empty: u64,
 }
 
 impl Met {
@@ -50,7 +56,7 @@ impl Met {
     ghost use Rattle.myi_data.specs.Readable.{packs};
     ghost use Rattle.myi_data.specs.Scanning.{IsAsKnown};
     ghost use Rattle.myi_check.specs.HeldBytes.{EndsNear};
-    ghost use Rattle.myi_check.specs.Met.{HasMet, ReadsIf, NotesKeys, NotesPlace, NotesPairs, NotesBlocks, NotesFree};
+    ghost use Rattle.myi_check.specs.Met.{HasMet, ReadsIf, NotesKeys, NotesPlace, NotesPairs, NotesBlocks, NotesFree, NotesSlot};
 
     /// Nothing was met yet, of a table with these definitions.
     pub(crate) fn new(alloc: Global, defs: &Defs, with_keys: bool) -> Result<Met, AllocError>
@@ -65,6 +71,8 @@ impl Met {
             split: 0,
             held: HeldBytes::new(alloc),
             frees: Vec::new(alloc),
+            slots: Vec::new(alloc),
+            empty: 0,
         })
     }
 
@@ -94,7 +102,7 @@ impl Met {
                 Ok(true)
             }
             Ok(Some(Item::Free { at, size })) => {
-                self.note_free(at, size)?;
+                self.note_free(defs, at, size)?;
                 Ok(true)
             }
             Ok(None) => Ok(false),
@@ -154,11 +162,26 @@ impl Met {
         Ok(())
     }
 
-    // Notes a deleted block.
-    fn note_free(&mut self, at: u64, size: u32) -> Result<(), AllocError>
-        ensures { OnOk result (NotesFree at size self.old self.new) }
+    // Notes a deleted block or slot.
+    fn note_free(&mut self, defs: &Defs, at: u64, size: u32) -> Result<(), AllocError>
+        requires { EndsNear (at, size) }
+        ensures { OnOk result (NotesFree defs.now.format at size self.old self.new) }
     {
-        self.frees.push((at, size))?;
+        match defs.format {
+            RowFormat::Static => self.note_slot(at, size)?,
+            RowFormat::Dynamic => self.frees.push((at, size))?,
+        }
+        Ok(())
+    }
+
+    // Notes a deleted slot.
+    fn note_slot(&mut self, at: u64, size: u32) -> Result<(), AllocError>
+        requires { EndsNear (at, size) }
+        ensures { OnOk result (NotesSlot at size self.old self.new) }
+    {
+        self.held.add(at, at + size as u64)?;
+        self.slots.push(at)?;
+        self.empty = sum(self.empty, size as u64)?;
         Ok(())
     }
 }

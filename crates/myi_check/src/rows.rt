@@ -1,8 +1,8 @@
 //! What a scan of a data file finds.
 //!
 //! `find_rows` meets each row and each deleted block once, in order of their places (`Met`). When all rows
-//! have come, it keeps of the deleted blocks those that meet no block of a row, and looks for the lowest byte
-//! that belongs to nothing.
+//! of a dynamic table have come, it keeps of the deleted blocks those that meet no block of a row; deleted slots of a
+//! static one meet none. Then it looks for the lowest byte that belongs to nothing.
 ghost use Rattle.std.specs.Prelude.{◌≡◌, ◌<◌, ◌≤◌, ◌+◌, ◌++◌, ℕ, List, Some, false, map, filter, sum_by, if◌then◌else◌};
 ghost use Rattle.std.specs.Prelude.{take, drop, HoldsAt, IfOk, IfErr};
 ghost use Rattle.std.specs.Prelude as std;
@@ -10,6 +10,7 @@ ghost use Rattle.std.specs.List.{AllByRecursion};
 ghost use Rattle.myi_base.specs.Holding.{IfTold};
 ghost use Rattle.myi_base.specs.Causes.{HasCause};
 ghost use Rattle.myi_defs.specs.ReadDefs.{AreDefs};
+ghost use Rattle.myi_defs.specs.declared.types.RowFormat.TheVariants.{Static, Dynamic};
 ghost use Rattle.myi_defs.specs.Sound.{IsSound};
 ghost use Rattle.myi_opening.specs.Opening.{IsCutOff};
 ghost use Rattle.myi_chain.specs.Readable.{Item};
@@ -24,7 +25,7 @@ use crate::held_bytes::HeldBytes;
 use crate::met::{Met, sum};
 use myi_chain::{ScanSetup, rows_are_met};
 use myi_data::DataScan;
-use myi_defs::Defs;
+use myi_defs::{Defs, RowFormat};
 use myi_io::Files;
 use myi_opening::TableFault;
 use myi_rowkeys::RowKeys;
@@ -120,6 +121,61 @@ fn into_found(alloc: Global, met: Met, defs: &Defs, length: u64) -> Result<RowsF
         → HasRows defs.now met.with_keys d r) }
     ensures lists { IfOk result (λ r. std.length r.keys ≡ std.length defs.now.keys) }
 {
+    match defs.format {
+        RowFormat::Static => slots_found(met, defs, length),
+        RowFormat::Dynamic => blocks_found(alloc, met, defs, length),
+    }
+}
+
+// The same of a static table.
+fn slots_found(met: Met, defs: &Defs, length: u64) -> Result<RowsFound, AllocError>
+    requires sound { IsSound defs.now }
+    requires format { defs.now.format ≡ Static }
+    requires met { (items : List Item) × HasMet defs.now items met }
+    ensures found { IfOk result (λ r. (d : List ℕ) → length ≡ std.length d
+        → HasMet defs.now (items_in defs.now false d) met
+        → HasRows defs.now met.with_keys d r) }
+    ensures lists { IfOk result (λ r. std.length r.keys ≡ std.length defs.now.keys) }
+{
+    rows_are_met();
+    let Met {
+        with_keys: _,
+        keys,
+        places: row_places,
+        records,
+        split,
+        mut held,
+        frees: _,
+        slots: deleted,
+        empty,
+    } = met;
+    held.put_in_order()?;
+    Ok(RowsFound {
+        keys,
+        places: row_places,
+        records,
+        split,
+        deleted,
+        empty,
+        gap: gap(&held, defs, length),
+    })
+}
+
+// The same of a dynamic table.
+fn blocks_found(
+    alloc: Global,
+    met: Met,
+    defs: &Defs,
+    length: u64,
+) -> Result<RowsFound, AllocError>
+    requires sound { IsSound defs.now }
+    requires format { defs.now.format ≡ Dynamic }
+    requires met { (items : List Item) × HasMet defs.now items met }
+    ensures found { IfOk result (λ r. (d : List ℕ) → length ≡ std.length d
+        → HasMet defs.now (items_in defs.now false d) met
+        → HasRows defs.now met.with_keys d r) }
+    ensures lists { IfOk result (λ r. std.length r.keys ≡ std.length defs.now.keys) }
+{
     rows_are_met();
     let Met {
         with_keys: _,
@@ -129,6 +185,8 @@ fn into_found(alloc: Global, met: Met, defs: &Defs, length: u64) -> Result<RowsF
         split,
         mut held,
         frees: mut deleted,
+        slots: _,
+        empty: _,
     } = met;
     held.put_in_order()?;
     keep_apart(&mut deleted, &held);

@@ -28,5 +28,5 @@ returns c = record {
   places = refl;
   split = refl;
   held = refl;
-  frees = refl;
+  frees = record { frees = refl; slots = refl; empty = refl };
 }

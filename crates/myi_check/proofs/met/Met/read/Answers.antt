@@ -15,6 +15,11 @@ note_blocks-requires g c =
     let answer = answered_row h c.args.scan.now new _ _ _ c.in-Ok-Some-Row.at c.in-Ok-Some-Row.piece c.in-Ok-Some-Row.is c.in-Ok-Some-Row.field-0-is c.in-Ok-Some-Row.field-0-0-is c.next_item.follows.holds-at-none in
     subst (AllByRecursion EndsNear) (sym c.blocks-in-Ok-Some-Row.ensures) (blocks_near _ _ answer.0.stands.1.1)
 
+pub note_free-requires : goal.note_free-requires
+note_free-requires g c =
+    let answer = answered_free (g.F.Files.holds c.args.files.now) c.args.scan.now c.next_item.follows.lender-at-none _ _ _ c.in-Ok-Some-Free.at c.in-Ok-Some-Free.size c.in-Ok-Some-Free.is c.in-Ok-Some-Free.field-0-is c.in-Ok-Some-Free.field-0-0-is c.next_item.follows.holds-at-none in
+    answer.0.stands.1.1
+
 pub returns-in_ok-note_blocks-in-Ok-Some-Row-clause-read : goal.returns-in_ok-note_blocks-in-Ok-Some-Row-clause-read
 returns-in_ok-note_blocks-in-Ok-Some-Row-clause-read g c =
     let h = g.F.Files.holds c.args.files.now in
