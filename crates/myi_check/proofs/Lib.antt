@@ -20,3 +20,4 @@ pub mod AskedLaws
 pub mod ChainLaws
 pub mod ReadLaws
 pub mod AskedWalks
+pub mod CallerLemmas

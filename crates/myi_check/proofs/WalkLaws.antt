@@ -122,10 +122,13 @@ within rec_ref block x some = λ at node e. by (eqb (at % 1024) 0) at node e
     by true at node e = here at (nat_le block (length (drop at x))) refl node e
     by false at node e = absurd cc
 
+-- what the walk of a tree meets in an index file
+pub tree_meets : (place : Place) (x : List ℕ) → 0 < place.block_length → MeetsTree place.block_length (node_at place.rec_ref place.block_length x) place.root (events_in place x)
+tree_meets place x some = tree_met (length x) place.block_length (node_at place.rec_ref place.block_length x) place.root some (within place.rec_ref place.block_length x some)
+
 pub file_meets : (place : Place) (cache : Caching) (m : Holding) (x : List ℕ) → 0 < place.block_length → pages_of cache ≡ [] → m cache.name ≡ Some x → MeetsTree place.block_length (node_lent place cache m) place.root (events_in place x)
 file_meets place cache m x some none held =
-    subst (λ (read : Places). MeetsTree place.block_length read place.root (events_in place x)) (sym (node_same place cache m x none held))
-    (tree_met (length x) place.block_length (node_at place.rec_ref place.block_length x) place.root some (within place.rec_ref place.block_length x some))
+    subst (λ (read : Places). MeetsTree place.block_length read place.root (events_in place x)) (sym (node_same place cache m x none held)) (tree_meets place x some)
 
 -- ---- a tree with no root, and a cache with no page
 

@@ -162,12 +162,7 @@ fn slots_found(met: Met, defs: &Defs, length: u64) -> Result<RowsFound, AllocErr
 }
 
 // The same of a dynamic table.
-fn blocks_found(
-    alloc: Global,
-    met: Met,
-    defs: &Defs,
-    length: u64,
-) -> Result<RowsFound, AllocError>
+fn blocks_found(alloc: Global, met: Met, defs: &Defs, length: u64) -> Result<RowsFound, AllocError>
     requires sound { IsSound defs.now }
     requires format { defs.now.format ≡ Dynamic }
     requires met { (items : List Item) × HasMet defs.now items met }

@@ -167,10 +167,6 @@ replaces_named index working i w numbers m n one other put = record {
   gone = sym (ap n other) ∙ put.gone;
 }
 
-pub on_ok_more : {A E : Type 0} (r : Result A E) (P Q : Type 0) → (P → Q) → OnOk r P → OnOk r Q
-on_ok_more (Ok x) P Q f p = f p
-on_ok_more (Err e) P Q f p = tt
-
 -- what holds anyway holds of an error
 pub on_err : {A E : Type 0} (r : Result A E) (P : Type 0) → P → OnErr r P
 on_err (Ok x) P p = tt

@@ -5,17 +5,14 @@ use Rattle.std.proofs.lemmas.Bool.{cases_lt, le-leb, leb-true}
 use Rattle.std.proofs.lemmas.List.{ext_get_or, get_or-map, length-map, take_at}
 use Rattle.std.proofs.lemmas.List.FromFn.{get_or-map-range_with_len, length-map-range_with_len}
 use Rattle.myi_keys.specs.declared.values.KeySeg.{KeySeg}
-use Rattle.myi_keys.specs.Codes.{key_code}
-use Rattle.myi_keys.specs.Limits.{IsKey}
-use Rattle.myi_keys.specs.Comparing.{seg_front, segs_front, key_front}
-use Rattle.myi_keys.proofs.CallerLemmas.{front_again}
+use Rattle.myi_keys.specs.Comparing.{seg_front, segs_front}
 use Rattle.myi_keylist.specs.declared.pair.Pair.{Pair}
-use Rattle.myi_keylist.specs.PairOrder.{pair_with, pair_cmp}
+use Rattle.myi_keylist.specs.PairOrder.{pair_cmp}
 use Rattle.myi_keylist.specs.Repeats.{keys_of}
 use Rattle.myi_order.specs.Prefixes.{distinct_prefixes, prefix_ends, per, per_each}
-use Rattle.myi_order.specs.Shared.{is_shared, shared, shared_by_first, ended, average}
+use Rattle.myi_order.specs.Shared.{is_shared, shared, ended, average}
 use Rattle.myi_order.proofs.PrefixLaws.{ends_in_order, per_is}
-use Rattle.myi_order.proofs.SharedLaws.{HaveSegments, ends_more, step_on, no_more}
+use Rattle.myi_order.proofs.SharedLaws.{step_on, no_more}
 
 -- ---- segments that two codes share
 
@@ -84,53 +81,12 @@ raised old new shared index end was j inside = elim (cases_lt j shared) [
 
 -- ---- prefixes that end
 
-ended_few : (j n : ℕ) → ended j n ≤ 1
+pub ended_few : (j n : ℕ) → ended j n ≤ 1
 ended_few j n = by (leb j n)
   where
     by : (b : Bool) → cond {A = ℕ} b 0 1 ≤ 1
     by false = omega arith
     by true = omega arith
-
--- so many prefixes ended at the first pairs of a list
-pub record Counted (pairs : List Pair) (counts : List ℕ) (segments i : ℕ) : Type 0 where
-  pub whole : (j : ℕ) → j < segments → get_or counts j 0 + prefix_ends (j + 1) (keys_of (drop i pairs)) ≡ prefix_ends (j + 1) (keys_of pairs)
-  pub few : (j : ℕ) → j < segments → get_or counts j 0 ≤ i
-
-pub none_counted : (pairs : List Pair) (counts : List ℕ) (segments : ℕ) → ((j : ℕ) → j < segments → get_or counts j 0 ≡ 0) → Counted pairs counts segments 0
-none_counted pairs counts segments none = record {
-  whole = λ j few. omega (arith, none j few);
-  few = λ j few. omega (arith, none j few);
-}
-
-pub more_counted : (pairs : List Pair) (old new : List ℕ) (segments i shared : ℕ) → HaveSegments segments pairs → i < length pairs → shared ≡ shared_by_first (drop i pairs)
-    → ((j : ℕ) → j < segments → get_or new j 0 ≡ get_or old j 0 + ended (j + 1) shared) → Counted pairs old segments i → Counted pairs new segments (i + 1)
-more_counted pairs old new segments i shared long inside is raised was = record {
-  whole = λ j few.
-      let one : j + 1 ≡ suc j = omega arith in
-      let next : i + 1 ≡ suc i = omega arith in
-      omega (
-        arith,
-        raised j few,
-        was.whole j few,
-        ap (λ n. prefix_ends n (keys_of (drop i pairs))) one,
-        ap (λ n. prefix_ends n (keys_of (drop (suc i) pairs))) one,
-        ap (λ n. prefix_ends (j + 1) (keys_of (drop n pairs))) next,
-        ends_more j segments pairs i (omega (arith, few)) long inside,
-        ap (λ n. ended n (shared_by_first (drop i pairs))) one,
-        ap (ended (j + 1)) is,
-      );
-  few = λ j few. omega (arith, raised j few, was.few j few, ended_few (j + 1) shared);
-}
-
-none_left : (j : ℕ) (pairs : List Pair) (i : ℕ) → length pairs ≤ i → prefix_ends j (keys_of (drop i pairs)) ≡ 0
-unfolding prefix_ends
-none_left j [] zero end = refl
-none_left j [] (suc i) end = refl
-none_left j (p ∷ ps) zero end = absurd (omega arith)
-none_left j (p ∷ ps) (suc i) end = none_left j ps i (omega arith)
-
-pub all_counted : (pairs : List Pair) (counts : List ℕ) (segments i : ℕ) → length pairs ≤ i → Counted pairs counts segments i → (j : ℕ) → j < segments → get_or counts j 0 ≡ prefix_ends (j + 1) (keys_of pairs)
-all_counted pairs counts segments i end was j few = omega (arith, was.whole j few, none_left (j + 1) pairs i end)
 
 -- ---- rows to each prefix
 
@@ -150,30 +106,6 @@ all_per pairs segments counts order long counted =
     get_or-map (average (length pairs)) counts j 0 0 inside
     ∙ one_per pairs (j + 1) (get_or counts j 0) order (counted j (omega (arith, inside, long)))
     ∙ sym (get_or-map-range_with_len (λ j. per j (keys_of pairs)) 1 segments j (j + 1) 0 (omega (arith, inside, long)) (omega arith)))
-
--- what a list of codes tells of two neighbours
-pub neighbours : (pairs : List Pair) (i : ℕ) (one other : List ℕ) → i + 1 < length pairs
-    → ((d : Pair) → one ≡ key_code (get_or pairs i d).key) → ((d : Pair) → IsKey (get_or pairs i d).key)
-    → ((d : Pair) → other ≡ key_code (get_or pairs (i + 1) d).key) → ((d : Pair) → IsKey (get_or pairs (i + 1) d).key)
-    → shared (key_front one) (key_front other) ≡ shared_by_first (drop i pairs)
-neighbours pairs i one other few first is second isnt =
-    let d : Pair = pair_with [] 0 in
-    let left : key_front one ≡ (get_or pairs i d).key = ap key_front (first d) ∙ front_again (get_or pairs i d).key (is d) in
-    let right : key_front other ≡ (get_or pairs (i + 1) d).key = ap key_front (second d) ∙ front_again (get_or pairs (i + 1) d).key (isnt d) in
-    ap (λ k. shared k (key_front other)) left ∙ ap (shared (get_or pairs i d).key) right ∙ sym (front pairs i d few)
-  where
-    front : (ps : List Pair) (n : ℕ) (d : Pair) → n + 1 < length ps → shared_by_first (drop n ps) ≡ shared (get_or ps n d).key (get_or ps (n + 1) d).key
-    front [] n d few = absurd (omega arith)
-    front (p ∷ []) n d few = absurd (omega arith)
-    front (p ∷ q ∷ ps) zero d few = refl
-    front (p ∷ q ∷ ps) (suc n) d few = let e : suc n + 1 ≡ suc (n + 1) = omega arith in rw e (front (q ∷ ps) n d (omega arith))
-
-pub last_shares : (pairs : List Pair) (i : ℕ) → i + 1 ≡ length pairs → 0 ≡ shared_by_first (drop i pairs)
-last_shares [] i end = absurd (omega arith)
-last_shares (p ∷ []) zero end = refl
-last_shares (p ∷ []) (suc i) end = absurd (omega arith)
-last_shares (p ∷ q ∷ ps) zero end = absurd (omega arith)
-last_shares (p ∷ q ∷ ps) (suc i) end = last_shares (q ∷ ps) i (omega arith)
 
 -- ---- one more number of a loop, and numbers that are written over others
 

@@ -1,6 +1,8 @@
 pub mod PrefixLaws
 pub mod SharedLaws
 pub mod CountLaws
+pub mod PrefixCountLaws
+pub mod TreeListLaws
 pub mod Worked
 pub mod NumberLaws
 pub mod PartsLaws

@@ -1,7 +1,6 @@
 -- How many segments two keys share decides which prefixes they share.
-use Rattle.std.proofs.Common.{◌≡◌, ℕ, zero, suc, ◌+◌, ◌<◌, ◌≤◌, Bool, true, false, cond, ◌&&◌, List, [], ◌∷◌, length, drop, take, refl, sym, ap, ◌∙◌, arith}
+use Rattle.std.proofs.Common.{◌≡◌, ℕ, zero, suc, ◌+◌, ◌≤◌, Bool, true, false, cond, ◌&&◌, List, [], ◌∷◌, length, take, refl, sym, ap, ◌∙◌, arith}
 use Rattle.std.proofs.Math.Dec.{leb, leb-zero, leb-suc-zero, leb-suc-suc}
-use Rattle.std.specs.List.{AllByRecursion}
 use Rattle.std.specs.Ordering.{ordering_then, is_eq}
 use Rattle.std.specs.declared.cmp.Ordering.{Ordering}
 use Rattle.std.specs.declared.cmp.Ordering.TheVariants.{Less, Equal, Greater}
@@ -13,7 +12,7 @@ use Rattle.myi_keys.specs.Comparing.{number_front, seg_front, segs_front}
 use Rattle.myi_keylist.specs.declared.pair.Pair.{Pair}
 use Rattle.myi_keylist.specs.Repeats.{keys_of}
 use Rattle.myi_order.specs.Prefixes.{shares_prefix, prefix_ends}
-use Rattle.myi_order.specs.Shared.{is_shared, shared, shared_by_first, ended}
+use Rattle.myi_order.specs.Shared.{is_shared, shared, ended}
 
 and_false : (b : Bool) → (b && false) ≡ false
 and_false false = refl
@@ -65,16 +64,18 @@ no_more one other = refl
 
 -- ---- in a list
 
--- all keys have so many segments
-abbrev pub HaveSegments : ℕ → List Pair → Type 0
-HaveSegments n pairs = AllByRecursion (λ (p : Pair). length p.key ≡ n) pairs
-
 -- a prefix ends at a pair that shares less of it with the next
-pub ends_more : (j n : ℕ) (pairs : List Pair) (i : ℕ) → suc j ≤ n → HaveSegments n pairs → i < length pairs
-    → prefix_ends (suc j) (keys_of (drop i pairs)) ≡ ended (suc j) (shared_by_first (drop i pairs)) + prefix_ends (suc j) (keys_of (drop (suc i) pairs))
+pub ends_more : (j n : ℕ) (p q : Pair) (rest : List Pair) → suc j ≤ n → length p.key ≡ n → length q.key ≡ n
+    → prefix_ends (suc j) (keys_of (p ∷ q ∷ rest)) ≡ ended (suc j) (shared p.key q.key) + prefix_ends (suc j) (keys_of (q ∷ rest))
 unfolding prefix_ends
-ends_more j n [] i few long inside = absurd (omega arith)
-ends_more j n (p ∷ []) zero few long inside = sym (ap (λ c. cond {A = ℕ} c 0 1 + 0) (leb-suc-zero j))
-ends_more j n (p ∷ q ∷ ps) zero few long inside =
-    ap (λ c. cond {A = ℕ} c 0 1 + prefix_ends (suc j) (keys_of (q ∷ ps))) (decides (suc j) p.key q.key (omega (arith, long.0)) (omega (arith, long.1.0)))
-ends_more j n (p ∷ ps) (suc i) few long inside = ends_more j n ps i few long.1 (omega arith)
+ends_more j n p q rest few one other =
+    ap (λ c. cond {A = ℕ} c 0 1 + prefix_ends (suc j) (keys_of (q ∷ rest))) (decides (suc j) p.key q.key (omega (arith, one)) (omega (arith, other)))
+
+-- at the last pair each prefix ends
+pub ends_last : (j : ℕ) (p : Pair) → prefix_ends j (keys_of (p ∷ [])) ≡ 1
+unfolding prefix_ends
+ends_last j p = refl
+
+pub ends_nowhere : (j : ℕ) → prefix_ends j (keys_of []) ≡ 0
+unfolding prefix_ends
+ends_nowhere j = refl

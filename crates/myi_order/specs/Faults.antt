@@ -1,5 +1,5 @@
 -- The faults of an analysis and of sorting: those of opening the table, and those that are no refusal.
-use Rattle.std.specs.Prelude.{◌≡◌, ◌⊎◌, ℕ, List, Option, None}
+use Rattle.std.specs.Prelude.{◌≡◌, ◌≢◌, ◌⊎◌, ℕ, List, Option, None}
 use Rattle.myi_base.specs.Holding.{Holding, Told}
 use Rattle.myi_opening.specs.declared.fault.TableFault.{TableFault}
 use Rattle.myi_opening.specs.declared.fault.TableFault.TheVariants as table
@@ -17,6 +17,10 @@ order_fault table.Memory = order.Memory
 -- a fault that is no refusal of the table
 abbrev pub CutsOff : OrderFault → Type 0
 CutsOff fault = (fault ≡ order.File) ⊎ (fault ≡ order.Memory)
+
+-- no key is said to be missing
+abbrev pub LacksNoKey : OrderFault → Type 0
+LacksNoKey fault = (keys : ℕ) → fault ≢ order.NoKey keys
 
 -- how many faults of the files an answer tells of
 abbrev pub faults_told : OrderFault → ℕ

@@ -20,6 +20,8 @@ pub mod Outcome
 
 -- how many segments keys share
 pub mod Shared
+-- what was counted of pairs that come in order
+pub mod PrefixCounts
 -- the rows per prefix by the lists of all keys
 pub mod Listed
 -- what was read of a table's rows

@@ -4,7 +4,6 @@ use Rattle.std.specs.Ordering.{is_eq}
 use Rattle.myi_keys.specs.declared.values.KeySeg.{KeySeg}
 use Rattle.myi_keys.specs.declared.values.KeySeg.TheVariants.{Absent, Weights}
 use Rattle.myi_keys.specs.Order.{seg_cmp}
-use Rattle.myi_keylist.specs.declared.pair.Pair.{Pair}
 use Rattle.myi_order.specs.Prefixes.{most_per}
 
 -- neither segment is absent, and their weights are the same
@@ -17,12 +16,6 @@ unfoldable pub shared : List KeySeg → List KeySeg → ℕ
 shared [] others = 0
 shared (seg ∷ segs) [] = 0
 shared (seg ∷ segs) (other ∷ others) = if is_shared seg other then suc (shared segs others) else 0
-
--- how many the first key of a list of pairs shares with the next
-abbrev pub shared_by_first : List Pair → ℕ
-shared_by_first [] = 0
-shared_by_first (p ∷ []) = 0
-shared_by_first (p ∷ q ∷ ps) = shared p.key q.key
 
 -- one more where a prefix of so many segments is longer than what is shared
 abbrev pub ended : ℕ → ℕ → ℕ

@@ -6,12 +6,12 @@ ghost use Rattle.myi_base.specs.Causes.{HasCause};
 ghost use Rattle.myi_defs.specs.Sound.{IsSound};
 ghost use Rattle.myi_repair.specs.Names.{names_of, new_index_file, AreApart};
 ghost use Rattle.myi_check.specs.Checking.{Finds};
-ghost use Rattle.myi_order.specs.Faults.{CutsOff, IsCleared};
+ghost use Rattle.myi_order.specs.Faults.{CutsOff, IsCleared, LacksNoKey};
 ghost use Rattle.myi_order.specs.Numbers.{all_per};
 ghost use Rattle.myi_order.specs.Storing.{KeepsIndex, OthersStayOf, Stores};
 ghost use Rattle.myi_order.specs.Analyzing.{IsRefused, Analyzes, KeepsBoth, OthersStay};
 
-use crate::counting::{Counted, count_file};
+use crate::counting::{Counted, count_trees};
 use crate::fault::OrderFault;
 use crate::key_parts::KeyParts;
 use crate::laws::analyzed_tables_are_clean;
@@ -45,9 +45,11 @@ pub fn analyze<F: Files>(
     ensures cleared { IfErr result (IsCleared (new_index_file name.now)
         (F.holds files.old) (F.holds files.new) (F.faults files.old) (F.faults files.new)) }
 
-    // Why a table is refused, when nothing at all is changed, and what else an error tells.
+    // Why a table is refused, when nothing at all is changed, and what else an error tells. A missing key is
+    // never told.
     ensures refused { IfErr result (λ f.
         CutsOff f ⊎ IsRefused name.now f (F.holds files.old) (F.holds files.new)) }
+    ensures keys { IfErr result LacksNoKey }
     ensures cause { HasCause OrderFault.File (F.faults files.old) (F.faults files.new) result }
 {
     let found = check(alloc, files, name)?;
@@ -74,14 +76,14 @@ fn analyze_clean<F: Files>(
         (F.holds files.old) (F.holds files.new) (F.faults files.old) (F.faults files.new)) }
     ensures refused { IfErr result (λ f.
         CutsOff f ⊎ IsRefused name.now f (F.holds files.old) (F.holds files.new)) }
+    ensures keys { IfErr result LacksNoKey }
     ensures cause { HasCause OrderFault.File (F.faults files.old) (F.faults files.new) result }
 {
     definitions_are_sound();
     analyzed_tables_are_clean();
     let table = TableFiles::of(alloc, name)?;
     let opened = open_table(alloc, files, table.index.as_str(), table.rows.as_str())?;
-    let rows = table.rows.as_str();
-    let counted = count_file(alloc, files, rows, &opened.defs, opened.length)?;
+    let counted = count_trees(alloc, files, table.index.as_str(), &opened.defs)?;
     store(alloc, files, &table, &opened.defs, &counted)?;
     Ok(counted.parts)
 }

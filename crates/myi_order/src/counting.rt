@@ -1,25 +1,23 @@
-//! Reading the rows of a table, and counting them and the distinct prefixes of their keys.
-ghost use Rattle.std.specs.Prelude.{◌≡◌, ◌<◌, ◌^◌, ℕ, Some, List, length, IfOk, IfErr};
-ghost use Rattle.std.specs.Prelude as std;
-ghost use Rattle.std.specs.List.{AllByRecursion};
+//! Counting the distinct prefixes of the keys of a table, by its trees.
+ghost use Rattle.std.specs.Prelude.{◌≡◌, ◌<◌, ◌^◌, ℕ, Ok, Some, List, length, map, IfOk, IfErr};
+ghost use Rattle.std.specs.List.{AllByRecursion, range_with_len};
+ghost use Rattle.myi_keylist.specs.declared.pair.Pair.{Pair};
 ghost use Rattle.myi_base.specs.Holding.{IfTold};
 ghost use Rattle.myi_base.specs.Causes.{HasCause};
-ghost use Rattle.myi_defs.specs.ReadDefs.{AreDefs};
+ghost use Rattle.myi_defs.specs.ReadDefs.{read_defs};
 ghost use Rattle.myi_defs.specs.Sound.{IsSound};
-ghost use Rattle.myi_pair.specs.KeyList.{PlacedRow};
-ghost use Rattle.myi_data.specs.Scanning.{IsAsKnown};
+ghost use Rattle.myi_pair.specs.Clean.{IsClean};
 ghost use Rattle.myi_order.specs.Faults.{CutsOff};
 ghost use Rattle.myi_order.specs.Numbers.{all_per};
-ghost use Rattle.myi_order.specs.Counting.{HasRead, values_placed, ReadsAll, ReadsFile, IsCounted, CountsFile};
+ghost use Rattle.myi_order.specs.Counting.{CountsFile};
+ghost use Rattle.myi_order.specs.Listed.{HaveLists, parts_at};
 
 use crate::fault::OrderFault;
-use crate::key_parts::{KeyParts, parts_of_lists, sorted_lists};
-use crate::rows_read::RowsRead;
-use myi_chain::ScanSetup;
-use myi_data::DataScan;
-use myi_defs::Defs;
+use crate::key_parts::{KeyParts, parts_of_tree};
+use myi_defs::{Defs, definitions_are_sound};
+use myi_header::stored_state;
 use myi_io::Files;
-use std::alloc::{AllocError, Global};
+use std::alloc::Global;
 
 /// What was counted of the rows of a table.
 #[derive(Drop)]
@@ -29,86 +27,55 @@ pub(crate) struct Counted {
     pub(crate) parts: Vec<KeyParts>,
 }
 
-/// Counts the rows of a data file of that length.
-pub(crate) fn count_file<F: Files>(
+/// Counts the rows of a clean table by its index file, whose header the definitions were read from: the header
+/// has their number, and the tree of each key its pairs in order.
+pub(crate) fn count_trees<F: Files>(
     alloc: Global,
     files: &mut F,
-    rows: &str,
+    index: &str,
     defs: &Defs,
-    length: u64,
 ) -> Result<Counted, OrderFault>
-    requires defs { AreDefs defs.now }
-    requires long { IfTold (F.holds files.old) (λ m.
-        (d : List ℕ) × (m rows.now ≡ Some d) × (length ≡ std.length d)) }
-    ensures counted { IfOk result (λ c. IfTold (F.holds files.old) (λ m. (d : List ℕ)
-        → m rows.now ≡ Some d → CountsFile defs.now d c)) }
+    requires { IsSound defs.now }
+    ensures counted { IfOk result (λ c. IfTold (F.holds files.old) (λ m. (x : List ℕ)
+        → m index.now ≡ Some x → read_defs x ≡ Ok defs.now → (file : List ℕ) → IsClean file x
+        → CountsFile defs.now file c)) }
     ensures small { IfOk result (λ c. AllByRecursion (λ n. n < 256 ^ 4) (all_per c.parts.items)) }
     ensures few { IfOk result (λ c. c.rows < 256 ^ 8) }
     ensures holds { F.holds files.new ≡ F.holds files.old }
     ensures cut { IfErr result CutsOff }
     ensures cause { HasCause OrderFault.File (F.faults files.old) (F.faults files.new) result }
 {
-    let read = read_file(alloc, files, rows, defs, length)?;
-    Ok(into_counted(alloc, read, defs)?)
-}
-
-/// Reads the rows of a data file of that length.
-pub(crate) fn read_file<F: Files>(
-    alloc: Global,
-    files: &mut F,
-    rows: &str,
-    defs: &Defs,
-    length: u64,
-) -> Result<RowsRead, OrderFault>
-    requires defs { AreDefs defs.now }
-    requires long { IfTold (F.holds files.old) (λ m.
-        (d : List ℕ) × (m rows.now ≡ Some d) × (length ≡ std.length d)) }
-    ensures read { IfOk result (ReadsFile defs.now rows.now (F.holds files.old)) }
-    ensures holds { F.holds files.new ≡ F.holds files.old }
-    ensures cut { IfErr result CutsOff }
-    ensures cause { HasCause OrderFault.File (F.faults files.old) (F.faults files.new) result }
-{
-    let setup = ScanSetup {
-        extend: false,
-        file_len: length,
-    };
-    let mut scan = DataScan::of_file(rows, defs, setup)?;
-    read_all(alloc, files, &mut scan, defs)
-}
-
-// Reads all rows that a scan has left.
-fn read_all<F: Files>(
-    alloc: Global,
-    files: &mut F,
-    scan: &mut DataScan,
-    defs: &Defs,
-) -> Result<RowsRead, OrderFault>
-    requires current { IfTold (F.holds files.old) (IsAsKnown scan.old) }
-    requires test { scan.old.test ≡ defs.now }
-    requires defs { AreDefs defs.now }
-    ensures read { IfOk result (ReadsAll defs.now (F.holds files.old) scan.old) }
-    ensures holds { F.holds files.new ≡ F.holds files.old }
-    ensures cut { IfErr result CutsOff }
-    ensures cause { HasCause OrderFault.File (F.faults files.old) (F.faults files.new) result }
-{
-    let mut read = RowsRead::new(alloc, defs)?;
-    while read.read(files, scan, defs)? {}
-    Ok(read)
-}
-
-// The rows per prefix of all keys of the rows that were read.
-fn into_counted(alloc: Global, read: RowsRead, defs: &Defs) -> Result<Counted, AllocError>
-    requires sound { IsSound defs.now }
-    requires read { (rows : List PlacedRow) × HasRead defs.now rows read }
-    ensures counted { IfOk result (λ c. (rows : List PlacedRow) → HasRead defs.now rows read
-        → IsCounted defs.now (values_placed rows) c) }
-    ensures small { IfOk result (λ c. AllByRecursion (λ n. n < 256 ^ 4) (all_per c.parts.items)) }
-    ensures few { IfOk result (λ c. c.rows < 256 ^ 8) }
-{
-    let RowsRead { keys, count } = read;
-    let lists = sorted_lists(keys.into_lists().into_vec());
+    definitions_are_sound();
+    let state = stored_state(alloc, defs)?;
     Ok(Counted {
-        rows: count,
-        parts: parts_of_lists(alloc, defs, &lists)?,
+        rows: state.records,
+        parts: parts_of_trees(alloc, files, index, defs, state.roots.as_slice())?,
     })
+}
+
+// The rows per prefix of all keys, by their trees.
+fn parts_of_trees<F: Files>(
+    alloc: Global,
+    files: &mut F,
+    index: &str,
+    defs: &Defs,
+    roots: &[Option<u64>],
+) -> Result<Vec<KeyParts>, OrderFault>
+    requires sound { IsSound defs.now }
+    requires roots { length roots.now ≡ length defs.now.keys }
+    ensures counted { IfOk result (λ parts. IfTold (F.holds files.old) (λ m. (x : List ℕ)
+        → m index.now ≡ Some x → (lists : List (List Pair))
+        → HaveLists defs.now roots.now x lists
+        → parts.items ≡ map (parts_at defs.now lists) (range_with_len 0 (length roots.now)))) }
+    ensures small { IfOk result (λ parts. AllByRecursion (λ n. n < 256 ^ 4) (all_per parts.items)) }
+    ensures holds { F.holds files.new ≡ F.holds files.old }
+    ensures cut { IfErr result CutsOff }
+    ensures cause { HasCause OrderFault.File (F.faults files.old) (F.faults files.new) result }
+{
+    let mut parts = Vec::with_capacity(alloc, roots.len())?;
+    for at in 0..roots.len() {
+        let root = roots[at];
+        parts.push(parts_of_tree(alloc, files, index, defs, at, root)?)?;
+    }
+    Ok(parts)
 }

@@ -1,17 +1,20 @@
 //! `KeyParts`: how many rows go to one prefix of a key.
-ghost use Rattle.std.specs.Prelude.{◌≡◌, ◌<◌, ℕ, [], length, map, IfOk};
-ghost use Rattle.std.specs.Prelude.{slice_index_or};
-ghost use Rattle.std.specs.List.{range_with_len};
+ghost use Rattle.std.specs.Prelude.{◌≡◌, ◌<◌, ◌+◌, ◌^◌, ℕ, List, length, Some, IfOk, IfErr};
+ghost use Rattle.std.specs.List.{AllByRecursion};
+ghost use Rattle.myi_base.specs.Holding.{IfTold};
+ghost use Rattle.myi_base.specs.Causes.{HasCause};
 ghost use Rattle.myi_defs.specs.Sound.{IsSound};
-ghost use Rattle.myi_keylist.specs.PairOrder.{sorted};
-ghost use Rattle.myi_keylist.specs.Repeats.{keys_of};
-ghost use Rattle.myi_order.specs.Listed.{IsListOfKey, parts_of_keys, parts_at};
+ghost use Rattle.myi_check.specs.Keys.{rooted_place};
+ghost use Rattle.myi_order.specs.Faults.{CutsOff};
+ghost use Rattle.myi_order.specs.Listed.{CountsKey};
 
-use crate::prefixes::rows_per_prefix;
+use crate::fault::OrderFault;
+use crate::tree_counts::count_tree;
 use myi_base::Sequence;
+use myi_btree::Place;
 use myi_defs::Defs;
-use myi_keylist::PairList;
-use std::alloc::{AllocError, Global};
+use myi_io::Files;
+use std::alloc::Global;
 
 /// How many rows go to one prefix of a key, on average.
 #[derive(Drop)]
@@ -23,58 +26,41 @@ pub struct KeyParts {
     pub per: Sequence<u64>,
 }
 
-/// The lists of the keys of a table, put in order.
-pub(crate) fn sorted_lists(mut lists: Vec<PairList>) -> Vec<PairList>
-    ensures { result.items ≡ map sorted lists.items }
+// The tree of the key at an index, with that root.
+fn place_of(defs: &Defs, at: usize, root: Option<u64>) -> Place
+    requires { at < length defs.now.keys }
+    ensures { result ≡ rooted_place defs.now (at + 1) root }
 {
-    sort_lists(&mut lists);
-    lists
-}
-
-fn sort_lists(lists: &mut [PairList])
-    ensures { lists.new ≡ map sorted lists.old }
-{
-    for list in lists.iter_mut() {
-        list.sort();
+    Place {
+        block_length: defs.keys.as_slice()[at].block_length,
+        rec_ref: defs.rec_ref,
+        root,
     }
 }
 
-/// The rows per prefix of the keys of a table, by their lists, which are in order.
-pub(crate) fn parts_of_lists(
+/// The rows per prefix of the key at an index, by its tree in an index file.
+pub(crate) fn parts_of_tree<F: Files>(
     alloc: Global,
+    files: &mut F,
+    index: &str,
     defs: &Defs,
-    lists: &[PairList],
-) -> Result<Vec<KeyParts>, AllocError>
+    at: usize,
+    root: Option<u64>,
+) -> Result<KeyParts, OrderFault>
     requires sound { IsSound defs.now }
-    requires all { length lists.now ≡ length defs.now.keys }
-    requires lists { (i : ℕ) → i < length lists.now
-        → IsListOfKey defs.now i (slice_index_or lists.now i []) }
-    ensures { IfOk result (λ parts.
-        parts.items ≡ map (parts_at defs.now lists.now) (range_with_len 0 (length lists.now))) }
+    requires inside { at < length defs.now.keys }
+    ensures counts { IfOk result (λ parts. IfTold (F.holds files.old) (λ m. (x : List ℕ)
+        → m index.now ≡ Some x → CountsKey defs.now at root x parts)) }
+    ensures small { IfOk result (λ parts. AllByRecursion (λ n. n < 256 ^ 4) parts.per) }
+    ensures cut { IfErr result CutsOff }
+    ensures holds { F.holds files.new ≡ F.holds files.old }
+    ensures cause { HasCause OrderFault.File (F.faults files.old) (F.faults files.new) result }
 {
-    let mut parts = Vec::with_capacity(alloc, lists.len())?;
-    for index in 0..lists.len() {
-        parts.push(parts_of_list(alloc, defs, &lists[index], index)?)?;
-    }
-    Ok(parts)
-}
-
-// The rows per prefix of the key at an index, by its list.
-fn parts_of_list(
-    alloc: Global,
-    defs: &Defs,
-    list: &PairList,
-    index: usize,
-) -> Result<KeyParts, AllocError>
-    requires sound { IsSound defs.now }
-    requires inside { index < length defs.now.keys }
-    requires list { IsListOfKey defs.now index list.now }
-    ensures { IfOk result (λ parts. parts ≡ parts_of_keys defs.now index (keys_of list.now)) }
-{
-    let segments = defs.keys.as_slice()[index].segments.as_slice().len();
-    let per = rows_per_prefix(alloc, list, segments)?;
+    let place = place_of(defs, at, root);
+    let segments = defs.keys.as_slice()[at].segments.as_slice().len();
+    let per = count_tree(alloc, files, index, place, segments)?;
     Ok(KeyParts {
-        key: index as u8 + 1,
+        key: at as u8 + 1,
         per: Sequence::new(per),
     })
 }

@@ -5,10 +5,10 @@
 //! prefix of any list of keys, `KeyParts` those of the keys of a table, `Numbers` where they stand in an
 //! index file, and `Analyzing` what an analysis of a table answers and leaves.
 //!
-//! `analyze` checks a table, reads its rows once, and puts the pairs of each key in order. In a list in
-//! order keys that share a prefix stand together, so that `rows_per_prefix` counts the distinct prefixes of
-//! all lengths in one pass. The index file is copied by pieces, and the copy gets the numbers and then the
-//! name. In memory are the keys of the table's rows, and no file as a whole.
+//! `analyze` checks a table, and walks the tree of each key once more. Its pairs come in order, so that keys that
+//! share a prefix follow one another, and the distinct prefixes of all lengths are counted as they come
+//! (`prefixes`). The index file is copied by pieces, and the copy gets the numbers and then the name. In memory are
+//! what a check holds, some pages of the index file, and no file as a whole.
 //!
 //! `sort_records` checks a table, reads its rows once, and puts the keys of one key, with the places of the
 //! rows, in order. Then it reads each row at its place, in that order, and writes it by the parts of a repair,
@@ -39,6 +39,7 @@ mod row_at;
 mod rows_read;
 mod sorting;
 mod storing;
+mod tree_counts;
 
 pub use analyzing::analyze;
 pub use fault::OrderFault;
@@ -47,5 +48,4 @@ pub use laws::{
     analyzed_tables_are_clean, numbers_read_back, prefixes_end_in_order, rows_are_put_in_order,
     sorting_keeps_prefixes,
 };
-pub use prefixes::rows_per_prefix;
 pub use sorting::sort_records;

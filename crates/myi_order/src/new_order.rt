@@ -17,9 +17,9 @@ ghost use Rattle.myi_order.specs.Faults.{CutsOff};
 ghost use Rattle.myi_order.specs.NewOrder.{HasPut, PutsAll, IsOrder, GathersInOrder};
 ghost use Rattle.myi_order.specs.Outcome.{EndsIn, EndsCutOff};
 
-use crate::counting::read_file;
 use crate::fault::OrderFault;
 use crate::row_at::RowAt;
+use crate::rows_read::read_file;
 use myi_defs::Defs;
 use myi_io::Files;
 use myi_keylist::PairList;

@@ -3,6 +3,7 @@ use Rattle.std.specs.Prelude.{IfErr, string_bytes}
 use Rattle.std.proofs.lemmas.Result.{err_from_is_err_and}
 use Rattle.myi_base.proofs.CallerLemmas.{told_more}
 use Rattle.myi_defs.proofs.CallerLemmas.{sound}
+use Rattle.myi_pair.proofs.CallerLemmas.{clean_where_none}
 use Rattle.myi_repair.specs.Names.{FourNames, names_for}
 use Rattle.myi_repair.proofs.CallerLemmas.{apart_of, told_and}
 use Rattle.myi_order.specs.Faults.{CutsOff}
@@ -19,14 +20,6 @@ returns-in_err-opened-clause-refused g c =
     (not_opened c.args.name.now c.as_str.result.now c.as_str-2.result.now old new _ e.0
     (c.as_str.ensures.value ∙ ap (λ (u : FourNames). u.index) c.in_ok-table.ensures) (c.as_str-2.ensures.value ∙ ap (λ (u : FourNames). u.rows) c.in_ok-table.ensures) e.2 c.open_table.ensures.holds c.in_err-opened.ensures.refused)
 
-pub count_file-requires-clause-long : goal.count_file-requires-clause-long
-count_file-requires-clause-long g c κs within = λ m held.
-    let was = sym c.open_table.ensures.holds ∙ held in
-    let opened =
-    is_opened c.args.name.now c.as_str.result.now c.as_str-2.result.now c.in_ok-opened.opened.defs c.in_ok-opened.opened.length m
-    (c.as_str.ensures.value ∙ ap (λ (u : FourNames). u.index) c.in_ok-table.ensures) (c.as_str-2.ensures.value ∙ ap (λ (u : FourNames). u.rows) c.in_ok-table.ensures) (c.in_ok-opened.ensures.table m was) (c.requires.clean m was) in
-    (opened.data_file, ap m (c.as_str-rows.ensures.value ∙ ap (λ (u : FourNames). u.rows) c.in_ok-table.ensures) ∙ opened.rows_there, opened.long)
-
 pub store-requires-clause-apart : goal.store-requires-clause-apart
 store-requires-clause-apart g c κs within = apart_of _ c.args.name.now c.in_ok-table.ensures
 
@@ -37,7 +30,7 @@ pub returns-in_err-store-clause-kept : goal.returns-in_err-store-clause-kept
 returns-in_err-store-clause-kept g c =
     let name = c.args.name.now in
     on_err c.from_residual-in_err-store.result _
-    (told_from _ _ _ (KeepsBoth name) (c.count_file.ensures.holds ∙ c.open_table.ensures.holds)
+    (told_from _ _ _ (KeepsBoth name) (c.count_trees.ensures.holds ∙ c.open_table.ensures.holds)
     (told_more _ _ _ _ (told_and _ _ _ _ c.in_err-store.ensures.kept c.store.ensures.others) (λ m n held both.
     both_kept name _ _ m n (apart_of (names_for name) name refl) (ap (λ (u : FourNames). u.index) c.in_ok-table.ensures) (ap (λ (u : FourNames). u.new_index) c.in_ok-table.ensures) both.0 both.1)))
 
@@ -48,8 +41,8 @@ returns-clause-analyzed g c =
     let size = c.in_ok-opened.opened.length in
     let rows_is = ap (λ (u : FourNames). u.rows) c.in_ok-table.ensures in
     let index_is = ap (λ (u : FourNames). u.index) c.in_ok-table.ensures in
-    told_more _ _ _ _ (told_from _ _ _ _ (c.count_file.ensures.holds ∙ c.open_table.ensures.holds) c.in_ok-store.ensures.stored) (λ m n held put.
+    told_more _ _ _ _ (told_from _ _ _ _ (c.count_trees.ensures.holds ∙ c.open_table.ensures.holds) c.in_ok-store.ensures.stored) (λ m n held put.
     let opened = is_opened name c.as_str.result.now c.as_str-2.result.now d size m (c.as_str.ensures.value ∙ index_is) (c.as_str-2.ensures.value ∙ rows_is) (c.in_ok-opened.ensures.table m held) (c.requires.clean m held) in
     analyzed_by name (string_bytes c.in_ok-table.table.index) (string_bytes c.in_ok-table.table.new_index) d size c.in_ok-counted.counted m n (sound d c.in_ok-opened.ensures.defs) (λ x read. c.definitions_are_sound.ensures.raw x d read)
     c.in_ok-counted.ensures.few c.analyzed_tables_are_clean.ensures index_is (ap (λ (u : FourNames). u.new_index) c.in_ok-table.ensures) opened
-    (c.in_ok-counted.ensures.counted m (c.open_table.ensures.holds ∙ held) opened.data_file (ap m (c.as_str-rows.ensures.value ∙ rows_is) ∙ opened.rows_there)) put)
+    (c.in_ok-counted.ensures.counted m (c.open_table.ensures.holds ∙ held) opened.index (ap m (c.as_str-3.ensures.value ∙ index_is) ∙ opened.there) opened.read opened.data_file (clean_where_none d opened.data_file opened.index opened.read opened.none)) put)

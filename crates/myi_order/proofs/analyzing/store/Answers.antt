@@ -1,7 +1,8 @@
 use Rattle.std.proofs.Common.{◌∙◌, ap}
 use Rattle.myi_base.proofs.CallerLemmas.{told_more}
 use Rattle.myi_order.specs.Numbers.{all_per, number_bytes}
-use Rattle.myi_order.proofs.AnalyzeLaws.{on_ok_more, replaces_named, stored_by}
+use Rattle.myi_order.proofs.PrefixCountLaws.{on_ok_more}
+use Rattle.myi_order.proofs.AnalyzeLaws.{replaces_named, stored_by}
 use Rattle.myi_order.proofs.analyzing.store.Goals as goal
 
 pub returns-clause-stored : goal.returns-clause-stored

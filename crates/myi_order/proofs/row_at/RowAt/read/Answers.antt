@@ -1,5 +1,5 @@
 use Rattle.myi_base.specs.Holding.{bytes_of}
-use Rattle.myi_order.proofs.AnalyzeLaws.{on_ok_more}
+use Rattle.myi_order.proofs.PrefixCountLaws.{on_ok_more}
 use Rattle.myi_order.proofs.PlaceLaws.{chain_held}
 use Rattle.myi_order.proofs.row_at.RowAt.read.Goals as goal
 

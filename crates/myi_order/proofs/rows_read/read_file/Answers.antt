@@ -2,7 +2,7 @@ use Rattle.std.proofs.Common.{◌∙◌}
 use Rattle.myi_defs.proofs.CallerLemmas.{sound}
 use Rattle.std.proofs.lemmas.Result.{IfOk-weaker}
 use Rattle.myi_order.proofs.ReadLaws.{begins_known, all_placed, same_file}
-use Rattle.myi_order.proofs.counting.read_file.Goals as goal
+use Rattle.myi_order.proofs.rows_read.read_file.Goals as goal
 
 pub of_file-requires : goal.of_file-requires
 of_file-requires g c = sound c.args.defs.now c.requires.defs

@@ -4,7 +4,7 @@ use Rattle.myi_pair.specs.KeyList.{PlacedRow}
 use Rattle.myi_chain.specs.ScanModel.{IsSameScan}
 use Rattle.myi_data.specs.Scanning.{IsAsKnown}
 use Rattle.myi_order.proofs.ReadLaws.{Reading}
-use Rattle.myi_order.proofs.counting.read_all.Given as goal
+use Rattle.myi_order.proofs.rows_read.read_all.Given as goal
 
 abbrev pub invariant-loop-read : goal.invariant-loop-read
 invariant-loop-read g l = record {

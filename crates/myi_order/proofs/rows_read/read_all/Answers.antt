@@ -3,7 +3,7 @@ use Rattle.myi_base.specs.Holding.{IfTold}
 use Rattle.myi_data.specs.Scanning.{IsAsKnown}
 use Rattle.myi_order.specs.Counting.{ReadsIf}
 use Rattle.myi_order.proofs.ReadLaws.{reads_more, read_all, same_then_scan}
-use Rattle.myi_order.proofs.counting.read_all.Goals as goal
+use Rattle.myi_order.proofs.rows_read.read_all.Goals as goal
 
 pub loop-read-init : goal.loop-read-init
 loop-read-init g c = record {
