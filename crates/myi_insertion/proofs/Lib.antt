@@ -19,3 +19,4 @@ pub mod OpeningLaws
 pub mod RemovalLaws
 pub mod DamageLaws
 pub mod SameNode
+pub mod FilledLaws

@@ -1,6 +1,6 @@
 //! Laws over the definitions of this crate. Each is the contract of a function that does nothing, so that
 //! it is proved with the crate and stands for the crates above.
-ghost use Rattle.std.specs.Prelude.{◌≡◌, ◌+◌, ◌≤◌, ◌++◌, ◌∷◌, ◌<◌, ℕ, zero, suc, List, [], length, take, drop, slice_index_or, Some, Option};
+ghost use Rattle.std.specs.Prelude.{◌≡◌, ◌+◌, ◌^◌, ◌≤◌, ◌++◌, ◌∷◌, ◌<◌, ℕ, zero, suc, List, [], length, take, drop, slice_index_or, Some, Option};
 ghost use Rattle.std.specs.Ordering.{is_gt};
 ghost use Rattle.std.specs.declared.cmp.Ordering.TheVariants.{Equal};
 ghost use Rattle.std.specs.List.{AllByRecursion};
@@ -21,6 +21,10 @@ ghost use Rattle.myi_btree.specs.declared.place.Place.{Place};
 ghost use Rattle.myi_btree.specs.CachedTrees.{node_lent, NoneMeets};
 ghost use Rattle.myi_insertion.specs.Rooms.{Takes, Gives};
 ghost use Rattle.myi_insertion.specs.CachedChanges.{CanChange, Exchanges, Changes};
+ghost use Rattle.myi_insertion.specs.CachedTree.{IsTree};
+ghost use Rattle.myi_search.specs.Trees.{HasTree};
+
+use myi_btree::{pages_are_nodes, trees_are_shallow};
 
 /// A walk depends on its own pages alone: where each of them still stands, the walk is the same.
 pub fn walks_still_stand()
@@ -222,3 +226,19 @@ pub fn other_trees_stay()
     ensures root { (place : Place) (root : Option ℕ) (cache : Caching) (m : Holding) (at : ℕ)
         → node_lent (record place { root = root }) cache m at ≡ node_lent place cache m at }
 {}
+
+/// A tree has few levels, whatever was put in and taken out, and each page of it has a pair: of a page that ran empty
+/// nothing is left in the tree.
+pub fn trees_stay_shallow()
+    ensures few { (place : Place) (cache : Caching) (m : Holding) (root : ℕ) (xs : List Pair)
+        (pages : List ℕ) → IsTree place cache m (Some root) xs pages
+        → (height : ℕ) × HasTree place cache m (Some root) height xs
+        × (2 ^ suc height ≤ length xs + 1) }
+    ensures some { (place : Place) (cache : Caching) (m : Holding) (root : Option ℕ)
+        (xs : List Pair) (pages : List ℕ) → IsTree place cache m root xs pages
+        → AllByRecursion (λ at. (node : Node) × (node_lent place cache m at ≡ Some node)
+        × (0 < length node.pairs)) pages }
+{
+    trees_are_shallow();
+    pages_are_nodes();
+}

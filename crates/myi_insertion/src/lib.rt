@@ -31,7 +31,7 @@ pub use insertion::insert;
 pub use laws::{
     cached_changes_follow, changes_follow, other_trees_stay, page_by_page, pages_stand_for_trees,
     pairs_are_put_in, pairs_go_in, rooms_hand_out_their_bytes, steps_are_changes, strips_are_cut,
-    walks_still_stand,
+    trees_stay_shallow, walks_still_stand,
 };
 pub use removal::remove;
 pub use room::{give_page, take_page};
