@@ -189,7 +189,9 @@ pub(crate) fn raise<F: Files>(
     Ok(root)
 }
 
-/// Puts a pair that is not there into the tree at a place, and moves its root where it has a new one.
+/// Puts a pair that is not there into the tree at a place, and moves its root where it has a new one. `Damaged`
+/// comes at the place on the path of the pair where no page stands; a path of more than 64 levels is answered by
+/// `Memory`.
 pub fn insert<F: Files>(
     alloc: Global,
     place: &mut Place,

@@ -4,7 +4,7 @@
 //! (`specs/Strips`). What a change does with the bytes of pages and of free room is counted byte by byte
 //! (`specs/Covers`); `specs/CachedChanges` says when the pages of a tree may be changed in what a key cache lends,
 //! and what a change touches, `specs/CachedTree` what a tree with a pair put in is, and `specs/Removal` what one
-//! without a pair is.
+//! without a pair is; `specs/Damage` says at which places a change meets damage.
 //!
 //! - `insert` puts a pair into a tree, and moves its root where it has a new one.
 //! - `remove` takes a pair out of a tree, and answers whether it was there.

@@ -349,7 +349,8 @@ fn write_root<F: Files>(
 }
 
 /// Takes a pair out of the tree at a place, and moves its root where it has a new one. Answers whether the pair
-/// was there.
+/// was there. `Damaged` comes where no page stands on the path to the pair and on to the one before it, or at a
+/// neighbour of a child on it.
 pub fn remove<F: Files>(
     alloc: Global,
     place: &mut Place,
