@@ -1,5 +1,5 @@
 -- What can be written as pages of a tree.
-use Rattle.std.specs.Prelude.{◌≡◌, ◌⊎◌, ◌+◌, ◌≤◌, Bool, ◌^◌, ◌<◌, ℕ, suc, List, [], ◌∷◌, length, take, drop}
+use Rattle.std.specs.Prelude.{◌≡◌, ◌⊎◌, ◌+◌, ◌/◌, ◌≤◌, Bool, ◌^◌, ◌<◌, ℕ, suc, List, [], ◌∷◌, length, take, drop}
 use Rattle.std.specs.List.{AllByRecursion}
 use Rattle.myi_keys.specs.Limits.{IsKey}
 use Rattle.myi_keypage.specs.Page.{IsPlace}
@@ -27,6 +27,12 @@ pub record CanWrite (rec_ref : ℕ) (pairs : List Pair) (children : List ℕ) : 
 -- so many of some pairs go on the first of several pages: they fit, and one more and the rest are left
 abbrev pub IsCut : Place → Bool → List Pair → ℕ → Type 0
 IsCut place node left n = (0 < n) × (n + 1 < length left) × (used_length place.rec_ref node (entries_of (take n left)) ≤ place.block_length)
+
+-- the first of several pages is well filled with so many pairs: more than half of it is used, or one pair more does not fit, or only
+-- two pairs are left
+abbrev pub IsWellFilled : Place → Bool → List Pair → ℕ → Type 0
+IsWellFilled place node left n = (place.block_length / 2 < used_length place.rec_ref node (entries_of (take n left)))
+    ⊎ (place.block_length < used_length place.rec_ref node (entries_of (take (n + 1) left))) ⊎ (n + 2 ≡ length left)
 
 -- the node that some pairs of a list are, with children
 abbrev pub chunk_node : Chunk → Node

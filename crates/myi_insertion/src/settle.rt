@@ -19,7 +19,7 @@ ghost use Rattle.myi_btree.specs.CachedTrees.{node_lent};
 ghost use Rattle.myi_insertion.specs.Strips.{StandFor};
 ghost use Rattle.myi_insertion.specs.Rooms.{IsWhole};
 ghost use Rattle.myi_insertion.specs.CachedChanges.{CanChange};
-ghost use Rattle.myi_insertion.specs.Written.{CanWrite, IsCut, IsStripOf, chunk_node};
+ghost use Rattle.myi_insertion.specs.Written.{CanWrite, IsCut, IsWellFilled, IsStripOf, chunk_node};
 ghost use Rattle.myi_insertion.specs.Steps.{Wrote, Settles};
 
 use crate::page::PageData;
@@ -70,6 +70,8 @@ fn cut(place: Place, node: bool, pairs: &PairList, start: usize) -> Result<Optio
         (used_length place.rec_ref node (entries_of (drop start pairs.now)) ≤ place.block_length)) }
     ensures some { IfOk result (λ count. IfSome count
         (IsCut place node (drop start pairs.now))) }
+    ensures filled { IfOk result (λ count. IfSome count
+        (IsWellFilled place node (drop start pairs.now))) }
     ensures memory { IfErr result (λ fault. fault ≡ Memory) }
 {
     let left = pairs.len() - start;

@@ -1,9 +1,9 @@
-use Rattle.std.proofs.Common.{◌-◌, ◌<◌, ◌≤◌, ℕ, List, drop, arith, subst, ap}
+use Rattle.std.proofs.Common.{◌-◌, ◌/◌, ◌<◌, ◌≤◌, ℕ, List, length, drop, arith, subst, ap}
 use Rattle.std.proofs.lemmas.List.{length-drop}
 use Rattle.myi_keypage.specs.declared.entry.Entry.{Entry}
 use Rattle.myi_btree.specs.Sizes.{IsFitting}
-use Rattle.myi_insertion.proofs.WriteLaws.{rest_is}
-use Rattle.myi_insertion.proofs.CutLaws.{all_fit, some_fit}
+use Rattle.myi_insertion.proofs.WriteLaws.{rest_is, length-entries}
+use Rattle.myi_insertion.proofs.CutLaws.{all_fit, some_fit, Fit, well_filled}
 use Rattle.myi_insertion.proofs.settle.cut.Goals as goal
 
 pub returns-then-most-left-clause-all : goal.returns-then-most-left-clause-all
@@ -21,3 +21,14 @@ returns-clause-some c =
     let few : count ≤ c.len.result - c.args.start - 2 = omega (arith, c.min-count.ensures, c.saturating_sub.ensures) in
     let fit : count ≤ c.fitting_of-most.result = omega (arith, c.min-count.ensures, c.min.ensures) in
     (some, omega (arith, c.len.ensures, length-drop c.args.start c.args.pairs.now), some_fit c.args.place c.args.node (drop c.args.start c.args.pairs.now) c.fitting_of-most.result count f some fit)
+
+pub returns-clause-filled : goal.returns-clause-filled
+returns-clause-filled c =
+    let place = c.args.place in
+    let whole = rest_is (c.len.result - c.args.start) c.args.start c.args.pairs.now (ap (λ (n : ℕ). n - c.args.start) c.len.ensures) in
+    let f = subst (λ (t : List Entry). Fit place c.args.node t place.block_length c.fitting_of-most.result) whole c.fitting_of-most.ensures.exact in
+    let h = subst (λ (t : List Entry). Fit place c.args.node t (place.block_length / 2) c.fitting_of-half.result) whole c.fitting_of-half.ensures.exact in
+    let inside = c.fitting_of-most.ensures.inside in
+    well_filled place c.args.node (drop c.args.start c.args.pairs.now) c.fitting_of-most.result c.fitting_of-half.result c.min-count.result f h
+    (omega (arith, c.len.ensures, length-drop c.args.start c.args.pairs.now, c.if-most-left.false, ap length whole, length-entries (drop c.args.start c.args.pairs.now), inside))
+    (omega (arith, c.len.ensures, length-drop c.args.start c.args.pairs.now, c.min-count.ensures, c.min.ensures, c.saturating_sub.ensures)) (omega (arith, c.if-count-eq0.false))
