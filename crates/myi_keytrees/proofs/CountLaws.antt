@@ -1,5 +1,5 @@
 -- How many bytes pages and free room have, counted byte by byte.
-use Rattle.std.proofs.Common.{◌≡◌, ◌⊎◌, ℕ, zero, suc, ◌+◌, ◌*◌, ◌<◌, ◌≤◌, List, [], ◌∷◌, length, refl, sym, ap, ◌∙◌, arith, inl, inr}
+use Rattle.std.proofs.Common.{◌≡◌, ℕ, zero, suc, ◌+◌, ◌*◌, ◌≤◌, List, [], ◌∷◌, length, refl, sym, ap, ◌∙◌, arith, inl, inr}
 use Rattle.std.specs.List.{AllByRecursion}
 use Rattle.std.proofs.lemmas.Bool.{cases_lt}
 use Rattle.std.proofs.Math.Nat.{mul-suc}
@@ -14,7 +14,7 @@ use Rattle.myi_insertion.proofs.CallerLemmas.{before_end}
 use Rattle.myi_keytrees.specs.Trees.{Trees}
 use Rattle.myi_keytrees.specs.Standing.{cover_each, Stand}
 use Rattle.myi_keytrees.specs.InFile.{bytes_of_pages, bytes_of_free}
-use Rattle.myi_keytrees.proofs.FileLaws.{range_one, range_zero, one_before, end_in_stock}
+use Rattle.myi_keytrees.proofs.FileLaws.{range_one, range_zero, one_before}
 use Rattle.myi_keytrees.proofs.OpenLaws.{end_before, end_one}
 
 -- how often the first so many bytes are counted

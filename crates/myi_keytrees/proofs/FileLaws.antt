@@ -1,23 +1,22 @@
 -- Trees that stand, in the bytes of the file.
-use Rattle.std.proofs.Common.{◌≡◌, ◌⊎◌, ℕ, zero, suc, ◌+◌, ◌-◌, ◌%◌, ◌<◌, ◌≤◌, Bool, true, false, ◌&&◌, ◌||◌, cond, eqb, leb, ltb, Some, None, Option, List, [], ◌∷◌, ◌++◌, length, map, drop, take, refl, sym, ap, subst, ◌∙◌, arith, inl, inr}
-use Rattle.std.specs.Prelude.{nat_le, nat_lt}
+use Rattle.std.proofs.Common.{◌≡◌, ◌⊎◌, ℕ, zero, suc, ◌+◌, ◌%◌, ◌<◌, ◌≤◌, Bool, true, false, ◌&&◌, cond, eqb, leb, ltb, Some, None, Option, List, [], ◌∷◌, ◌++◌, length, map, drop, take, refl, sym, ap, subst, ◌∙◌, arith, inl, inr}
+use Rattle.std.specs.Prelude.{nat_le}
 use Rattle.std.specs.List.{AllByRecursion, flat_map}
-use Rattle.std.specs.List.Sorted.{IsStrictlySortedBy}
 use Rattle.std.proofs.lemmas.Bool.{and_from, and_parts, cases_Bool, cases_lt, or_left, or_right, le-leb, lt-ltb, leb-true, ltb-true}
 use Rattle.std.proofs.lemmas.List.{length-drop}
 use Rattle.std.proofs.lemmas.Option.{same_Some, cond_some}
-use Rattle.myi_base.specs.Ranges.{Range, are_apart, is_apart, AreDisjoint}
+use Rattle.myi_base.specs.Ranges.{Range, are_apart, is_apart}
 use Rattle.myi_base.specs.Holding.{Holding, bytes_of}
 use Rattle.myi_keycache.specs.Kept.{AllWritten}
 use Rattle.myi_keycache.specs.Lent.{bytes_at}
-use Rattle.myi_keycache.specs.Caching.{Caching, pages_of, IsCurrent, lends}
+use Rattle.myi_keycache.specs.Caching.{Caching, pages_of, IsCurrent}
 use Rattle.myi_keycache.proofs.CallerLemmas.{lends_file}
 use Rattle.myi_keylist.specs.declared.pair.Pair.{Pair}
 use Rattle.myi_btree.specs.declared.place.Place.{Place}
 use Rattle.myi_btree.specs.declared.place.Room.{Room}
 use Rattle.myi_btree.specs.Walk.{◌>>=◌, each, Places, Node, Walked, as_leaf, at_node, walk_of, content}
 use Rattle.myi_btree.specs.Nodes.{node_in, node_at}
-use Rattle.myi_btree.specs.Visit.{page_range, HasWalk}
+use Rattle.myi_btree.specs.Visit.{page_range}
 use Rattle.myi_btree.specs.Sizes.{IsPlaced}
 use Rattle.myi_btree.specs.CachedTrees.{node_lent}
 use Rattle.myi_btree.proofs.CallerLemmas.{bind_some}
@@ -25,7 +24,7 @@ use Rattle.myi_insertion.specs.Covers.{within, cover, from_end, stock, StillStan
 use Rattle.myi_insertion.specs.CachedTree.{IsTree}
 use Rattle.myi_insertion.proofs.CallerLemmas.{same_walk, within_one, before_end}
 use Rattle.myi_keytrees.specs.Trees.{Trees}
-use Rattle.myi_keytrees.specs.Standing.{cover_each, HoldsPairs, HoldLists, Stand}
+use Rattle.myi_keytrees.specs.Standing.{cover_each, HoldLists, Stand}
 use Rattle.myi_keytrees.specs.InFile.{no_walk, pages_on, AreFree, HasWalkApart, HaveWalks, EndAt, contents_of, pages_of_walks, StandIn}
 use Rattle.myi_keytrees.proofs.SearchLaws.{disjoint_pages}
 
@@ -117,12 +116,11 @@ tree_apart : (place : Place) (cache : Caching) (m : Holding) (root : Option ℕ)
 tree_apart place cache m None xs pages busy written current some all tree off = (no_walk, refl, sym tree.0, sym tree.1)
 tree_apart place cache m (Some root) xs pages busy written current some all (h, w, e, is, on) off =
     let once : (x : ℕ) → in_ranges busy x + cover place.block_length w.pages x ≤ 1 = λ x. omega (arith, off x, ap (λ (g : List ℕ). cover place.block_length g x) on) in
-    let walk = same_walk (node_lent place cache m) (node_at place.rec_ref place.block_length (bytes_of cache.name m)) h root w e (all_still place cache m w.pages written current) in
-    (
+    let walk = same_walk (node_lent place cache m) (node_at place.rec_ref place.block_length (bytes_of cache.name m)) h root w e (all_still place cache m w.pages written current) in (
       w,
       (record { height = h; walk = walk; disjoint = disjoint_pages place.block_length w.pages some (λ x. let o = once x in omega arith) }, free_pages place.block_length w.pages busy some all once),
       sym is,
-      sym on
+      sym on,
     )
 
 -- the trees at these places, beside what is busy

@@ -1,15 +1,14 @@
 -- What was put is written, and all trees still stand; calls follow one another.
-use Rattle.std.proofs.Common.{◌≡◌, ◌⊎◌, ℕ, ◌+◌, ◌<◌, ◌≤◌, true, Bool, Some, None, Option, List, [], ◌∷◌, refl, sym, ap, subst, ◌∙◌, is_some, inl, inr}
+use Rattle.std.proofs.Common.{◌≡◌, ℕ, ◌<◌, true, Bool, Some, Option, List, [], ◌∷◌, refl, sym, ap, subst, ◌∙◌, is_some, inr}
 use Rattle.std.specs.Prelude.{IsTrue}
 use Rattle.std.specs.List.{AllByRecursion}
 use Rattle.std.proofs.lemmas.Option.{same_Some}
 use Rattle.myi_base.specs.Holding.{Holding, Told}
-use Rattle.myi_keycache.specs.Kept.{Page, is_kept, NoOtherMeets, SameKept}
+use Rattle.myi_keycache.specs.Kept.{is_kept, NoOtherMeets, SameKept}
 use Rattle.myi_keycache.specs.Caching.{Caching, pages_of, IsCurrent, SameLent}
 use Rattle.myi_keylist.specs.declared.pair.Pair.{Pair}
 use Rattle.myi_btree.specs.declared.place.Place.{Place}
 use Rattle.myi_btree.specs.declared.place.Room.{Room}
-use Rattle.myi_btree.specs.CachedTrees.{NoneMeets}
 use Rattle.myi_insertion.specs.CachedChanges.{NoneInRoom}
 use Rattle.myi_keytrees.specs.Trees.{Trees}
 use Rattle.myi_keytrees.specs.Standing.{HoldLists, Stand, StandThen, StillStand, CanSearch}
@@ -39,7 +38,7 @@ all_hold old m new n (p ∷ ps) (xs ∷ lists) (g ∷ pages) same back hold = (
     ascend = hold.0.ascend;
     meets = all_map (λ at. NoOtherMeets (is_kept (pages_of old)) at p.block_length) (λ at. NoOtherMeets (is_kept (pages_of new)) at p.block_length) g (λ at none. meets_none old new at p.block_length back none) hold.0.meets;
   },
-  all_hold old m new n ps lists pages same back hold.1
+  all_hold old m new n ps lists pages same back hold.1,
 )
 
 room_none : (old new : Caching) (room : Room) → KeepsNoOther old new → NoneInRoom old room → NoneInRoom new room

@@ -1,14 +1,11 @@
 -- Trees of a file that are opened stand for the pairs of their walks.
-use Rattle.std.proofs.Common.{◌≡◌, ◌⊎◌, ℕ, ◌+◌, ◌<◌, ◌≤◌, Bool, true, false, ◌&&◌, ◌||◌, cond, leb, ltb, Some, None, Option, List, [], ◌∷◌, ◌++◌, map, refl, sym, ap, subst, ◌∙◌, arith, inl, inr}
+use Rattle.std.proofs.Common.{◌≡◌, ◌⊎◌, ℕ, ◌+◌, ◌<◌, ◌≤◌, Bool, true, false, ◌&&◌, ◌||◌, cond, leb, ltb, Some, None, Option, List, [], ◌∷◌, ◌++◌, refl, sym, ap, subst, ◌∙◌, arith, inl, inr}
 use Rattle.std.specs.List.{AllByRecursion}
-use Rattle.std.specs.List.Sorted.{IsStrictlySortedBy}
 use Rattle.std.proofs.lemmas.Bool.{and_parts, cases_Bool, cases_lt, le-leb, leb-true, ltb-true}
 use Rattle.myi_base.specs.Ranges.{Range, are_apart, is_apart, AreDisjoint}
 use Rattle.myi_base.specs.Holding.{Holding, bytes_of}
 use Rattle.myi_keycache.specs.Kept.{Page, is_kept, is_unwritten, kept, NoOtherMeets, AllWritten}
 use Rattle.myi_keycache.specs.Caching.{Caching, pages_of, IsCurrent}
-use Rattle.myi_keylist.specs.declared.pair.Pair.{Pair}
-use Rattle.myi_keylist.specs.PairOrder.{pair_cmp}
 use Rattle.myi_btree.specs.declared.place.Place.{Place}
 use Rattle.myi_btree.specs.declared.place.Room.{Room}
 use Rattle.myi_btree.specs.Walk.{Walked, content}
@@ -21,7 +18,7 @@ use Rattle.myi_insertion.specs.CachedChanges.{NoneInRoom}
 use Rattle.myi_insertion.specs.CachedTree.{IsTree}
 use Rattle.myi_insertion.proofs.CallerLemmas.{same_walk}
 use Rattle.myi_keytrees.specs.Trees.{Trees}
-use Rattle.myi_keytrees.specs.Standing.{cover_each, HoldsPairs, HoldLists, Stand}
+use Rattle.myi_keytrees.specs.Standing.{cover_each, HoldLists, Stand}
 use Rattle.myi_keytrees.specs.InFile.{pages_on, AreFree, HasWalkApart, HaveWalks, EndAt, AreAscending, contents_of, pages_of_walks, bytes_owned}
 use Rattle.myi_keytrees.proofs.FileLaws.{in_range, in_ranges, range_zero, range_most, in_pages, in_both, nodes_same}
 
@@ -149,7 +146,7 @@ tree_opened place cache m (Some root) busy w none current has = (
   w,
   same_walk (node_at place.rec_ref place.block_length (bytes_of cache.name m)) (node_lent place cache m) has.0.height root w has.0.walk (still place cache m w.pages (empty_written cache none) current),
   refl,
-  refl
+  refl,
 )
 
 trees_opened : (cache : Caching) (m : Holding) (busy : List Range) (ps : List Place) (ws : List Walked) → pages_of cache ≡ [] → IsCurrent cache m → AreAscending (contents_of ws) → HaveWalks (bytes_of cache.name m) busy ps ws → HoldLists cache m ps (contents_of ws) (pages_of_walks ws)
@@ -157,7 +154,7 @@ trees_opened cache m busy [] ws none current ascend have = (ap contents_of have,
 trees_opened cache m busy (p ∷ ps) [] none current ascend have = absurd have
 trees_opened cache m busy (p ∷ ps) (w ∷ ws) none current ascend have = (
   record { tree = tree_opened p cache m p.root busy w none current have.0; ascend = ascend.0; meets = none_meets p cache w.pages none },
-  trees_opened cache m (busy ++ pages_on p w) ps ws none current ascend.1 have.1
+  trees_opened cache m (busy ++ pages_on p w) ps ws none current ascend.1 have.1,
 )
 
 pub opened : (t : Trees) (m : Holding) (first : ℕ) (ws : List Walked) → AllByRecursion IsPlaced t.places → pages_of t.cache ≡ [] → IsCurrent t.cache m → t.room ≡ record { end = t.room.end; free = [] } → AreAscending (contents_of ws) → HaveWalks (bytes_of t.cache.name m) ((0, first) ∷ []) t.places ws
@@ -170,9 +167,9 @@ opened t m first ws placed none current room ascend have ends = record {
   spare = subst (NoneInRoom t.cache) (sym room) (record { free = tt; end = λ p n e. absurd (no_kept p n (ap (λ (ps : List Page). is_kept ps p n) (sym none) ∙ e)) });
   owned = λ x. refl;
   once = λ x.
-    let is : stock t.room x ≡ from_end t.room.end x = ap (λ (r : Room). stock r x) room ∙ end_only t.room.end x in
-    elim (cases_lt x t.room.end) [
-      | inl low ↦ omega (arith, is, end_before t.room.end x low, trees_once (bytes_of t.cache.name m) ((0, first) ∷ []) t.places ws x (let k = range_most (0, first) x in omega (arith, k)) have)
-      | inr past ↦ omega (arith, is, none_behind t.room.end x t.places ws past ends, end_most t.room.end x)
-    ];
+      let is : stock t.room x ≡ from_end t.room.end x = ap (λ (r : Room). stock r x) room ∙ end_only t.room.end x in
+      elim (cases_lt x t.room.end) [
+        | inl low ↦ omega (arith, is, end_before t.room.end x low, trees_once (bytes_of t.cache.name m) ((0, first) ∷ []) t.places ws x (let k = range_most (0, first) x in omega (arith, k)) have)
+        | inr past ↦ omega (arith, is, none_behind t.room.end x t.places ws past ends, end_most t.room.end x)
+      ];
 }

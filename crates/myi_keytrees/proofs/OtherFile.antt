@@ -1,5 +1,5 @@
 -- Trees in a file of which other bytes were changed.
-use Rattle.std.proofs.Common.{◌≡◌, ℕ, ◌+◌, ◌-◌, ◌%◌, ◌<◌, ◌≤◌, Bool, true, false, ◌||◌, cond, eqb, leb, min, Some, None, Option, List, [], ◌∷◌, ◌++◌, length, map, take, drop, replicate, length-append, refl, sym, ap, subst, ◌∙◌, arith, inl, inr}
+use Rattle.std.proofs.Common.{◌≡◌, ℕ, ◌+◌, ◌-◌, ◌%◌, ◌<◌, ◌≤◌, Bool, true, false, ◌||◌, cond, eqb, leb, Some, None, Option, List, [], ◌∷◌, ◌++◌, length, map, take, drop, replicate, length-append, refl, sym, ap, ◌∙◌, arith, inl, inr}
 use Rattle.std.specs.Prelude.{nat_le}
 use Rattle.std.specs.List.{AllByRecursion}
 use Rattle.std.proofs.lemmas.Bool.{and_parts, cases_Bool, le-leb, leb-true, or_right}
@@ -54,7 +54,7 @@ tree_same place first end file other (Some root) busy w some front keeps has end
     walk = same_walk (node_at place.rec_ref place.block_length file) (node_at place.rec_ref place.block_length other) has.0.height root w has.0.walk (pages_same place.rec_ref place.block_length first end file other busy w.pages some front keeps has.1 ends);
     disjoint = has.0.disjoint;
   },
-  has.1
+  has.1,
 )
 
 trees_same : (first end : ℕ) (file other : List ℕ) (busy : List Range) (ps : List Place) (ws : List Walked) → AllByRecursion IsPlaced ps → Begins first busy → KeepsBetween first end file other → HaveWalks file busy ps ws → EndAt end ps ws → HaveWalks other busy ps ws
@@ -62,7 +62,7 @@ trees_same first end file other busy [] ws placed front keeps have ends = have
 trees_same first end file other busy (p ∷ ps) [] placed front keeps have ends = absurd have
 trees_same first end file other busy (p ∷ ps) (w ∷ ws) placed front keeps have ends = (
   tree_same p first end file other p.root busy w (let l = placed.0.least in omega arith) front keeps have.0 ends.0,
-  trees_same first end file other (busy ++ pages_on p w) ps ws placed.1 (front.0 ++ pages_on p w, ap (λ (b : List Range). b ++ pages_on p w) front.1) keeps have.1 ends.1
+  trees_same first end file other (busy ++ pages_on p w) ps ws placed.1 (front.0 ++ pages_on p w, ap (λ (b : List Range). b ++ pages_on p w) front.1) keeps have.1 ends.1,
 )
 
 pub walks_stay : (first end : ℕ) (file other : List ℕ) (ps : List Place) (ws : List Walked) → AllByRecursion IsPlaced ps → KeepsBetween first end file other → HaveWalks file ((0, first) ∷ []) ps ws → EndAt end ps ws → HaveWalks other ((0, first) ∷ []) ps ws

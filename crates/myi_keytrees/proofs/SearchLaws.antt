@@ -1,7 +1,7 @@
 -- A tree is gone through, and all trees still stand.
-use Rattle.std.proofs.Common.{◌≡◌, ◌⊎◌, ℕ, zero, suc, ◌+◌, ◌<◌, ◌≤◌, Bool, true, false, ◌==◌, eqb, Some, None, Option, List, [], ◌∷◌, length, map, slice_set, slice_index_or, refl, sym, ap, subst, ◌∙◌, arith, inl, inr}
-use Rattle.std.specs.Prelude.{IsTrue, IsSorted}
-use Rattle.std.specs.List.{AllByRecursion, Contains}
+use Rattle.std.proofs.Common.{◌≡◌, ℕ, zero, suc, ◌+◌, ◌<◌, ◌≤◌, Bool, true, false, eqb, Some, None, Option, List, [], ◌∷◌, length, map, slice_set, slice_index_or, refl, sym, ap, subst, ◌∙◌, arith, inl, inr}
+use Rattle.std.specs.Prelude.{IsSorted}
+use Rattle.std.specs.List.{Contains}
 use Rattle.std.specs.Ordering.{is_lt, ordering_reverse}
 use Rattle.std.specs.declared.cmp.Ordering.TheVariants.{Less}
 use Rattle.std.specs.List.Sorted.{IsStrictlySortedBy}
@@ -15,10 +15,8 @@ use Rattle.myi_keylist.specs.PairOrder.{pair_cmp}
 use Rattle.myi_keylist.proofs.CallerLemmas.{pair_total}
 use Rattle.myi_btree.specs.declared.place.Place.{Place}
 use Rattle.myi_btree.specs.declared.place.Room.{Room}
-use Rattle.myi_btree.specs.Walk.{Walked}
-use Rattle.myi_btree.specs.Visit.{page_range, HasWalk}
-use Rattle.myi_btree.specs.Sizes.{IsPlaced}
-use Rattle.myi_btree.specs.CachedTrees.{node_lent, NoneMeets, HasPages, IsClear, CanWalk, AddsNamed, AddsItsOwn, is_among, ReadsOnly}
+use Rattle.myi_btree.specs.Visit.{page_range}
+use Rattle.myi_btree.specs.CachedTrees.{NoneMeets, HasPages, IsClear, CanWalk, AddsNamed, AddsItsOwn, is_among, ReadsOnly}
 use Rattle.myi_search.specs.Trees.{HasTree}
 use Rattle.myi_insertion.specs.Covers.{within, cover}
 use Rattle.myi_insertion.specs.CachedChanges.{AddsPages, Exchanges}
@@ -85,9 +83,12 @@ walked t m own lists s k p at lt =
 
 pub can_walk : (writable : Bool) (told : Option Holding) (t : Trees) (k : ℕ) (p : Place) → IsPlaceOf t k p → k < length t.places → CanSearch writable told t → CanWalk writable told p t.cache
 can_walk writable told t k p at lt (inl none) = inl none
-can_walk writable told t k p at lt (inr can) = inr (can.0, λ m held current.
-    let st = can.1 m held in
-    is_clear p t.cache m p.root (slice_index_or st.2.pages k []) (walked t m st.0 st.1 st.2 k p at lt) (held_here t m st.0 st.1 st.2 k p at lt).meets)
+can_walk writable told t k p at lt (inr can) = inr (
+  can.0,
+  λ m held current.
+      let st = can.1 m held in
+      is_clear p t.cache m p.root (slice_index_or st.2.pages k []) (walked t m st.0 st.1 st.2 k p at lt) (held_here t m st.0 st.1 st.2 k p at lt).meets,
+)
 
 -- the tree of a key, in order, as a search wants it
 pub sought : (t : Trees) (told : Option Holding) (k : ℕ) (p : Place) (P : List Pair → Type 0) → IsPlaceOf t k p → k < length t.places
@@ -153,7 +154,7 @@ searched t told next new k p at lt adds stays added reads = λ m held own lists 
     let pages : AddsPages p.block_length g [] (pages_of t.cache) (pages_of new) = λ at_ len is. elim (own_only at_ len is) [ inl was ↦ inl was | inr a ↦ inr (a.0, inl (among_in g at_ a.1)) ] in
     let hold = held_here t m own lists s k p at lt in
     let stands : StandThen t m own next (record { places = slice_set t.places k p; room = t.room; cache = new }) (slice_set lists k xs) =
-        swapped t m n own lists s k p p xs g [] new t.room next at lt then.1 (read_only p t.cache m g t.room new n same pages reads.name others) refl refl (tree_stays p t.cache m new n p.root xs g same.lent hold.tree) hold.ascend in
+    swapped t m n own lists s k p p xs g [] new t.room next at lt then.1 (read_only p t.cache m g t.room new n same pages reads.name others) refl refl (tree_stays p t.cache m new n p.root xs g same.lent hold.tree) hold.ascend in
     let places : slice_set t.places k p ≡ t.places = ap (λ (r : Place). slice_set t.places k r) at ∙ set_same t.places k p lt in
     let same_lists : slice_set lists k xs ≡ lists = set_same lists k [] (omega (arith, lt, lists_long t.cache m t.places lists s.pages s.hold)) in
     subst (λ (ls : List (List Pair)). StandThen t m own next (record { places = t.places; room = t.room; cache = new }) ls) same_lists

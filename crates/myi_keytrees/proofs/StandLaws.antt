@@ -1,5 +1,5 @@
 -- One tree is changed, and the others still stand.
-use Rattle.std.proofs.Common.{◌≡◌, ℕ, zero, suc, ◌+◌, ◌<◌, ◌≤◌, Bool, true, false, ◌||◌, Some, None, Option, List, [], ◌∷◌, length, map, slice_set, slice_index_or, refl, sym, ap, subst, ◌∙◌, arith, inl, inr}
+use Rattle.std.proofs.Common.{◌≡◌, ℕ, zero, suc, ◌+◌, ◌<◌, ◌≤◌, Bool, true, false, ◌||◌, Some, None, Option, List, [], ◌∷◌, length, slice_set, slice_index_or, refl, sym, ap, subst, ◌∙◌, arith, inl, inr}
 use Rattle.std.specs.List.{AllByRecursion}
 use Rattle.std.specs.Ordering.{is_eq}
 use Rattle.std.specs.declared.cmp.Ordering.TheVariants.{Less, Equal}
@@ -14,8 +14,8 @@ use Rattle.myi_btree.specs.declared.place.Room.{Room}
 use Rattle.myi_btree.specs.Sizes.{IsPlaced}
 use Rattle.myi_btree.specs.Walk.{Places, walk_of}
 use Rattle.myi_btree.specs.CachedTrees.{node_lent, NoneMeets}
-use Rattle.myi_insertion.specs.Covers.{within, cover, stock}
-use Rattle.myi_insertion.specs.CachedChanges.{CanChange, SparesLent, Exchanges}
+use Rattle.myi_insertion.specs.Covers.{cover, stock}
+use Rattle.myi_insertion.specs.CachedChanges.{CanChange, Exchanges}
 use Rattle.myi_insertion.specs.CachedTree.{IsTree, Inserted}
 use Rattle.myi_insertion.specs.Removal.{has_pair, without_pair, Removed}
 use Rattle.myi_insertion.proofs.CallerLemmas.{other_stands, other_clear, exchange_can, put_sorted}

@@ -1,5 +1,5 @@
 -- What is told before and after a call, and why it was refused.
-use Rattle.std.proofs.Common.{◌≡◌, ◌⊎◌, Option, Result, Err, IfErr, sym, ◌∙◌, inl, inr}
+use Rattle.std.proofs.Common.{◌≡◌, Option, Result, Err, IfErr}
 use Rattle.myi_base.specs.Holding.{Holding, Told}
 use Rattle.myi_btree.specs.declared.fault.TreeFault.{TreeFault}
 

@@ -1,6 +1,6 @@
 -- For which lists of pairs the trees of an index file stand, a list for each key, and what a call does to that. Which bytes are pages
 -- and free room is counted byte by byte, 1 for each page and each free range that a byte lies in.
-use Rattle.std.specs.Prelude.{◌≡◌, ◌⊎◌, ◌+◌, ◌*◌, ◌≤◌, ℕ, Bool, List, [], ◌∷◌, length, sum_by, slice_index_or, slice_set, Option, Some, IsTrue}
+use Rattle.std.specs.Prelude.{◌≡◌, ◌⊎◌, ◌+◌, ◌≤◌, ℕ, Bool, List, [], ◌∷◌, slice_index_or, slice_set, Option, Some, IsTrue}
 use Rattle.std.specs.List.{AllByRecursion}
 use Rattle.std.specs.List.Sorted.{IsStrictlySortedBy}
 use Rattle.myi_base.specs.Holding.{Holding, IfTold}
@@ -9,7 +9,6 @@ use Rattle.myi_keylist.specs.PairOrder.{pair_cmp, put_pair}
 use Rattle.myi_keycache.specs.Kept.{AllWritten}
 use Rattle.myi_keycache.specs.Caching.{Caching, pages_of, IsCurrent}
 use Rattle.myi_btree.specs.declared.place.Place.{Place}
-use Rattle.myi_btree.specs.declared.place.Room.{Room}
 use Rattle.myi_btree.specs.Sizes.{IsPlaced}
 use Rattle.myi_btree.specs.CachedTrees.{NoneMeets}
 use Rattle.myi_insertion.specs.Covers.{cover, stock}

@@ -1,5 +1,5 @@
 -- The trees of all keys of a table, in one index file with one key cache.
-use Rattle.std.specs.Prelude.{◌≡◌, ℕ, List, map, None}
+use Rattle.std.specs.Prelude.{◌≡◌, List, map, None}
 use Rattle.myi_keycache.specs.Caching.{Caching}
 use Rattle.myi_btree.specs.declared.place.Place.{Place}
 use Rattle.myi_btree.specs.declared.place.Room.{Room}

@@ -1,7 +1,6 @@
-use Rattle.std.proofs.Common.{◌≡◌, subst, sym}
-use Rattle.myi_base.specs.Holding.{Holding, Told}
+use Rattle.std.proofs.Common.{subst, sym}
 use Rattle.myi_keycache.specs.Kept.{AllWritten}
-use Rattle.myi_keycache.specs.Caching.{pages_of, IsCurrent, SameLent}
+use Rattle.myi_keycache.specs.Caching.{pages_of}
 use Rattle.myi_keytrees.specs.Trees.{Trees}
 use Rattle.myi_keytrees.specs.Standing.{StillStand}
 use Rattle.myi_keytrees.proofs.StandLaws.{object}
