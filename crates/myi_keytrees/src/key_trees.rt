@@ -41,7 +41,7 @@ impl Model for KeyTrees {
 }
 
 impl KeyTrees {
-    ghost use Rattle.std.specs.Prelude.{◌≡◌, ◌<◌, ◌≤◌, ◌^◌, ◌%◌, ◌-◌, ℕ, [], false, min, length, slice_index_or};
+    ghost use Rattle.std.specs.Prelude.{◌≡◌, ◌<◌, ◌≤◌, ◌^◌, ◌%◌, ◌-◌, ℕ, [], false, min, length};
     ghost use Rattle.std.specs.Prelude.{IfOk, IfErr, OnOk, IsTrue, HoldsAt};
     ghost use Rattle.std.specs.List.{AllByRecursion};
     ghost use Rattle.std.specs.Option.{option_copied};
@@ -254,10 +254,11 @@ impl KeyTrees {
         self.places.len()
     }
 
-    /// Where the tree of a key stands.
+    /// Where the tree of a key stands, and how its pages are made.
     pub fn place(&self, key: usize) -> Place
         requires { key < length self.now.places }
-        ensures { result ≡ slice_index_or self.now.places key result }
+        ensures place { HoldsAt (λ (p : Place). p ≡ result) self.now.places key }
+        ensures placed { IsPlaced result }
     {
         self.places[key]
     }
