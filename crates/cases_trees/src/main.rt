@@ -5,6 +5,7 @@
 #![tactic(auto)]
 
 mod changes;
+mod keytrees;
 mod searches;
 mod trees;
 
@@ -20,6 +21,9 @@ impl Calls for TheCalls {
             return Some(answer);
         }
         if let Some(answer) = searches::answer(words, name, args) {
+            return Some(answer);
+        }
+        if let Some(answer) = keytrees::answer(words, name, args) {
             return Some(answer);
         }
         changes::answer(words, name, args)
