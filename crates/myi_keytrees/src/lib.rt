@@ -20,6 +20,8 @@
 //! }
 //! trees.flush(&mut files)?;
 //! ```
+//!
+//! The case `keytrees` in `crates/cases_indexes/src/keytrees.rt` runs it, step by step.
 #![tactic(auto)]
 
 mod key_trees;
