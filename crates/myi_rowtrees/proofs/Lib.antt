@@ -1,0 +1,4 @@
+pub mod ToldLemmas
+pub mod EachLemmas
+pub mod PairLemmas
+pub mod RowLemmas

@@ -1,0 +1,38 @@
+use Rattle.std.proofs.Common.{◌≡◌, ◌≤◌, ◌<◌, ◌^◌, length, sym, ap, ◌∙◌, arith, take}
+use Rattle.std.specs.Prelude.{slice_index_or}
+use Rattle.std.proofs.lemmas.Result.{err_from_is_err_and}
+use Rattle.myi_keytrees.specs.Standing.{IfStand}
+use Rattle.myi_rowtrees.specs.RowLists.{LackPointers}
+use Rattle.myi_rowtrees.proofs.EachLemmas.{same_count, same_pointers, room_at, room_of, put_step, put_never, put_whole}
+use Rattle.myi_rowtrees.proofs.ToldLemmas.{if_err, others_follow}
+use Rattle.myi_rowtrees.proofs.changes.put_row.Goals as goal
+
+pub insert-requires-clause-row : goal.insert-requires-clause-row
+insert-requires-clause-row g c κs within = λ d.
+    let p = c.index-pairs-i.result in
+    let count = same_count c.args.trees.now.places c.loop-i.trees.places c.loop-i.invariant.kinds in
+    let room = room_of c.args.pairs.now c.loop-i.i p c.loop-i.trees.places (same_pointers c.args.trees.now.places c.loop-i.trees.places c.args.pairs.now c.loop-i.invariant.kinds c.requires.rows) c.loop-i-test.true (sym c.index-pairs-i.is) in
+    room_at p.row c.loop-i.i c.loop-i.trees.places d room (omega (arith, c.loop-i-test.true, c.requires.each, count))
+
+pub returns-in_err-insert-clause-never : goal.returns-in_err-insert-clause-never
+returns-in_err-insert-clause-never g c =
+    let e = err_from_is_err_and c.from_residual.result c.from_residual.ensures.1 in
+    if_err c.from_residual.result e.0 _ e.1
+    (λ p d. put_never c.args.trees.now c.loop-i.trees (g.F.Files.holds c.args.files.now) (g.F.Files.holds c.loop-i.files) c.args.pairs.now c.loop-i.i c.loop-i.invariant.put (c.in_err-insert.ensures.never p (sym e.2 ∙ d)))
+
+pub loop-i-preserved : goal.loop-i-preserved
+loop-i-preserved g c =
+    let k = c.loop-i.invariant in
+    let n = c.in_ok-insert.ensures in
+    record {
+      put = put_step c.args.trees.now c.loop-i.trees c.insert.new.self (g.F.Files.holds c.args.files.now) (g.F.Files.holds c.loop-i.files) (g.F.Files.holds c.insert.new.files) c.args.pairs.now c.loop-i.i c.index-pairs-i.result k.put n.inserted c.loop-i-test.true c.requires.each (sym c.index-pairs-i.is);
+      kinds = n.kinds ∙ k.kinds;
+      whole = n.whole;
+      others = others_follow (g.F.Files.holds c.args.files.now) (g.F.Files.holds c.loop-i.files) (g.F.Files.holds c.insert.new.files) c.args.trees.now.cache.name c.loop-i.trees.cache.name k.name k.others n.others;
+      name = n.name ∙ k.name;
+      faults = let one = k.faults in let two = n.cause.later in omega (arith, one, two);
+      reads = let one = k.reads in let two = n.reads in omega (arith, one, two);
+    }
+
+pub returns-clause-put : goal.returns-clause-put
+returns-clause-put g c = put_whole c.args.trees.now c.loop-i.trees (g.F.Files.holds c.args.files.now) (g.F.Files.holds c.loop-i.files) c.args.pairs.now c.loop-i.i c.loop-i.invariant.put c.loop-i-test.false

@@ -1,0 +1,36 @@
+//! Laws over the definitions of this crate. Each is the contract of a function that does nothing, so that it is
+//! proved with the crate and stands for the crates above.
+ghost use Rattle.std.specs.Prelude.{◌≡◌, ℕ, Some};
+ghost use Rattle.myi_defs.specs.declared.types.Defs.{Defs};
+ghost use Rattle.myi_defs.specs.Sound.{IsSound};
+ghost use Rattle.myi_pack.specs.Packed.{Values};
+ghost use Rattle.myi_pair.specs.KeyList.{pointer};
+ghost use Rattle.myi_state.specs.State.{StoredRow, TableState, row_at};
+ghost use Rattle.myi_state.specs.Changes.{insert, insert_at_end, delete, update, accepted};
+ghost use Rattle.myi_state.specs.Sound.{IsState};
+ghost use Rattle.myi_rowtrees.specs.RowLists.{lists_of, row_pairs, put_each, take_each};
+
+use myi_tablestate::key_lists_follow;
+
+/// What becomes of the lists of a table where a row comes, goes, or gets other values: its pairs are put in, or taken
+/// out, or the old ones taken out and the new ones put in.
+pub fn lists_follow_rows()
+    ensures inserted { (d : Defs) (s : TableState) (values : Values) → IsSound d → IsState d s
+        → lists_of d (accepted d s (insert values)).state.rows ≡ put_each
+        (row_pairs d values (pointer d (accepted d s (insert values)).at)) (lists_of d s.rows) }
+    ensures appended { (d : Defs) (s : TableState) (values : Values) → IsSound d → IsState d s
+        → lists_of d (accepted d s (insert_at_end values)).state.rows ≡ put_each
+        (row_pairs d values (pointer d (accepted d s (insert_at_end values)).at))
+        (lists_of d s.rows) }
+    ensures deleted { (d : Defs) (s : TableState) (at : ℕ) (r : StoredRow) → IsSound d
+        → IsState d s → row_at at s.rows ≡ Some r
+        → lists_of d (accepted d s (delete at)).state.rows
+        ≡ take_each (row_pairs d r.values (pointer d r.at)) (lists_of d s.rows) }
+    ensures updated { (d : Defs) (s : TableState) (at : ℕ) (values : Values) (r : StoredRow)
+        → IsSound d → IsState d s → row_at at s.rows ≡ Some r
+        → lists_of d (accepted d s (update at values)).state.rows
+        ≡ put_each (row_pairs d values (pointer d at))
+        (take_each (row_pairs d r.values (pointer d r.at)) (lists_of d s.rows)) }
+{
+    key_lists_follow();
+}

@@ -1,0 +1,26 @@
+//! The pairs of a table's rows in the trees of its keys.
+//!
+//! A row has one pair for each key of its table: the row's key, and the row's pointer. `specs/RowLists` says which
+//! lists the trees of a table have, and what becomes of them where a row comes, goes or gets other values.
+//!
+//! - `pairs_of_row` makes the pairs of a row.
+//! - `first_duplicate` finds the first unique key in which another row has the row's complete key.
+//! - `put_row`, `take_row` and `move_row` put a row's pairs into the trees, take them out, and do both where
+//!   they differ.
+//! - The laws are the contracts of the functions in `laws`.
+//!
+//! ```
+//! let pairs = pairs_of_row(alloc, &defs, &row, pointer)?;
+//! if first_duplicate(&mut files, &mut trees, &defs, &pairs, None)?.is_none() {
+//!     put_row(&mut files, &mut trees, &pairs)?;
+//! }
+//! ```
+#![tactic(auto)]
+
+mod changes;
+mod laws;
+mod pairs;
+
+pub use changes::{put_row, take_row};
+pub use laws::lists_follow_rows;
+pub use pairs::pairs_of_row;
