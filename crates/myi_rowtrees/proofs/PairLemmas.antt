@@ -12,7 +12,7 @@ pub numbers_long : (low n : ℕ) → length (numbers_from low n) ≡ n
 numbers_long low zero = refl
 numbers_long low (suc n) = let more = numbers_long (suc low) n in omega (arith, more)
 
-numbers_more : (low n i : ℕ) → i < n → take (i + 1) (numbers_from low n) ≡ take i (numbers_from low n) ++ (low + i) ∷ []
+pub numbers_more : (low n i : ℕ) → i < n → take (i + 1) (numbers_from low n) ≡ take i (numbers_from low n) ++ (low + i) ∷ []
 numbers_more low zero i few = absurd (omega (arith, few))
 numbers_more low (suc n) zero few = let e : low ≡ low + 0 = omega arith in ap (λ (k : ℕ). k ∷ []) e
 numbers_more low (suc n) (suc i) few =

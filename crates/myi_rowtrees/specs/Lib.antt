@@ -2,3 +2,5 @@
 
 -- the lists of all keys, and a row's pairs in them
 pub mod RowLists
+-- the first unique key in which another row has the complete key of a row
+pub mod Duplicates

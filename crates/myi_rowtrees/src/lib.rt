@@ -18,9 +18,11 @@
 #![tactic(auto)]
 
 mod changes;
+mod duplicates;
 mod laws;
 mod pairs;
 
 pub use changes::{put_row, take_row};
+pub use duplicates::{Duplicate, first_duplicate};
 pub use laws::lists_follow_rows;
 pub use pairs::pairs_of_row;
