@@ -4,3 +4,4 @@ pub mod PairLemmas
 pub mod RowLemmas
 pub mod HeldLemmas
 pub mod FirstLemmas
+pub mod LackLemmas

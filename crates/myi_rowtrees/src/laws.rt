@@ -7,10 +7,11 @@ ghost use Rattle.myi_pack.specs.Packed.{Values};
 ghost use Rattle.myi_pair.specs.KeyList.{pointer};
 ghost use Rattle.myi_state.specs.State.{StoredRow, TableState, row_at};
 ghost use Rattle.myi_state.specs.Changes.{insert, insert_at_end, delete, update, accepted};
-ghost use Rattle.myi_state.specs.Sound.{IsState};
-ghost use Rattle.myi_rowtrees.specs.RowLists.{lists_of, row_pairs, put_each, take_each};
+ghost use Rattle.myi_state.specs.Sound.{IsState, MayCome};
+ghost use Rattle.myi_rowtrees.specs.RowLists.{lists_of, row_pairs, put_each, take_each, LackPointers};
 
-use myi_tablestate::key_lists_follow;
+use myi_state::{changes_keep_other_rows, changes_keep_states, new_rows_have_free_places};
+use myi_tablestate::{key_lists_are_in_order, key_lists_follow};
 
 /// What becomes of the lists of a table where a row comes, goes, or gets other values: its pairs are put in, or taken
 /// out, or the old ones taken out and the new ones put in.
@@ -33,4 +34,20 @@ pub fn lists_follow_rows()
         (take_each (row_pairs d r.values (pointer d r.at)) (lists_of d s.rows)) }
 {
     key_lists_follow();
+}
+
+/// No list of a table names a row that is to come.
+pub fn new_rows_are_in_no_list()
+    ensures inserted { (d : Defs) (s : TableState) (values : Values) → IsSound d
+        → MayCome d (insert values) → IsState d s → LackPointers
+        (row_pairs d values (pointer d (accepted d s (insert values)).at)) (lists_of d s.rows) }
+    ensures appended { (d : Defs) (s : TableState) (values : Values) → IsSound d
+        → MayCome d (insert_at_end values) → IsState d s → LackPointers
+        (row_pairs d values (pointer d (accepted d s (insert_at_end values)).at))
+        (lists_of d s.rows) }
+{
+    changes_keep_states();
+    changes_keep_other_rows();
+    key_lists_are_in_order();
+    new_rows_have_free_places();
 }

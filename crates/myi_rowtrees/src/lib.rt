@@ -24,5 +24,5 @@ mod pairs;
 
 pub use changes::{put_row, take_row};
 pub use duplicates::{Duplicate, first_duplicate};
-pub use laws::lists_follow_rows;
+pub use laws::{lists_follow_rows, new_rows_are_in_no_list};
 pub use pairs::pairs_of_row;

@@ -1,0 +1,13 @@
+use Rattle.myi_state.specs.Changes.{insert, insert_at_end, accepted}
+use Rattle.myi_rowtrees.proofs.LackLemmas.{new_lacks}
+use Rattle.myi_rowtrees.proofs.laws.new_rows_are_in_no_list.Goals as goal
+
+pub returns : goal.returns
+returns c =
+    let states = c.changes_keep_states.ensures in
+    let rows = c.changes_keep_other_rows.ensures in
+    let back = c.key_lists_are_in_order.ensures.pointed in
+    record {
+      inserted = λ d s values sound may i. new_lacks d s (insert values) values (c.new_rows_have_free_places.ensures.next d s values sound i) (rows.inserted d s values sound i) (back d s sound i) (back d (accepted d s (insert values)).state sound (states.accepted d s (insert values) sound may i));
+      appended = λ d s values sound may i. new_lacks d s (insert_at_end values) values (c.new_rows_have_free_places.ensures.end d s values sound i) (rows.appended d s values sound i) (back d s sound i) (back d (accepted d s (insert_at_end values)).state sound (states.accepted d s (insert_at_end values) sound may i));
+    }
