@@ -1,6 +1,6 @@
 -- Pairs that are put into the lists of their keys one after the other, or taken out.
 use Rattle.std.proofs.Common.{◌≡◌, ◌≢◌, ℕ, zero, suc, ◌+◌, ◌^◌, ◌<◌, ◌≤◌, Bool, true, false, ◌||◌, List, [], ◌∷◌, length, map, take, Option, Some, refl, sym, ap, subst, ◌∙◌, arith}
-use Rattle.std.specs.Prelude.{slice_index_or, slice_set}
+use Rattle.std.specs.Prelude.{slice_index_or}
 use Rattle.std.specs.List.{AllByRecursion}
 use Rattle.std.specs.Ordering.{is_eq, nat_cmp, ordering_then}
 use Rattle.std.specs.declared.cmp.Ordering.{Ordering}
@@ -14,7 +14,7 @@ use Rattle.myi_keylist.specs.PairOrder.{pair_cmp, put_pair}
 use Rattle.myi_btree.specs.declared.place.Place.{Place}
 use Rattle.myi_insertion.specs.Removal.{has_pair, without_pair}
 use Rattle.myi_keytrees.specs.Trees.{Trees, kinds, SameKinds}
-use Rattle.myi_keytrees.specs.Standing.{list_of, put_in, taken_out, HoldLists, Stand, StandThen, IfStand}
+use Rattle.myi_keytrees.specs.Standing.{list_of, put_in, taken_out, HoldLists, StandThen, IfStand}
 use Rattle.myi_keytrees.proofs.CallerLemmas.{stand_follow}
 use Rattle.myi_rowtrees.specs.RowLists.{put_each, take_each, LackPointer, LackPointers, ArePointers}
 

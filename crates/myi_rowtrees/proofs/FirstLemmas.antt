@@ -1,20 +1,19 @@
 -- The first key in which another row has the complete key of a row, one key after the other.
-use Rattle.std.proofs.Common.{◌≡◌, ℕ, zero, suc, ◌+◌, ◌<◌, ◌≤◌, List, [], ◌∷◌, ◌++◌, length, map, take, drop, Option, Some, None, refl, sym, ap, subst, ◌∙◌, arith, append_assoc}
+use Rattle.std.proofs.Common.{◌≡◌, ℕ, zero, suc, ◌+◌, ◌<◌, ◌≤◌, List, [], ◌∷◌, ◌++◌, length, map, take, drop, Option, Some, None, refl, sym, ap, ◌∙◌, arith, append_assoc}
 use Rattle.std.specs.Prelude.{slice_index_or, option_map}
 use Rattle.std.proofs.lemmas.List.{take-append-drop}
 use Rattle.myi_base.specs.Holding.{Holding}
 use Rattle.myi_defs.specs.declared.types.Defs.{Defs}
 use Rattle.myi_pack.specs.Packed.{Values}
-use Rattle.myi_keys.specs.declared.values.KeySeg.{KeySeg}
 use Rattle.myi_keylist.specs.declared.pair.Pair.{Pair}
 use Rattle.myi_data.specs.Keys.{key_of}
 use Rattle.myi_rowkeys.specs.TableKeys.{numbers_from, key_numbers}
-use Rattle.myi_state.specs.State.{StoredRow, TableState}
+use Rattle.myi_state.specs.State.{StoredRow}
 use Rattle.myi_keytrees.specs.Trees.{Trees}
 use Rattle.myi_keytrees.specs.Standing.{list_of, StillStand}
 use Rattle.myi_keytrees.proofs.CallerLemmas.{stand_follow}
 use Rattle.myi_tablestate.specs.Keyed.{Holder, holder, or_later, first_holder}
-use Rattle.myi_tablestate.specs.Listed.{listed, position}
+use Rattle.myi_tablestate.specs.Listed.{listed}
 use Rattle.myi_rowtrees.specs.RowLists.{lists_of, row_pairs}
 use Rattle.myi_rowtrees.proofs.PairLemmas.{numbers_more, numbers_long}
 

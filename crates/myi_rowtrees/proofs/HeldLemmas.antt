@@ -1,5 +1,5 @@
 -- Whether another row has the complete key of a row, by the least row of the key in its tree.
-use Rattle.std.proofs.Common.{◌≡◌, ◌≢◌, ◌⊎◌, inl, inr, ℕ, zero, suc, ◌+◌, ◌*◌, ◌<◌, ◌≤◌, Bool, true, false, not, ◌||◌, List, [], ◌∷◌, ◌++◌, length, take, Option, Some, None, refl, sym, ap, subst, ◌∙◌, arith}
+use Rattle.std.proofs.Common.{◌≡◌, ◌≢◌, inl, inr, ℕ, zero, suc, ◌+◌, ◌*◌, ◌<◌, Bool, true, false, not, List, [], ◌∷◌, length, Option, Some, None, refl, sym, ap, subst, ◌∙◌, arith}
 use Rattle.std.specs.Prelude.{◌==◌, IsTrue, option_map, slice_get, slice_index_or, if◌then◌else◌}
 use Rattle.std.specs.Option.{option_map_or}
 use Rattle.std.proofs.lemmas.Bool.Decides.{nat_tests}
@@ -10,18 +10,14 @@ use Rattle.myi_defs.specs.declared.types.Key.{Key}
 use Rattle.myi_defs.specs.declared.types.Defs.{Defs}
 use Rattle.myi_defs.specs.Sound.{IsSound}
 use Rattle.myi_pack.specs.Packed.{Values}
-use Rattle.myi_keys.specs.declared.values.KeySeg.{KeySeg}
 use Rattle.myi_keys.specs.Limits.{is_complete}
-use Rattle.myi_keycache.specs.Kept.{AllWritten}
-use Rattle.myi_keycache.specs.Caching.{pages_of}
-use Rattle.myi_keylist.specs.declared.pair.Pair.{Pair}
 use Rattle.myi_btree.specs.CachedTrees.{ReadsOnly}
 use Rattle.myi_search.specs.Least.{IsLeastRow}
-use Rattle.myi_data.specs.Keys.{IsKeyNumber, key_at, key_of}
+use Rattle.myi_data.specs.Keys.{IsKeyNumber, key_of}
 use Rattle.myi_rowkeys.specs.TableKeys.{is_unique}
 use Rattle.myi_state.specs.State.{StoredRow, TableState, rows_without}
 use Rattle.myi_keytrees.specs.Trees.{Trees}
-use Rattle.myi_keytrees.specs.Standing.{list_of, Stand, StandThen, StillStand, CanSearch}
+use Rattle.myi_keytrees.specs.Standing.{Stand, StillStand, CanSearch}
 use Rattle.myi_tablestate.specs.Keyed.{IsTable, holder}
 use Rattle.myi_tablestate.specs.Listed.{listed, position_by, position}
 use Rattle.myi_rowtrees.specs.Duplicates.{others, another}
@@ -34,11 +30,14 @@ search_by writable None told next old new e w others reads stand (inr can) = inr
   where
     none_some : (n : Holding) → ◌≡◌ {A = Option Holding} None (Some n) → ⊥
     none_some n is = absurd cc
-search_by writable (Some m) told next old new e w others reads stand (inr can) = inr (w, λ n held.
-    let was = can.1 m (sym e) in
-    let after = stand m (sym e) was.0 was.1 was.2 in
-    let same : after.now ≡ n = some_same after.now n (sym after.held ∙ held) in
-    (was.0, was.1, subst (λ (k : Holding). Stand new k was.0 was.1) same after.stand))
+search_by writable (Some m) told next old new e w others reads stand (inr can) = inr (
+  w,
+  λ n held.
+      let was = can.1 m (sym e) in
+      let after = stand m (sym e) was.0 was.1 was.2 in
+      let same : after.now ≡ n = some_same after.now n (sym after.held ∙ held) in
+      (was.0, was.1, subst (λ (k : Holding). Stand new k was.0 was.1) same after.stand),
+)
   where
     some_same : (a b : Holding) → ◌≡◌ {A = Option Holding} (Some a) (Some b) → a ≡ b
     some_same a b is = cc

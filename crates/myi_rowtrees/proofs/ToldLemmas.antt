@@ -1,5 +1,5 @@
 -- What is told before and after calls, and why a call was refused.
-use Rattle.std.proofs.Common.{◌≡◌, ℕ, List, Option, Some, None, Result, Err, IfErr, sym, ap, subst, ◌∙◌}
+use Rattle.std.proofs.Common.{◌≡◌, ℕ, List, Option, Result, Err, IfErr, subst, ◌∙◌}
 use Rattle.myi_base.specs.Holding.{Holding, Told, OthersStay}
 use Rattle.myi_btree.specs.declared.fault.TreeFault.{TreeFault}
 

@@ -1,7 +1,7 @@
 -- A pair of files that stands for a table is clean.
-use Rattle.std.proofs.Common.{◌≡◌, ℕ, ◌+◌, ◌-◌, ◌<◌, ◌≤◌, ◌⊎◌, inl, inr, Bool, true, false, cond, ◌&&◌, ◌||◌, List, [], ◌∷◌, ◌++◌, length, map, Option, Some, None, Ok, refl, sym, ap, subst, ◌∙◌, arith}
-use Rattle.std.specs.Prelude.{nat_le, nat_lt, option_and_then, option_map, if◌then◌else◌}
-use Rattle.std.specs.List.{AllByRecursion, list_any}
+use Rattle.std.proofs.Common.{◌≡◌, ℕ, ◌+◌, ◌<◌, ◌⊎◌, inl, inr, Bool, true, false, ◌||◌, List, [], ◌∷◌, ◌++◌, length, map, Option, Some, None, refl, sym, ap, subst, ◌∙◌, arith}
+use Rattle.std.specs.Prelude.{nat_le, option_and_then, option_map, if◌then◌else◌}
+use Rattle.std.specs.List.{list_any}
 use Rattle.std.specs.List.Sorted.{IsPermutation}
 use Rattle.std.proofs.lemmas.Bool.{le-leb, lt-ltb}
 use Rattle.std.proofs.lemmas.List.Sorted.{IsPermutation-refl, IsPermutation-trans, IsPermutation-cons, IsPermutation-middle, IsPermutation-map}
@@ -9,17 +9,15 @@ use Rattle.myi_base.specs.Ranges.{Range}
 use Rattle.myi_defs.specs.declared.types.RowFormat.{RowFormat}
 use Rattle.myi_defs.specs.declared.types.RowFormat.TheVariants.{Static, Dynamic}
 use Rattle.myi_defs.specs.declared.types.Defs.{Defs}
-use Rattle.myi_defs.specs.Sound.{IsSound}
-use Rattle.myi_frames.specs.Block.{Block, block_of}
+use Rattle.myi_frames.specs.Block.{Block}
 use Rattle.myi_pack.specs.Packed.{Values}
 use Rattle.myi_chain.specs.Readable.{Row}
 use Rattle.myi_chain.specs.Meeting.{ranges_of}
-use Rattle.myi_dellist.specs.Areas.{Area, Holds, Tile}
+use Rattle.myi_dellist.specs.Areas.{Area, Holds}
 use Rattle.myi_dellist.specs.Order.{put_in, in_order}
-use Rattle.myi_dellist.specs.Standing.{first_or, IsPart, hole_block}
+use Rattle.myi_dellist.specs.Standing.{first_or, IsPart}
 use Rattle.myi_dellist.proofs.CallerLemmas.{tile-holds}
 use Rattle.myi_data.specs.Readable.{readable, deleted}
-use Rattle.myi_header.specs.StateOf.{state_of}
 use Rattle.myi_state.specs.declared.counts.Counts.{Counts}
 use Rattle.myi_state.specs.State.{StoredRow, TableState, row_areas}
 use Rattle.myi_state.specs.Sound.{IsState}
@@ -29,10 +27,9 @@ use Rattle.myi_btree.specs.Walk.{Walked}
 use Rattle.myi_pair.specs.FirstRows.{AreDistinct}
 use Rattle.myi_pair.specs.KeyList.{PlacedRow, key_list}
 use Rattle.myi_pair.specs.Trees.{AreKeyLists, total}
-use Rattle.myi_pair.specs.Clean as clean
 use Rattle.myi_pair.specs.Clean.{values_of, placed_row, covers, next_by, NamesByFormat, Follows, ListsDeleted, IsClean}
 use Rattle.myi_tablestate.specs.Keyed.{values_in_rows}
-use Rattle.myi_tablestate.specs.Listed.{placed, listed}
+use Rattle.myi_tablestate.specs.Listed.{placed}
 use Rattle.myi_tablestate.specs.Standing.{HavePairs, StandForTable}
 
 -- ---- each byte belongs to a block of a row or to a deleted one
@@ -126,18 +123,16 @@ places_of (a ∷ areas) = ap (λ (ps : List ℕ). a.at ∷ ps) (places_of areas)
 
 follows_static : (d : Defs) (x : List ℕ) → d.format ≡ Static → (before : Option ℕ) (holes : List Area) → ListSlots d x holes → Follows d x before (first_or holes None) (map (λ (a : Area). a.at) holes)
 follows_static d x static before [] l = refl
-follows_static d x static before (h ∷ holes) l =
-    (
-      refl,
-      subst (λ (f : RowFormat). NamesByFormat f x h.at before) (sym static) tt,
-      subst (λ (o : Option ℕ). Follows d x (Some h.at) o (map (λ (a : Area). a.at) holes)) (sym (ap (λ (f : RowFormat). next_by f d x h.at) static ∙ l.1)) (follows_static d x static (Some h.at) holes l.2),
-    )
+follows_static d x static before (h ∷ holes) l = (
+  refl,
+  subst (λ (f : RowFormat). NamesByFormat f x h.at before) (sym static) tt,
+  subst (λ (o : Option ℕ). Follows d x (Some h.at) o (map (λ (a : Area). a.at) holes)) (sym (ap (λ (f : RowFormat). next_by f d x h.at) static ∙ l.1)) (follows_static d x static (Some h.at) holes l.2),
+)
 
 follows_dynamic : (d : Defs) (x : List ℕ) → d.format ≡ Dynamic → (before : Option ℕ) (holes : List Area) → IsPart x before holes None → Follows d x before (first_or holes None) (map (λ (a : Area). a.at) holes)
 follows_dynamic d x dynamic before [] l = refl
 follows_dynamic d x dynamic before (h ∷ holes) l =
-    let next : next_by d.format d x h.at ≡ first_or holes None = ap (λ (f : RowFormat). next_by f d x h.at) dynamic ∙ ap (λ (o : Option Block). option_and_then (λ (b : Block). b.next) o) l.0 in
-    (
+    let next : next_by d.format d x h.at ≡ first_or holes None = ap (λ (f : RowFormat). next_by f d x h.at) dynamic ∙ ap (λ (o : Option Block). option_and_then (λ (b : Block). b.next) o) l.0 in (
       refl,
       subst (λ (f : RowFormat). NamesByFormat f x h.at before) (sym dynamic) (ap (λ (o : Option Block). option_map (λ (b : Block). b.prev) o) l.0),
       subst (λ (o : Option ℕ). Follows d x (Some h.at) o (map (λ (a : Area). a.at) holes)) (sym next) (follows_dynamic d x dynamic (Some h.at) holes l.1),
@@ -150,8 +145,7 @@ follows_by d x Dynamic is holes stand = follows_dynamic d x is None holes stand.
 lists_deleted : (d : Defs) (s : TableState) (b : List ℕ) → StandsFor d s b → deleted d b ≡ map range_of_area (in_order s.space.holes) → ListsDeleted d b (first_or s.space.holes None)
 lists_deleted d s b k gone =
     let places = IsPermutation-map (λ (a : Area). a.at) (in_order s.space.holes) s.space.holes (order_permutes s.space.holes) in
-    let same : map (λ (r : Range). r.0) (deleted d b) ≡ map (λ (a : Area). a.at) (in_order s.space.holes) = ap (λ (rs : List Range). map (λ (r : Range). r.0) rs) gone ∙ places_of (in_order s.space.holes) in
-    (
+    let same : map (λ (r : Range). r.0) (deleted d b) ≡ map (λ (a : Area). a.at) (in_order s.space.holes) = ap (λ (rs : List Range). map (λ (r : Range). r.0) rs) gone ∙ places_of (in_order s.space.holes) in (
       map (λ (a : Area). a.at) s.space.holes,
       subst (λ (ps : List ℕ). IsPermutation ps (map (λ (a : Area). a.at) s.space.holes)) (sym same) places,
       follows_by d b d.format refl s.space.holes k.holes,

@@ -1,13 +1,8 @@
 -- Rows with one complete key, and the least row of a key among the pairs of a table.
-use Rattle.std.proofs.Common.{◌≡◌, ◌≢◌, ℕ, zero, suc, length, ◌<◌, ◌+◌, ◌≤◌, Bool, true, false, cond, ◌&&◌, ◌||◌, List, [], ◌∷◌, ◌++◌, map, Option, Some, None, refl, sym, ap, subst, ◌∙◌, inl, inr, arith}
+use Rattle.std.proofs.Common.{◌≡◌, ◌≢◌, ℕ, zero, suc, length, ◌<◌, ◌+◌, ◌≤◌, Bool, true, false, cond, ◌&&◌, ◌||◌, List, [], ◌∷◌, map, Option, Some, None, refl, sym, ap, subst, ◌∙◌, arith}
 use Rattle.std.specs.Prelude.{◌==◌, option_map}
-use Rattle.std.specs.List.{AllByRecursion, All, Contains, list_any}
-use Rattle.std.specs.Ordering.{is_eq}
-use Rattle.std.specs.declared.cmp.Ordering.{Ordering}
-use Rattle.std.specs.declared.cmp.Ordering.TheVariants.{Less, Equal, Greater}
-use Rattle.std.proofs.lemmas.Bool.{cases_Bool}
+use Rattle.std.specs.List.{AllByRecursion, All, list_any}
 use Rattle.std.proofs.lemmas.Bool.Decides.{nat_tests}
-use Rattle.std.proofs.lemmas.Cmp.{tied_itself}
 use Rattle.std.proofs.lemmas.List.Elements.{All-contains, All-from_recursion, recursion_from_All}
 use Rattle.std.proofs.lemmas.List.Sorted.{All-permutation, IsPermutation-sym}
 use Rattle.myi_defs.specs.declared.types.Defs.{Defs}
@@ -15,20 +10,18 @@ use Rattle.myi_defs.specs.Sound.{IsSound}
 use Rattle.myi_pack.specs.Packed.{Values}
 use Rattle.myi_keys.specs.declared.values.KeySeg.{KeySeg}
 use Rattle.myi_keys.specs.Limits.{is_complete}
-use Rattle.myi_keys.specs.Order.{key_cmp}
-use Rattle.myi_keys.specs.OrderLaws.{key_total, key_exact}
 use Rattle.myi_keylist.specs.declared.pair.Pair.{Pair}
 use Rattle.myi_keylist.specs.PairOrder.{pair_with, sorted}
 use Rattle.myi_keylist.specs.Repeats.{is_same_key}
 use Rattle.myi_keylist.proofs.CallerLemmas.{sorted_permutes}
 use Rattle.myi_search.specs.Least.{IsLeastRow}
 use Rattle.myi_data.specs.Keys.{IsKeyNumber, key_of}
-use Rattle.myi_rowkeys.specs.TableKeys.{key_numbers, numbers_from, is_unique}
+use Rattle.myi_rowkeys.specs.TableKeys.{numbers_from, is_unique}
 use Rattle.myi_state.specs.State.{StoredRow, TableState, row_at, rows_without}
 use Rattle.myi_state.specs.Sound.{AreInOrder, IsState}
-use Rattle.myi_pair.specs.FirstRows.{repeats_key, repeats, AreDistinct}
+use Rattle.myi_pair.specs.FirstRows.{repeats_key, repeats}
 use Rattle.myi_pair.specs.KeyList.{pairs_of, key_list}
-use Rattle.myi_tablestate.specs.Keyed.{values_in_rows, IsTable, holder}
+use Rattle.myi_tablestate.specs.Keyed.{IsTable, holder}
 use Rattle.myi_tablestate.specs.Listed.{placed, pair_of_row, listed, position}
 use Rattle.myi_tablestate.proofs.PlaceLemmas.{IsBack, rows_back}
 use Rattle.myi_tablestate.proofs.DistinctLemmas.{same_is, same_self, AreOthers, Differ, differ_of}
@@ -93,11 +86,10 @@ is_not false never = refl
 -- behind a row that has a key, no row has it
 behind_none : (d : Defs) (values : Values) (k : ℕ) (q : StoredRow) (rows : List StoredRow) → IsKeyNumber d k → Has d values q.values k → AreOthers d q.values rows → HasNot d values k rows
 behind_none d values k q [] number own all = tt
-behind_none d values k q (r ∷ rows) number own all =
-    (
-      is_not (repeats_key d values r.values k) (λ is. no_both (repeats d r.values q.values) (repeats_of d r.values q.values k number (has_back d r.values q.values k (has_other d values r.values q.values k (has d values r.values k is) own))) all.0),
-      behind_none d values k q rows number own all.1,
-    )
+behind_none d values k q (r ∷ rows) number own all = (
+  is_not (repeats_key d values r.values k) (λ is. no_both (repeats d r.values q.values) (repeats_of d r.values q.values k number (has_back d r.values q.values k (has_other d values r.values q.values k (has d values r.values k is) own))) all.0),
+  behind_none d values k q rows number own all.1,
+)
 
 -- and one of these rows has it, no other row does
 found_fact : (P : StoredRow → Type 0) (p : ℕ) (rows : List StoredRow) (r : StoredRow) → row_at p rows ≡ Some r → AllByRecursion P rows → P r
@@ -117,8 +109,7 @@ alone d values k p (q ∷ rows) r number distinct found is = choose (q.at == p) 
         let same : q ≡ r = cc in
         behind_none d values k q rows number (has d values q.values k (subst (λ (t : StoredRow). repeats_key d values t.values k ≡ true) (sym same) is)) distinct.0
     choose false found more =
-        let one = found_fact (λ (t : StoredRow). repeats d t.values q.values ≡ false) p rows r found distinct.0 in
-        (
+        let one = found_fact (λ (t : StoredRow). repeats d t.values q.values ≡ false) p rows r found distinct.0 in (
           is_not (repeats_key d values q.values k) (λ own. no_both (repeats d r.values q.values) (repeats_of d r.values q.values k number (has_back d r.values q.values k (has_other d values r.values q.values k (has d values r.values k is) (has d values q.values k own)))) one),
           more found,
         )

@@ -1,5 +1,5 @@
 -- Changes of tables with keys, in the words of the clauses.
-use Rattle.std.proofs.Common.{◌≡◌, ℕ, Bool, true, false, List, [], ◌∷◌, length, Option, Some, None, Ok, Err, Result, refl, sym, ap, subst, ◌∙◌}
+use Rattle.std.proofs.Common.{◌≡◌, ℕ, true, List, [], ◌∷◌, length, Option, Some, None, Ok, Err, refl, ap, ◌∙◌}
 use Rattle.std.specs.Prelude.{option_map}
 use Rattle.std.specs.List.{AllByRecursion}
 use Rattle.myi_defs.specs.declared.types.Defs.{Defs}
@@ -7,12 +7,11 @@ use Rattle.myi_defs.specs.Sound.{IsSound}
 use Rattle.myi_pack.specs.Packed.{Values}
 use Rattle.myi_pack.specs.Spelling.{fits, spelling}
 use Rattle.myi_dellist.specs.Placing.{next_place}
-use Rattle.myi_rowkeys.specs.TableKeys.{key_numbers}
-use Rattle.myi_state.specs.State.{StoredRow, TableState, empty_table, put_row, row_at, rows_without, take_again}
+use Rattle.myi_state.specs.State.{StoredRow, TableState, empty_table, row_at, rows_without, take_again}
 use Rattle.myi_state.specs.Changes.{Change, insert, insert_at_end, delete, update, Refusal, Changed, next_taken, behind_taken, without_row, with_values, accepted, replay, lacks_row, lacks_room}
-use Rattle.myi_state.specs.Sound.{IsState, MayCome}
+use Rattle.myi_state.specs.Sound.{MayCome}
 use Rattle.myi_state.proofs.CallerLemmas.{empty-state, accepted-kept, put-all, without-all}
-use Rattle.myi_tablestate.specs.Keyed.{IsTable, Holder, lacks_key, KeyedRefusal, without_keys, by_holder, first_of_three, keyed_refusal, KeyedStep, keyed_step_by, keyed_step, after_keyed, if_made, keyed_history}
+use Rattle.myi_tablestate.specs.Keyed.{IsTable, Holder, lacks_key, KeyedRefusal, without_keys, by_holder, first_of_three, keyed_refusal, keyed_step_by, keyed_step, after_keyed, if_made, keyed_history}
 use Rattle.myi_tablestate.proofs.DistinctLemmas.{Differ, differ_of, of_differ, put_differ, without_differ, none_repeated}
 
 pub empty_kept : (d : Defs) → IsTable d empty_table
@@ -37,8 +36,7 @@ deleted_by d s at (Some r) rows = (without-all (Fit d) at s.rows rows.0, without
 updated_by : (d : Defs) (s : TableState) (at : ℕ) (values : Values) (o : Option StoredRow) → fits d values ≡ true → lacks_key d s (update at values) ≡ None → Rows d s.rows → Rows d (with_values d s at values o).state.rows
 updated_by d s at values None may none rows = rows
 updated_by d s at values (Some q) may none rows =
-    let r : StoredRow = record { at = at; values = values; blocks = (take_again d.format s.space q.blocks (length (spelling d values))).blocks } in
-    (
+    let r : StoredRow = record { at = at; values = values; blocks = (take_again d.format s.space q.blocks (length (spelling d values))).blocks } in (
       put-all (Fit d) r (rows_without at s.rows) may (without-all (Fit d) at s.rows rows.0),
       put_differ d r (rows_without at s.rows) (none_repeated d values (rows_without at s.rows) none) (without_differ d at s.rows rows.1),
     )

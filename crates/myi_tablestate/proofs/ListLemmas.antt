@@ -1,6 +1,6 @@
 -- Lists of pairs in order, of which one is put in or taken out.
-use Rattle.std.proofs.Common.{◌≡◌, ◌≢◌, ℕ, Bool, true, false, cond, ◌||◌, List, [], ◌∷◌, map, Option, Some, None, refl, sym, ap, subst, ◌∙◌, inl, inr, arith}
-use Rattle.std.specs.List.{AllByRecursion, All, Contains}
+use Rattle.std.proofs.Common.{◌≡◌, Bool, true, false, ◌||◌, List, [], ◌∷◌, refl, ap, ◌∙◌, inl, inr}
+use Rattle.std.specs.List.{AllByRecursion}
 use Rattle.std.specs.List.Sorted.{IsStrictlySortedBy, IsPermutation}
 use Rattle.std.specs.Ordering.{is_gt, is_eq, ordering_reverse}
 use Rattle.std.specs.declared.cmp.Ordering.{Ordering}
@@ -81,6 +81,6 @@ put_strict p (q ∷ qs) others strict =
     elim (cases_Bool (is_gt (pair_cmp p q))) [
       | inl is ↦ rw is (put_all (λ r. pair_cmp q r ≡ Less) p qs (pair_total.antisymm q p ∙ ap ordering_reverse (above_of (pair_cmp p q) is)) strict.0, put_strict p qs others.1 strict.1)
       | inr other ↦
-        let less = below_of (pair_cmp p q) other others.0 in
-        rw other ((less, all_below p q qs less strict.0), strict)
+          let less = below_of (pair_cmp p q) other others.0 in
+          rw other ((less, all_below p q qs less strict.0), strict)
     ]

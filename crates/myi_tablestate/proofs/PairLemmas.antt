@@ -1,15 +1,14 @@
 -- The pairs of rows, of which one comes or goes.
-use Rattle.std.proofs.Common.{◌≡◌, ◌≢◌, ℕ, ◌<◌, ◌+◌, ◌≤◌, Bool, true, false, cond, List, [], ◌∷◌, ◌++◌, map, Option, Some, None, refl, sym, ap, subst, ◌∙◌, inl, inr, arith}
+use Rattle.std.proofs.Common.{◌≡◌, ◌≢◌, ℕ, ◌<◌, ◌+◌, Bool, true, false, cond, List, [], ◌∷◌, map, Option, Some, refl, sym, ap, subst, ◌∙◌, arith}
 use Rattle.std.specs.Prelude.{◌==◌, nat_lt, if◌then◌else◌}
 use Rattle.std.specs.List.{AllByRecursion}
 use Rattle.std.specs.List.Sorted.{IsStrictlySortedBy, IsPermutation}
 use Rattle.std.specs.Ordering.{is_eq, nat_cmp, ordering_then}
 use Rattle.std.specs.declared.cmp.Ordering.{Ordering}
 use Rattle.std.specs.declared.cmp.Ordering.TheVariants.{Less, Equal, Greater}
-use Rattle.std.proofs.lemmas.Bool.{cases_Bool}
 use Rattle.std.proofs.lemmas.Bool.Decides.{nat_tests}
 use Rattle.std.proofs.lemmas.List.Elements.{All-from_recursion, recursion_from_All}
-use Rattle.std.proofs.lemmas.List.Sorted.{IsPermutation-refl, IsPermutation-sym, IsPermutation-trans, IsPermutation-cons, IsPermutation-middle, IsPermutation-map, All-permutation}
+use Rattle.std.proofs.lemmas.List.Sorted.{IsPermutation-refl, IsPermutation-trans, IsPermutation-cons, IsPermutation-middle, IsPermutation-map, All-permutation}
 use Rattle.myi_defs.specs.declared.types.Defs.{Defs}
 use Rattle.myi_defs.specs.Sound.{IsSound}
 use Rattle.myi_pack.specs.Packed.{Values}
@@ -22,7 +21,6 @@ use Rattle.myi_data.specs.Keys.{key_of}
 use Rattle.myi_state.specs.State.{StoredRow, TableState, put_row, row_at, rows_without}
 use Rattle.myi_state.specs.Changes.{insert, insert_at_end, delete, update, accepted, Changed, without_row, with_values}
 use Rattle.myi_state.specs.Sound.{AreInOrder, IsState}
-use Rattle.myi_state.proofs.CallerLemmas.{found-is}
 use Rattle.myi_pair.specs.KeyList.{pointer, pair_of, pairs_of, key_list}
 use Rattle.myi_tablestate.specs.Listed.{placed, pair_at, pair_of_row, listed}
 use Rattle.myi_tablestate.proofs.ListLemmas.{sorted_same, put_without, put_has, IsOther, put_strict}
@@ -92,8 +90,7 @@ other_pairs : (d : Defs) (k : ℕ) (r : StoredRow) (rows : List StoredRow) → S
 other_pairs d k r [] own all apart = tt
 other_pairs d k r (q ∷ rows) own all apart =
     let one = pair_of_row d k r in
-    let other = pair_of_row d k q in
-    (
+    let other = pair_of_row d k q in (
       not_same (is_eq (pair_cmp one other)) (λ same. pointers_differ d.format d.slot_length r.at q.at own all.0 apart.0 (rows_equal (key_cmp one.key other.key) one.row other.row same)),
       other_pairs d k r rows own all.1 apart.1,
     )

@@ -1,14 +1,12 @@
 -- A clean pair stands for exactly one table.
-use Rattle.std.proofs.Common.{◌≡◌, ℕ, ◌-◌, ◌^◌, ◌<◌, ◌≤◌, Bool, true, false, ◌&&◌, List, [], ◌∷◌, length, map, Option, Some, None, Ok, refl, sym, ap, subst, ◌∙◌, arith}
-use Rattle.std.specs.Prelude.{nat_le, nat_lt, option_and_then, option_map}
+use Rattle.std.proofs.Common.{◌≡◌, ℕ, ◌-◌, ◌^◌, ◌<◌, Bool, true, false, ◌&&◌, List, [], ◌∷◌, length, map, Option, Some, None, refl, sym, ap, subst, ◌∙◌, arith}
+use Rattle.std.specs.Prelude.{nat_le, nat_lt}
 use Rattle.std.specs.List.{AllByRecursion}
 use Rattle.std.proofs.lemmas.Bool.{leb-true}
 use Rattle.myi_base.specs.Numbers.{AreBytes}
 use Rattle.myi_defs.specs.declared.types.RowFormat.{RowFormat}
 use Rattle.myi_defs.specs.declared.types.RowFormat.TheVariants.{Static, Dynamic}
 use Rattle.myi_defs.specs.declared.types.Defs.{Defs}
-use Rattle.myi_defs.specs.ReadDefs.{read_defs, AreDefs}
-use Rattle.myi_defs.specs.Sound.{IsSound}
 use Rattle.myi_defs.specs.Addressable.{is_addressable, pointers}
 use Rattle.myi_defs.proofs.CallerLemmas.{sound, are_defs}
 use Rattle.myi_header.specs.StateOf.{state_of}
@@ -30,10 +28,9 @@ use Rattle.myi_btree.specs.Walk.{Walked}
 use Rattle.myi_pair.specs.FirstRows.{key_numbers, AreDistinct}
 use Rattle.myi_pair.specs.KeyList.{PlacedRow, key_list}
 use Rattle.myi_pair.specs.Trees.{AreKeyLists}
-use Rattle.myi_pair.specs.Clean.{values_of, sized_row, placed_row, IsClean}
+use Rattle.myi_pair.specs.Clean.{sized_row, placed_row, IsClean}
 use Rattle.myi_pair.proofs.CallerLemmas.{readable_storable}
-use Rattle.myi_tablestate.specs.Keyed.{values_in_rows, IsTable}
-use Rattle.myi_tablestate.specs.Listed.{placed, listed}
+use Rattle.myi_tablestate.specs.Listed.{placed}
 use Rattle.myi_tablestate.specs.Standing.{HavePairs, StandForTable}
 use Rattle.myi_tablestate.proofs.CleanLemmas.{IsRead, placed_read, values_read}
 use Rattle.myi_tablestate.proofs.StandLemmas.{Rises, IsListed, table_of, listed_state, listed_stands, listed_head}

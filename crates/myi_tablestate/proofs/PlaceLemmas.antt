@@ -1,5 +1,5 @@
 -- Positions of rows and their pointers.
-use Rattle.std.proofs.Common.{◌≡◌, ◌≢◌, ℕ, suc, ◌+◌, ◌*◌, ◌/◌, ◌<◌, List, [], ◌∷◌, ◌++◌, Option, Some, None, refl, sym, ap, subst, ◌∙◌, arith}
+use Rattle.std.proofs.Common.{◌≡◌, ◌≢◌, ℕ, suc, ◌+◌, ◌*◌, ◌/◌, ◌<◌, List, [], ◌∷◌, ◌++◌, Some, None, refl, sym, ap, subst, ◌∙◌, arith}
 use Rattle.std.specs.List.{AllByRecursion}
 use Rattle.std.proofs.lemmas.Nat.{div-mul-add}
 use Rattle.myi_defs.specs.declared.types.RowFormat.{RowFormat}
@@ -13,8 +13,8 @@ use Rattle.myi_dellist.proofs.CallerLemmas.{tiles-follow}
 use Rattle.myi_state.specs.State.{StoredRow, TableState, row_areas}
 use Rattle.myi_state.specs.Sound.{IsSlot, AreOneSlot, AreBlocks, AreHoles, IsRow, IsState}
 use Rattle.myi_state.proofs.CallerLemmas.{in-order-all, order-back, state-bytes, slot-some}
-use Rattle.myi_pair.specs.KeyList.{pointer_by, pointer}
-use Rattle.myi_tablestate.specs.Listed.{position_by, position}
+use Rattle.myi_pair.specs.KeyList.{pointer_by}
+use Rattle.myi_tablestate.specs.Listed.{position_by}
 
 -- the position of a row is found again from its pointer
 abbrev pub IsBack : RowFormat → ℕ → ℕ → Type 0

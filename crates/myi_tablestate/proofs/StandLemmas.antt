@@ -1,13 +1,13 @@
 -- A clean pair stands for a table.
-use Rattle.std.proofs.Common.{◌≡◌, ℕ, zero, suc, ◌+◌, ◌-◌, ◌*◌, ◌/◌, ◌^◌, ◌%◌, ◌<◌, ◌≤◌, ◌⊎◌, inl, inr, Bool, true, false, cond, ◌&&◌, ◌||◌, List, [], ◌∷◌, ◌++◌, length, map, take, drop, Option, Some, None, Ok, refl, sym, ap, subst, ◌∙◌, arith, div-mul-le_self}
-use Rattle.std.specs.Prelude.{nat_le, nat_lt, is_some, option_and_then, option_map, unwrap_or, slice_index, if◌then◌else◌}
-use Rattle.std.specs.List.{AllByRecursion, All, list_any, list_all, filter, flat_map, sum_by}
+use Rattle.std.proofs.Common.{◌≡◌, ℕ, zero, suc, ◌+◌, ◌-◌, ◌*◌, ◌/◌, ◌^◌, ◌%◌, ◌<◌, ◌≤◌, inl, inr, Bool, true, false, cond, ◌&&◌, ◌||◌, List, [], ◌∷◌, ◌++◌, length, map, take, drop, Option, Some, None, refl, sym, ap, subst, ◌∙◌, arith, div-mul-le_self}
+use Rattle.std.specs.Prelude.{nat_le, nat_lt, is_some, option_and_then, option_map, unwrap_or, slice_index}
+use Rattle.std.specs.List.{AllByRecursion, list_any, filter, flat_map, sum_by}
 use Rattle.std.specs.List.Sorted.{IsPermutation}
 use Rattle.std.specs.Option.{option_map_or}
 use Rattle.std.proofs.lemmas.Bool.{eqb-true, leb-true, ltb-true}
 use Rattle.std.proofs.lemmas.List.{drop-drop, length-take-le, length-drop}
 use Rattle.std.proofs.lemmas.List.Elements.{All-from_recursion, recursion_from_All}
-use Rattle.std.proofs.lemmas.List.Sorted.{IsPermutation-map, IsPermutation-sym, IsPermutation-trans, IsPermutation-append_right, All-permutation, sum_by-IsPermutation}
+use Rattle.std.proofs.lemmas.List.Sorted.{IsPermutation-map, IsPermutation-append_right, All-permutation, sum_by-IsPermutation}
 use Rattle.std.proofs.lemmas.List.Sums.{sum_by-cons}
 use Rattle.myi_base.specs.Numbers.{AreBytes}
 use Rattle.myi_base.specs.Ranges.{Range, are_apart, is_apart}
@@ -15,7 +15,6 @@ use Rattle.myi_defs.specs.declared.types.RowFormat.{RowFormat}
 use Rattle.myi_defs.specs.declared.types.RowFormat.TheVariants.{Static, Dynamic}
 use Rattle.myi_defs.specs.declared.types.Defs.{Defs}
 use Rattle.myi_defs.specs.Sound.{IsSound}
-use Rattle.myi_defs.specs.Addressable.{is_addressable}
 use Rattle.myi_frames.specs.declared.form.FrameKind.{FrameKind}
 use Rattle.myi_frames.specs.declared.form.FrameKind.TheVariants.{Deleted, Whole, Start, Middle, End}
 use Rattle.myi_frames.specs.Block.{Block, block_of}
@@ -30,15 +29,15 @@ use Rattle.myi_chain.specs.Meeting.{IsRowOf, IsDeletedOf, IsItemOf, ranges_of}
 use Rattle.myi_chain.proofs.CallerLemmas.{blocks_read, rest_fine}
 use Rattle.myi_dellist.specs.Areas.{Area, below, bytes_below, Tile, IsApart, AreApart, AreInside, Holds}
 use Rattle.myi_dellist.specs.Releasing.{IsHole, IsFreeable}
-use Rattle.myi_dellist.specs.Standing.{first_or, IsPart, hole_block, HasList}
+use Rattle.myi_dellist.specs.Standing.{first_or, IsPart, hole_block}
 use Rattle.myi_dellist.proofs.CallerLemmas.{covered-tile, tile-apart}
 use Rattle.myi_data.specs.Slots.{Slot, slots}
-use Rattle.myi_data.specs.Readable.{packs, slot_range, slot_row, slot_items, items_at, items_by, items_in, readable, deleted}
+use Rattle.myi_data.specs.Readable.{packs, slot_items, items_at, items_by, items_in, readable, deleted}
 use Rattle.myi_data.proofs.CallerLemmas.{rows_apart, slot_cases}
 use Rattle.myi_state.specs.State.{StoredRow, TableState, row_areas}
 use Rattle.myi_state.specs.Sound.{AreInOrder, AreBlocks, IsSlot, AreHoles, IsRow, IsState}
-use Rattle.myi_state.specs.Standing.{area_of_block, StandsInBlocks, slot_bytes, RowStands, ListSlots, HolesStand, StandsFor, range_of_area, area_of_range, stored_row, named_slot, next_in_slot}
-use Rattle.myi_pair.specs.Clean.{values_of, covers, next_by, NamesByFormat, NamesBefore, Follows, next_deleted}
+use Rattle.myi_state.specs.Standing.{area_of_block, slot_bytes, RowStands, ListSlots, HolesStand, StandsFor, area_of_range, stored_row}
+use Rattle.myi_pair.specs.Clean.{covers, next_by, NamesByFormat, NamesBefore, Follows, next_deleted}
 
 -- ---- what is read, by the format
 
@@ -314,12 +313,11 @@ assoc_ranges (x ∷ xs) ys zs = ap (λ (us : List Range). x ∷ us) (assoc_range
 
 gone_apart : (own before gs : List Range) (low : ℕ) → EndBy low before → AreBehind low gs → AllByRecursion (λ (a : Range). is_apart a own ≡ true) gs → chain.AreApart (own ++ before) gs
 gone_apart own before [] low end behind far = tt
-gone_apart own before (a ∷ gs) low end behind far =
-    (
-      apart_append a own before far.0 (apart_end low a before behind.0 end),
-      subst (λ (us : List Range). chain.AreApart us gs) (sym (assoc_ranges own before (a ∷ [])))
+gone_apart own before (a ∷ gs) low end behind far = (
+  apart_append a own before far.0 (apart_end low a before behind.0 end),
+  subst (λ (us : List Range). chain.AreApart us gs) (sym (assoc_ranges own before (a ∷ [])))
       (gone_apart own (before ++ a ∷ []) gs a.1 (all_both (λ (r : Range). r.1 ≤ a.1) before (a ∷ []) (end_more low a.1 before (omega (arith, behind.0, behind.1)) end) (omega arith, tt)) behind.2 far.1),
-    )
+)
 
 pub all_apart : (own gs : List Range) → chain.AreApart [] own → AreBehind 0 gs → AllByRecursion (λ (a : Range). is_apart a own ≡ true) gs → chain.AreApart [] (own ++ gs)
 all_apart own gs rows behind far = more_apart [] own gs rows (subst (λ (us : List Range). chain.AreApart us gs) (append_none own) (gone_apart own [] gs 0 tt behind far))
@@ -350,11 +348,10 @@ split_apart a (x ∷ xs) ys is = by (are_apart a x) is (split_apart a xs ys)
 
 apart_first : (used : List Range) (r : Range) (rs : List Range) (more : List Range) → r.0 ≤ r.1 → AreRanges rs → chain.AreApart (used ++ r ∷ more) rs → AllByRecursion (IsApart (area_of_range r)) (map area_of_range rs)
 apart_first used r [] more one all apart = tt
-apart_first used r (s ∷ rs) more one all apart =
-    (
-      far_of s r all.0 one (first (are_apart s r) (split_apart s used (r ∷ more) apart.0)),
-      apart_first used r rs (more ++ s ∷ []) one all.1 (subst (λ (us : List Range). chain.AreApart us rs) (assoc_ranges used (r ∷ more) (s ∷ [])) apart.1),
-    )
+apart_first used r (s ∷ rs) more one all apart = (
+  far_of s r all.0 one (first (are_apart s r) (split_apart s used (r ∷ more) apart.0)),
+  apart_first used r rs (more ++ s ∷ []) one all.1 (subst (λ (us : List Range). chain.AreApart us rs) (assoc_ranges used (r ∷ more) (s ∷ [])) apart.1),
+)
   where
     first : (b : Bool) → (b && is_apart s more) ≡ true → b ≡ true
     first true is = refl
@@ -511,12 +508,11 @@ next_is d x f before at (p ∷ ps) follows = follows.0
 
 slots_listed : (d : Defs) (x : List ℕ) → d.format ≡ Static → (before at : Option ℕ) (ps : List ℕ) → Follows d x before at ps → AllByRecursion (IsFreeSlot d x) ps → ListSlots d x (map (hole_by Static d x) ps)
 slots_listed d x static before at [] follows all = tt
-slots_listed d x static before at (p ∷ ps) follows all =
-    (
-      all.0.first,
-      sym (ap (λ (f : RowFormat). next_by f d x p) static) ∙ next_is d x Static (Some p) (next_deleted d x p) ps follows.2,
-      slots_listed d x static (Some p) (next_deleted d x p) ps follows.2 all.1,
-    )
+slots_listed d x static before at (p ∷ ps) follows all = (
+  all.0.first,
+  sym (ap (λ (f : RowFormat). next_by f d x p) static) ∙ next_is d x Static (Some p) (next_deleted d x p) ps follows.2,
+  slots_listed d x static (Some p) (next_deleted d x p) ps follows.2 all.1,
+)
 
 block_same : (b : Block) (at size : ℕ) (next prev : Option ℕ) → b.kind ≡ Deleted → b.at ≡ at → b.size ≡ size → b.rec_len ≡ 0 → b.next ≡ next → b.prev ≡ prev → b.bytes ≡ [] → b ≡ hole_block (record { at = at; size = size }) next prev
 block_same b at size next prev k a s l n p c =
@@ -551,11 +547,10 @@ free_block d x dynamic before next p is names follows =
 
 blocks_listed : (d : Defs) (x : List ℕ) → d.format ≡ Dynamic → (before at : Option ℕ) (ps : List ℕ) → Follows d x before at ps → AllByRecursion (IsFreeBlock x) ps → IsPart x before (map (hole_by Dynamic d x) ps) None
 blocks_listed d x dynamic before at [] follows all = tt
-blocks_listed d x dynamic before at (p ∷ ps) follows all =
-    (
-      free_block d x dynamic before (first_or (map (hole_by Dynamic d x) ps) None) p all.0 follows.1 (next_is d x Dynamic (Some p) (next_deleted d x p) ps follows.2),
-      blocks_listed d x dynamic (Some p) (next_deleted d x p) ps follows.2 all.1,
-    )
+blocks_listed d x dynamic before at (p ∷ ps) follows all = (
+  free_block d x dynamic before (first_or (map (hole_by Dynamic d x) ps) None) p all.0 follows.1 (next_is d x Dynamic (Some p) (next_deleted d x p) ps follows.2),
+  blocks_listed d x dynamic (Some p) (next_deleted d x p) ps follows.2 all.1,
+)
 
 -- a deleted block has fewer than 2^24 bytes
 small_by : (y : List ℕ) (p len : ℕ) (b : Block) (o : Option Rattle.myi_frames.specs.declared.head.Header.Header) → AreBytes y → Rattle.myi_frames.specs.Block.header_of y p len ≡ o → option_map (Rattle.myi_frames.specs.Block.block_by y) o ≡ Some b → b.kind ≡ Deleted → b.size < 2 ^ 24

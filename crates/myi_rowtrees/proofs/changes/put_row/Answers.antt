@@ -1,8 +1,5 @@
-use Rattle.std.proofs.Common.{◌≡◌, ◌≤◌, ◌<◌, ◌^◌, length, sym, ap, ◌∙◌, arith, take}
-use Rattle.std.specs.Prelude.{slice_index_or}
+use Rattle.std.proofs.Common.{sym, ◌∙◌, arith}
 use Rattle.std.proofs.lemmas.Result.{err_from_is_err_and}
-use Rattle.myi_keytrees.specs.Standing.{IfStand}
-use Rattle.myi_rowtrees.specs.RowLists.{LackPointers}
 use Rattle.myi_rowtrees.proofs.EachLemmas.{same_count, same_pointers, room_at, room_of, put_step, put_never, put_whole}
 use Rattle.myi_rowtrees.proofs.ToldLemmas.{if_err, others_follow}
 use Rattle.myi_rowtrees.proofs.changes.put_row.Goals as goal

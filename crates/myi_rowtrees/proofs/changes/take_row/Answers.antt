@@ -1,7 +1,5 @@
-use Rattle.std.proofs.Common.{◌≡◌, ◌≤◌, ◌<◌, ◌^◌, length, sym, ap, ◌∙◌, arith, take}
-use Rattle.std.specs.Prelude.{slice_index_or}
+use Rattle.std.proofs.Common.{sym, ◌∙◌, arith}
 use Rattle.std.proofs.lemmas.Result.{err_from_is_err_and}
-use Rattle.myi_keytrees.specs.Standing.{IfStand}
 use Rattle.myi_rowtrees.proofs.EachLemmas.{take_step, take_never, take_whole}
 use Rattle.myi_rowtrees.proofs.ToldLemmas.{if_err, others_follow}
 use Rattle.myi_rowtrees.proofs.changes.take_row.Goals as goal

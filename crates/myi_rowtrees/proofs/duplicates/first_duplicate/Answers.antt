@@ -1,7 +1,6 @@
-use Rattle.std.proofs.Common.{◌≡◌, ◌<◌, ◌≤◌, ◌+◌, ℕ, length, Option, sym, ap, subst, ◌∙◌, arith}
+use Rattle.std.proofs.Common.{◌<◌, length, sym, ap, ◌∙◌, arith}
 use Rattle.std.specs.Prelude.{option_map}
 use Rattle.std.proofs.lemmas.Result.{err_from_is_err_and}
-use Rattle.myi_keytrees.specs.Standing.{IfStand}
 use Rattle.myi_tablestate.specs.Listed.{position}
 use Rattle.myi_rowtrees.specs.Duplicates.{others}
 use Rattle.myi_rowtrees.proofs.ToldLemmas.{if_err}
@@ -16,8 +15,8 @@ returns-in_err-row-clause-never g c =
     let e = err_from_is_err_and c.from_residual.result c.from_residual.ensures.1 in
     if_err c.from_residual.result e.0 _ e.1
     (λ p d. λ m held own lists s.
-        let one = c.loop-i.invariant.stand m held own lists s in
-        c.in_err-row.ensures.never p (sym e.2 ∙ d) one.now one.held own lists one.stand)
+    let one = c.loop-i.invariant.stand m held own lists s in
+    c.in_err-row.ensures.never p (sym e.2 ∙ d) one.now one.held own lists one.stand)
 
 pub returns-in-Some-clause-first : goal.returns-in-Some-clause-first
 returns-in-Some-clause-first g c = λ m told own lists st s values pointer t same pairs.

@@ -1,4 +1,4 @@
-use Rattle.std.proofs.Common.{◌≡◌, ◌+◌, ℕ, true, List, Option, sym, ap, subst, ◌∙◌}
+use Rattle.std.proofs.Common.{◌+◌, List, sym, ap, subst, ◌∙◌}
 use Rattle.std.specs.Prelude.{slice_index_or, option_map}
 use Rattle.myi_defs.specs.declared.types.Key.{Key}
 use Rattle.myi_keys.specs.declared.values.KeySeg.{KeySeg}
@@ -7,7 +7,6 @@ use Rattle.myi_keys.specs.Comparing.{key_front}
 use Rattle.myi_keys.proofs.CallerLemmas.{front_again}
 use Rattle.myi_keylist.specs.declared.pair.Pair.{Pair}
 use Rattle.myi_search.specs.Least.{IsLeastRow}
-use Rattle.myi_data.specs.Keys.{key_of}
 use Rattle.myi_tablestate.specs.Listed.{listed, position}
 use Rattle.myi_rowtrees.specs.Duplicates.{others}
 use Rattle.myi_rowtrees.proofs.HeldLemmas.{search_on, unique_at, Found, held, number_of}
@@ -25,8 +24,8 @@ returns-then-not-unique-clause-held g c = λ m told own lists s state values t l
     elim c.then-not-unique.branch [
       | then-not-unique-via-then-not-unique w ↦ sym (law.plain d values (i + 1) (others d c.args.own state.rows) (unique ∙ w.if-not-unique.true))
       | then-not-unique-via-else-not-unique+then-not-is_complete_code w ↦
-        sym (law.absent d values (i + 1) (others d c.args.own state.rows)
-        (ap is_complete (sym key ∙ sym (front_again c.args.pair.now.key w.code.ensures.key) ∙ ap key_front (sym w.code.ensures.value)) ∙ sym w.is_complete_code.ensures ∙ w.if-not-is_complete_code.true))
+          sym (law.absent d values (i + 1) (others d c.args.own state.rows)
+          (ap is_complete (sym key ∙ sym (front_again c.args.pair.now.key w.code.ensures.key) ∙ ap key_front (sym w.code.ensures.value)) ∙ sym w.is_complete_code.ensures ∙ w.if-not-is_complete_code.true))
     ]
 
 pub returns-in_err-row-clause-search : goal.returns-in_err-row-clause-search

@@ -1,6 +1,4 @@
 use Rattle.std.proofs.Common.{◌≡◌, ◌<◌, ◌≤◌, subst, ◌+◌, ◌++◌, ◌∷◌, [], List, length, sym, ap, ◌∙◌}
-use Rattle.myi_pack.specs.Packed.{Values}
-use Rattle.myi_pack.specs.Spelling.{spelling}
 use Rattle.myi_pack.specs.Unpacking.{row_of}
 use Rattle.myi_keylist.specs.declared.pair.Pair.{Pair}
 use Rattle.myi_keylist.specs.PairOrder.{pair_with}

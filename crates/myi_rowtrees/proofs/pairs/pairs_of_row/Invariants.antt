@@ -1,4 +1,4 @@
-use Rattle.std.proofs.Common.{◌≡◌, length}
+use Rattle.std.proofs.Common.{◌≡◌}
 use Rattle.myi_rowtrees.proofs.PairLemmas.{first_pairs}
 use Rattle.myi_rowtrees.proofs.pairs.pairs_of_row.Given as goal
 

@@ -6,7 +6,7 @@ use Rattle.myi_data.specs.Readable.{packs}
 use Rattle.myi_state.specs.State.{TableState}
 use Rattle.myi_state.specs.Standing.{StandsFor}
 use Rattle.myi_tablestate.proofs.CleanLemmas.{IsRead, is_clean}
-use Rattle.myi_tablestate.proofs.StandLemmas.{IsListed, table_of, listed_stands}
+use Rattle.myi_tablestate.proofs.StandLemmas.{table_of, listed_stands}
 use Rattle.myi_tablestate.proofs.PairedLemmas.{is_listed, stands, once}
 use Rattle.myi_tablestate.proofs.laws.clean_pairs_stand_for_tables.Goals as goal
 
