@@ -3,7 +3,7 @@
 -- written_trees_stand_in_the_file
 pub use Rattle.myi_keytrees.proofs.FileLaws.{stand_in}
 -- opened_trees_stand
-pub use Rattle.myi_keytrees.proofs.OpenLaws.{opened}
+pub use Rattle.myi_keytrees.proofs.OpenLaws.{opened, none_in_front}
 -- bytes_are_counted
 pub use Rattle.myi_keytrees.proofs.CountLaws.{counted, few}
 -- calls_follow

@@ -20,7 +20,7 @@ use Rattle.myi_insertion.proofs.CallerLemmas.{same_walk}
 use Rattle.myi_keytrees.specs.Trees.{Trees}
 use Rattle.myi_keytrees.specs.Standing.{cover_each, HoldLists, Stand}
 use Rattle.myi_keytrees.specs.InFile.{pages_on, AreFree, HasWalkApart, HaveWalks, EndAt, AreAscending, contents_of, pages_of_walks, bytes_owned}
-use Rattle.myi_keytrees.proofs.FileLaws.{in_range, in_ranges, range_zero, range_most, in_pages, in_both, nodes_same}
+use Rattle.myi_keytrees.proofs.FileLaws.{in_range, in_ranges, range_one, range_zero, range_most, in_pages, in_both, nodes_same}
 
 -- ---- ranges that are apart have no byte in common
 
@@ -173,3 +173,11 @@ opened t m first ws placed none current room ascend have ends = record {
         | inr past ↦ omega (arith, is, none_behind t.room.end x t.places ws past ends, end_most t.room.end x)
       ];
 }
+
+-- no page and no free byte lies in the front of the file
+pub none_in_front : (t : Trees) (m : Holding) (first x : ℕ) (ws : List Walked) → t.room ≡ record { end = t.room.end; free = [] } → first ≤ t.room.end → HaveWalks (bytes_of t.cache.name m) ((0, first) ∷ []) t.places ws → x < first → bytes_owned t ws x ≡ 0
+none_in_front t m first x ws room le have low =
+    let header : in_range (0, first) x ≡ 1 = range_one (0, first) x (omega arith) low in
+    let most = trees_once (bytes_of t.cache.name m) ((0, first) ∷ []) t.places ws x (omega (arith, header)) have in
+    let is : stock t.room x ≡ from_end t.room.end x = ap (λ (r : Room). stock r x) room ∙ end_only t.room.end x in
+    omega (arith, header, most, is, end_before t.room.end x (omega arith))

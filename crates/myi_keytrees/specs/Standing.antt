@@ -49,8 +49,9 @@ HoldLists cache m (place ∷ places) [] pages = ⊥
 HoldLists cache m (place ∷ places) (pairs ∷ lists) [] = ⊥
 HoldLists cache m (place ∷ places) (pairs ∷ lists) (own ∷ pages) = HoldsPairs cache m place pairs own × HoldLists cache m places lists pages
 
--- Where the files hold this, the trees stand for these lists. Each has pages of a length that can be; the pages of all trees and the room have just the bytes of `own`, each
--- once; the file is as the last call of the cache left it, and no page that is kept has a byte of the room, but a free page itself.
+-- Where the files hold this, the trees stand for these lists. Each has pages of a length that can be; the pages of all trees and the
+-- room have just the bytes of `own`, each once; the file is as the last call of the cache left it, and no page that is kept has a byte
+-- of the room, but a free page itself.
 pub record Stand (trees : Trees) (m : Holding) (own : ℕ → ℕ) (lists : List (List Pair)) : Type 0 where
   pub placed : AllByRecursion IsPlaced trees.places
   pub pages : List (List ℕ)

@@ -32,15 +32,19 @@ pub fn written_trees_stand_in_the_file()
 {}
 
 /// Where nothing is kept or free and the trees of the file have walks with pairs in order, whose pages end before the room,
-/// the trees stand for the pairs of these walks.
+/// the trees stand for the pairs of these walks, and none of their bytes is one of the first so many.
 pub fn opened_trees_stand()
-    ensures { (trees : Trees) (m : Holding) (first : ℕ) (walks : List Walked)
-        → AllByRecursion IsPlaced trees.places → pages_of trees.cache ≡ [] → IsCurrent trees.cache m
-        → trees.room ≡ record { end = trees.room.end; free = [] }
+    ensures stand { (trees : Trees) (m : Holding) (first : ℕ) (walks : List Walked)
+        → AllByRecursion IsPlaced trees.places → pages_of trees.cache ≡ []
+        → IsCurrent trees.cache m → trees.room ≡ record { end = trees.room.end; free = [] }
         → AreAscending (contents_of walks)
         → HaveWalks (bytes_of trees.cache.name m) ((0, first) ∷ []) trees.places walks
         → EndAt trees.room.end trees.places walks
         → Stand trees m (bytes_owned trees walks) (contents_of walks) }
+    ensures front { (trees : Trees) (m : Holding) (first x : ℕ) (walks : List Walked)
+        → trees.room ≡ record { end = trees.room.end; free = [] } → first ≤ trees.room.end
+        → HaveWalks (bytes_of trees.cache.name m) ((0, first) ∷ []) trees.places walks
+        → x < first → bytes_owned trees walks x ≡ 0 }
 {}
 
 /// The pages of the trees and the free pages have as many bytes more as the end of the room went on, whatever
