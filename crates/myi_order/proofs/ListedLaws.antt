@@ -123,9 +123,6 @@ module _ (d : Defs) (rows : List Values) (all now : List (List Pair)) (keys : ma
       parts_are d rows all keys long parts (length (map sorted all)) (length-map all sorted)
       (subst (λ (l : List (List Pair)). parts ≡ map (parts_at d l) (range_with_len 0 (length l))) is made)
 
-pub parts_small : (d : Defs) (rows : List Values) (parts : List KeyParts) → parts ≡ key_parts d rows → AllByRecursion (λ n. n < 256 ^ 4) (all_per parts)
-parts_small d rows parts is = subst (λ (ps : List KeyParts). AllByRecursion (λ n. n < 256 ^ 4) (all_per ps)) (sym is) (all_small d rows (key_numbers d))
-
 -- ---- there is a number for each segment of a key
 
 total : List ℕ → ℕ

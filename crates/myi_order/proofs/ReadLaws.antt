@@ -11,9 +11,7 @@ use Rattle.myi_chain.specs.Pieces.{piece_bytes}
 use Rattle.myi_chain.specs.Readable.{Row, rows_of}
 use Rattle.myi_chain.specs.ScanModel.{fresh_scan, IsSameScan, as_item, as_items}
 use Rattle.myi_chain.proofs.CallerLemmas.{row_first}
-use Rattle.myi_keys.specs.declared.values.KeySeg.{KeySeg}
 use Rattle.myi_keylist.specs.declared.pair.Pair.{Pair}
-use Rattle.myi_keylist.specs.Repeats.{keys_of}
 use Rattle.myi_pack.specs.Packed.{Values}
 use Rattle.myi_pack.specs.Unpacking.{row_of}
 use Rattle.myi_data.specs.Keys.{key_of}
@@ -26,9 +24,7 @@ use Rattle.myi_rowkeys.proofs.CallerLemmas.{length-numbers}
 use Rattle.myi_pair.specs.KeyList.{PlacedRow}
 use Rattle.myi_pair.specs.Clean.{values_of, placed_row}
 use Rattle.myi_order.specs.declared.rows_read.RowsRead.{RowsRead}
-use Rattle.myi_order.specs.KeyParts.{keys_in}
-use Rattle.myi_order.specs.Counting.{placed_pair, placed_pairs, HasRead, Reads, ReadsAll, values_placed, placed_ahead, IsCounted, CountsFile}
-use Rattle.myi_order.specs.declared.counting.Counted.{Counted}
+use Rattle.myi_order.specs.Counting.{placed_pair, placed_pairs, HasRead, Reads, ReadsAll, placed_ahead}
 
 -- ---- the keys
 
@@ -45,26 +41,9 @@ pairs_next d rows row (k ∷ ks) =
     ap (λ (ps : List Pair). ps ∷ with_pairs row.0 (map (λ j. key_of d j row.1) ks) (map (λ j. map (placed_pair d j) rows) ks)) (sym (map-append (placed_pair d k) rows (row ∷ [])))
     ∙ ap (λ (ls : List (List Pair)). map (placed_pair d k) (rows ++ row ∷ []) ∷ ls) (pairs_next d rows row ks)
 
--- the lists have the keys of the rows
-pub keys_read : (d : Defs) (rows : List PlacedRow) (r : RowsRead) → HasRead d rows r → map keys_of r.keys ≡ map (keys_in d (values_placed rows)) (key_numbers d)
-keys_read d rows r has = ap (map keys_of) has.pairs ∙ each (key_numbers d)
-  where
-    keys : (k : ℕ) (rs : List PlacedRow) → keys_of (map (placed_pair d k) rs) ≡ keys_in d (values_placed rs) k
-    keys k [] = refl
-    keys k (row ∷ rs) = ap (λ (ks : List (List KeySeg)). key_of d k row.1 ∷ ks) (keys k rs)
-
-    each : (ks : List ℕ) → map keys_of (map (λ k. map (placed_pair d k) rows) ks) ≡ map (keys_in d (values_placed rows)) ks
-    each [] = refl
-    each (k ∷ ks) =
-        ap (λ (ps : List (List KeySeg)). ps ∷ map keys_of (map (λ j. map (placed_pair d j) rows) ks)) (keys k rows)
-        ∙ ap (λ (ls : List (List (List KeySeg))). keys_in d (values_placed rows) k ∷ ls) (each ks)
-
 -- a list for each key
 pub lists_read : (d : Defs) (rows : List PlacedRow) (r : RowsRead) → HasRead d rows r → length r.keys ≡ length d.keys
 lists_read d rows r has = ap (λ (ls : List (List Pair)). length ls) has.pairs ∙ length-map (key_numbers d) (λ k. map (placed_pair d k) rows) ∙ length-numbers 1 (length d.keys)
-
-pub rows_counted : (d : Defs) (rows : List PlacedRow) (r : RowsRead) → HasRead d rows r → r.count ≡ length (values_placed rows)
-rows_counted d rows r has = has.count ∙ sym (length-map rows (λ (row : PlacedRow). row.1))
 
 -- nothing was read
 pub none_read : (d : Defs) (r : RowsRead) → r.keys ≡ replicate (length d.keys) [] → r.count ≡ 0 → HasRead d [] r
@@ -131,15 +110,6 @@ all_placed name x d end scan m is file long =
     let here : bytes_of name m ≡ x = ap (λ o. unwrap_or o []) file in
     let ahead : items_ahead (fresh_scan name d false end) m ≡ items_in d false x = fresh_ahead name d false end m ∙ ap (λ b. items_in d false (take end b)) here ∙ ap (items_in d false) (take_all end x (omega (arith, long))) in
     ap (λ s. placed_ahead s m) is ∙ ap (λ is. map (placed_row d) (rows_of is)) ahead
-
--- the values of readable rows
-pub values_all : (d : Defs) (rows : List Row) → values_placed (map (placed_row d) rows) ≡ map (values_of d) rows
-values_all d [] = refl
-values_all d (r ∷ rows) = ap (λ (vs : List Values). values_of d r ∷ vs) (values_all d rows)
-
--- so many rows were counted of the file
-pub counted_file : (d : Defs) (x : List ℕ) (rows : List PlacedRow) (c : Counted) → rows ≡ map (placed_row d) (readable d false x) → IsCounted d (values_placed rows) c → CountsFile d x c
-counted_file d x rows c is counted = subst (λ values. IsCounted d values c) (ap values_placed is ∙ values_all d (readable d false x)) counted
 
 pub same_file : (name x y : List ℕ) (n : ℕ) (m : Holding) → m name ≡ Some x → m name ≡ Some y → n ≡ length x → n ≡ length y
 same_file name x y n m one two long = long ∙ ap (λ o. length (unwrap_or o [])) (sym one ∙ two)
