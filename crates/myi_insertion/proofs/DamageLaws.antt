@@ -1,5 +1,5 @@
 -- How a change comes to damage: the path that it goes down, page by page.
-use Rattle.std.proofs.Common.{◌≡◌, ◌⊎◌, ℕ, zero, suc, ◌+◌, ◌<◌, ◌≤◌, ◌||◌, Bool, true, false, Option, Some, None, List, [], ◌∷◌, ◌++◌, length, get_or, take, drop, refl, sym, ap, subst, ◌∙◌, inl, inr, arith}
+use Rattle.std.proofs.Common.{◌≡◌, ℕ, zero, suc, ◌<◌, ◌≤◌, ◌||◌, Bool, true, false, Option, Some, None, List, [], ◌∷◌, ◌++◌, length, get_or, take, drop, refl, sym, ap, subst, ◌∙◌, inl, inr, arith}
 use Rattle.std.specs.List.{AllByRecursion}
 use Rattle.std.specs.Ordering.{is_eq}
 use Rattle.std.proofs.lemmas.Option.{same_Some}
@@ -15,7 +15,7 @@ use Rattle.myi_btree.specs.Walk.{Places, node_with}
 use Rattle.myi_btree.specs.CachedTrees.{node_lent}
 use Rattle.myi_search.specs.Path.{next_child, HasNext, Leads}
 use Rattle.myi_insertion.specs.Strips.{Branches}
-use Rattle.myi_insertion.specs.Ordered.{AreBefore, BeginsBehind, begins_with}
+use Rattle.myi_insertion.specs.Ordered.{BeginsBehind, begins_with}
 use Rattle.myi_insertion.specs.Removal.{has_pair}
 use Rattle.myi_insertion.specs.Damage.{IsInFile, ShowsSame, goes_behind, goes_last, LacksPage, AreNeighbours, IsNearPath, IsNearPair, IsMissing, IsDamage}
 

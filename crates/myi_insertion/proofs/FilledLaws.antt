@@ -1,5 +1,5 @@
 -- On each page of a tree a node stands.
-use Rattle.std.proofs.Common.{◌≡◌, ℕ, zero, suc, ◌<◌, cond, ltb, Option, Some, None, List, [], ◌∷◌, ◌++◌, length, sym, ap, subst}
+use Rattle.std.proofs.Common.{◌≡◌, ℕ, zero, suc, ◌<◌, cond, ltb, Option, Some, None, List, [], ◌∷◌, ◌++◌, length, sym, subst}
 use Rattle.std.specs.List.{AllByRecursion}
 use Rattle.std.proofs.lemmas.Option.{same_Some, cond_some}
 use Rattle.myi_base.specs.Holding.{Holding}

@@ -1,5 +1,5 @@
 -- Where a change meets damage, in a tree of which the file has each page: on its path, or beside it.
-use Rattle.std.specs.Prelude.{◌≡◌, ◌⊎◌, ℕ, Bool, true, List, [], ◌∷◌, ◌++◌, Option, Some, None}
+use Rattle.std.specs.Prelude.{◌≡◌, ◌⊎◌, ℕ, Bool, true, List, ◌∷◌, ◌++◌, Option, Some, None}
 use Rattle.std.specs.Ordering.{is_gt}
 use Rattle.myi_base.specs.Holding.{Holding}
 use Rattle.myi_keycache.specs.Kept.{AllWritten}
@@ -9,7 +9,7 @@ use Rattle.myi_keylist.specs.PairOrder.{pair_cmp}
 use Rattle.myi_btree.specs.declared.place.Place.{Place}
 use Rattle.myi_btree.specs.Walk.{Node, Places}
 use Rattle.myi_btree.specs.CachedTrees.{node_lent}
-use Rattle.myi_search.specs.Path.{next_child, HasNext, Leads}
+use Rattle.myi_search.specs.Path.{next_child, Leads}
 use Rattle.myi_insertion.specs.Removal.{has_pair}
 
 -- the file is as the last call of the cache left it, and has each page that is kept
