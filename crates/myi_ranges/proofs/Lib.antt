@@ -1,0 +1,5 @@
+pub mod LeftLemmas
+pub mod RowLemmas
+pub mod TreeLemmas
+pub mod MatchLemmas
+pub mod AnswerLemmas
