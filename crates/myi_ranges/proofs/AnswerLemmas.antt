@@ -1,5 +1,5 @@
 -- What a call answers of the next pair, where the files are those of a table.
-use Rattle.std.proofs.Common.{◌≡◌, ◌≢◌, ℕ, zero, suc, ◌<◌, Bool, true, false, cond, Some, None, Option, List, [], ◌∷◌, length, refl, sym, ap, subst, ◌∙◌, arith}
+use Rattle.std.proofs.Common.{◌≡◌, ◌≢◌, ℕ, zero, suc, Bool, true, false, cond, Some, None, Option, List, [], ◌∷◌, refl, sym, ap, subst, ◌∙◌, arith}
 use Rattle.std.specs.Prelude.{Contains, filter, IfErr, Err, Result}
 use Rattle.std.specs.List.{AllByRecursion}
 use Rattle.std.proofs.lemmas.Option.{same_Some}
@@ -25,7 +25,7 @@ use Rattle.myi_ranges.specs.declared.fault.RangeFault.TheVariants.{Index}
 use Rattle.myi_ranges.specs.declared.ranges.Reached.{Reached}
 use Rattle.myi_ranges.specs.declared.ranges.Reached.TheVariants.{Behind, End}
 use Rattle.myi_ranges.specs.declared.ranges.RangeRows.{RangeRows}
-use Rattle.myi_ranges.specs.Ranges.{left_of, IsNext, coming, position_within, HasTable, Searched, Answers, NeverDamaged}
+use Rattle.myi_ranges.specs.Ranges.{IsNext, coming, position_within, HasTable, Searched, Answers, NeverDamaged}
 use Rattle.myi_ranges.proofs.LeftLemmas.{come_none, come_next, come_past}
 use Rattle.myi_ranges.proofs.RowLemmas.{RowsStand, RowOf, listed_row, file_stays, file_long, has_row, row_values, position_is}
 

@@ -1,5 +1,5 @@
 -- The rows of the pairs that are to come where a reading begins are those that match its bounds.
-use Rattle.std.proofs.Common.{◌≡◌, ℕ, zero, suc, ◌+◌, ◌*◌, ◌<◌, ◌≤◌, Bool, true, false, cond, ◌&&◌, ◌==◌, Option, Some, None, List, [], ◌∷◌, length, map, slice_index_or, refl, sym, ap, subst, ◌∙◌, arith}
+use Rattle.std.proofs.Common.{◌≡◌, ℕ, zero, suc, ◌+◌, ◌*◌, ◌<◌, ◌≤◌, Bool, true, false, cond, ◌&&◌, Option, Some, None, List, [], ◌∷◌, length, map, slice_index_or, refl, sym, ap, subst, ◌∙◌, arith}
 use Rattle.std.specs.Prelude.{filter, unwrap_or, IsPermutation, IsSorted}
 use Rattle.std.specs.List.{AllByRecursion}
 use Rattle.std.specs.List.Sorted.{IsStrictlySortedBy}
@@ -19,7 +19,7 @@ use Rattle.myi_keylist.specs.PairOrder.{pair_cmp, put_pair}
 use Rattle.myi_keylist.proofs.CallerLemmas.{pair_total}
 use Rattle.myi_data.specs.Keys.{key_of}
 use Rattle.myi_state.specs.State.{StoredRow, TableState, row_at}
-use Rattle.myi_state.specs.Sound.{AreInOrder, IsState}
+use Rattle.myi_state.specs.Sound.{AreInOrder}
 use Rattle.myi_state.proofs.CallerLemmas.{slot-some}
 use Rattle.myi_pair.specs.KeyList.{pointer, key_list}
 use Rattle.myi_tablestate.specs.Keyed.{IsTable}

@@ -1,8 +1,7 @@
 -- The row of a pair, and where it stands.
-use Rattle.std.proofs.Common.{◌≡◌, ◌≢◌, ℕ, zero, suc, ◌+◌, ◌*◌, ◌<◌, ◌≤◌, Bool, true, false, cond, ◌&&◌, ◌==◌, eqb, min, Option, Some, None, List, [], ◌∷◌, length, map, refl, sym, ap, subst, ◌∙◌, arith}
-use Rattle.std.specs.Prelude.{Contains, nat_le, unwrap_or, if◌then◌else◌}
+use Rattle.std.proofs.Common.{◌≡◌, ◌≢◌, ℕ, zero, suc, ◌+◌, ◌*◌, ◌≤◌, Bool, true, false, cond, ◌==◌, min, Option, Some, List, [], ◌∷◌, length, map, refl, sym, ap, subst, ◌∙◌, arith}
+use Rattle.std.specs.Prelude.{Contains, unwrap_or}
 use Rattle.std.specs.List.{AllByRecursion}
-use Rattle.std.proofs.lemmas.Bool.{and_right}
 use Rattle.std.proofs.lemmas.Bool.Decides.{nat_tests}
 use Rattle.std.proofs.lemmas.List.Sorted.{IsPermutation-sym, Contains-permutation}
 use Rattle.myi_base.specs.Holding.{Holding, bytes_of, OthersStay}
@@ -11,7 +10,6 @@ use Rattle.myi_defs.specs.declared.types.RowFormat.TheVariants.{Static, Dynamic}
 use Rattle.myi_defs.specs.declared.types.Defs.{Defs}
 use Rattle.myi_defs.specs.Sound.{IsSound}
 use Rattle.myi_pack.specs.Packed.{Values}
-use Rattle.myi_pack.specs.Unpacking.{row_of}
 use Rattle.myi_keylist.specs.declared.pair.Pair.{Pair}
 use Rattle.myi_keylist.specs.PairOrder.{sorted}
 use Rattle.myi_keylist.proofs.CallerLemmas.{sorted_permutes}
@@ -19,14 +17,14 @@ use Rattle.myi_state.specs.declared.counts.Counts.{Counts}
 use Rattle.myi_state.specs.State.{StoredRow, TableState, row_at}
 use Rattle.myi_state.specs.Numbers.{counts_of}
 use Rattle.myi_state.specs.Sound.{AreInOrder}
-use Rattle.myi_state.specs.Standing.{StandsFor, slot_bytes}
+use Rattle.myi_state.specs.Standing.{StandsFor}
 use Rattle.myi_slots.specs.SlotBytes.{is_slot, row_there}
 use Rattle.myi_slots.specs.SlotFile.{SlotFile, IsFileOf, IsLong}
 use Rattle.myi_slots.proofs.StandLemmas.{static-of}
 use Rattle.myi_slots.proofs.FoundLemmas.{IsThere, row-there}
 use Rattle.myi_blocks.specs.RowReading.{StandsAt}
 use Rattle.myi_rows.specs.RowFile.{HasRow, HasRowBy, IsRowAt, IsRowBy}
-use Rattle.myi_pair.specs.KeyList.{pointer, pair_of, pairs_of, key_list}
+use Rattle.myi_pair.specs.KeyList.{pointer, pairs_of, key_list}
 use Rattle.myi_tablestate.specs.Listed.{placed, pair_of_row, listed, position, position_by}
 use Rattle.myi_ranges.specs.Ranges.{position_within, position_by_end}
 

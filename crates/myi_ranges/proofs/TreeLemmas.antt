@@ -1,9 +1,9 @@
 -- What searches leave, one after the other, and that the list of each tree is in order.
-use Rattle.std.proofs.Common.{◌≡◌, ◌≢◌, ℕ, zero, suc, ◌<◌, Bool, Some, None, Option, List, [], ◌∷◌, length, slice_index_or, refl, sym, ap, subst, ◌∙◌, arith, inl, inr}
-use Rattle.std.specs.Prelude.{IsTrue, Err, Result, IfErr}
+use Rattle.std.proofs.Common.{◌≡◌, ℕ, zero, suc, ◌<◌, Bool, Some, None, Option, List, [], ◌∷◌, length, slice_index_or, refl, sym, subst, ◌∙◌, arith, inl, inr}
+use Rattle.std.specs.Prelude.{Err, Result, IfErr}
 use Rattle.std.specs.List.Sorted.{IsStrictlySortedBy}
 use Rattle.std.proofs.lemmas.Option.{same_Some}
-use Rattle.myi_base.specs.Holding.{Holding, OthersStay}
+use Rattle.myi_base.specs.Holding.{Holding}
 use Rattle.myi_keycache.specs.Caching.{Caching}
 use Rattle.myi_keylist.specs.declared.pair.Pair.{Pair}
 use Rattle.myi_keylist.specs.PairOrder.{pair_cmp}
@@ -11,7 +11,7 @@ use Rattle.myi_btree.specs.declared.place.Place.{Place}
 use Rattle.myi_btree.specs.declared.fault.TreeFault.{TreeFault}
 use Rattle.myi_btree.specs.CachedTrees.{ReadsOnly}
 use Rattle.myi_keytrees.specs.Trees.{Trees}
-use Rattle.myi_keytrees.specs.Standing.{list_of, HoldLists, Stand, StandThen, IfStand, StillStand, CanSearch}
+use Rattle.myi_keytrees.specs.Standing.{list_of, HoldLists, Stand, IfStand, StillStand, CanSearch}
 use Rattle.myi_keytrees.proofs.CallerLemmas.{stand_follow}
 use Rattle.myi_ranges.specs.Ranges.{Searched}
 

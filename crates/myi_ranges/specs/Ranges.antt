@@ -2,7 +2,7 @@
 -- is asked of the two files of the table.
 use Rattle.std.specs.Prelude.{◌≡◌, ◌*◌, ℕ, suc, Bool, true, false, ◌&&◌, min, List, [], ◌∷◌, filter, Option, Some, None}
 use Rattle.std.specs.Ordering.{is_lt}
-use Rattle.myi_base.specs.Holding.{Holding, IfTold, Told, OthersStay}
+use Rattle.myi_base.specs.Holding.{Holding, Told, OthersStay}
 use Rattle.myi_defs.specs.declared.types.RowFormat.{RowFormat}
 use Rattle.myi_defs.specs.declared.types.RowFormat.TheVariants.{Static, Dynamic}
 use Rattle.myi_defs.specs.declared.types.Defs.{Defs}

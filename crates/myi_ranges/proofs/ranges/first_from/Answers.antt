@@ -34,8 +34,8 @@ returns-in_err-pair-clause-never g c =
     let e = err_from_is_err_and c.from_residual-in_err-pair.result c.from_residual-in_err-pair.ensures.1 in
     if_err c.from_residual-in_err-pair.result e.0 _ e.1
     (λ p d. before_search told mid c.args.trees.now c.find.new.self (λ lists. ⊥)
-        (searched told mid c.args.trees.now c.find.new.self c.find.ensures.stand c.find.ensures.places c.find.ensures.room c.find.ensures.cache)
-        (c.in_err-pair.ensures.never p (sym e.2 ∙ d)))
+    (searched told mid c.args.trees.now c.find.new.self c.find.ensures.stand c.find.ensures.places c.find.ensures.room c.find.ensures.cache)
+    (c.in_err-pair.ensures.never p (sym e.2 ∙ d)))
 
 pub returns-clause-next : goal.returns-clause-next
 returns-clause-next g c = λ m held own lists s.
