@@ -3,6 +3,7 @@ ghost use Rattle.std.specs.Prelude.{◌≡◌, ◌≢◌, ◌⊎◌, Ok, Err, So
 ghost use Rattle.myi_base.specs.Holding.{IfTold, Told, Sets, OthersStay};
 ghost use Rattle.myi_base.specs.Causes.{HasCause};
 ghost use Rattle.myi_defs.specs.ReadDefs.{AreDefs};
+ghost use Rattle.myi_defs.specs.EmptyTable.{empty_header};
 ghost use Rattle.myi_create.specs.Names.{names_of, names_for, AreApart};
 ghost use Rattle.myi_create.specs.Creating.{definitions_of, definitions_in, Makes, PutsPart, MakesPart, Creates, IsCutOff, IsRefused};
 
@@ -36,7 +37,31 @@ pub fn create_table<F: Files>(
     ensures cause { HasCause CreateFault.File (F.faults files.old) (F.faults files.new) result }
 {
     let defs = read_text(alloc, files, text)?;
-    let header = print_defs(alloc, &defs)?;
+    create_with(alloc, files, name, &defs)?;
+    Ok(())
+}
+
+/// Makes an empty table of this name with these definitions, and replaces files of the table's names.
+pub fn create_with<F: Files>(
+    alloc: Global,
+    files: &mut F,
+    name: &str,
+    defs: &Defs,
+) -> Result<(), CreateFault>
+    requires writable { IsTrue F.writable }
+    requires defs { AreDefs defs.now }
+
+    // The two files are those of an empty table with the definitions.
+    ensures made { OnOk result (Told (F.holds files.old) (F.holds files.new)
+        (Makes (names_for name.now) (empty_header defs.now.raw))) }
+
+    // Where it is cut off the index file is the old one, and the data file is the old one, or empty.
+    ensures part { OnErr result (Told (F.holds files.old) (F.holds files.new)
+        (PutsPart (names_for name.now))) }
+    ensures cut { IfErr result IsCutOff }
+    ensures cause { HasCause CreateFault.File (F.faults files.old) (F.faults files.new) result }
+{
+    let header = print_defs(alloc, defs)?;
     let table = NewFiles::of(alloc, name)?;
     put_files(files, &table, &header)?;
     Ok(())

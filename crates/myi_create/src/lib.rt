@@ -3,6 +3,7 @@
 //! `create_table` reads the text from a file, makes the header that it stands for, and puts an index file of this
 //! header and an empty data file under the table's names. What is there under these names is replaced. A
 //! text that is refused changes nothing, and where a file call fails the index file is the old one, whole.
+//! `create_with` does the same with definitions that are there already.
 //!
 //! ```
 //! match create_table(alloc, files, "t", "t.txt") {
@@ -17,5 +18,5 @@ mod create;
 mod fault;
 mod names;
 
-pub use create::create_table;
+pub use create::{create_table, create_with};
 pub use fault::CreateFault;

@@ -1,0 +1,7 @@
+mod RowLaws
+mod TextLaws
+mod SizeLaws
+mod BlockLaws
+mod PutLaws
+mod RowsLaws
+mod MakeLaws
