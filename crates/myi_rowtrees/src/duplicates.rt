@@ -1,5 +1,6 @@
 //! Rows that have the complete key of another row in a unique key.
 ghost use Rattle.std.specs.Prelude.{◌≡◌, ◌+◌, ◌<◌, ◌≤◌, ℕ, length, option_map, IfOk, IfErr, IsTrue};
+ghost use Rattle.myi_base.specs.Holding.{Told, OthersStay};
 ghost use Rattle.myi_base.specs.Causes.{HasCause};
 ghost use Rattle.myi_defs.specs.Sound.{IsSound};
 ghost use Rattle.myi_pack.specs.Packed.{Values};
@@ -65,6 +66,9 @@ fn other_row<F: Files>(
     ensures places { trees.new.places ≡ trees.old.places }
     ensures room { trees.new.room ≡ trees.old.room }
     ensures search { IsTrue F.writable → CanSearch F.writable (F.holds files.new) trees.new }
+    ensures others { Told (F.holds files.old) (F.holds files.new)
+        (OthersStay trees.old.cache.name) }
+    ensures name { trees.new.cache.name ≡ trees.old.cache.name }
     ensures cause { HasCause File (F.faults files.old) (F.faults files.new) result }
     ensures reads { F.reads files.old ≤ F.reads files.new }
 {
@@ -102,6 +106,9 @@ pub fn first_duplicate<F: Files>(
     ensures places { trees.new.places ≡ trees.old.places }
     ensures room { trees.new.room ≡ trees.old.room }
     ensures search { CanSearch F.writable (F.holds files.new) trees.new }
+    ensures others { Told (F.holds files.old) (F.holds files.new)
+        (OthersStay trees.old.cache.name) }
+    ensures name { trees.new.cache.name ≡ trees.old.cache.name }
     ensures cause { HasCause File (F.faults files.old) (F.faults files.new) result }
     ensures reads { F.reads files.old ≤ F.reads files.new }
 {

@@ -3,7 +3,7 @@ use Rattle.std.specs.Prelude.{option_map}
 use Rattle.std.proofs.lemmas.Result.{err_from_is_err_and}
 use Rattle.myi_tablestate.specs.Listed.{position}
 use Rattle.myi_rowtrees.specs.Duplicates.{others}
-use Rattle.myi_rowtrees.proofs.ToldLemmas.{if_err}
+use Rattle.myi_rowtrees.proofs.ToldLemmas.{if_err, others_follow}
 use Rattle.myi_rowtrees.proofs.FirstLemmas.{still_follow, first_none, first_some, first_all, list_at, key_at, none_of}
 use Rattle.myi_rowtrees.proofs.duplicates.first_duplicate.Goals as goal
 
@@ -47,6 +47,8 @@ loop-i-preserved g c =
       stand = still_follow (g.F.Files.holds c.args.files.now) (g.F.Files.holds c.loop-i.files) (g.F.Files.holds c.other_row.new.files) c.args.trees.now c.loop-i.trees c.other_row.new.trees k.stand n.stand;
       places = n.places ∙ k.places;
       room = n.room ∙ k.room;
+      others = others_follow (g.F.Files.holds c.args.files.now) (g.F.Files.holds c.loop-i.files) (g.F.Files.holds c.other_row.new.files) c.args.trees.now.cache.name c.loop-i.trees.cache.name k.name k.others n.others;
+      name = n.name ∙ k.name;
       search = n.search c.requires.writable;
       faults = let one = k.faults in let two = n.cause.later in omega (arith, one, two);
       reads = let one = k.reads in let two = n.reads in omega (arith, one, two);

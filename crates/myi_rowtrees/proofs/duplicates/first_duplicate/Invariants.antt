@@ -1,4 +1,5 @@
 use Rattle.std.proofs.Common.{◌≡◌, ◌≤◌, ℕ, take, None}
+use Rattle.myi_base.specs.Holding.{Told, OthersStay}
 use Rattle.myi_pack.specs.Packed.{Values}
 use Rattle.myi_rowkeys.specs.TableKeys.{key_numbers}
 use Rattle.myi_state.specs.State.{TableState}
@@ -16,6 +17,8 @@ invariant-loop-i g l = record {
   stand : StillStand (g.F.Files.holds l.fn.files) (g.F.Files.holds l.files) l.fn.trees l.trees;
   places : l.trees.places ≡ l.fn.trees.places;
   room : l.trees.room ≡ l.fn.trees.room;
+  others : Told (g.F.Files.holds l.fn.files) (g.F.Files.holds l.files) (OthersStay l.fn.trees.cache.name);
+  name : l.trees.cache.name ≡ l.fn.trees.cache.name;
   search : CanSearch g.F.Files.writable (g.F.Files.holds l.files) l.trees;
   faults : g.F.Files.faults l.fn.files ≤ g.F.Files.faults l.files;
   reads : g.F.Files.reads l.fn.files ≤ g.F.Files.reads l.files;
