@@ -1,5 +1,5 @@
 //! `RangeRows`: the rows whose key lies between bounds, one after the other.
-ghost use Rattle.std.specs.Prelude.{◌≡◌, ◌≢◌, ◌<◌, ◌≤◌, min, length, IfOk, IfErr, OnOk};
+ghost use Rattle.std.specs.Prelude.{◌≡◌, ◌≢◌, ◌<◌, ◌≤◌, min, length, None, IfOk, IfErr, OnOk, OnErr};
 ghost use Rattle.myi_base.specs.Holding.{IfTold};
 ghost use Rattle.myi_base.specs.Causes.{HasCause};
 ghost use Rattle.myi_defs.specs.Sound.{IsSound};
@@ -167,6 +167,8 @@ impl RangeRows {
             → HasTable defs.now self.old.key trees.old rows.old.file s m
             → Answers defs.now s self.old self.new row)) }
         ensures cursor { self.new ≡ record self.old { reached = self.new.reached } }
+        ensures ended { IfOk result (λ row. row ≡ None → self.new.reached ≡ End) }
+        ensures end { OnErr result (self.new.reached ≡ End) }
         ensures searched { Searched (F.holds files.old) (F.holds files.new) trees.old trees.new }
         ensures rows { rows.new ≡ rows.old }
         ensures never { IfErr result (NeverDamaged (F.holds files.old)) }

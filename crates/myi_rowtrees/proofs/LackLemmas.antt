@@ -1,5 +1,5 @@
 -- A row that is to come is in no list.
-use Rattle.std.proofs.Common.{◌≡◌, ◌≢◌, ℕ, Bool, true, false, cond, List, [], ◌∷◌, map, Some, None, refl, sym, ap, subst, ◌∙◌, arith}
+use Rattle.std.proofs.Common.{◌≡◌, ◌≢◌, ℕ, Bool, true, false, cond, List, [], ◌∷◌, map, Some, None, refl, sym, ap, subst, ◌∙◌, arith, Option}
 use Rattle.std.specs.Prelude.{◌==◌}
 use Rattle.std.specs.List.{AllByRecursion}
 use Rattle.std.proofs.lemmas.Bool.Decides.{nat_tests}
@@ -65,3 +65,12 @@ pub new_lacks : (d : Defs) (s : TableState) (c : Change) (values : Values) → r
 new_lacks d s c values none there old new =
     let p = (accepted d s c).at in
     each_lacks d values (pointer d p) (lists_of d s.rows) (key_numbers d) (all_lack d p s.rows (key_numbers d) none (found_back d p (accepted d s c).state.rows values there new) old)
+
+-- the row at a position has it
+found_there : (p : ℕ) (rows : List StoredRow) (r : StoredRow) → row_at p rows ≡ Some r → HasValues r.values (row_at p rows)
+found_there p rows r found = subst (λ (o : Option StoredRow). HasValues r.values o) (sym found) refl
+
+pub gone_lacks : (d : Defs) (rows left : List StoredRow) (lists : List (List Pair)) (p : ℕ) (values : Values) (r : StoredRow) → row_at p rows ≡ Some r → AllByRecursion (IsBack d) rows → row_at p left ≡ None → AllByRecursion (IsBack d) left → lists_of d left ≡ lists → LackPointers (row_pairs d values (pointer d p)) lists
+gone_lacks d rows left lists p values r found old none back same =
+    subst (λ (ls : List (List Pair)). LackPointers (row_pairs d values (pointer d p)) ls) same
+    (each_lacks d values (pointer d p) (lists_of d left) (key_numbers d) (all_lack d p left (key_numbers d) none (found_back d p rows r.values (found_there p rows r found) old) back))

@@ -36,10 +36,6 @@ take_each (p ∷ ps) (xs ∷ lists) = without_pair p xs ∷ take_each ps lists
 abbrev pub LackPointer : ℕ → List (List Pair) → Type 0
 LackPointer pointer lists = AllByRecursion (λ xs. AllByRecursion (λ (p : Pair). p.row ≢ pointer) xs) lists
 
--- these pairs have this pointer
-abbrev pub HavePointer : ℕ → List Pair → Type 0
-HavePointer pointer pairs = AllByRecursion (λ (p : Pair). p.row ≡ pointer) pairs
-
 -- no pair of the lists has the pointer of one of these
 abbrev pub LackPointers : List Pair → List (List Pair) → Type 0
 LackPointers pairs lists = AllByRecursion (λ (p : Pair). LackPointer p.row lists) pairs

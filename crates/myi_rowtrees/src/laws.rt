@@ -36,7 +36,7 @@ pub fn lists_follow_rows()
     key_lists_follow();
 }
 
-/// No list of a table names a row that is to come.
+/// No list of a table names a row that is to come, and none the row that is updated once its pairs are taken out.
 pub fn new_rows_are_in_no_list()
     ensures inserted { (d : Defs) (s : TableState) (values : Values) → IsSound d
         → MayCome d (insert values) → IsState d s → LackPointers
@@ -45,9 +45,14 @@ pub fn new_rows_are_in_no_list()
         → MayCome d (insert_at_end values) → IsState d s → LackPointers
         (row_pairs d values (pointer d (accepted d s (insert_at_end values)).at))
         (lists_of d s.rows) }
+    ensures updated { (d : Defs) (s : TableState) (at : ℕ) (values : Values) (r : StoredRow)
+        → IsSound d → IsState d s → row_at at s.rows ≡ Some r → LackPointers
+        (row_pairs d values (pointer d at))
+        (take_each (row_pairs d r.values (pointer d r.at)) (lists_of d s.rows)) }
 {
     changes_keep_states();
     changes_keep_other_rows();
     key_lists_are_in_order();
+    key_lists_follow();
     new_rows_have_free_places();
 }

@@ -5,8 +5,7 @@
 //!
 //! - `pairs_of_row` makes the pairs of a row.
 //! - `first_duplicate` finds the first unique key in which another row has the row's complete key.
-//! - `put_row`, `take_row` and `move_row` put a row's pairs into the trees, take them out, and do both where
-//!   they differ.
+//! - `put_row` puts a row's pairs into the trees, and `take_row` takes them out.
 //! - The laws are the contracts of the functions in `laws`.
 //!
 //! ```

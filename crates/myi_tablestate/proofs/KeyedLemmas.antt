@@ -1,5 +1,5 @@
 -- Changes of tables with keys, in the words of the clauses.
-use Rattle.std.proofs.Common.{◌≡◌, ℕ, true, List, [], ◌∷◌, length, Option, Some, None, Ok, Err, refl, ap, ◌∙◌}
+use Rattle.std.proofs.Common.{◌≡◌, ℕ, true, List, [], ◌∷◌, length, Option, Some, None, Ok, Err, refl, ap, ◌∙◌, subst, sym}
 use Rattle.std.specs.Prelude.{option_map}
 use Rattle.std.specs.List.{AllByRecursion}
 use Rattle.myi_defs.specs.declared.types.Defs.{Defs}
@@ -8,7 +8,7 @@ use Rattle.myi_pack.specs.Packed.{Values}
 use Rattle.myi_pack.specs.Spelling.{fits, spelling}
 use Rattle.myi_dellist.specs.Placing.{next_place}
 use Rattle.myi_state.specs.State.{StoredRow, TableState, empty_table, row_at, rows_without, take_again}
-use Rattle.myi_state.specs.Changes.{Change, insert, insert_at_end, delete, update, Refusal, Changed, next_taken, behind_taken, without_row, with_values, accepted, replay, lacks_row, lacks_room}
+use Rattle.myi_state.specs.Changes.{Change, insert, insert_at_end, delete, update, Refusal, Changed, next_taken, behind_taken, without_row, with_values, accepted, replay, lacks_row, lacks_room, step, step_by, refusal, first_of_two}
 use Rattle.myi_state.specs.Sound.{MayCome}
 use Rattle.myi_state.proofs.CallerLemmas.{empty-state, accepted-kept, put-all, without-all}
 use Rattle.myi_tablestate.specs.Keyed.{IsTable, Holder, lacks_key, KeyedRefusal, without_keys, by_holder, first_of_three, keyed_refusal, keyed_step_by, keyed_step, after_keyed, if_made, keyed_history}
@@ -133,3 +133,33 @@ step_replayed d s c later = one_replayed d s c later (keyed_refusal d s c)
 pub history_replayed : (d : Defs) (s : TableState) (cs : List Change) → replay d s (keyed_history d s cs) ≡ after_keyed d s cs
 history_replayed d s [] = refl
 history_replayed d s (c ∷ cs) = step_replayed d s c (keyed_history d (keyed_step d s c).state cs) ∙ history_replayed d (keyed_step d s c).state cs
+
+-- ---- steps without keys
+
+made_by : (d : Defs) (s : TableState) (c : Change) (row room : Option Refusal) (at : ℕ) → (step_by s (accepted d s c) (first_of_two row room)).reply ≡ Ok at → (keyed_step_by s (accepted d s c) (first_of_three (option_map without_keys row) None (option_map without_keys room))).reply ≡ Ok at
+made_by d s c (Some r) room at is = absurd cc
+made_by d s c None (Some r) at is = absurd cc
+made_by d s c None None at is = let same : (accepted d s c).at ≡ at = cc in ap Ok same
+
+made_state : (d : Defs) (s : TableState) (c : Change) (row room : Option Refusal) (at : ℕ) → (step_by s (accepted d s c) (first_of_two row room)).reply ≡ Ok at → (keyed_step_by s (accepted d s c) (first_of_three (option_map without_keys row) None (option_map without_keys room))).state ≡ (step_by s (accepted d s c) (first_of_two row room)).state
+made_state d s c (Some r) room at is = absurd cc
+made_state d s c None (Some r) at is = absurd cc
+made_state d s c None None at is = refl
+
+refused_by : (d : Defs) (s : TableState) (c : Change) (row room : Option Refusal) (r : Refusal) → (step_by s (accepted d s c) (first_of_two row room)).reply ≡ Err r → (keyed_step_by s (accepted d s c) (first_of_three (option_map without_keys row) None (option_map without_keys room))).reply ≡ Err (without_keys r)
+refused_by d s c (Some q) room r is = let same : q ≡ r = cc in ap (λ (t : Refusal). Err (without_keys t)) same
+refused_by d s c None (Some q) r is = let same : q ≡ r = cc in ap (λ (t : Refusal). Err (without_keys t)) same
+refused_by d s c None None r is = absurd cc
+
+pub steps_made : (d : Defs) (s : TableState) (c : Change) (at : ℕ) → lacks_key d s c ≡ None → (step d s c).reply ≡ Ok at → ((keyed_step d s c).reply ≡ Ok at) × ((keyed_step d s c).state ≡ (step d s c).state)
+unfolding step refusal keyed_step keyed_refusal
+steps_made d s c at none is =
+    (
+      subst (λ (o : Option Holder). (keyed_step_by s (accepted d s c) (first_of_three (option_map without_keys (lacks_row s c)) (option_map by_holder o) (option_map without_keys (lacks_room d s c)))).reply ≡ Ok at) (sym none) (made_by d s c (lacks_row s c) (lacks_room d s c) at is),
+      subst (λ (o : Option Holder). (keyed_step_by s (accepted d s c) (first_of_three (option_map without_keys (lacks_row s c)) (option_map by_holder o) (option_map without_keys (lacks_room d s c)))).state ≡ (step_by s (accepted d s c) (first_of_two (lacks_row s c) (lacks_room d s c))).state) (sym none) (made_state d s c (lacks_row s c) (lacks_room d s c) at is),
+    )
+
+pub steps_refused : (d : Defs) (s : TableState) (c : Change) (r : Refusal) → lacks_key d s c ≡ None → (step d s c).reply ≡ Err r → (keyed_step d s c).reply ≡ Err (without_keys r)
+unfolding step refusal keyed_step keyed_refusal
+steps_refused d s c r none is =
+    subst (λ (o : Option Holder). (keyed_step_by s (accepted d s c) (first_of_three (option_map without_keys (lacks_row s c)) (option_map by_holder o) (option_map without_keys (lacks_room d s c)))).reply ≡ Err (without_keys r)) (sym none) (refused_by d s c (lacks_row s c) (lacks_room d s c) r is)

@@ -13,7 +13,7 @@ ghost use Rattle.myi_insertion.specs.Removal.{without_pair, has_pair};
 ghost use Rattle.myi_search.specs.Least.{IsLeastRow};
 ghost use Rattle.myi_data.specs.Keys.{IsKeyNumber, key_of};
 ghost use Rattle.myi_state.specs.State.{StoredRow, TableState, empty_table, row_at, rows_without, put_row};
-ghost use Rattle.myi_state.specs.Changes.{Change, insert, insert_at_end, delete, update, Refusal, accepted, replay, lacks_row, lacks_room};
+ghost use Rattle.myi_state.specs.Changes.{Change, insert, insert_at_end, delete, update, Refusal, accepted, step, replay, lacks_row, lacks_room};
 ghost use Rattle.myi_state.specs.Sound.{IsState, MayCome};
 ghost use Rattle.myi_pair.specs.FirstRows.{is_unique};
 ghost use Rattle.myi_pair.specs.KeyList.{pointer};
@@ -53,6 +53,16 @@ pub fn keyed_refusals_come_in_order()
     ensures accepted { (d : Defs) (s : TableState) (c : Change) → keyed_refusal d s c ≡ None
         → ((keyed_step d s c).reply ≡ Ok (accepted d s c).at)
         × ((keyed_step d s c).state ≡ (accepted d s c).state) }
+{}
+
+/// Where no other row has the row's complete key in a unique key, a step is the step without keys: it has its reply and its
+/// state. A step that is refused for its position is so with keys too.
+pub fn keyed_steps_are_steps()
+    ensures made { (d : Defs) (s : TableState) (c : Change) (at : ℕ) → lacks_key d s c ≡ None
+        → (step d s c).reply ≡ Ok at → ((keyed_step d s c).reply ≡ Ok at)
+        × ((keyed_step d s c).state ≡ (step d s c).state) }
+    ensures refused { (d : Defs) (s : TableState) (c : Change) (r : Refusal) → lacks_key d s c ≡ None
+        → (step d s c).reply ≡ Err r → (keyed_step d s c).reply ≡ Err (without_keys r) }
 {}
 
 /// The pairs of a table are in order, no two alike, and the position of a row is found again from its pointer.
