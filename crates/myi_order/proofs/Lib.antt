@@ -17,3 +17,4 @@ pub mod PlaceLaws
 pub mod NewOrderLaws
 pub mod EndLaws
 pub mod SortLaws
+pub mod KeyLaws

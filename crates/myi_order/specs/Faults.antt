@@ -1,5 +1,5 @@
 -- The faults of an analysis and of sorting: those of opening the table, and those that are no refusal.
-use Rattle.std.specs.Prelude.{◌≡◌, ◌≢◌, ◌⊎◌, ℕ, List, Option, None}
+use Rattle.std.specs.Prelude.{◌≡◌, ◌≢◌, ◌⊎◌, ◌<◌, ℕ, List, Option, None}
 use Rattle.myi_base.specs.Holding.{Holding, Told}
 use Rattle.myi_opening.specs.declared.fault.TableFault.{TableFault}
 use Rattle.myi_opening.specs.declared.fault.TableFault.TheVariants as table
@@ -19,8 +19,12 @@ abbrev pub CutsOff : OrderFault → Type 0
 CutsOff fault = (fault ≡ order.File) ⊎ (fault ≡ order.Memory)
 
 -- no key is said to be missing
-abbrev pub LacksNoKey : OrderFault → Type 0
-LacksNoKey fault = (keys : ℕ) → fault ≢ order.NoKey keys
+abbrev pub MissesNoKey : OrderFault → Type 0
+MissesNoKey fault = (keys : ℕ) → fault ≢ order.NoKey keys
+
+-- a key is said to be missing only where its number is none of so many, which begin with 1
+abbrev pub LacksKey : ℕ → OrderFault → Type 0
+LacksKey key fault = (keys : ℕ) → fault ≡ order.NoKey keys → (key ≡ 0) ⊎ (keys < key)
 
 -- how many faults of the files an answer tells of
 abbrev pub faults_told : OrderFault → ℕ

@@ -6,7 +6,7 @@ ghost use Rattle.myi_base.specs.Causes.{HasCause};
 ghost use Rattle.myi_defs.specs.Sound.{IsSound};
 ghost use Rattle.myi_repair.specs.Names.{names_of, new_index_file, AreApart};
 ghost use Rattle.myi_check.specs.Checking.{Finds};
-ghost use Rattle.myi_order.specs.Faults.{CutsOff, IsCleared, LacksNoKey};
+ghost use Rattle.myi_order.specs.Faults.{CutsOff, IsCleared, MissesNoKey};
 ghost use Rattle.myi_order.specs.Numbers.{all_per};
 ghost use Rattle.myi_order.specs.Storing.{KeepsIndex, OthersStayOf, Stores};
 ghost use Rattle.myi_order.specs.Analyzing.{IsRefused, Analyzes, KeepsBoth, OthersStay};
@@ -49,7 +49,7 @@ pub fn analyze<F: Files>(
     // never told.
     ensures refused { IfErr result (λ f.
         CutsOff f ⊎ IsRefused name.now f (F.holds files.old) (F.holds files.new)) }
-    ensures keys { IfErr result LacksNoKey }
+    ensures keys { IfErr result MissesNoKey }
     ensures cause { HasCause OrderFault.File (F.faults files.old) (F.faults files.new) result }
 {
     let found = check(alloc, files, name)?;
@@ -76,7 +76,7 @@ fn analyze_clean<F: Files>(
         (F.holds files.old) (F.holds files.new) (F.faults files.old) (F.faults files.new)) }
     ensures refused { IfErr result (λ f.
         CutsOff f ⊎ IsRefused name.now f (F.holds files.old) (F.holds files.new)) }
-    ensures keys { IfErr result LacksNoKey }
+    ensures keys { IfErr result MissesNoKey }
     ensures cause { HasCause OrderFault.File (F.faults files.old) (F.faults files.new) result }
 {
     definitions_are_sound();

@@ -10,9 +10,10 @@
 //! (`prefixes`). The index file is copied by pieces, and the copy gets the numbers and then the name. In memory are
 //! what a check holds, some pages of the index file, and no file as a whole.
 //!
-//! `sort_records` checks a table, reads its rows once, and puts the keys of one key, with the places of the
-//! rows, in order. Then it reads each row at its place, in that order, and writes it by the parts of a repair,
-//! which also build the trees and give the new files their names. `InOrder` and `Sorting` have what it leaves.
+//! `sort_records` checks a table, reads its rows once, codes their keys, and puts those of one key, with the
+//! places of the rows, in order. Then it reads each row at its place, in that order, and writes it by the parts of a
+//! repair, which also code its keys again, build the trees and give the new files their names. `InOrder` and
+//! `Sorting` have what it leaves.
 //! The rest are laws over the definitions.
 //!
 //! ```

@@ -1,5 +1,5 @@
 //! Sorting the rows of a table by a key.
-ghost use Rattle.std.specs.Prelude.{◌≡◌, ℕ, List, Some, length, IfOk, IsTrue};
+ghost use Rattle.std.specs.Prelude.{◌≡◌, ℕ, List, Some, length, IfOk, IfErr, IsTrue};
 ghost use Rattle.std.specs.Prelude as std;
 ghost use Rattle.myi_base.specs.Holding.{IfTold, Told};
 ghost use Rattle.myi_defs.specs.ReadDefs.{AreDefs};
@@ -8,6 +8,7 @@ ghost use Rattle.myi_data.specs.Keys.{IsKeyNumber};
 ghost use Rattle.myi_repair.specs.Names.{names_of, AreApart};
 ghost use Rattle.myi_order.specs.Sorting.{has_key, LeavesOrdered, OldOrNew};
 ghost use Rattle.myi_order.specs.SortedFiles.{SortsFiles, SortsPart};
+ghost use Rattle.myi_order.specs.Faults.{LacksKey};
 ghost use Rattle.myi_order.specs.Outcome.{Ends, EndsCutOff};
 
 use crate::fault::OrderFault;
@@ -43,6 +44,7 @@ pub fn sort_records<F: Files>(
     // Why a table is refused, and what is left then; other files stay.
     ensures ends { Ends name.now key (F.holds files.old) (F.holds files.new)
         (F.faults files.old) (F.faults files.new) result }
+    ensures keys { IfErr result (LacksKey key) }
 {
     definitions_are_sound();
     rebuilt_files_are_a_table();

@@ -9,6 +9,7 @@ use Rattle.myi_order.specs.Sorting.{IsRefused}
 use Rattle.myi_order.proofs.AnalyzeLaws.{begins, is_opened, told_from}
 use Rattle.myi_order.proofs.SortLaws.{not_opened, rows_opened, no_key, not_checked, checked_before, damaged, leaves_ordered, sorted_or_kept, none_first}
 use Rattle.myi_order.proofs.EndLaws.{file_of, no_file, damage_no_file, rose_later, refused_ends, all_kept, cut_off_ends, cut_off_later}
+use Rattle.myi_order.proofs.KeyLaws.{err_lacks, memory_lacks, table_lacks, damaged_lacks, cut_off_lacks, missing_lacks}
 use Rattle.myi_order.proofs.sorting.sort_records.Goals as goal
 
 pub returns-in_err-opened-clause-ends : goal.returns-in_err-opened-clause-ends
@@ -105,3 +106,27 @@ returns-clause-ends g c =
     let t = names_of c.in_ok-table.table in
     cut_off_ends t c.args.name.now c.args.key _ _ _ _ c.sort_opened.result c.in_ok-table.ensures
     (cut_off_later t _ _ _ _ _ _ c.sort_opened.result (all_kept t _ _ (c.check.ensures.holds ∙ c.open_table.ensures.holds)) (omega (arith, c.in_ok-opened.ensures.cause.later, c.in_ok-found.ensures.cause.later)) c.sort_opened.ensures.ends)
+
+pub returns-in_err-table-clause-keys : goal.returns-in_err-table-clause-keys
+returns-in_err-table-clause-keys g c =
+    let e = err_from_is_err_and c.from_residual.result c.from_residual.ensures.1 in
+    err_lacks c.args.key c.from_residual.result e.0 e.1 (memory_lacks c.args.key e.0 e.2)
+
+pub returns-in_err-opened-clause-keys : goal.returns-in_err-opened-clause-keys
+returns-in_err-opened-clause-keys g c =
+    let e = err_from_is_err_and c.from_residual-in_err-opened.result c.from_residual-in_err-opened.ensures.1 in
+    err_lacks c.args.key c.from_residual-in_err-opened.result e.0 e.1 (table_lacks c.args.key _ e.0 e.2)
+
+pub returns-then-not-has_key-clause-keys : goal.returns-then-not-has_key-clause-keys
+returns-then-not-has_key-clause-keys g c = missing_lacks c.in_ok-opened.opened.defs c.args.key c.no_key.result c.no_key.ensures (sym c.has_key.ensures ∙ c.if-not-has_key.true)
+
+pub returns-in_err-found-clause-keys : goal.returns-in_err-found-clause-keys
+returns-in_err-found-clause-keys g c =
+    let e = err_from_is_err_and c.from_residual-in_err-found.result c.from_residual-in_err-found.ensures.1 in
+    err_lacks c.args.key c.from_residual-in_err-found.result e.0 e.1 (table_lacks c.args.key _ e.0 e.2)
+
+pub returns-in-Some-clause-keys : goal.returns-in-Some-clause-keys
+returns-in-Some-clause-keys g c = damaged_lacks c.args.key c.in-Some.finding.now
+
+pub returns-clause-keys : goal.returns-clause-keys
+returns-clause-keys g c = cut_off_lacks c.args.key c.sort_opened.result c.sort_opened.ensures.ends.reason
