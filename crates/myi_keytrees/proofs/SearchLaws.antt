@@ -1,5 +1,5 @@
 -- A tree is gone through, and all trees still stand.
-use Rattle.std.proofs.Common.{◌≡◌, ℕ, zero, suc, ◌+◌, ◌<◌, ◌≤◌, Bool, true, false, eqb, Some, None, Option, List, [], ◌∷◌, length, map, slice_set, slice_index_or, refl, sym, ap, subst, ◌∙◌, arith, inl, inr}
+use Rattle.std.proofs.Common.{◌≡◌, ℕ, zero, suc, ◌+◌, ◌^◌, ◌<◌, ◌≤◌, Bool, true, false, eqb, Some, None, Option, List, [], ◌∷◌, length, map, slice_set, slice_index_or, refl, sym, ap, subst, ◌∙◌, arith, inl, inr}
 use Rattle.std.specs.Prelude.{IsSorted}
 use Rattle.std.specs.List.{Contains}
 use Rattle.std.specs.Ordering.{is_lt, ordering_reverse}
@@ -23,7 +23,7 @@ use Rattle.myi_insertion.specs.CachedChanges.{AddsPages, Exchanges}
 use Rattle.myi_insertion.specs.CachedTree.{IsTree}
 use Rattle.myi_insertion.proofs.CallerLemmas.{ranges_apart, walk_stays}
 use Rattle.myi_keytrees.specs.Trees.{Trees}
-use Rattle.myi_keytrees.specs.Standing.{list_of, HoldLists, Stand, StandThen, IfStand, StillStand, CanSearch}
+use Rattle.myi_keytrees.specs.Standing.{list_of, HoldLists, Stand, StandThen, IfStand, StillStand, CanSearch, RoseByLevels}
 use Rattle.myi_keytrees.proofs.StandLaws.{set_same, IsPlaceOf, held_here, placed_here, own_here, swapped}
 
 -- ---- pages of which no byte lies in two
@@ -104,6 +104,21 @@ never_sought t told k p at lt never = λ m held own lists s.
     let hold = held_here t m own lists s k p at lt in
     let has = has_tree p t.cache m p.root (list_of lists k) (slice_index_or s.pages k []) hold.tree in
     never m held s.current has.0 (list_of lists k) has.1
+
+abbrev IsShallow : Type 0
+IsShallow = (place : Place) (cache : Caching) (m : Holding) (root height : ℕ) (pairs : List Pair) → HasTree place cache m (Some root) height pairs → 2 ^ suc height ≤ length pairs + 1
+
+short_by : (p : Place) (cache : Caching) (m : Holding) (root : Option ℕ) (h : ℕ) (xs : List Pair) (before after : ℕ) → IsShallow → HasTree p cache m root h xs → ((g : ℕ) → HasTree p cache m root g xs → after ≤ before + (g + 1)) → RoseByLevels (length xs) before after
+short_by p cache m None h xs before after shallow has bound = let few = bound 0 has in record { levels = 0; fit = omega arith; few = omega (arith, few) }
+short_by p cache m (Some root) h xs before after shallow has bound = let few = bound h has in record { levels = suc h; fit = shallow p cache m root h xs has; few = omega (arith, few) }
+
+-- no more than stand on the way to a leaf, in the number of pairs
+pub short : (t : Trees) (told : Option Holding) (k : ℕ) (p : Place) (before after : ℕ) → IsShallow → IsPlaceOf t k p → k < length t.places
+    → IfTold told (λ m. IsCurrent t.cache m → (h : ℕ) (xs : List Pair) → HasTree p t.cache m p.root h xs → after ≤ before + (h + 1)) → IfStand told t (λ m own lists. RoseByLevels (length (list_of lists k)) before after)
+short t told k p before after shallow at lt few = λ m held own lists s.
+    let hold = held_here t m own lists s k p at lt in
+    let has = has_tree p t.cache m p.root (list_of lists k) (slice_index_or s.pages k []) hold.tree in
+    short_by p t.cache m p.root has.0 (list_of lists k) before after shallow has.1 (λ g tree. few m held s.current g (list_of lists k) tree)
 
 -- ---- what a search does
 

@@ -1,6 +1,6 @@
 -- For which lists of pairs the trees of an index file stand, a list for each key, and what a call does to that. Which bytes are pages
 -- and free room is counted byte by byte, 1 for each page and each free range that a byte lies in.
-use Rattle.std.specs.Prelude.{◌≡◌, ◌⊎◌, ◌+◌, ◌≤◌, ℕ, Bool, List, [], ◌∷◌, slice_index_or, slice_set, Option, Some, IsTrue}
+use Rattle.std.specs.Prelude.{◌≡◌, ◌⊎◌, ◌+◌, ◌^◌, ◌≤◌, ℕ, Bool, List, [], ◌∷◌, slice_index_or, slice_set, Option, Some, IsTrue}
 use Rattle.std.specs.List.{AllByRecursion}
 use Rattle.std.specs.List.Sorted.{IsStrictlySortedBy}
 use Rattle.myi_base.specs.Holding.{Holding, IfTold}
@@ -81,3 +81,9 @@ StillStand told next old new = IfStand told old (λ m own lists. StandThen old m
 -- trees may be gone through: the cache keeps no unwritten page, or the files can be written and the trees stand for some lists
 abbrev pub CanSearch : Bool → Option Holding → Trees → Type 0
 CanSearch writable told trees = AllWritten (pages_of trees.cache) ⊎ (IsTrue writable × IfTold told (λ m. (own : ℕ → ℕ) × (lists : List (List Pair)) × Stand trees m own lists))
+
+-- A count rose by no more than a number of levels that a tree of so many pairs can have, and one.
+pub record RoseByLevels (pairs before after : ℕ) : Type 0 where
+  pub levels : ℕ
+  pub fit : 2 ^ levels ≤ pairs + 1
+  pub few : after ≤ before + (levels + 1)

@@ -5,7 +5,7 @@ use myi_insertion::{insert, remove};
 use myi_io::Files;
 use myi_keycache::{CacheSetup, Counters, KeyCache};
 use myi_keys::KeyVal;
-use myi_search::{find, next_after};
+use myi_search::{find, next_after, searches_are_short};
 use std::alloc::{AllocError, Global};
 use std::marker::Model;
 
@@ -60,7 +60,7 @@ impl KeyTrees {
     ghost use Rattle.myi_insertion.specs.Removal.{has_pair};
     ghost use Rattle.myi_keytrees.specs.Trees.{SameKinds};
     ghost use Rattle.myi_keytrees.specs.InFile.{bytes_of_free};
-    ghost use Rattle.myi_keytrees.specs.Standing.{list_of, put_in, taken_out, StandThen, IfStand, StillStand, CanSearch};
+    ghost use Rattle.myi_keytrees.specs.Standing.{list_of, put_in, taken_out, StandThen, IfStand, StillStand, CanSearch, RoseByLevels};
 
     /// The trees at these places, by the number of their key, in the index file of that name. All bytes from `end` on
     /// are free, and none before it. Nothing is read yet.
@@ -96,7 +96,8 @@ impl KeyTrees {
     }
 
     /// The least row of a key value in the list of a key, and None where none has it. Where the trees stand for some
-    /// lists they do so after each answer.
+    /// lists they do so after each answer, and no more pages are asked for and read than a tree of so many pairs has levels,
+    /// and one.
     pub fn find<F: Files>(
         &mut self,
         files: &mut F,
@@ -114,9 +115,15 @@ impl KeyTrees {
         ensures room { self.new.room ≡ self.old.room }
         ensures cache { ReadsOnly (F.holds files.old) (F.holds files.new)
             self.old.cache self.new.cache }
+        ensures few { IfStand (F.holds files.old) self.old (λ m own lists.
+            RoseByLevels (length (list_of lists key)) (F.reads files.old) (F.reads files.new)) }
+        ensures asked { IfStand (F.holds files.old) self.old (λ m own lists.
+            RoseByLevels (length (list_of lists key)) self.old.cache.counters.read_requests
+            self.new.cache.counters.read_requests) }
         ensures cause { HasCause File (F.faults files.old) (F.faults files.new) result }
         ensures reads { F.reads files.old ≤ F.reads files.new }
     {
+        searches_are_short();
         walks_add_their_own();
         let place = self.places[key];
         let row = find(self.alloc, &place, files, &mut self.cache, value)?;
@@ -142,9 +149,15 @@ impl KeyTrees {
         ensures room { self.new.room ≡ self.old.room }
         ensures cache { ReadsOnly (F.holds files.old) (F.holds files.new)
             self.old.cache self.new.cache }
+        ensures few { IfStand (F.holds files.old) self.old (λ m own lists.
+            RoseByLevels (length (list_of lists key)) (F.reads files.old) (F.reads files.new)) }
+        ensures asked { IfStand (F.holds files.old) self.old (λ m own lists.
+            RoseByLevels (length (list_of lists key)) self.old.cache.counters.read_requests
+            self.new.cache.counters.read_requests) }
         ensures cause { HasCause File (F.faults files.old) (F.faults files.new) result }
         ensures reads { F.reads files.old ≤ F.reads files.new }
     {
+        searches_are_short();
         walks_add_their_own();
         let place = self.places[key];
         let pair = next_after(self.alloc, &place, files, &mut self.cache, after)?;

@@ -3,7 +3,7 @@
 //! `KeyTrees` stands for a list of pairs for each key, sorted by key value and then by row pointer
 //! (`specs/Standing`): a change puts a pair into one list or takes one out, and a search answers from one.
 //! It knows nothing of rows. Its model is where the trees stand, the room for new pages and the key cache (`specs/Trees`).
-//! The pages of all trees and the room have together the same bytes after each call, and what other bytes hold stays:
+//! The pages of all trees and the room have together the same bytes after each call that is made, and what other bytes hold stays:
 //! so does the header of the index file, which stands before the first page.
 //!
 //! - `KeyTrees::open` takes the places of the trees, and reads nothing.

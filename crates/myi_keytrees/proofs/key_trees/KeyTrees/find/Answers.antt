@@ -2,9 +2,9 @@ use Rattle.std.proofs.Common.{◌<◌, length, sym, subst, ◌∙◌}
 use Rattle.std.proofs.lemmas.Result.{err_from_is_err_and}
 use Rattle.myi_search.specs.Least.{IsLeastRow}
 use Rattle.myi_keytrees.specs.Trees.{Trees}
-use Rattle.myi_keytrees.specs.Standing.{list_of, IfStand, StillStand, CanSearch}
+use Rattle.myi_keytrees.specs.Standing.{list_of, IfStand, StillStand, CanSearch, RoseByLevels}
 use Rattle.myi_keytrees.proofs.StandLaws.{object}
-use Rattle.myi_keytrees.proofs.SearchLaws.{can_walk, sought, never_sought, searched}
+use Rattle.myi_keytrees.proofs.SearchLaws.{can_walk, sought, never_sought, searched, short}
 use Rattle.myi_keytrees.proofs.ToldLaws.{if_err}
 use Rattle.myi_keytrees.proofs.key_trees.KeyTrees.find.Goals as goal
 
@@ -43,3 +43,27 @@ returns-clause-stand g c =
     subst (λ (u : Trees). StillStand (g.F.Files.holds c.args.files.now) (g.F.Files.holds c.find.new.files) u new) c.self.view_is
     (searched t (g.F.Files.holds c.args.files.now) (g.F.Files.holds c.find.new.files) c.find.new.cache c.args.key c.index.result.now c.index.ensures (subst (λ (u : Trees). c.args.key < length u.places) (sym c.self.view_is) c.requires.key)
     c.walks_add_their_own.ensures.kept c.find.ensures.stays c.find.ensures.added c.find.ensures.cache)
+
+pub returns-in_err-row-clause-few : goal.returns-in_err-row-clause-few
+returns-in_err-row-clause-few g c =
+    let t : Trees = object c.self.inside.places.items c.self.inside.room c.self.inside.cache in
+    subst (λ (u : Trees). IfStand (g.F.Files.holds c.args.files.now) u (λ m own lists. RoseByLevels (length (list_of lists c.args.key)) (g.F.Files.reads c.args.files.now) (g.F.Files.reads c.find.new.files))) c.self.view_is
+    (short t (g.F.Files.holds c.args.files.now) c.args.key c.index.result.now (g.F.Files.reads c.args.files.now) (g.F.Files.reads c.find.new.files) c.searches_are_short.ensures c.index.ensures (subst (λ (u : Trees). c.args.key < length u.places) (sym c.self.view_is) c.requires.key) c.in_err-row.ensures.few)
+
+pub returns-in_err-row-clause-asked : goal.returns-in_err-row-clause-asked
+returns-in_err-row-clause-asked g c =
+    let t : Trees = object c.self.inside.places.items c.self.inside.room c.self.inside.cache in
+    subst (λ (u : Trees). IfStand (g.F.Files.holds c.args.files.now) u (λ m own lists. RoseByLevels (length (list_of lists c.args.key)) u.cache.counters.read_requests c.find.new.cache.counters.read_requests)) c.self.view_is
+    (short t (g.F.Files.holds c.args.files.now) c.args.key c.index.result.now t.cache.counters.read_requests c.find.new.cache.counters.read_requests c.searches_are_short.ensures c.index.ensures (subst (λ (u : Trees). c.args.key < length u.places) (sym c.self.view_is) c.requires.key) c.in_err-row.ensures.asked)
+
+pub returns-clause-few : goal.returns-clause-few
+returns-clause-few g c =
+    let t : Trees = object c.self.inside.places.items c.self.inside.room c.self.inside.cache in
+    subst (λ (u : Trees). IfStand (g.F.Files.holds c.args.files.now) u (λ m own lists. RoseByLevels (length (list_of lists c.args.key)) (g.F.Files.reads c.args.files.now) (g.F.Files.reads c.find.new.files))) c.self.view_is
+    (short t (g.F.Files.holds c.args.files.now) c.args.key c.index.result.now (g.F.Files.reads c.args.files.now) (g.F.Files.reads c.find.new.files) c.searches_are_short.ensures c.index.ensures (subst (λ (u : Trees). c.args.key < length u.places) (sym c.self.view_is) c.requires.key) c.in_ok-row.ensures.few)
+
+pub returns-clause-asked : goal.returns-clause-asked
+returns-clause-asked g c =
+    let t : Trees = object c.self.inside.places.items c.self.inside.room c.self.inside.cache in
+    subst (λ (u : Trees). IfStand (g.F.Files.holds c.args.files.now) u (λ m own lists. RoseByLevels (length (list_of lists c.args.key)) u.cache.counters.read_requests c.find.new.cache.counters.read_requests)) c.self.view_is
+    (short t (g.F.Files.holds c.args.files.now) c.args.key c.index.result.now t.cache.counters.read_requests c.find.new.cache.counters.read_requests c.searches_are_short.ensures c.index.ensures (subst (λ (u : Trees). c.args.key < length u.places) (sym c.self.view_is) c.requires.key) c.in_ok-row.ensures.asked)
