@@ -153,11 +153,10 @@ refused_by d s c None None r is = absurd cc
 
 pub steps_made : (d : Defs) (s : TableState) (c : Change) (at : ℕ) → lacks_key d s c ≡ None → (step d s c).reply ≡ Ok at → ((keyed_step d s c).reply ≡ Ok at) × ((keyed_step d s c).state ≡ (step d s c).state)
 unfolding step refusal keyed_step keyed_refusal
-steps_made d s c at none is =
-    (
-      subst (λ (o : Option Holder). (keyed_step_by s (accepted d s c) (first_of_three (option_map without_keys (lacks_row s c)) (option_map by_holder o) (option_map without_keys (lacks_room d s c)))).reply ≡ Ok at) (sym none) (made_by d s c (lacks_row s c) (lacks_room d s c) at is),
-      subst (λ (o : Option Holder). (keyed_step_by s (accepted d s c) (first_of_three (option_map without_keys (lacks_row s c)) (option_map by_holder o) (option_map without_keys (lacks_room d s c)))).state ≡ (step_by s (accepted d s c) (first_of_two (lacks_row s c) (lacks_room d s c))).state) (sym none) (made_state d s c (lacks_row s c) (lacks_room d s c) at is),
-    )
+steps_made d s c at none is = (
+  subst (λ (o : Option Holder). (keyed_step_by s (accepted d s c) (first_of_three (option_map without_keys (lacks_row s c)) (option_map by_holder o) (option_map without_keys (lacks_room d s c)))).reply ≡ Ok at) (sym none) (made_by d s c (lacks_row s c) (lacks_room d s c) at is),
+  subst (λ (o : Option Holder). (keyed_step_by s (accepted d s c) (first_of_three (option_map without_keys (lacks_row s c)) (option_map by_holder o) (option_map without_keys (lacks_room d s c)))).state ≡ (step_by s (accepted d s c) (first_of_two (lacks_row s c) (lacks_room d s c))).state) (sym none) (made_state d s c (lacks_row s c) (lacks_room d s c) at is),
+)
 
 pub steps_refused : (d : Defs) (s : TableState) (c : Change) (r : Refusal) → lacks_key d s c ≡ None → (step d s c).reply ≡ Err r → (keyed_step d s c).reply ≡ Err (without_keys r)
 unfolding step refusal keyed_step keyed_refusal

@@ -1,5 +1,5 @@
 use Rattle.myi_insertion.specs.Rooms.{IsWhole}
-use Rattle.cases_indexes.proofs.keytrees.push_steps.Given as goal
+use Rattle.cases_trees.proofs.keytrees.push_steps.Given as goal
 
 abbrev pub invariant-loop-step : goal.invariant-loop-step
 invariant-loop-step l = IsWhole l.opened.trees.room
