@@ -1,5 +1,5 @@
 -- The blocks of a row as they are read, and as they stand.
-use Rattle.std.proofs.Common.{◌≡◌, ℕ, ◌+◌, ◌-◌, ◌<◌, ◌≤◌, Bool, List, [], ◌∷◌, ◌++◌, length, Option, Some, None, refl, sym, ap, subst, ◌∙◌, arith, length-append}
+use Rattle.std.proofs.Common.{◌≡◌, ℕ, ◌+◌, ◌-◌, ◌<◌, ◌≤◌, ◌⊎◌, inl, inr, Bool, List, [], ◌∷◌, ◌++◌, length, Option, Some, None, refl, sym, ap, subst, ◌∙◌, arith, length-append}
 use Rattle.std.specs.Prelude.{◌==◌, ◌&&◌, nat_lt, if◌then◌else◌}
 use Rattle.std.specs.List.{AllByRecursion, flat_map}
 use Rattle.std.proofs.lemmas.Bool.{le-leb, lt-ltb, eq-eqb}
@@ -8,7 +8,7 @@ use Rattle.myi_frames.specs.declared.form.FrameKind.{FrameKind}
 use Rattle.myi_frames.specs.declared.form.FrameKind.TheVariants.{Whole, Start, Middle, End}
 use Rattle.myi_frames.specs.declared.head.Head.{Head}
 use Rattle.myi_frames.specs.declared.head.Header.{Header}
-use Rattle.myi_frames.specs.Block.{Block, block_of, head_of}
+use Rattle.myi_frames.specs.Block.{Block, block_of, head_of, IsPlace}
 use Rattle.myi_frames.specs.Seeing.{HeadsBlock}
 use Rattle.myi_frames.proofs.CallerLemmas.{block-short, block-stands}
 use Rattle.myi_dellist.specs.declared.chains.RowLink.{RowLink}
@@ -24,6 +24,22 @@ use Rattle.myi_dellist.specs.Chains.{link_step, more_step, last_step, first_step
 abbrev pub ReadsOn : List ℕ → ℕ → List Piece → Option RowLink → Type 0
 ReadsOn d at ps (Some l) = Passes d (first_link at) ps l
 ReadsOn d at ps None = IsRowIn d at ps
+
+-- the first block is to come, or it lies in the file
+abbrev pub BeginsAt : Option RowLink → ℕ → ℕ → Type 0
+BeginsAt None at end = at < end
+BeginsAt (Some l) at end = (l.at ≡ at) ⊎ (at < end)
+
+pub begins-on : (o : Option RowLink) (l : RowLink) (next : Option RowLink) (at end size : ℕ) → o ≡ Some l → BeginsAt o at end → IsPlace l.at size end → BeginsAt next at end
+begins-on o l next at end size e was place = by_next next (here (subst (λ (x : Option RowLink). BeginsAt x at end) e was))
+  where
+    here : (l.at ≡ at) ⊎ (at < end) → at < end
+    here (inl same) = omega (arith, same, place.least, place.inside)
+    here (inr lt) = lt
+
+    by_next : (n : Option RowLink) → at < end → BeginsAt n at end
+    by_next None lt = lt
+    by_next (Some q) lt = inr lt
 
 passes_more : (d : List ℕ) (l k q : RowLink) (ps : List Piece) (s : RowStep) → Passes d l ps k → step_in d k ≡ Some s → s.next ≡ Some q → Passes d l (ps ++ piece_of k s ∷ []) q
 passes_more d l k q [] s p is next = (s, q, subst (λ (x : RowLink). step_in d x ≡ Some s) (sym p) is, next, ap (λ (x : RowLink). piece_of x s) (sym p), refl)

@@ -171,6 +171,7 @@ pub(crate) fn read_row<F: Files>(
     ensures bad { IfErr result (λ f. IfDamaged f (λ p. IfTold (F.holds files.old) (λ m.
         length (bytes_of name.now m) ≡ end → IsBroken (bytes_of name.now m) at p))) }
     ensures placed { OnOk result (AllByRecursion (IsRowBlock end) own.new.items) }
+    ensures inside { OnOk result (at < end) }
     ensures holds { F.holds files.new ≡ F.holds files.old }
     ensures room { IfErr result IsNotFull }
     ensures cause { HasCause File (F.faults files.old) (F.faults files.new) result }

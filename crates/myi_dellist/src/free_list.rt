@@ -153,6 +153,7 @@ impl FreeList {
             (PutsBehind self.old packed.now)) }
         ensures others { Told (F.holds files.old) (F.holds files.new) (OthersStay self.old.name) }
         ensures place { IfOk result (λ put. put.at ≡ self.old.end) }
+        ensures inside { IfOk result (λ put. put.at ≤ self.new.end) }
         ensures end { OnOk result
             (self.new ≡ record self.old { end = end_with self.old (length packed.now) }) }
         ensures room { OnOk result (end_with self.old (length packed.now) < most_end self.old) }
@@ -227,6 +228,7 @@ impl FreeList {
             (Puts self.old.name (ends_of self.old) packed.now (ends_of self.new))) }
         ensures others { Told (F.holds files.old) (F.holds files.new) (OthersStay self.old.name) }
         ensures place { IfOk result (λ put. put.at ≡ (next_by self.old.head self.old.end).0) }
+        ensures inside { IfOk result (λ put. put.at ≤ self.new.end) }
         ensures state { self.new ≡ record self.old { head = self.new.head; end = self.new.end } }
         ensures room { OnOk result (self.new.end < most_end self.old) }
         ensures damaged { IfErr result (λ f. IfDamaged f (λ p. IfTold (F.holds files.old)
@@ -389,6 +391,7 @@ impl FreeList {
             (RewritesRow self.old self.new at packed.now)) }
         ensures others { Told (F.holds files.old) (F.holds files.new) (OthersStay self.old.name) }
         ensures state { self.new ≡ record self.old { head = self.new.head; end = self.new.end } }
+        ensures inside { OnOk result (at < self.new.end) }
         ensures room { OnOk result (self.new.end < most_end self.old) }
         ensures damaged { IfErr result (λ f. IfDamaged f (λ p. IfTold (F.holds files.old)
             (RewriteFindsBad self.old at (length packed.now) p))) }

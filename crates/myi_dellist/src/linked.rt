@@ -1,5 +1,5 @@
 //! Deleted blocks as they stand in a file, and what a release needs of them. Nothing is written here.
-ghost use Rattle.std.specs.Prelude.{◌≡◌, ◌≤◌, ◌<◌, ◌+◌, ◌^◌, ℕ, List, None, length, IfOk, IfErr, IfSome};
+ghost use Rattle.std.specs.Prelude.{◌≡◌, ◌≤◌, ◌<◌, ◌+◌, ◌^◌, ℕ, List, None, length, IfOk, IfErr, IfSome, OnOk};
 ghost use Rattle.myi_base.specs.Holding.{IfTold, bytes_of};
 ghost use Rattle.myi_base.specs.Causes.{HasCause};
 ghost use Rattle.myi_io.specs.declared.files.FileErr.TheVariants.{Failed};
@@ -243,6 +243,7 @@ fn see_named<F: Files>(
     ensures told { IfTold (F.holds files.old) (λ m. length (bytes_of name.now m) ≡ sight.now.end
         → Answers result (block_named (seen_in sight.now (bytes_of name.now m)) prev link)) }
     ensures hole { IfOk result (λ named. IfSome named (IsHoleIn sight.now.end)) }
+    ensures inside { OnOk result (IfSome link (λ at. at < sight.now.end)) }
     ensures holds { F.holds files.new ≡ F.holds files.old }
     ensures room { IfErr result IsNotFull }
     ensures cause { HasCause File (F.faults files.old) (F.faults files.new) result }
@@ -407,6 +408,7 @@ pub(crate) fn block_named<F: Files>(
     ensures told { IfTold (F.holds files.old) (λ m. length (bytes_of name.now m) ≡ end
         → Answers result (block_named (hole_in (bytes_of name.now m)) prev link)) }
     ensures hole { IfOk result (λ named. IfSome named (IsHoleIn end)) }
+    ensures inside { OnOk result (IfSome link (λ at. at < end)) }
     ensures holds { F.holds files.new ≡ F.holds files.old }
     ensures room { IfErr result IsNotFull }
     ensures cause { HasCause File (F.faults files.old) (F.faults files.new) result }

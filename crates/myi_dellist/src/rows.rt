@@ -110,6 +110,7 @@ fn put_behind<F: Files>(
     ensures others { Told (F.holds files.old) (F.holds files.new) (OthersStay name.now) }
     ensures end { IfOk result (λ r. r ≡ end_behind end.now.at
         (append_from left (length packed.now) (is_none pieces.old.items) left end.now.at)) }
+    ensures grows { IfOk result (λ r. end.now.at ≤ r) }
     ensures room { IfOk result (λ r. r < min end.now.below (2 ^ 64)) }
     ensures full { IfErr result (λ f. IfFull f (min end.now.below (2 ^ 64) ≤ end_behind end.now.at
         (append_from left (length packed.now) (is_none pieces.old.items) left end.now.at))) }
@@ -142,6 +143,7 @@ pub(crate) fn put_at_end<F: Files>(
     ensures others { Told (F.holds files.old) (F.holds files.new) (OthersStay name.now) }
     ensures end { IfOk result (λ r. r ≡ end_behind end.now.at (append_from (length packed.now)
         (length packed.now) true (length packed.now) end.now.at)) }
+    ensures grows { IfOk result (λ r. end.now.at ≤ r) }
     ensures room { IfOk result (λ r. r < min end.now.below (2 ^ 64)) }
     ensures full { IfErr result (λ f. IfFull f (min end.now.below (2 ^ 64)
         ≤ end_behind end.now.at (append_from (length packed.now) (length packed.now) true
@@ -221,6 +223,8 @@ pub(crate) fn put_beyond<F: Files>(
         new.taken new.more)) }
     ensures before { IfOk result (λ new. length pieces.old.items ≤ new.taken) }
     ensures others { Told (F.holds files.old) (F.holds files.new) (OthersStay name.now) }
+    ensures inside { OnOk result (IfSome room.list.head (λ at. at < room.list.end)) }
+    ensures grows { IfOk result (λ new. room.list.end ≤ new.list.end) }
     ensures room { IfOk result (λ new. new.list.end < min room.below (2 ^ 64)) }
     ensures damaged { IfErr result (λ f. IfDamaged f (λ p. IfTold (F.holds files.old) (λ m.
         length (bytes_of name.now m) ≡ room.list.end → (own : List Area)
@@ -290,6 +294,8 @@ pub(crate) fn put_row<F: Files>(
         length (bytes_of name.now m) ≡ list.end → PutCounts [] (bytes_of name.now m) list
         (length packed.now) pieces.new.items new.taken new.more)) }
     ensures others { Told (F.holds files.old) (F.holds files.new) (OthersStay name.now) }
+    ensures inside { OnOk result (IfSome list.head (λ at. at < list.end)) }
+    ensures grows { IfOk result (λ new. list.end ≤ new.list.end) }
     ensures room { IfOk result (λ new. new.list.end < min end_below (2 ^ 64)) }
     ensures damaged { IfErr result (λ f. IfDamaged f (λ p. IfTold (F.holds files.old) (λ m.
         length (bytes_of name.now m) ≡ list.end

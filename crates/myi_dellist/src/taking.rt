@@ -50,6 +50,7 @@ pub(crate) fn take_full<F: Files>(
         (record { left = left; last = None; next = None }) }
     ensures run { IfOk result (IsRun list.now.end len pieces.new.items) }
     ensures before { OnOk result (length pieces.old.items ≤ length pieces.new.items) }
+    ensures inside { OnOk result (IfSome list.now.head (λ at. at < list.now.end)) }
     ensures told { IfOk result (λ t. IfTold (F.holds files.old) (λ m.
         length (bytes_of name.now m) ≡ list.now.end → (own : List Area)
         → HasTaken own len pieces.old.items left

@@ -1,4 +1,5 @@
-use Rattle.std.proofs.Common.{◌≡◌, Err, sym, ap, ◌∙◌, rules}
+use Rattle.std.proofs.Common.{◌≡◌, ◌<◌, ℕ, Option, Err, sym, ap, subst, ◌∙◌, rules, arith}
+use Rattle.std.specs.Prelude.{IfSome}
 use Rattle.std.proofs.lemmas.Result.{err_from_is_err_and}
 use Rattle.myi_base.specs.Holding.{bytes_of}
 use Rattle.myi_dellist.specs.Freeing.{if_says, names_prev}
@@ -22,3 +23,9 @@ returns-clause-told g c m held long =
     let d = bytes_of c.args.name.now m in
     let at = c.in-Some.at in
     sym (named_some (seen_in c.args.sight.now d) c.args.prev c.args.link at c.in-Some.is) ∙ given_ok c.in_ok-named.named (if_says (names_prev c.args.prev) at (seen_in c.args.sight.now d at)) (c.in_ok-named.ensures.told m held long)
+
+pub returns-in_default-clause-inside : goal.returns-in_default-clause-inside
+returns-in_default-clause-inside g c = subst (λ (o : Option ℕ). IfSome o (λ at. at < c.args.sight.now.end)) (sym c.in_default.is) tt
+
+pub returns-clause-inside : goal.returns-clause-inside
+returns-clause-inside g c = subst (λ (o : Option ℕ). IfSome o (λ at. at < c.args.sight.now.end)) (sym c.in-Some.is) (omega (arith, c.in_ok-named.ensures.hole.place.least, c.in_ok-named.ensures.hole.place.inside))
