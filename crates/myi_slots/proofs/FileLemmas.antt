@@ -1,13 +1,17 @@
 -- What is told of a file by its slots, said of the object on it.
-use Rattle.std.proofs.Common.{◌≡◌, ℕ, ◌-◌, ◌^◌, ◌<◌, Bool, true, false, List, ◌++◌, length, take, drop, Option, Some, None, Result, Ok, Err, IfErr, refl, sym, ap, subst, ◌∙◌}
+use Rattle.std.proofs.Common.{◌≡◌, ℕ, ◌+◌, ◌-◌, ◌^◌, ◌<◌, ◌≤◌, Bool, true, false, List, ◌++◌, length, take, drop, Option, Some, None, Result, Ok, Err, IfErr, refl, sym, ap, subst, ◌∙◌}
 use Rattle.std.specs.Prelude.{◌&&◌, is_some, nat_le, nat_lt, MatchOption, if◌then◌else◌}
 use Rattle.std.proofs.lemmas.Bool.{lt-leb}
 use Rattle.std.proofs.Math.Seq.{take-append_seam}
 use Rattle.myi_base.specs.Holding.{Holding, bytes_of, Writes}
 use Rattle.myi_defs.specs.declared.types.Defs.{Defs}
+use Rattle.myi_defs.specs.declared.types.RowFormat.TheVariants.{Static, Dynamic}
 use Rattle.myi_defs.specs.Addressable.{is_addressable, pointers}
-use Rattle.myi_pack.specs.Packed.{Values}
+use Rattle.myi_defs.specs.Sound.{IsSound}
+use Rattle.myi_pack.specs.Packed.{Values, Packs}
+use Rattle.myi_pack.specs.Spelling.{fits}
 use Rattle.myi_pack.specs.Unpacking.{row_of}
+use Rattle.myi_pack.proofs.CallerLemmas.{row-fits}
 use Rattle.myi_data.specs.Readable.{packs}
 use Rattle.myi_state.specs.Standing.{slot_bytes}
 use Rattle.myi_state.specs.declared.counts.Counts.{Counts}
@@ -53,10 +57,22 @@ row-by-slot f name sl m at is found slot e g says bytes stands long packed =
     by_test true h = refl
     by_test false h = absurd cc
 
+-- the slot ends in the file
+pub slot-ends : (f : SlotFile) (sl : Slots) (at : ℕ) → sl ≡ slots_of f → at + sl.size ≤ sl.end → at + f.defs.slot_length ≤ f.counts.length
+slot-ends f sl at g h = subst (λ (q : Slots). at + q.size ≤ q.end) g h
+
 -- a view is there exactly where the bytes pack a row
 pub view-packs : (d : Defs) (o : Option Values) (b slot : List ℕ) → MatchOption o (row_of d b ≡ None) (λ r. row_of d b ≡ Some r) → b ≡ slot → is_some o ≡ packs d slot
 view-packs d None b slot found e = ap (λ (q : Option Values). is_some q) (sym found) ∙ ap (λ (y : List ℕ). is_some (row_of d y)) e
 view-packs d (Some r) b slot found e = ap (λ (q : Option Values). is_some q) (sym found) ∙ ap (λ (y : List ℕ). is_some (row_of d y)) e
+
+-- what a view shows fits
+pub view-fits : (d : Defs) (o : Option Values) (row : Values) (b : List ℕ) → IsSound d → d.format ≡ Static → o ≡ Some row → MatchOption o ((r : Values) → Packs d r b → ⊥) (λ r. Packs d r b) → fits d row ≡ true
+view-fits d o row b sound static e packs =
+    row-fits d row b sound (subst (λ (q : Option Values). MatchOption q ((r : Values) → Packs d r b → ⊥) (λ r. Packs d r b)) e packs) (λ dynamic. absurd (other (sym static ∙ dynamic)))
+  where
+    other : Static ≡ Dynamic → ⊥
+    other e = cc
 
 -- other causes that follow
 pub by-cause : (N M : ℕ → Type 0) (P R : Type 0) (Q S : ℕ → Type 0) (f : DataFault) → ((p : ℕ) → N p → M p) → (P → R) → ((p : ℕ) → Q p → S p) → ByCause N P Q f → ByCause M R S f

@@ -1,5 +1,5 @@
 -- What the calls answer, from what the calls beneath them answer.
-use Rattle.std.proofs.Common.{◌≡◌, ℕ, ◌+◌, true, false, List, length, Option, Some, None, Result, Ok, Err, IfOk, IfErr, OnOk, ap, sym, subst, ◌∙◌}
+use Rattle.std.proofs.Common.{◌≡◌, ℕ, ◌+◌, ◌≤◌, true, false, List, length, Option, Some, None, Result, Ok, Err, IfOk, IfErr, OnOk, ap, sym, subst, ◌∙◌, arith}
 use Rattle.std.specs.Prelude.{unwrap_or, MatchOption}
 use Rattle.myi_base.specs.Holding.{Holding, Told, IfTold, Writes}
 use Rattle.myi_defs.specs.declared.types.Defs.{Defs}
@@ -11,7 +11,7 @@ use Rattle.myi_pack.specs.Spelling.{spelling, fits}
 use Rattle.myi_state.specs.Changes.{insert, insert_at_end, delete}
 use Rattle.myi_slots.specs.declared.fault.DataFault.{DataFault}
 use Rattle.myi_slots.specs.declared.fault.DataFault.TheVariants as fault
-use Rattle.myi_slots.specs.SlotFile.{SlotFile, Steps, Refuses, ByCause, Never, Fills, LacksHole, LacksLink, appended_counts, appended, is_reached, end_behind, end_by, end_with}
+use Rattle.myi_slots.specs.SlotFile.{SlotFile, Steps, Refuses, ByCause, Never, Fills, LacksHole, LacksLink, appended_counts, appended, is_reached, risen, end_behind, end_by, end_with}
 use Rattle.myi_slots.proofs.StepLemmas.{append-steps, append-full, insert-appends, insert-full}
 use Rattle.myi_slots.proofs.RowSteps.{spelled-long, fill-steps, fill-full, fill-damaged, link-known}
 
@@ -125,6 +125,27 @@ fill-causes f at old (Err fault.Full) head cause = subst (λ (o : Option ℕ). i
 fill-causes f at old (Err (fault.Damaged p)) head cause = (head ∙ ap (λ (q : ℕ). Some q) (sym cause.0), λ m held. subst (λ (q : ℕ). LacksHole f q m) (sym cause.0) (cause.1 m held))
 fill-causes f at old (Err fault.File) head cause = tt
 fill-causes f at old (Err fault.Memory) head cause = tt
+
+-- where the row's slot ends, and how long the file is then
+pub new-inside : (f g : SlotFile) (r : Result ℕ DataFault) → IfOk r (λ at. at ≡ f.counts.length) → OnOk r (g ≡ appended f) → IfOk r (λ at. at + f.defs.slot_length ≤ g.counts.length)
+new-inside f g (Err e) here object = tt
+new-inside f g (Ok at) here object = omega (arith, here, ap (λ (q : SlotFile). q.counts.length) object)
+
+pub new-length : (f g : SlotFile) (r : Result ℕ DataFault) → f.counts.dellink ≡ None → OnOk r (g ≡ appended f) → OnOk r (g.counts.length ≡ end_with f)
+new-length f g (Err e) none object = tt
+new-length f g (Ok at) none object = ap (λ (q : SlotFile). q.counts.length) object ∙ ap (λ (o : Option ℕ). end_by o f) (sym none)
+
+pub new-records : (f g : SlotFile) (r : Result ℕ DataFault) → OnOk r (g ≡ appended f) → OnOk r (g.counts.records ≡ risen f.counts.records 1)
+new-records f g (Err e) object = tt
+new-records f g (Ok at) object = ap (λ (q : SlotFile). q.counts.records) object
+
+pub fill-inside : (f g : SlotFile) (at : ℕ) (r : Result ℕ DataFault) → IfOk r (λ p. p ≡ at) → OnOk r (at + f.defs.slot_length ≤ f.counts.length) → OnOk r (g.counts.length ≡ f.counts.length) → IfOk r (λ p. p + f.defs.slot_length ≤ g.counts.length)
+fill-inside f g at (Err e) here inside same = tt
+fill-inside f g at (Ok p) here inside same = omega (arith, here, inside, same)
+
+pub fill-length : (f g : SlotFile) (at : ℕ) (r : Result ℕ DataFault) → f.counts.dellink ≡ Some at → OnOk r (g.counts.length ≡ f.counts.length) → OnOk r (g.counts.length ≡ end_with f)
+fill-length f g at (Err e) head same = tt
+fill-length f g at (Ok p) head same = same ∙ ap (λ (o : Option ℕ). end_by o f) (sym head)
 
 -- ---- the first deleted slot is none of the file
 

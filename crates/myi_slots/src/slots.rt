@@ -95,6 +95,7 @@ pub(crate) fn hole_at<F: Files>(
     ensures err { IfErr result (ByCause Never ⊥ (λ p. (p ≡ at) × IfTold (F.holds files.old) (λ m.
         length (bytes_of name.now m) ≡ slots.end
         → hole_in slots.size slots.width (bytes_of name.now m) at ≡ None))) }
+    ensures inside { OnOk result (at + slots.size ≤ slots.end) }
     ensures holds { F.holds files.new ≡ F.holds files.old }
     ensures few { F.reads files.new ≤ F.reads files.old + 1 }
     ensures cause { HasCause File (F.faults files.old) (F.faults files.new) result }
@@ -129,6 +130,7 @@ pub(crate) fn read_slot<F: Files>(
     ensures bytes { IfOk result (λ is. IfTold (F.holds files.old) (λ m.
         length (bytes_of name.now m) ≡ slots.end → is ≡ true
         → slot.new ≡ take slots.size (drop at (bytes_of name.now m)))) }
+    ensures inside { IfOk result (λ is. is ≡ true → at + slots.size ≤ slots.end) }
     ensures holds { F.holds files.new ≡ F.holds files.old }
     ensures few { F.reads files.new ≤ F.reads files.old + blocks slots.size }
     ensures cause { HasCause Failed (F.faults files.old) (F.faults files.new) result }

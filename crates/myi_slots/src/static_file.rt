@@ -1,6 +1,8 @@
 //! `StaticFile`: the data file of a static table that changes.
-ghost use Rattle.std.specs.Prelude.{◌≡◌, IfOk};
+ghost use Rattle.std.specs.Prelude.{◌≡◌, true, IfOk, IfSome};
 ghost use Rattle.myi_defs.specs.Sound.{IsSound};
+ghost use Rattle.myi_defs.specs.declared.types.RowFormat.TheVariants.{Static};
+ghost use Rattle.myi_pack.specs.Spelling.{fits};
 ghost use Rattle.myi_pack.specs.Unpacking.{row_of};
 
 use crate::fault::DataFault;
@@ -49,7 +51,7 @@ impl Model for StaticFile {
 }
 
 impl StaticFile {
-    ghost use Rattle.std.specs.Prelude.{◌≡◌, ◌≤◌, ◌<◌, ◌+◌, true, false, Some, None, is_some, unwrap_or, MatchOption, length, IfOk, IfErr, OnOk, OnErr, IsTrue};
+    ghost use Rattle.std.specs.Prelude.{◌≡◌, ◌≤◌, ◌<◌, ◌+◌, true, false, Some, None, is_some, unwrap_or, MatchOption, length, IfOk, IfErr, IfSome, OnOk, OnErr, IsTrue};
     ghost use Rattle.myi_base.specs.Holding.{IfTold, Told, Writes, OthersStay, bytes_of, blocks};
     ghost use Rattle.myi_base.specs.Causes.{HasCause};
     ghost use Rattle.myi_io.specs.declared.files.FileErr.TheVariants.{Failed};
@@ -61,7 +63,7 @@ impl StaticFile {
     ghost use Rattle.myi_state.specs.Changes.{insert, insert_at_end, delete, update};
     ghost use Rattle.myi_slots.specs.declared.fault.DataFault.TheVariants.{File};
     ghost use Rattle.myi_slots.specs.SlotBytes.{is_row, row_there, hole_in, hole_bytes};
-    ghost use Rattle.myi_slots.specs.SlotFile.{IsLong, Steps, Refuses, Reads, CutsOff, IfRefused, ByCause, Never, Fills, LacksHole, HasRow, LacksRow, LacksFirst, counts_in, appended_counts, freed_counts, IsLink, is_reached, end_with, end_behind, appended};
+    ghost use Rattle.myi_slots.specs.SlotFile.{IsLong, Steps, Refuses, Reads, CutsOff, IfRefused, ByCause, Never, Fills, LacksHole, HasRow, LacksRow, LacksFirst, counts_in, appended_counts, freed_counts, IsLink, is_reached, risen, end_with, end_behind, appended};
 
     /// The data file of that name, with these definitions of a static table and this state.
     pub fn new(
@@ -127,6 +129,8 @@ impl StaticFile {
             IsLong self.old m → HasRow self.old at m)) }
         ensures lacks { IfOk result (λ is. is ≡ false → IfTold (F.holds files.old) (λ m.
             IsLong self.old m → LacksRow self.old at m)) }
+        ensures inside { IfOk result (λ is. is ≡ true
+            → at + self.old.defs.slot_length ≤ self.old.counts.length) }
         ensures object { self.new ≡ self.old }
         ensures holds { F.holds files.new ≡ F.holds files.old }
         ensures few { F.reads files.new ≤ F.reads files.old + blocks self.old.defs.slot_length }
@@ -182,6 +186,11 @@ impl StaticFile {
             (Writes self.old.name at packed.now)) }
         ensures others { Told (F.holds files.old) (F.holds files.new) (OthersStay self.old.name) }
         ensures hole { OnOk result (IfTold (F.holds files.old) (Fills self.old self.new at)) }
+        ensures inside { OnOk result
+            (at + self.old.defs.slot_length ≤ self.old.counts.length) }
+        ensures records { OnOk result
+            (self.new.counts.records ≡ risen self.old.counts.records 1) }
+        ensures length { OnOk result (self.new.counts.length ≡ self.old.counts.length) }
         ensures object { self.new ≡ record self.old { counts = self.new.counts } }
         ensures refused { IfErr result (ByCause Never
             (is_addressable self.old.defs self.old.counts.length ≡ false)
@@ -219,9 +228,14 @@ impl StaticFile {
         ensures place { IfOk result (λ at.
             at ≡ unwrap_or self.old.counts.dellink self.old.counts.length) }
         ensures room { OnOk result (is_reached (end_with self.old) self.old ≡ true) }
+        ensures inside { IfOk result (λ at.
+            at + self.old.defs.slot_length ≤ self.new.counts.length) }
         ensures numbers { OnOk result (MatchOption self.old.counts.dellink
             (self.new ≡ appended self.old)
             (λ at. IfTold (F.holds files.old) (Fills self.old self.new at))) }
+        ensures records { OnOk result
+            (self.new.counts.records ≡ risen self.old.counts.records 1) }
+        ensures length { OnOk result (self.new.counts.length ≡ end_with self.old) }
         ensures object { self.new ≡ record self.old { counts = self.new.counts } }
         ensures causes { IfErr result (ByCause Never
             (is_reached (end_with self.old) self.old ≡ false)
@@ -288,6 +302,8 @@ impl StaticFile {
             (Writes self.old.name at (spelling self.old.defs row.now))) }
         ensures others { Told (F.holds files.old) (F.holds files.new) (OthersStay self.old.name) }
         ensures stood { OnOk result (IfTold (F.holds files.old) (HasRow self.old at)) }
+        ensures inside { OnOk result
+            (at + self.old.defs.slot_length ≤ self.old.counts.length) }
         ensures room { OnOk result (is_reached self.old.counts.length self.old ≡ true) }
         ensures causes { IfErr result (ByCause (λ p. (p ≡ at)
             × IfTold (F.holds files.old) (LacksRow self.old at))
@@ -360,6 +376,7 @@ impl StaticFile {
         ensures format { self.old.defs.format ≡ Static }
         ensures told { IfOk result (λ row. IfTold (F.holds files.old) (λ m. IsLong self.old m
             → row ≡ row_there self.old.defs (bytes_of self.old.name m) at)) }
+        ensures fits { IfOk result (λ row. IfSome row (λ r. fits self.old.defs r ≡ true)) }
         ensures cut { IfErr result CutsOff }
         ensures object { self.new ≡ self.old }
         ensures holds { F.holds files.new ≡ F.holds files.old }
@@ -380,6 +397,7 @@ impl StaticFile {
         ensures told { IfTold (F.holds files.old) (Reads self.old at result) }
         ensures there { IfOk result (λ row. IfTold (F.holds files.old) (λ m.
             Some row ≡ row_there self.old.defs (bytes_of self.old.name m) at)) }
+        ensures fits { IfOk result (λ row. fits self.old.defs row ≡ true) }
         ensures causes { IfErr result (ByCause (λ p. (p ≡ at)
             × IfTold (F.holds files.old) (LacksRow self.old at)) ⊥ Never) }
         ensures same { self.new ≡ self.old }
@@ -400,6 +418,7 @@ impl StaticFile {
             is_row self.old.defs (bytes_of self.old.name m) at ≡ true) }
         ensures told { IfOk result (λ row. IfTold (F.holds files.old) (λ m.
             Some row ≡ row_there self.old.defs (bytes_of self.old.name m) at)) }
+        ensures fits { IfOk result (λ row. fits self.old.defs row ≡ true) }
         ensures err { IfErr result (ByCause Never ⊥ (λ p.
             (p ≡ at) × (F.holds files.old ≡ None))) }
         ensures same { self.new ≡ self.old }
@@ -416,8 +435,10 @@ impl StaticFile {
 
 /// The row in a slot of these bytes, if they pack one.
 fn row_in(defs: &Defs, slot: &[u8]) -> Result<Option<Row>, AllocError>
-    requires { IsSound defs.now }
-    ensures { IfOk result (λ row. row ≡ row_of defs.now slot.now) }
+    requires sound { IsSound defs.now }
+    requires format { defs.now.format ≡ Static }
+    ensures row { IfOk result (λ row. row ≡ row_of defs.now slot.now) }
+    ensures fits { IfOk result (λ row. IfSome row (λ r. fits defs.now r ≡ true)) }
 {
     let alloc = defs.raw.allocator();
     match view(defs, slot) {

@@ -29,3 +29,6 @@ returns-in-None-clause-err g c = (
       let x = bytes_of c.args.name.now m in
       head-link c.args.slots.size c.args.slots.width c.args.slots.end c.args.at (replicate 9 0) c.read_at.new.into x long (sym c.if-not-is_slot.ensures) (omega (arith, c.requires.width)) c.requires.wide (c.in_ok-count.ensures.bytes m held) ∙ sym c.in-None.ensures,
 )
+
+pub returns-in-Some-clause-inside : goal.returns-in-Some-clause-inside
+returns-in-Some-clause-inside g c = (slot-is c.args.slots.size c.args.slots.end c.args.at (sym c.if-not-is_slot.ensures)).1

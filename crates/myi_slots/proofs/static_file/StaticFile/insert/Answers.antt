@@ -2,7 +2,7 @@ use Rattle.std.proofs.Common.{◌≡◌, length, subst, rules}
 use Rattle.myi_defs.specs.declared.types.RowFormat.TheVariants.{Static}
 use Rattle.myi_defs.specs.Sound.{IsSound}
 use Rattle.myi_slots.specs.SlotFile.{SlotFile}
-use Rattle.myi_slots.proofs.ResultLemmas.{append-ok, insert-ok, insert-refused, full-refused, fill-ok, fill-refused, packed-long, append-room, append-numbers, append-causes, new-place, new-room, new-numbers, new-causes, fill-place, fill-room, fill-numbers, fill-causes}
+use Rattle.myi_slots.proofs.ResultLemmas.{append-ok, insert-ok, insert-refused, full-refused, fill-ok, fill-refused, packed-long, append-room, append-numbers, append-causes, new-place, new-room, new-numbers, new-causes, fill-place, fill-room, fill-numbers, fill-causes, new-inside, new-length, new-records, fill-inside, fill-length}
 use Rattle.myi_slots.proofs.static_file.StaticFile.insert.Goals as goal
 
 pub returns-in-Some-clause-ok : goal.returns-in-Some-clause-ok
@@ -62,4 +62,28 @@ pub returns-clause-causes : goal.returns-clause-causes
 returns-clause-causes g c =
     new-causes c.args.self.now _ c.append.result (search rules)
     (append-causes c.args.self.now (length c.as_slice-in-None.result.now) c.append.result (packed-long c.args.self.now.defs c.args.row.now c.as_slice-in-None.result.now
+    (subst (λ (f : SlotFile). IsSound f.defs) c.self.view_is c.self.invariant.0) (subst (λ (f : SlotFile). f.defs.format ≡ Static) c.self.view_is c.self.invariant.1) c.requires.fits (search rules)) (search rules))
+
+pub returns-in-Some-clause-inside : goal.returns-in-Some-clause-inside
+returns-in-Some-clause-inside g c = fill-inside c.args.self.now c.fill.new.self c.in-Some.at c.fill.result (search rules) (search rules) (search rules)
+
+pub returns-in-Some-clause-length : goal.returns-in-Some-clause-length
+returns-in-Some-clause-length g c = fill-length c.args.self.now c.fill.new.self c.in-Some.at c.fill.result (search rules) (search rules)
+
+pub returns-clause-inside : goal.returns-clause-inside
+returns-clause-inside g c =
+    new-inside c.args.self.now c.append.new.self c.append.result (search rules)
+    (append-numbers c.args.self.now c.append.new.self (length c.as_slice-in-None.result.now) c.append.result (packed-long c.args.self.now.defs c.args.row.now c.as_slice-in-None.result.now
+    (subst (λ (f : SlotFile). IsSound f.defs) c.self.view_is c.self.invariant.0) (subst (λ (f : SlotFile). f.defs.format ≡ Static) c.self.view_is c.self.invariant.1) c.requires.fits (search rules)) (search rules))
+
+pub returns-clause-length : goal.returns-clause-length
+returns-clause-length g c =
+    new-length c.args.self.now c.append.new.self c.append.result (search rules)
+    (append-numbers c.args.self.now c.append.new.self (length c.as_slice-in-None.result.now) c.append.result (packed-long c.args.self.now.defs c.args.row.now c.as_slice-in-None.result.now
+    (subst (λ (f : SlotFile). IsSound f.defs) c.self.view_is c.self.invariant.0) (subst (λ (f : SlotFile). f.defs.format ≡ Static) c.self.view_is c.self.invariant.1) c.requires.fits (search rules)) (search rules))
+
+pub returns-clause-records : goal.returns-clause-records
+returns-clause-records g c =
+    new-records c.args.self.now c.append.new.self c.append.result
+    (append-numbers c.args.self.now c.append.new.self (length c.as_slice-in-None.result.now) c.append.result (packed-long c.args.self.now.defs c.args.row.now c.as_slice-in-None.result.now
     (subst (λ (f : SlotFile). IsSound f.defs) c.self.view_is c.self.invariant.0) (subst (λ (f : SlotFile). f.defs.format ≡ Static) c.self.view_is c.self.invariant.1) c.requires.fits (search rules)) (search rules))

@@ -1,7 +1,7 @@
 use Rattle.std.proofs.Common.{◌∙◌, ap, sym, rules, arith}
 use Rattle.myi_data.specs.Readable.{packs}
 use Rattle.myi_slots.specs.SlotFile.{SlotFile}
-use Rattle.myi_slots.proofs.FileLemmas.{row-lacks-slot, row-by-slot, view-packs, seam}
+use Rattle.myi_slots.proofs.FileLemmas.{row-lacks-slot, row-by-slot, slot-ends, view-packs, seam}
 use Rattle.myi_slots.proofs.static_file.StaticFile.is_row.Goals as goal
 
 pub returns-then-not-branch-clause-told : goal.returns-then-not-branch-clause-told
@@ -20,3 +20,6 @@ returns-clause-has g c e m held long = sym (returns-clause-told g c m held long)
 
 pub returns-clause-lacks : goal.returns-clause-lacks
 returns-clause-lacks g c e m held long = sym (returns-clause-told g c m held long) ∙ e
+
+pub returns-clause-inside : goal.returns-clause-inside
+returns-clause-inside g c e = slot-ends c.args.self.now c.slots-slots.result c.args.at (search rules) (c.in_ok-read_slot.ensures.inside (search rules))

@@ -38,3 +38,6 @@ pub returns-clause-room : goal.returns-clause-room
 returns-clause-room g c =
     let room : is_addressable c.args.self.now.defs c.args.self.now.counts.length ≡ true = sym (ap (λ (f : SlotFile). is_addressable f.defs f.counts.length) (c.self-2.view_is ∙ c.is_row.ensures.object)) ∙ sym c.if-not-addressable.ensures in
     room
+
+pub returns-clause-inside : goal.returns-clause-inside
+returns-clause-inside g c = c.in_ok-is_row.ensures.inside c.if-not-branch.false
