@@ -1,6 +1,16 @@
 -- What a read of a file gives.
-use Rattle.std.proofs.Common.{◌≡◌, ◌∙◌, ℕ, ◌+◌, ◌-◌, ◌<◌, ◌≤◌, List, [], ◌++◌, length, take, drop, min, sym, ap, arith}
+use Rattle.std.proofs.Common.{◌≡◌, ◌∙◌, ℕ, ◌+◌, ◌-◌, ◌^◌, ◌<◌, ◌≤◌, true, List, [], ◌++◌, length, take, drop, min, Option, Some, sym, ap, subst, arith}
+use Rattle.std.specs.Prelude.{MatchOption}
 use Rattle.std.proofs.lemmas.List.{append-nil, length-take-le, length-drop, drop_all}
+use Rattle.myi_defs.specs.declared.types.Defs.{Defs}
+use Rattle.myi_defs.specs.Sound.{IsSound}
+use Rattle.myi_pack.specs.Packed.{Values, Packs}
+use Rattle.myi_pack.specs.Spelling.{fits}
+use Rattle.myi_pack.proofs.CallerLemmas.{row-fits}
+
+-- what a view of few bytes shows fits
+pub view-fits : (d : Defs) (o : Option Values) (row : Values) (b : List ℕ) → IsSound d → length b < 2 ^ 32 → o ≡ Some row → MatchOption o ((r : Values) → Packs d r b → ⊥) (λ r. Packs d r b) → fits d row ≡ true
+view-fits d o row b sound few e packs = row-fits d row b sound (subst (λ (q : Option Values). MatchOption q ((r : Values) → Packs d r b → ⊥) (λ r. Packs d r b)) e packs) (λ dynamic. few)
 
 -- where a read of these bytes gives fewer, the file ends before
 pub read-short : (old d : List ℕ) (at count : ℕ) → length old ≡ 20 → count < 20 → count ≡ min (length old) (length (drop at d)) → length d < at + 20

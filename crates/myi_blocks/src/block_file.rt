@@ -46,7 +46,7 @@ impl Model for BlockFile {
 }
 
 impl BlockFile {
-    ghost use Rattle.std.specs.Prelude.{◌≡◌, ◌⊎◌, ◌<◌, ◌-◌, true, false, is_some, unwrap_or, length, None, Some, IfOk, IfErr, OnOk, OnErr, IsTrue};
+    ghost use Rattle.std.specs.Prelude.{◌≡◌, ◌⊎◌, ◌≤◌, ◌<◌, ◌-◌, true, false, is_some, unwrap_or, length, None, Some, IfOk, IfErr, OnOk, OnErr, IsTrue};
     ghost use Rattle.myi_base.specs.Holding.{IfTold, Told, OthersStay};
     ghost use Rattle.myi_base.specs.Causes.{HasCause};
     ghost use Rattle.myi_defs.specs.declared.types.RowFormat.TheVariants.{Dynamic};
@@ -134,6 +134,7 @@ impl BlockFile {
             (OthersStay self.old.file.name) }
         ensures place { IfOk result (λ at.
             at ≡ unwrap_or self.old.file.counts.dellink self.old.file.counts.length) }
+        ensures inside { IfOk result (λ at. at ≤ self.new.file.counts.length) }
         ensures room { OnOk result
             (is_reached self.new.file.counts.length self.old.file ≡ true) }
         ensures object { self.new.file ≡ record self.old.file {
@@ -175,6 +176,7 @@ impl BlockFile {
         ensures others { Told (F.holds files.old) (F.holds files.new)
             (OthersStay self.old.file.name) }
         ensures place { IfOk result (λ at. at ≡ self.old.file.counts.length) }
+        ensures inside { IfOk result (λ at. at ≤ self.new.file.counts.length) }
         ensures room { OnOk result
             (is_reached self.new.file.counts.length self.old.file ≡ true) }
         ensures object { self.new.file ≡ record self.old.file {
@@ -310,6 +312,7 @@ impl BlockFile {
         ensures others { Told (F.holds files.old) (F.holds files.new)
             (OthersStay self.old.file.name) }
         ensures stood { OnOk result (HasNoted at true self.new.places) }
+        ensures inside { OnOk result (at < self.new.file.counts.length) }
         ensures room { OnOk result
             (is_reached self.new.file.counts.length self.old.file ≡ true) }
         ensures object { self.new.file ≡ record self.old.file {
@@ -349,6 +352,7 @@ impl BlockFile {
         ensures told { IfTold (F.holds files.old) (ReadsNoted self.old at result) }
         ensures there { IfOk result (λ row. IfTold (F.holds files.old)
             (IsRowAt self.old.file at row)) }
+        ensures fits { IfOk result (λ row. fits self.old.file.defs row ≡ true) }
         ensures stood { OnOk result (HasNoted at true self.new.places) }
         ensures causes { IfErr result (ByCause
             (λ p. (p ≡ at) × HasNoted at false self.new.places) ⊥ (λ p.
@@ -376,6 +380,7 @@ impl BlockFile {
         requires there { IfTold (F.holds files.old) (HasRow self.old.file at) }
         ensures told { IfOk result (λ row. IfTold (F.holds files.old)
             (IsRowAt self.old.file at row)) }
+        ensures fits { IfOk result (λ row. fits self.old.file.defs row ≡ true) }
         ensures err { IfErr result (ByCause Never ⊥ (λ p. F.holds files.old ≡ None)) }
         ensures few { IfTold (F.holds files.old)
             (ReadsFew self.old.file at (F.reads files.old) (F.reads files.new)) }

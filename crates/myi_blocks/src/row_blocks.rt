@@ -1,10 +1,11 @@
 //! `RowBlocks`: the blocks of a dynamic data file that changes, wherever rows stand in it.
 //!
 //! What it keeps is what the index file is to say, and no note of the rows, which `BlockFile` adds.
-ghost use Rattle.std.specs.Prelude.{◌≡◌, ◌<◌, true, IfOk};
+ghost use Rattle.std.specs.Prelude.{◌≡◌, ◌<◌, ◌^◌, true, length, IfOk, IfSome};
 ghost use Rattle.myi_defs.specs.Sound.{IsSound};
 ghost use Rattle.myi_defs.specs.declared.types.RowFormat.TheVariants.{Dynamic};
 ghost use Rattle.myi_defs.specs.Addressable.{is_addressable};
+ghost use Rattle.myi_pack.specs.Spelling.{fits};
 ghost use Rattle.myi_pack.specs.Unpacking.{row_of};
 ghost use Rattle.myi_blocks.specs.BlockFile.{end_limit};
 
@@ -86,7 +87,7 @@ fn limit_of(defs: &Defs, end: u64) -> u128
 }
 
 impl RowBlocks {
-    ghost use Rattle.std.specs.Prelude.{◌≡◌, ◌⊎◌, ◌<◌, ◌-◌, ◌^◌, true, false, is_some, unwrap_or, length, None, IfOk, IfErr, OnOk, OnErr, IsTrue};
+    ghost use Rattle.std.specs.Prelude.{◌≡◌, ◌⊎◌, ◌≤◌, ◌<◌, ◌-◌, ◌^◌, true, false, is_some, unwrap_or, length, None, IfOk, IfErr, OnOk, OnErr, IsTrue};
     ghost use Rattle.myi_base.specs.Holding.{IfTold, Told, OthersStay, bytes_of};
     ghost use Rattle.myi_base.specs.Causes.{HasCause};
     ghost use Rattle.myi_defs.specs.declared.types.RowFormat.TheVariants.{Dynamic};
@@ -175,6 +176,7 @@ impl RowBlocks {
         ensures others { Told (F.holds files.old) (F.holds files.new) (OthersStay self.old.name) }
         ensures place { IfOk result (λ put.
             put.at ≡ unwrap_or self.old.counts.dellink self.old.counts.length) }
+        ensures inside { IfOk result (λ put. put.at ≤ self.new.counts.length) }
         ensures room { OnOk result (is_reached self.new.counts.length self.old ≡ true) }
         ensures causes { IfErr result (ByCause Never
             ((is_reached self.old.counts.length self.old ≡ false)
@@ -211,6 +213,7 @@ impl RowBlocks {
         }) }
         ensures others { Told (F.holds files.old) (F.holds files.new) (OthersStay self.old.name) }
         ensures place { IfOk result (λ put. put.at ≡ self.old.counts.length) }
+        ensures inside { IfOk result (λ put. put.at ≤ self.new.counts.length) }
         ensures room { OnOk result (is_reached self.new.counts.length self.old ≡ true) }
         ensures causes { IfErr result (ByCause Never
             (is_reached (end_with self.old (length packed.now)) self.old ≡ false) Never) }
@@ -246,6 +249,7 @@ impl RowBlocks {
         ensures others { Told (F.holds files.old) (F.holds files.new) (OthersStay self.old.name) }
         ensures place { IfOk result (λ at.
             at ≡ unwrap_or self.old.counts.dellink self.old.counts.length) }
+        ensures inside { IfOk result (λ at. at ≤ self.new.counts.length) }
         ensures room { OnOk result (is_reached self.new.counts.length self.old ≡ true) }
         ensures object { self.new ≡ record self.old { counts = self.new.counts } }
         ensures records { OnOk result
@@ -284,6 +288,7 @@ impl RowBlocks {
             (PutsAtEnd (list_in self.old) (list_in self.new) (spelling self.old.defs row.now) at)) }
         ensures others { Told (F.holds files.old) (F.holds files.new) (OthersStay self.old.name) }
         ensures place { IfOk result (λ at. at ≡ self.old.counts.length) }
+        ensures inside { IfOk result (λ at. at ≤ self.new.counts.length) }
         ensures room { OnOk result (is_reached self.new.counts.length self.old ≡ true) }
         ensures object { self.new ≡ record self.old { counts = self.new.counts } }
         ensures records { OnOk result
@@ -355,6 +360,7 @@ impl RowBlocks {
           counts = counts_again new self.new.counts.length self.new.counts.dellink self.old.counts;
         }) }
         ensures others { Told (F.holds files.old) (F.holds files.new) (OthersStay self.old.name) }
+        ensures inside { OnOk result (at < self.new.counts.length) }
         ensures room { OnOk result (is_reached self.new.counts.length self.old ≡ true) }
         ensures causes { IfErr result (ByCause Never
             ((is_reached self.old.counts.length self.old ≡ false)
@@ -397,6 +403,7 @@ impl RowBlocks {
             (PutsAgain (list_in self.old) (list_in self.new) at
             (spelling self.old.defs row.now))) }
         ensures others { Told (F.holds files.old) (F.holds files.new) (OthersStay self.old.name) }
+        ensures inside { OnOk result (at < self.new.counts.length) }
         ensures room { OnOk result (is_reached self.new.counts.length self.old ≡ true) }
         ensures object { self.new ≡ record self.old { counts = self.new.counts } }
         ensures records { OnOk result (self.new.counts.records ≡ self.old.counts.records) }
@@ -420,6 +427,7 @@ impl RowBlocks {
     pub(crate) fn read_row<F: Files>(&mut self, files: &mut F, at: u64) -> Result<Row, DataFault>
         requires long { IfTold (F.holds files.old) (IsLong self.old) }
         ensures told { IfOk result (λ row. IfTold (F.holds files.old) (IsRowAt self.old at row)) }
+        ensures fits { IfOk result (λ row. fits self.old.defs row ≡ true) }
         ensures err { IfErr result (ByCause Never ⊥ (λ p.
             IfTold (F.holds files.old) (LacksRow self.old at))) }
         ensures few { IfTold (F.holds files.old)
@@ -466,8 +474,10 @@ impl RowBlocks {
 
 /// The row that bytes pack, if they pack one.
 fn row_in(defs: &Defs, bytes: &[u8]) -> Result<Option<Row>, AllocError>
-    requires { IsSound defs.now }
-    ensures { IfOk result (λ row. row ≡ row_of defs.now bytes.now) }
+    requires sound { IsSound defs.now }
+    requires few { length bytes.now < 2 ^ 32 }
+    ensures row { IfOk result (λ row. row ≡ row_of defs.now bytes.now) }
+    ensures fits { IfOk result (λ row. IfSome row (λ r. fits defs.now r ≡ true)) }
 {
     let alloc = defs.raw.allocator();
     match view(defs, bytes) {

@@ -3,7 +3,7 @@
 //! A `Link` says how a row goes on behind a block: not at all, or at the place that the block names. The row
 //! bytes of each block are appended to a buffer. No list of the blocks is kept: where a row stands, its blocks
 //! share no byte, and each further one leaves fewer bytes to come.
-ghost use Rattle.std.specs.Prelude.{◌≡◌, ◌≤◌, ◌<◌, ◌+◌, ◌-◌, ◌^◌, ◌++◌, [], length, take, drop, true, IfOk, IfErr, IfSome, List, ℕ};
+ghost use Rattle.std.specs.Prelude.{◌≡◌, ◌≤◌, ◌<◌, ◌+◌, ◌-◌, ◌^◌, ◌++◌, [], length, take, drop, true, IfOk, IfErr, IfSome, OnOk, List, ℕ};
 ghost use Rattle.myi_base.specs.Holding.{IfTold, bytes_of, blocks};
 ghost use Rattle.myi_base.specs.Causes.{HasCause};
 ghost use Rattle.myi_frames.specs.Block.{Block, block_of};
@@ -214,6 +214,7 @@ pub(crate) fn read_chain<F: Files>(
         → (bs : List Block) → IsChain (block_of (bytes_of name.now m)) at [] bs
         → HasRead (row_bytes bs) (F.reads files.old + chain_cost bs) result row.new.items
         (F.reads files.new)) }
+    ensures few { OnOk result (length row.new.items < 2 ^ 32) }
     ensures err { IfErr result (ByCause Never ⊥ (λ p. Unit {0})) }
     ensures holds { F.holds files.new ≡ F.holds files.old }
     ensures cause { HasCause File (F.faults files.old) (F.faults files.new) result }
