@@ -1,6 +1,7 @@
 pub mod CallerLemmas
 pub mod Lists
 pub mod Serving
+pub mod CountLaws
 pub mod CodeLaws
 pub mod Inserted
 pub mod SeekLaws

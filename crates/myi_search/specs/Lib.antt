@@ -6,6 +6,8 @@ pub mod Least
 pub mod Path
 -- a tree that a search goes down
 pub mod Trees
+-- the setup and the counters of a key cache through calls
+pub mod Counting
 -- what serves private contracts
 
 -- codes that are read without their keys

@@ -13,6 +13,7 @@ ghost use Rattle.myi_btree.specs.CachedTrees.{node_lent, MayGet, CanWalk, ReadsO
 ghost use Rattle.myi_btree.specs.Serving.{View, nodes_at, CanAsk};
 ghost use Rattle.myi_search.specs.Path.{IsStopped, Arrives};
 ghost use Rattle.myi_search.specs.Trees.{HasTree};
+ghost use Rattle.myi_search.specs.Counting.{CountsOn};
 ghost use Rattle.myi_search.specs.Passing.{passes, first_kept, IsParted, best_of, HasCode};
 ghost use Rattle.myi_search.specs.Seeking.{Enters, AskedSome, Ends, Stops};
 
@@ -48,6 +49,7 @@ fn enter<F: Files>(
         (λ m n. CanGet cache.old m at place.now.block_length → Stays cache.old cache.new m n) }
     ensures added { AddsOnly at place.now.block_length (pages_of cache.old) (pages_of cache.new) }
     ensures cache { ReadsOnly (F.holds files.old) (F.holds files.new) cache.old cache.new }
+    ensures counted { CountsOn cache.old cache.new }
     ensures requests { cache.new.counters.read_requests ≤ cache.old.counters.read_requests + 1 }
     ensures cause { HasCause File (F.faults files.old) (F.faults files.new) result }
     ensures reads { F.reads files.old ≤ F.reads files.new }
@@ -87,6 +89,7 @@ fn go_down<F: Files>(
         → Stops place.now (passes bound.now) v root at)) }
     ensures code { OnOk result (HasCode reached.new) }
     ensures cache { ReadsOnly (F.holds files.old) (F.holds files.new) cache.old cache.new }
+    ensures counted { CountsOn cache.old cache.new }
     ensures cause { HasCause File (F.faults files.old) (F.faults files.new) result }
     ensures reads { F.reads files.old ≤ F.reads files.new }
 {
@@ -128,6 +131,7 @@ pub(crate) fn descend<F: Files>(
         → HasTree place.now cache.old m place.now.root height pairs → ⊥))) }
     ensures code { OnOk result (HasCode reached.new) }
     ensures cache { ReadsOnly (F.holds files.old) (F.holds files.new) cache.old cache.new }
+    ensures counted { CountsOn cache.old cache.new }
     ensures stays { Told (F.holds files.old) (F.holds files.new)
         (λ m n. IsCurrent cache.old m → Stays cache.old cache.new m n) }
     ensures added { IfTold (F.holds files.old) (λ m. IsCurrent cache.old m

@@ -13,6 +13,7 @@ ghost use Rattle.myi_btree.specs.CachedTrees.{node_lent, CanWalk, ReadsOnly, Add
 ghost use Rattle.myi_search.specs.Least.{IsLeastRow, IsLeastAbove};
 ghost use Rattle.myi_search.specs.Path.{is_below, is_up_to, IsStopped, Arrives};
 ghost use Rattle.myi_search.specs.Trees.{HasTree};
+ghost use Rattle.myi_search.specs.Counting.{CountsOn};
 
 use crate::bound::Bound;
 use crate::descent::descend;
@@ -58,6 +59,7 @@ pub fn find<F: Files>(
 
     // Nothing was put, the same is lent, and no page came to be kept but those named from the root on.
     ensures cache { ReadsOnly (F.holds files.old) (F.holds files.new) cache.old cache.new }
+    ensures counted { CountsOn cache.old cache.new }
     ensures stays { Told (F.holds files.old) (F.holds files.new)
         (λ m n. IsCurrent cache.old m → Stays cache.old cache.new m n) }
     ensures added { IfTold (F.holds files.old) (λ m. IsCurrent cache.old m
@@ -113,6 +115,7 @@ pub fn next_after<F: Files>(
 
     // Nothing was put, the same is lent, and no page came to be kept but those named from the root on.
     ensures cache { ReadsOnly (F.holds files.old) (F.holds files.new) cache.old cache.new }
+    ensures counted { CountsOn cache.old cache.new }
     ensures stays { Told (F.holds files.old) (F.holds files.new)
         (λ m n. IsCurrent cache.old m → Stays cache.old cache.new m n) }
     ensures added { IfTold (F.holds files.old) (λ m. IsCurrent cache.old m

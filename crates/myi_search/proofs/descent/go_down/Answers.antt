@@ -3,6 +3,7 @@ use Rattle.std.proofs.lemmas.Result.{err_from_is_err_and}
 use Rattle.myi_btree.specs.CachedTrees.{is_among}
 use Rattle.myi_search.specs.Passing.{passes, best_of}
 use Rattle.myi_search.specs.Seeking.{Going, Stops}
+use Rattle.myi_search.proofs.CountLaws.{counts_on}
 use Rattle.myi_search.proofs.Inserted.{seen_is, has_more}
 use Rattle.myi_search.proofs.Serving.{same_place, if_err, serves_on, reads_on}
 use Rattle.myi_search.proofs.DownLaws.{can_go, went_more, going_more, going_ends, stops_none, stops_met, asked_one}
@@ -64,6 +65,7 @@ loop-down-preserved g c =
           going_more c.args.place.now (passes c.args.bound.now) v told (g.F.Files.holds c.enter.new.files) c.loop-down.cache c.enter.new.cache c.args.root c.loop-down.invariant.seen c.in-Some.at c.in_ok-down.down (best_of c.loop-down.reached) (best_of c.enter.new.reached) going off (c.in_ok-down.ensures.enters v asks)
           (serves_on c.args.place.now v told (g.F.Files.holds c.enter.new.files) c.loop-down.cache c.enter.new.cache c.in-Some.at asks c.enter.ensures.cache c.enter.ensures.stays c.enter.ensures.added);
       cache = reads_on _ _ _ _ _ _ c.loop-down.invariant.cache c.enter.ensures.cache;
+      counted = counts_on c.args.cache.now c.loop-down.cache c.enter.new.cache c.loop-down.invariant.counted c.enter.ensures.counted;
       code = c.in_ok-down.ensures.code c.loop-down.invariant.code;
       later = omega (arith, c.loop-down.invariant.later, c.enter.ensures.cause.later);
       reads = omega (arith, c.loop-down.invariant.reads, c.enter.ensures.reads);

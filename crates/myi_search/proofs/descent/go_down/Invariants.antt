@@ -3,6 +3,7 @@ use Rattle.myi_btree.specs.Visited.{HasPlaces}
 use Rattle.myi_btree.specs.CachedTrees.{ReadsOnly}
 use Rattle.myi_btree.specs.Serving.{View, CanAsk}
 use Rattle.myi_search.specs.Passing.{passes, best_of, HasCode}
+use Rattle.myi_search.specs.Counting.{CountsOn}
 use Rattle.myi_search.specs.Seeking.{Going, Asked}
 use Rattle.myi_search.proofs.descent.go_down.Given as goal
 
@@ -13,6 +14,7 @@ invariant-loop-down g l = record {
   asked : Asked l.fn.place l.fn.cache l.cache (g.F.Files.reads l.fn.files) (g.F.Files.reads l.files) seen;
   going : (v : View) → CanAsk l.fn.place v (g.F.Files.holds l.fn.files) l.fn.cache l.fn.root → Going l.fn.place (passes l.fn.bound) v (g.F.Files.holds l.files) l.cache l.fn.root seen l.down (best_of l.reached);
   cache : ReadsOnly (g.F.Files.holds l.fn.files) (g.F.Files.holds l.files) l.fn.cache l.cache;
+  counted : CountsOn l.fn.cache l.cache;
   code : HasCode l.reached;
   later : g.F.Files.faults l.fn.files ≤ g.F.Files.faults l.files;
   reads : g.F.Files.reads l.fn.files ≤ g.F.Files.reads l.files;
