@@ -1,10 +1,12 @@
 -- A page that a key cache was asked for.
-use Rattle.std.proofs.Common.{◌≡◌, ℕ, ◌%◌, Option, Some, None, Result, Err, List, refl, sym, ap, subst, ◌∙◌, inl, inr}
+use Rattle.std.proofs.Common.{◌≡◌, ℕ, ◌%◌, ◌≤◌, Option, Some, None, Result, Ok, Err, List, refl, sym, ap, subst, ◌∙◌, arith, inl, inr}
 use Rattle.std.specs.Prelude.{IfErr}
 use Rattle.std.specs.List.{Contains}
 use Rattle.std.proofs.lemmas.Bool.{eq-eqb, ne_eqb}
 use Rattle.std.proofs.lemmas.Option.{same_Some}
 use Rattle.myi_base.specs.Holding.{Holding, Told, OthersStay}
+use Rattle.myi_base.specs.Causes.{HasCause}
+use Rattle.myi_base.proofs.CallerLemmas.{told_then}
 use Rattle.myi_keycache.specs.Kept.{AddsOnly}
 use Rattle.myi_keycache.specs.Caching.{pages_of, Caching, lends, CanGet, Stays}
 use Rattle.myi_keycache.specs.declared.setup.CacheFault.{CacheFault}
@@ -67,7 +69,26 @@ got place old m pages room told next new at node placed held read stays added ot
       now = t.0;
       held = t.1;
       changes = change_get place old m pages room new t.0 at here kept added name (subst (λ (n : Holding). OthersStay old.name m n) same o.2);
-      same = kept.lent;
+      stays = kept;
       was = was;
       is = lent_node place old m new t.0 at node (λ x e. kept.lent at place.block_length x e) was;
     }
+
+-- ---- calls that follow one another
+
+pub others_on : (one two three : Option Holding) (old mid : List ℕ) → mid ≡ old → Told one two (OthersStay old) → Told two three (OthersStay mid) → Told one three (OthersStay old)
+others_on one two three old mid same a b = told_then one two three (OthersStay old) (OthersStay mid) (OthersStay old) a b (λ m n k before then q other. then q (λ e. other (e ∙ same)) ∙ before q other)
+
+-- an error of the last call, where the count had not fallen before it
+pub cause_on : {T U : Type 0} (failed x y : TreeFault) (a b d : ℕ) (r : Result U TreeFault) → r ≡ Err y → y ≡ x → a ≤ b → HasCause {T = T} {E = TreeFault} failed b d (Err x) → HasCause {T = U} {E = TreeFault} failed a d r
+cause_on failed x y a b d r is same le h = record {
+  later = let l = h.later in omega (arith, l, le);
+  cause = λ e.
+      let k : Err y ≡ Err failed = sym is ∙ e in
+      let f : y ≡ failed = cc in
+      let up = h.cause (ap Err (sym same ∙ f)) in
+      omega (arith, up, le);
+}
+
+pub cause_ok : {T : Type 0} (failed : TreeFault) (a d : ℕ) (x : T) → a ≤ d → HasCause {T = T} {E = TreeFault} failed a d (Ok x)
+cause_ok failed a d x le = record { later = le; cause = λ e. absurd cc }

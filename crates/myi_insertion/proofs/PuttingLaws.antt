@@ -149,7 +149,7 @@ into_node place p old told told1 told2 told3 mid two new at i ps grown cs gcs sp
     let g = gets m held w.pages r0 can (in_root (node_lent place old m) h at w e) in
     let k = node_only (node_lent place old m) h at w (node_with ps cs) e g.was some in
     let e2 : walk_of (node_lent place old m) (suc k.0) at ≡ Some w = subst (λ (n : ℕ). walk_of (node_lent place old m) n at ≡ Some w) k.1 e in
-    let walk = walk_stays place old m mid g.now (suc k.0) at w g.same e2 in
+    let walk = walk_stays place old m mid g.now (suc k.0) at w g.stays.lent e2 in
     let still = can_still place old m w.pages r0 mid g.now w.pages r0 pos can g.changes in
     let one : i + 1 ≡ suc i = omega arith in
     let gis2 : gcs ≡ (take i cs ++ sp1) ++ drop (suc i) cs = gis ∙ ap (λ (n : ℕ). (take i cs ++ sp1) ++ drop n cs) one in
@@ -258,7 +258,7 @@ never_below place old told told1 mid at i ps cs r0 pos gets br some le never = �
     let g = gets m held w.pages r0 can (in_root (node_lent place old m) h at w e) in
     let k = node_only (node_lent place old m) h at w (node_with ps cs) e g.was some in
     let e2 : walk_of (node_lent place old m) (suc k.0) at ≡ Some w = subst (λ (n : ℕ). walk_of (node_lent place old m) n at ≡ Some w) k.1 e in
-    let walk = walk_stays place old m mid g.now (suc k.0) at w g.same e2 in
+    let walk = walk_stays place old m mid g.now (suc k.0) at w g.stays.lent e2 in
     let still = can_still place old m w.pages r0 mid g.now w.pages r0 pos can g.changes in
     let child : ℕ = get_or cs i 0 in
     let c = child_at (node_lent place mid g.now) k.0 at w ps cs i child walk g.is br le refl in

@@ -8,9 +8,12 @@ use Rattle.std.proofs.Math.Bool.{beq}
 use Rattle.std.proofs.lemmas.Bool.{eqb-true}
 use Rattle.std.proofs.lemmas.List.{drop_all, take-append-drop, length-take, length-drop, length-append}
 use Rattle.std.proofs.lemmas.List.Elements.{Contains-append_left, Contains-append_right, Contains-append_cases}
-use Rattle.myi_base.specs.Holding.{Holding}
+use Rattle.std.proofs.lemmas.Option.{same_Some}
+use Rattle.myi_base.specs.Holding.{Holding, Told, OthersStay}
+use Rattle.myi_base.proofs.CallerLemmas.{told_same}
 use Rattle.myi_keycache.specs.Kept.{is_kept, NoOtherMeets}
-use Rattle.myi_keycache.specs.Caching.{pages_of, Caching, SameLent, CanGet}
+use Rattle.myi_keycache.specs.Caching.{pages_of, Caching, Stays, CanGet}
+use Rattle.myi_keycache.proofs.CallerLemmas.{stays_on, stays_start}
 use Rattle.myi_keys.specs.Limits.{IsKey}
 use Rattle.myi_keypage.specs.Page.{IsPlace}
 use Rattle.myi_keylist.specs.declared.pair.Pair.{Pair}
@@ -94,7 +97,7 @@ joint_written place old told told1 told2 mid two i left beside ps gps cs gcs ips
     let child : ℕ = get_or cs i 0 in
     let k = stands (node_lent place old m) h xs pages o in
     let g = gets m held (at ∷ pages) r0 can (Contains-append_right (at ∷ []) pages beside k.2) in
-    let o2 = opening_stays (node_lent place old m) (node_lent place mid g.now) h i ps cs ips ics xs pages (λ p node was. lent_node place old m mid g.now p node (λ x. g.same p block x) was) o in
+    let o2 = opening_stays (node_lent place old m) (node_lent place mid g.now) h i ps cs ips ics xs pages (λ p node was. lent_node place old m mid g.now p node (λ x. g.stays.lent p block x) was) o in
     let j = joint (node_lent place mid g.now) h xs pages o2 g.is in
     let q : List ℕ = beside ∷ j.below in
     let still = can_still place old m (at ∷ pages) r0 mid g.now (at ∷ pages) r0 pos can g.changes in
@@ -201,7 +204,7 @@ record Entered (place : Place) (old : Caching) (m : Holding) (h at i : ℕ) (w :
   k : ℕ
   height : h ≡ suc k
   changes : Changes place old m w.pages r0 mid now w.pages r0
-  same : SameLent old m mid now
+  stays : Stays old mid m now
   still : CanChange place mid now w.pages r0
   c : Child (node_lent place mid now) k at w ps cs i (get_or cs i 0)
 
@@ -211,14 +214,14 @@ enters place old told told1 mid at i ps cs r0 pos gets br some le m held h w e c
     let g = gets m held w.pages r0 can (in_root (node_lent place old m) h at w e) in
     let k = node_only (node_lent place old m) h at w (node_with ps cs) e g.was some in
     let e2 : walk_of (node_lent place old m) (suc k.0) at ≡ Some w = subst (λ (n : ℕ). walk_of (node_lent place old m) n at ≡ Some w) k.1 e in
-    let walk = walk_stays place old m mid g.now (suc k.0) at w g.same e2 in
+    let walk = walk_stays place old m mid g.now (suc k.0) at w g.stays.lent e2 in
     record {
       now = g.now;
       held = g.held;
       k = k.0;
       height = k.1;
       changes = g.changes;
-      same = g.same;
+      stays = g.stays;
       still = can_still place old m w.pages r0 mid g.now w.pages r0 pos can g.changes;
       c = child_at (node_lent place mid g.now) k.0 at w ps cs i (get_or cs i 0) walk g.is br le refl;
     }
@@ -333,7 +336,7 @@ none_in_leaf p place old told told1 mid at i ps cs r0 pos gets br none bef aft f
     record {
       now = g.now;
       held = g.held;
-      same = g.same;
+      stays = g.stays;
       changes = g.changes;
       none = subst (AllByRecursion (λ q. pair_cmp p q ≡ Equal → ⊥)) (sym ps_are) all;
     }
@@ -424,7 +427,7 @@ none_below p place old told told1 told2 mid two at i ps cs r0 pos gets br some l
     record {
       now = q.now;
       held = q.held;
-      same = λ a n x f. q.same a n x (t.same a n x f);
+      stays = stays_on old mid two m t.now q.now t.stays q.stays;
       changes = change_then place old m w.pages r0 mid t.now w.pages r0 two q.now w.pages r0 t.changes changes;
       none = subst (AllByRecursion P) (sym part.content_is) all;
     }
@@ -512,7 +515,7 @@ none_from p place old told told1 mid r0 r1 at top seeks is same m held xs pages 
     let w : Walked = t.1 in
     let q = seeks m held h w t.2 (subst (λ (ps : List ℕ). CanChange place old m ps r0) t.4 can) (subst (λ (ys : List Pair). IsStrictlySortedBy pair_cmp ys) t.3 sorted) in
     let k = none_has p xs (subst (AllByRecursion (λ q. pair_cmp p q ≡ Equal → ⊥)) (sym t.3) q.none) in
-    let still : IsTree place mid q.now top xs pages = subst (λ (o : Option ℕ). IsTree place mid q.now o xs pages) (sym is) (h, w, walk_stays place old m mid q.now h at w q.same t.2, t.3, t.4) in (
+    let still : IsTree place mid q.now top xs pages = subst (λ (o : Option ℕ). IsTree place mid q.now o xs pages) (sym is) (h, w, walk_stays place old m mid q.now h at w q.stays.lent t.2, t.3, t.4) in (
       k.0,
       record {
         now = q.now;
@@ -524,6 +527,27 @@ none_from p place old told told1 mid r0 r1 at top seeks is same m held xs pages 
         own = λ x here. absurd (no_one x here);
       },
     )
+
+-- where the pair is not there nothing was put
+pub none_stays : (p : Pair) (place : Place) (old : Caching) (told told1 : Option Holding) (mid : Caching) (r0 : Room) (at : ℕ) (top : Option ℕ) → SeeksPair p place old told r0 at told1 mid → top ≡ Some at → Told told told1 (OthersStay old.name)
+    → Told told told1 (λ m n. (xs : List Pair) (pages : List ℕ) → IsTree place old m top xs pages → CanChange place old m pages r0 → IsStrictlySortedBy pair_cmp xs → Stays old mid m n)
+none_stays p place old told told1 mid r0 at top seeks is others = record {
+  told = λ m held.
+      let n = others.told m held in (
+        n.0,
+        n.1,
+        λ xs pages tree can sorted.
+            let t : IsTree place old m (Some at) xs pages = subst (λ (o : Option ℕ). IsTree place old m o xs pages) is tree in
+            let q = seeks m held t.0 t.1 t.2 (subst (λ (ps : List ℕ). CanChange place old m ps r0) t.4 can) (subst (λ (ys : List Pair). IsStrictlySortedBy pair_cmp ys) t.3 sorted) in
+            subst (λ (k : Holding). Stays old mid m k) (same_Some q.now n.0 (sym q.held ∙ n.1)) q.stays,
+      );
+  untold = others.untold;
+}
+
+-- where there is no tree
+pub none_stays_empty : (place : Place) (old : Caching) (told : Option Holding) (r0 : Room) (top : Option ℕ)
+    → Told told told (λ m n. (xs : List Pair) (pages : List ℕ) → IsTree place old m top xs pages → CanChange place old m pages r0 → IsStrictlySortedBy pair_cmp xs → Stays old old m n)
+none_stays_empty place old told r0 top = told_same told told _ refl (λ m held xs pages tree can sorted. stays_start old m can.current)
 
 pub none_at_all : (p : Pair) (place : Place) (old : Caching) (told : Option Holding) (r0 : Room) (top : Option ℕ) → top ≡ None
     → (m : Holding) → told ≡ Some m → (xs : List Pair) (pages : List ℕ) → IsTree place old m top xs pages → CanChange place old m pages r0 → (has_pair p xs ≡ false) × Removed place old m pages r0 told old r0 top (without_pair p xs)

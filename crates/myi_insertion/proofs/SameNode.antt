@@ -69,7 +69,7 @@ into_same place p old told told1 told2 mid next at i ps cs sp1 sp ss1 ss r0 r1 p
     let g = gets m held w.pages r0 can (in_root (node_lent place old m) h at w e) in
     let k = node_only (node_lent place old m) h at w (node_with ps cs) e g.was some in
     let e2 : walk_of (node_lent place old m) (suc k.0) at ≡ Some w = subst (λ (n : ℕ). walk_of (node_lent place old m) n at ≡ Some w) k.1 e in
-    let walk = walk_stays place old m mid g.now (suc k.0) at w g.same e2 in
+    let walk = walk_stays place old m mid g.now (suc k.0) at w g.stays.lent e2 in
     let still = can_still place old m w.pages r0 mid g.now w.pages r0 pos can g.changes in
     let first = shape.first in
     let empty : ss1 ≡ [] = nil_of ss1 (omega (arith, shape.count, one)) in

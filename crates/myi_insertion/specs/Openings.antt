@@ -5,7 +5,7 @@ use Rattle.std.specs.declared.cmp.Ordering.TheVariants.{Equal}
 use Rattle.myi_base.specs.Holding.{Holding}
 use Rattle.myi_keys.specs.Limits.{IsKey}
 use Rattle.myi_keypage.specs.Page.{IsPlace}
-use Rattle.myi_keycache.specs.Caching.{Caching, SameLent}
+use Rattle.myi_keycache.specs.Caching.{Caching, Stays}
 use Rattle.myi_keylist.specs.declared.pair.Pair.{Pair}
 use Rattle.myi_keylist.specs.PairOrder.{pair_cmp}
 use Rattle.myi_btree.specs.declared.place.Place.{Place}
@@ -80,11 +80,11 @@ pub record TakenOut (p : Pair) (place : Place) (old : Caching) (m : Holding) (w 
   pub is : pair_cmp p taken ≡ Equal
   pub opened : Opened place old m w.pages before told new after at height pairs children (front ++ back) w.pages
 
--- the pair was sought among those of a tree, and none of them is it
+-- the pair was sought among those of a tree, none of them is it, and nothing was put
 pub record Sought (p : Pair) (place : Place) (old : Caching) (m : Holding) (w : Walked) (room : Room) (told : Option Holding) (new : Caching) : Type 0 where
   pub now : Holding
   pub held : told ≡ Some now
-  pub same : SameLent old m new now
+  pub stays : Stays old new m now
   pub changes : Changes place old m w.pages room new now w.pages room
   pub none : AllByRecursion (λ q. pair_cmp p q ≡ Equal → ⊥) (content w)
 

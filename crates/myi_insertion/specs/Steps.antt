@@ -1,7 +1,7 @@
 -- The steps of a change, of which each is told what files hold before and after it.
 use Rattle.std.specs.Prelude.{◌≡◌, ℕ, ◌∷◌, ◌++◌, List, Option, Some}
 use Rattle.myi_base.specs.Holding.{Holding}
-use Rattle.myi_keycache.specs.Caching.{Caching, SameLent}
+use Rattle.myi_keycache.specs.Caching.{Caching, Stays}
 use Rattle.myi_keylist.specs.declared.pair.Pair.{Pair}
 use Rattle.myi_btree.specs.declared.place.Place.{Place}
 use Rattle.myi_btree.specs.declared.place.Room.{Room}
@@ -11,12 +11,12 @@ use Rattle.myi_insertion.specs.Covers.{within}
 use Rattle.myi_insertion.specs.Settling.{IsPartly}
 use Rattle.myi_insertion.specs.CachedChanges.{SparesLent, Changes, Stands}
 
--- a page was asked for, and is this node
+-- a page was asked for and nothing was put, and the page is this node
 pub record Got (place : Place) (old : Caching) (m : Holding) (pages : List ℕ) (room : Room) (told : Option Holding) (new : Caching) (at : ℕ) (node : Node) : Type 0 where
   pub now : Holding
   pub held : told ≡ Some now
   pub changes : Changes place old m pages room new now pages room
-  pub same : SameLent old m new now
+  pub stays : Stays old new m now
   pub was : node_lent place old m at ≡ Some node
   pub is : node_lent place new now at ≡ Some node
 

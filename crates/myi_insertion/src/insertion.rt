@@ -12,6 +12,7 @@ ghost use Rattle.myi_btree.specs.Walk.{Walked, walk_of, content};
 ghost use Rattle.myi_btree.specs.Sizes.{IsPlaced};
 ghost use Rattle.myi_btree.specs.Faults.{DamagedAt, IsFileOrMemory};
 ghost use Rattle.myi_btree.specs.CachedTrees.{node_lent};
+ghost use Rattle.myi_search.specs.Counting.{CountsOn};
 ghost use Rattle.myi_insertion.specs.Rooms.{IsWhole};
 ghost use Rattle.myi_insertion.specs.CachedChanges.{CanChange};
 ghost use Rattle.myi_insertion.specs.Written.{IsStripOf};
@@ -69,9 +70,10 @@ pub(crate) fn insert_at<F: Files>(
         (goes_behind task.now.pair.now) at p))) }
     ensures shape { IfOk result (λ strip. IsStripOf task.now.setup.place.rec_ref at
         strip.places.items strip.separators) }
-    ensures whole { OnOk result (IsWhole room.new) }
+    ensures whole { IsWhole room.new }
     ensures others { Told (F.holds files.old) (F.holds files.new) (OthersStay cache.old.name) }
     ensures name { cache.new.name ≡ cache.old.name }
+    ensures counted { CountsOn cache.old cache.new }
     ensures cause { HasCause File (F.faults files.old) (F.faults files.new) result }
     ensures reads { F.reads files.old ≤ F.reads files.new }
 {
@@ -127,9 +129,10 @@ fn put_in<F: Files>(
         task.now.pair.now task.now.setup.place.root at))) }
     ensures shape { IfOk result (λ strip. (at : ℕ) × IsStripOf task.now.setup.place.rec_ref at
         strip.places.items strip.separators) }
-    ensures whole { OnOk result (IsWhole room.new) }
+    ensures whole { IsWhole room.new }
     ensures others { Told (F.holds files.old) (F.holds files.new) (OthersStay cache.old.name) }
     ensures name { cache.new.name ≡ cache.old.name }
+    ensures counted { CountsOn cache.old cache.new }
     ensures cause { HasCause File (F.faults files.old) (F.faults files.new) result }
     ensures reads { F.reads files.old ≤ F.reads files.new }
 {
@@ -170,9 +173,10 @@ pub(crate) fn raise<F: Files>(
         → Rooted setup.place cache.old m pages room.old (F.holds files.new) cache.new room.new
         xs root)) }
     ensures faults { IfErr result IsFileOrMemory }
-    ensures whole { OnOk result (IsWhole room.new) }
+    ensures whole { IsWhole room.new }
     ensures others { Told (F.holds files.old) (F.holds files.new) (OthersStay cache.old.name) }
     ensures name { cache.new.name ≡ cache.old.name }
+    ensures counted { CountsOn cache.old cache.new }
     ensures cause { HasCause File (F.faults files.old) (F.faults files.new) result }
     ensures reads { F.reads files.old ≤ F.reads files.new }
 {
@@ -218,9 +222,10 @@ pub fn insert<F: Files>(
         at))) }
     ensures length { place.new.block_length ≡ place.old.block_length }
     ensures pointers { place.new.rec_ref ≡ place.old.rec_ref }
-    ensures whole { OnOk result (IsWhole room.new) }
+    ensures whole { IsWhole room.new }
     ensures others { Told (F.holds files.old) (F.holds files.new) (OthersStay cache.old.name) }
     ensures name { cache.new.name ≡ cache.old.name }
+    ensures counted { CountsOn cache.old cache.new }
     ensures cause { HasCause File (F.faults files.old) (F.faults files.new) result }
     ensures reads { F.reads files.old ≤ F.reads files.new }
 {

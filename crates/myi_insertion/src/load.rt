@@ -8,7 +8,8 @@ ghost use Rattle.myi_keycache.specs.Caching.{pages_of, CanGet, Stays};
 ghost use Rattle.myi_btree.specs.declared.fault.TreeFault.TheVariants.{File};
 ghost use Rattle.myi_btree.specs.Sizes.{IsPlaced};
 ghost use Rattle.myi_btree.specs.Faults.{DamagedAt};
-ghost use Rattle.myi_btree.specs.CachedTrees.{node_lent};
+ghost use Rattle.myi_btree.specs.CachedTrees.{node_lent, ReadsOnly};
+ghost use Rattle.myi_search.specs.Counting.{CountsOn};
 ghost use Rattle.myi_insertion.specs.Written.{page_node, CanWrite};
 ghost use Rattle.myi_insertion.specs.Damage.{IsInFile, ShowsSame};
 
@@ -43,6 +44,8 @@ pub(crate) fn load<F: Files>(
     ensures added { AddsOnly at setup.place.block_length (pages_of cache.old) (pages_of cache.new) }
     ensures others { Told (F.holds files.old) (F.holds files.new) (OthersStay cache.old.name) }
     ensures name { cache.new.name ≡ cache.old.name }
+    ensures cache { ReadsOnly (F.holds files.old) (F.holds files.new) cache.old cache.new }
+    ensures counted { CountsOn cache.old cache.new }
     ensures cause { HasCause File (F.faults files.old) (F.faults files.new) result }
     ensures reads { F.reads files.old ≤ F.reads files.new }
 {

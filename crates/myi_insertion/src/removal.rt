@@ -9,6 +9,7 @@ ghost use Rattle.std.specs.Prelude.{◌≡◌, ◌+◌, ◌∷◌, ◌++◌, ◌
 ghost use Rattle.std.specs.List.Sorted.{IsStrictlySortedBy};
 ghost use Rattle.myi_base.specs.Holding.{IfTold, Told, OthersStay};
 ghost use Rattle.myi_base.specs.Causes.{HasCause};
+ghost use Rattle.myi_keycache.specs.Caching.{Stays};
 ghost use Rattle.myi_keypage.specs.Page.{IsPlace};
 ghost use Rattle.myi_keylist.specs.declared.pair.Pair.{Pair};
 ghost use Rattle.myi_keylist.specs.PairOrder.{pair_cmp};
@@ -16,7 +17,8 @@ ghost use Rattle.myi_btree.specs.declared.fault.TreeFault.TheVariants.{File};
 ghost use Rattle.myi_btree.specs.Walk.{Walked, walk_of, content};
 ghost use Rattle.myi_btree.specs.Sizes.{IsPlaced};
 ghost use Rattle.myi_btree.specs.Faults.{DamagedAt, IsFileOrMemory};
-ghost use Rattle.myi_btree.specs.CachedTrees.{node_lent};
+ghost use Rattle.myi_btree.specs.CachedTrees.{node_lent, ReadsOnly};
+ghost use Rattle.myi_search.specs.Counting.{CountsOn};
 ghost use Rattle.myi_insertion.specs.Rooms.{IsWhole};
 ghost use Rattle.myi_insertion.specs.Strips.{StandFor};
 ghost use Rattle.myi_insertion.specs.CachedChanges.{CanChange};
@@ -111,9 +113,10 @@ fn join_child<F: Files>(
         (slice_index_or pending.now.page.now.children.items pending.now.i 0) p
         pending.now.page.now.children.items)) }
     ensures shape { IfOk result (IsLeftOver setup.place.rec_ref) }
-    ensures whole { OnOk result (IsWhole room.new) }
+    ensures whole { IsWhole room.new }
     ensures others { Told (F.holds files.old) (F.holds files.new) (OthersStay cache.old.name) }
     ensures name { cache.new.name ≡ cache.old.name }
+    ensures counted { CountsOn cache.old cache.new }
     ensures cause { HasCause File (F.faults files.old) (F.faults files.new) result }
     ensures reads { F.reads files.old ≤ F.reads files.new }
 {
@@ -159,9 +162,10 @@ fn write_child<F: Files>(
         (slice_index_or pending.now.page.now.children.items pending.now.i 0) p
         pending.now.page.now.children.items)) }
     ensures shape { IfOk result (IsLeftOver setup.place.rec_ref) }
-    ensures whole { OnOk result (IsWhole room.new) }
+    ensures whole { IsWhole room.new }
     ensures others { Told (F.holds files.old) (F.holds files.new) (OthersStay cache.old.name) }
     ensures name { cache.new.name ≡ cache.old.name }
+    ensures counted { CountsOn cache.old cache.new }
     ensures cause { HasCause File (F.faults files.old) (F.faults files.new) result }
     ensures reads { F.reads files.old ≤ F.reads files.new }
 {
@@ -202,9 +206,10 @@ fn without_last<F: Files>(
         IsInFile cache.old m → IsNearPath (node_lent setup.place cache.old m) goes_last at p))) }
     ensures shape { IfOk result (λ left. IsLeftOver setup.place.rec_ref left.0) }
     ensures one { IfOk result (λ left. IsOnePair setup.place.rec_ref left.1) }
-    ensures whole { OnOk result (IsWhole room.new) }
+    ensures whole { IsWhole room.new }
     ensures others { Told (F.holds files.old) (F.holds files.new) (OthersStay cache.old.name) }
     ensures name { cache.new.name ≡ cache.old.name }
+    ensures counted { CountsOn cache.old cache.new }
     ensures cause { HasCause File (F.faults files.old) (F.faults files.new) result }
     ensures reads { F.reads files.old ≤ F.reads files.new }
 {
@@ -265,9 +270,12 @@ fn without_pair<F: Files>(
     ensures shape { IfOk result (λ page. IfSome page (IsLeftOver task.now.setup.place.rec_ref)) }
     ensures at { OnOk result (IsPlace at) }
     ensures kept { IfOk result (λ page. IfNone page (room.new ≡ room.old)) }
-    ensures whole { OnOk result (IsWhole room.new) }
+    ensures quiet { IfOk result (λ page. IfNone page (ReadsOnly
+        (F.holds files.old) (F.holds files.new) cache.old cache.new)) }
+    ensures whole { IsWhole room.new }
     ensures others { Told (F.holds files.old) (F.holds files.new) (OthersStay cache.old.name) }
     ensures name { cache.new.name ≡ cache.old.name }
+    ensures counted { CountsOn cache.old cache.new }
     ensures cause { HasCause File (F.faults files.old) (F.faults files.new) result }
     ensures reads { F.reads files.old ≤ F.reads files.new }
 {
@@ -333,9 +341,10 @@ fn write_root<F: Files>(
         → Planted setup.place cache.old m (at ∷ below) room.old (F.holds files.new) cache.new
         room.new root xs (at ∷ []))) }
     ensures faults { IfErr result IsFileOrMemory }
-    ensures whole { OnOk result (IsWhole room.new) }
+    ensures whole { IsWhole room.new }
     ensures others { Told (F.holds files.old) (F.holds files.new) (OthersStay cache.old.name) }
     ensures name { cache.new.name ≡ cache.old.name }
+    ensures counted { CountsOn cache.old cache.new }
     ensures cause { HasCause File (F.faults files.old) (F.faults files.new) result }
     ensures reads { F.reads files.old ≤ F.reads files.new }
 {
@@ -371,8 +380,18 @@ pub fn remove<F: Files>(
         → CanChange place.old cache.old m pages room.old → IsStrictlySortedBy pair_cmp xs
         → Removed place.old cache.old m pages room.old (F.holds files.new) cache.new room.new
         place.new.root (without_pair pair.now xs))) }
+
+    // Where the pair was not there nothing changes: nothing was put, and the same is lent.
     ensures kept { IfOk result (λ there. there ≡ false → (place.new ≡ place.old)
         × (room.new ≡ room.old)) }
+    ensures quiet { IfOk result (λ there. there ≡ false → ReadsOnly
+        (F.holds files.old) (F.holds files.new) cache.old cache.new) }
+    ensures same { IfOk result (λ there. there ≡ false → Told
+        (F.holds files.old) (F.holds files.new) (λ m n. (xs : List Pair) (pages : List ℕ)
+        → IsTree place.old cache.old m place.old.root xs pages
+        → CanChange place.old cache.old m pages room.old → IsStrictlySortedBy pair_cmp xs
+        → Stays cache.old cache.new m n)) }
+
     ensures never { IfErr result (DamagedAt (λ p. IfTold (F.holds files.old) (λ m. (xs : List Pair)
         (pages : List ℕ) → IsTree place.old cache.old m place.old.root xs pages
         → CanChange place.old cache.old m pages room.old → IsStrictlySortedBy pair_cmp xs
@@ -382,9 +401,10 @@ pub fn remove<F: Files>(
         at))) }
     ensures length { place.new.block_length ≡ place.old.block_length }
     ensures pointers { place.new.rec_ref ≡ place.old.rec_ref }
-    ensures whole { OnOk result (IsWhole room.new) }
+    ensures whole { IsWhole room.new }
     ensures others { Told (F.holds files.old) (F.holds files.new) (OthersStay cache.old.name) }
     ensures name { cache.new.name ≡ cache.old.name }
+    ensures counted { CountsOn cache.old cache.new }
     ensures cause { HasCause File (F.faults files.old) (F.faults files.new) result }
     ensures reads { F.reads files.old ≤ F.reads files.new }
 {

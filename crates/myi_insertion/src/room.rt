@@ -34,8 +34,8 @@ fn last_of(free: &[(u64, u16)], len: u16) -> Option<usize>
 /// before.
 pub fn take_page(room: &mut Room, len: u16) -> Result<u64, TreeFault>
     ensures taken { IfOk result (λ at. Takes len at room.old room.new) }
-    ensures whole { len % 1024 ≡ 0 → IsWhole room.old → IfOk result (λ at. IsPlace at
-        × IsWhole room.new) }
+    ensures place { len % 1024 ≡ 0 → IsWhole room.old → IfOk result IsPlace }
+    ensures whole { len % 1024 ≡ 0 → IsWhole room.old → IsWhole room.new }
     ensures refused { OnErr result (room.new ≡ room.old) }
     ensures memory { IfErr result (λ fault. fault ≡ Memory) }
 {
@@ -64,15 +64,17 @@ fn take_free(room: &mut Room, i: usize) -> u64
     at
 }
 
-/// Gives a page to a room: its bytes are free afterwards.
+/// Gives a page to a room: its bytes are free afterwards. Where memory runs out the room is as before.
 pub fn give_page(room: &mut Room, at: u64, len: u16) -> Result<(), TreeFault>
     ensures given { OnOk result (Gives len at room.old room.new) }
-    ensures whole { at % 1024 ≡ 0 → IsWhole room.old → OnOk result (IsWhole room.new) }
+    ensures whole { at % 1024 ≡ 0 → IsWhole room.old → IsWhole room.new }
+    ensures refused { OnErr result (room.new ≡ room.old) }
     ensures memory { IfErr result (λ fault. fault ≡ Memory) }
 {
     let alloc = room.free.allocator();
     let mut free = replace(&mut room.free, Sequence::new(Vec::new(alloc))).into_vec();
-    free.push((at, len))?;
+    let given = free.push((at, len));
     room.free = Sequence::new(free);
+    given?;
     Ok(())
 }

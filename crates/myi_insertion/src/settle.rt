@@ -16,6 +16,7 @@ ghost use Rattle.myi_btree.specs.Sizes.{IsPlaced};
 ghost use Rattle.myi_btree.specs.Faults.{IsFileOrMemory};
 ghost use Rattle.myi_btree.specs.Building.{page_for, IsWritten};
 ghost use Rattle.myi_btree.specs.CachedTrees.{node_lent};
+ghost use Rattle.myi_search.specs.Counting.{CountsOn};
 ghost use Rattle.myi_insertion.specs.Strips.{StandFor};
 ghost use Rattle.myi_insertion.specs.Rooms.{IsWhole};
 ghost use Rattle.myi_insertion.specs.CachedChanges.{CanChange};
@@ -127,6 +128,7 @@ fn put_chunk<F: Files>(
         → Wrote place cache.old m pages room (F.holds files.new) cache.new at (chunk_node chunk.now))) }
     ensures others { Told (F.holds files.old) (F.holds files.new) (OthersStay cache.old.name) }
     ensures name { cache.new.name ≡ cache.old.name }
+    ensures counted { CountsOn cache.old cache.new }
     ensures long { length page.new ≡ place.block_length }
     ensures faults { IfErr result IsFileOrMemory }
     ensures cause { HasCause File (F.faults files.old) (F.faults files.new) result }
@@ -217,9 +219,10 @@ pub(crate) fn settle<F: Files>(
         room.new height xs strip.places.items strip.separators)) }
     ensures shape { IfOk result (λ strip. IsStripOf setup.place.rec_ref at strip.places.items
         strip.separators) }
-    ensures whole { OnOk result (IsWhole room.new) }
+    ensures whole { IsWhole room.new }
     ensures others { Told (F.holds files.old) (F.holds files.new) (OthersStay cache.old.name) }
     ensures name { cache.new.name ≡ cache.old.name }
+    ensures counted { CountsOn cache.old cache.new }
     ensures faults { IfErr result IsFileOrMemory }
     ensures cause { HasCause File (F.faults files.old) (F.faults files.new) result }
     ensures reads { F.reads files.old ≤ F.reads files.new }

@@ -10,7 +10,9 @@ use Rattle.myi_insertion.specs.Ordered.{AreBefore, BeginsBehind}
 use Rattle.std.proofs.lemmas.Result.{err_from_is_err_and}
 use Rattle.myi_btree.specs.CachedTrees.{node_lent}
 use Rattle.myi_insertion.proofs.PageLaws.{pair_again, is_code_of}
-use Rattle.myi_insertion.proofs.LoadLaws.{got, can_get, if_err}
+use Rattle.myi_insertion.proofs.LoadLaws.{got, can_get, if_err, others_on, cause_on, cause_ok}
+use Rattle.myi_btree.specs.declared.fault.TreeFault.TheVariants.{File}
+use Rattle.myi_search.proofs.CallerLemmas.{counts_on}
 use Rattle.myi_insertion.proofs.SplitLaws.{nil_of, pair_written, strip_written}
 use Rattle.myi_insertion.proofs.PuttingLaws.{Inserts, child_is, into_leaf, into_node, in_root, no_root, Never, never_below}
 use Rattle.myi_insertion.specs.Written.{IsStripOf}
@@ -148,3 +150,53 @@ returns-then-len-eq1-clause-stands g t c =
     (subst (λ (n : ℕ). Inserts place p c.load.new.cache (g.F.Files.holds c.load.new.files) c.args.room.now n (g.F.Files.holds c.insert_at.new.files) c.insert_at.new.cache c.insert_at.new.room c.in_ok-strip-2.strip.places.items c.in_ok-strip-2.strip.separators) child c.in_ok-strip-2.ensures.stands)
     (subst (λ (n : ℕ). IsStripOf place.rec_ref n c.in_ok-strip-2.strip.places.items c.in_ok-strip-2.strip.separators) child c.in_ok-strip-2.ensures.shape)
     (omega arith) c.in_ok-same.ensures.places c.in_ok-same.ensures.separators
+
+pub returns-in_err-strip-clause-others : goal.returns-in_err-strip-clause-others
+returns-in_err-strip-clause-others g t c =
+    others_on (g.F.Files.holds c.args.files.now) (g.F.Files.holds c.load.new.files) (g.F.Files.holds c.settle.new.files) c.args.cache.now.name c.load.new.cache.name c.load.ensures.name c.load.ensures.others c.settle.ensures.others
+
+pub returns-then-is_empty-clause-others : goal.returns-then-is_empty-clause-others
+returns-then-is_empty-clause-others g t c =
+    others_on (g.F.Files.holds c.args.files.now) (g.F.Files.holds c.load.new.files) (g.F.Files.holds c.settle.new.files) c.args.cache.now.name c.load.new.cache.name c.load.ensures.name c.load.ensures.others c.settle.ensures.others
+
+pub returns-in_err-same-clause-others : goal.returns-in_err-same-clause-others
+returns-in_err-same-clause-others g t c =
+    others_on (g.F.Files.holds c.args.files.now) (g.F.Files.holds c.load.new.files) (g.F.Files.holds c.insert_at.new.files) c.args.cache.now.name c.load.new.cache.name c.load.ensures.name c.load.ensures.others c.insert_at.ensures.others
+
+pub returns-then-len-eq1-clause-others : goal.returns-then-len-eq1-clause-others
+returns-then-len-eq1-clause-others g t c =
+    others_on (g.F.Files.holds c.args.files.now) (g.F.Files.holds c.load.new.files) (g.F.Files.holds c.insert_at.new.files) c.args.cache.now.name c.load.new.cache.name c.load.ensures.name c.load.ensures.others c.insert_at.ensures.others
+
+pub returns-in_err-grown-2-clause-others : goal.returns-in_err-grown-2-clause-others
+returns-in_err-grown-2-clause-others g t c =
+    others_on (g.F.Files.holds c.args.files.now) (g.F.Files.holds c.load.new.files) (g.F.Files.holds c.insert_at.new.files) c.args.cache.now.name c.load.new.cache.name c.load.ensures.name c.load.ensures.others c.insert_at.ensures.others
+
+pub returns-in_err-made-clause-others : goal.returns-in_err-made-clause-others
+returns-in_err-made-clause-others g t c =
+    others_on (g.F.Files.holds c.args.files.now) (g.F.Files.holds c.insert_at.new.files) (g.F.Files.holds c.settle-2.new.files) c.args.cache.now.name c.insert_at.new.cache.name (c.insert_at.ensures.name ∙ c.load.ensures.name) (others_on (g.F.Files.holds c.args.files.now) (g.F.Files.holds c.load.new.files) (g.F.Files.holds c.insert_at.new.files) c.args.cache.now.name c.load.new.cache.name c.load.ensures.name c.load.ensures.others c.insert_at.ensures.others) c.settle-2.ensures.others
+
+pub returns-in_err-strip-clause-counted : goal.returns-in_err-strip-clause-counted
+returns-in_err-strip-clause-counted g t c = counts_on c.args.cache.now c.load.new.cache c.settle.new.cache c.load.ensures.counted c.settle.ensures.counted
+
+pub returns-then-is_empty-clause-counted : goal.returns-then-is_empty-clause-counted
+returns-then-is_empty-clause-counted g t c = counts_on c.args.cache.now c.load.new.cache c.settle.new.cache c.load.ensures.counted c.settle.ensures.counted
+
+pub returns-then-len-eq1-clause-counted : goal.returns-then-len-eq1-clause-counted
+returns-then-len-eq1-clause-counted g t c = counts_on c.args.cache.now c.load.new.cache c.insert_at.new.cache c.load.ensures.counted c.insert_at.ensures.counted
+
+pub returns-in_err-grown-2-clause-counted : goal.returns-in_err-grown-2-clause-counted
+returns-in_err-grown-2-clause-counted g t c = counts_on c.args.cache.now c.load.new.cache c.insert_at.new.cache c.load.ensures.counted c.insert_at.ensures.counted
+
+pub returns-in_err-made-clause-counted : goal.returns-in_err-made-clause-counted
+returns-in_err-made-clause-counted g t c = counts_on c.args.cache.now c.insert_at.new.cache c.settle-2.new.cache (counts_on c.args.cache.now c.load.new.cache c.insert_at.new.cache c.load.ensures.counted c.insert_at.ensures.counted) c.settle-2.ensures.counted
+
+pub returns-clause-counted : goal.returns-clause-counted
+returns-clause-counted g t c = counts_on c.args.cache.now c.insert_at.new.cache c.settle-2.new.cache (counts_on c.args.cache.now c.load.new.cache c.insert_at.new.cache c.load.ensures.counted c.insert_at.ensures.counted) c.settle-2.ensures.counted
+
+pub returns-in_err-made-clause-cause : goal.returns-in_err-made-clause-cause
+returns-in_err-made-clause-cause g t c =
+    let e = err_from_is_err_and c.from_residual-in_err-made.result c.from_residual-in_err-made.ensures.1 in
+    cause_on File _ e.0 (g.F.Files.faults c.args.files.now) (g.F.Files.faults c.insert_at.new.files) (g.F.Files.faults c.settle-2.new.files) c.from_residual-in_err-made.result e.1 e.2 (omega (arith, c.load.ensures.cause.later, c.insert_at.ensures.cause.later)) c.in_err-made.ensures.cause
+
+pub returns-clause-cause : goal.returns-clause-cause
+returns-clause-cause g t c = cause_ok File (g.F.Files.faults c.args.files.now) (g.F.Files.faults c.settle-2.new.files) _ (omega (arith, c.load.ensures.cause.later, c.insert_at.ensures.cause.later, c.settle-2.ensures.cause.later))

@@ -4,7 +4,9 @@ use Rattle.std.proofs.lemmas.Result.{err_from_is_err_and}
 use Rattle.myi_keylist.specs.declared.pair.Pair.{Pair}
 use Rattle.myi_btree.specs.CachedTrees.{node_lent}
 use Rattle.myi_insertion.specs.Written.{page_node}
-use Rattle.myi_insertion.proofs.LoadLaws.{got, can_get, if_err}
+use Rattle.myi_insertion.proofs.LoadLaws.{got, can_get, if_err, others_on, cause_on, cause_ok}
+use Rattle.myi_btree.specs.declared.fault.TreeFault.TheVariants.{File}
+use Rattle.myi_search.proofs.CallerLemmas.{counts_on}
 use Rattle.myi_insertion.proofs.PageLaws.{no_pair}
 use Rattle.myi_insertion.proofs.SplitLaws.{nil_of}
 use Rattle.myi_insertion.proofs.PuttingLaws.{in_root, no_root, child_is}
@@ -138,3 +140,30 @@ returns-in_err-left-2-clause-damaged g t c =
     (goes_into (node_lent place c.args.cache.now m) goes_last c.args.at i c.index-child.result.now ps cs (c.in_ok-page.ensures.node m held (can_ask c.args.cache.now m c.args.at place.block_length file)) c.in_ok-page.ensures.written.branches some (omega (arith, c.len-count.ensures))
     (goes_by_all (take i ps)) (halts_behind_all ps i (omega (arith, c.len-count.ensures))) child)
     (subst (λ (k : ℕ). AreNeighbours k q cs) (sym child) (c.in_err-left-2.ensures.beside q (sym e.2 ∙ d))))
+
+pub write_child-requires-clause-pending : goal.write_child-requires-clause-pending
+write_child-requires-clause-pending g t c κs within =
+    let some : 0 < length c.in_ok-page.page.children.items = let ne = eqb-false _ _ (sym c.is_empty.ensures ∙ c.if-is_empty.false) in omega (arith, ne, c.in_ok-page.page.children.ok.0) in
+    record { page = c.in_ok-page.ensures.written; some = some; inside = omega (arith, c.len-count.ensures); inner = c.in_ok-inner.ensures.shape }
+
+pub returns-in_err-left-2-clause-others : goal.returns-in_err-left-2-clause-others
+returns-in_err-left-2-clause-others g t c =
+    others_on (g.F.Files.holds c.args.files.now) (g.F.Files.holds c.without_last.new.files) (g.F.Files.holds c.write_child.new.files) c.args.cache.now.name c.without_last.new.cache.name (c.without_last.ensures.name ∙ c.load.ensures.name) (others_on (g.F.Files.holds c.args.files.now) (g.F.Files.holds c.load.new.files) (g.F.Files.holds c.without_last.new.files) c.args.cache.now.name c.load.new.cache.name c.load.ensures.name c.load.ensures.others c.without_last.ensures.others) c.write_child.ensures.others
+
+pub returns-in_err-left-2-clause-counted : goal.returns-in_err-left-2-clause-counted
+returns-in_err-left-2-clause-counted g t c = counts_on c.args.cache.now c.without_last.new.cache c.write_child.new.cache (counts_on c.args.cache.now c.load.new.cache c.without_last.new.cache c.load.ensures.counted c.without_last.ensures.counted) c.write_child.ensures.counted
+
+pub returns-clause-others : goal.returns-clause-others
+returns-clause-others g t c =
+    others_on (g.F.Files.holds c.args.files.now) (g.F.Files.holds c.without_last.new.files) (g.F.Files.holds c.write_child.new.files) c.args.cache.now.name c.without_last.new.cache.name (c.without_last.ensures.name ∙ c.load.ensures.name) (others_on (g.F.Files.holds c.args.files.now) (g.F.Files.holds c.load.new.files) (g.F.Files.holds c.without_last.new.files) c.args.cache.now.name c.load.new.cache.name c.load.ensures.name c.load.ensures.others c.without_last.ensures.others) c.write_child.ensures.others
+
+pub returns-clause-counted : goal.returns-clause-counted
+returns-clause-counted g t c = counts_on c.args.cache.now c.without_last.new.cache c.write_child.new.cache (counts_on c.args.cache.now c.load.new.cache c.without_last.new.cache c.load.ensures.counted c.without_last.ensures.counted) c.write_child.ensures.counted
+
+pub returns-in_err-left-2-clause-cause : goal.returns-in_err-left-2-clause-cause
+returns-in_err-left-2-clause-cause g t c =
+    let e = err_from_is_err_and c.from_residual-in_err-left-2.result c.from_residual-in_err-left-2.ensures.1 in
+    cause_on File _ e.0 (g.F.Files.faults c.args.files.now) (g.F.Files.faults c.without_last.new.files) (g.F.Files.faults c.write_child.new.files) c.from_residual-in_err-left-2.result e.1 e.2 (omega (arith, c.load.ensures.cause.later, c.without_last.ensures.cause.later)) c.in_err-left-2.ensures.cause
+
+pub returns-clause-cause : goal.returns-clause-cause
+returns-clause-cause g t c = cause_ok File (g.F.Files.faults c.args.files.now) (g.F.Files.faults c.write_child.new.files) _ (omega (arith, c.load.ensures.cause.later, c.without_last.ensures.cause.later, c.write_child.ensures.cause.later))

@@ -6,11 +6,13 @@ use Rattle.myi_base.proofs.CallerLemmas.{told_then}
 use Rattle.myi_keys.specs.Comparing.{key_front}
 use Rattle.myi_keylist.specs.declared.pair.Pair.{Pair}
 use Rattle.myi_keylist.specs.PairOrder.{pair_with}
-use Rattle.myi_btree.specs.CachedTrees.{node_lent}
+use Rattle.myi_btree.specs.CachedTrees.{node_lent, ReadsOnly}
+use Rattle.myi_search.proofs.CallerLemmas.{counts_on, reads_on}
 use Rattle.myi_insertion.specs.declared.page.PageData.{PageData}
 use Rattle.myi_insertion.specs.Written.{page_node}
 use Rattle.myi_insertion.specs.Ordered.{AreBefore, BeginsBehind, begins_with}
-use Rattle.myi_insertion.proofs.LoadLaws.{got, can_get, if_err}
+use Rattle.myi_insertion.proofs.LoadLaws.{got, can_get, if_err, others_on, cause_on, cause_ok}
+use Rattle.myi_btree.specs.declared.fault.TreeFault.TheVariants.{File}
 use Rattle.myi_insertion.proofs.PageLaws.{pair_again, is_code_of, begins_inside}
 use Rattle.myi_insertion.proofs.SplitLaws.{nil_of, if_some, if_none}
 use Rattle.myi_insertion.proofs.PuttingLaws.{in_root, no_root, child_is, Never, never_below}
@@ -304,3 +306,48 @@ returns-in_err-made-clause-others g t c =
     (λ m n k before after q other. after q (λ e. other (e ∙ c.load.ensures.name)) ∙ before q other) in
     told_then (g.F.Files.holds c.args.files.now) (g.F.Files.holds c.without_last.new.files) (g.F.Files.holds c.write_child.new.files) (OthersStay c.args.cache.now.name) (OthersStay c.without_last.new.cache.name) (OthersStay c.args.cache.now.name) one c.write_child.ensures.others
     (λ m n k before after q other. after q (λ e. other (e ∙ c.without_last.ensures.name ∙ c.load.ensures.name)) ∙ before q other)
+
+pub returns-in_default-clause-quiet : goal.returns-in_default-clause-quiet
+returns-in_default-clause-quiet g t c =
+    reads_on (g.F.Files.holds c.args.files.now) (g.F.Files.holds c.load.new.files) (g.F.Files.holds c.without_pair-2.new.files) c.args.cache.now c.load.new.cache c.without_pair-2.new.cache c.load.ensures.cache
+    (if_none c.in_ok-taken.taken (ReadsOnly (g.F.Files.holds c.load.new.files) (g.F.Files.holds c.without_pair-2.new.files) c.load.new.cache c.without_pair-2.new.cache) c.in_default.is c.in_ok-taken.ensures.quiet)
+
+pub returns-in_err-node-clause-others : goal.returns-in_err-node-clause-others
+returns-in_err-node-clause-others g t c =
+    others_on (g.F.Files.holds c.args.files.now) (g.F.Files.holds c.load.new.files) (g.F.Files.holds c.without_last.new.files) c.args.cache.now.name c.load.new.cache.name c.load.ensures.name c.load.ensures.others c.without_last.ensures.others
+
+pub returns-in_err-node-clause-counted : goal.returns-in_err-node-clause-counted
+returns-in_err-node-clause-counted g t c = counts_on c.args.cache.now c.load.new.cache c.without_last.new.cache c.load.ensures.counted c.without_last.ensures.counted
+
+pub returns-in_err-made-clause-counted : goal.returns-in_err-made-clause-counted
+returns-in_err-made-clause-counted g t c = counts_on c.args.cache.now c.without_last.new.cache c.write_child.new.cache (counts_on c.args.cache.now c.load.new.cache c.without_last.new.cache c.load.ensures.counted c.without_last.ensures.counted) c.write_child.ensures.counted
+
+pub returns-in_err-made-clause-cause : goal.returns-in_err-made-clause-cause
+returns-in_err-made-clause-cause g t c =
+    let e = err_from_is_err_and c.from_residual-in_err-made.result c.from_residual-in_err-made.ensures.1 in
+    cause_on File _ e.0 (g.F.Files.faults c.args.files.now) (g.F.Files.faults c.without_last.new.files) (g.F.Files.faults c.write_child.new.files) c.from_residual-in_err-made.result e.1 e.2 (omega (arith, c.load.ensures.cause.later, c.without_last.ensures.cause.later)) c.in_err-made.ensures.cause
+
+pub returns-then-found-clause-counted : goal.returns-then-found-clause-counted
+returns-then-found-clause-counted g t c = counts_on c.args.cache.now c.without_last.new.cache c.write_child.new.cache (counts_on c.args.cache.now c.load.new.cache c.without_last.new.cache c.load.ensures.counted c.without_last.ensures.counted) c.write_child.ensures.counted
+
+pub returns-then-found-clause-cause : goal.returns-then-found-clause-cause
+returns-then-found-clause-cause g t c = cause_ok File (g.F.Files.faults c.args.files.now) (g.F.Files.faults c.write_child.new.files) _ (omega (arith, c.load.ensures.cause.later, c.without_last.ensures.cause.later, c.write_child.ensures.cause.later))
+
+pub returns-in_err-left-clause-others : goal.returns-in_err-left-clause-others
+returns-in_err-left-clause-others g t c =
+    others_on (g.F.Files.holds c.args.files.now) (g.F.Files.holds c.without_pair-2.new.files) (g.F.Files.holds c.write_child-2.new.files) c.args.cache.now.name c.without_pair-2.new.cache.name (c.without_pair-2.ensures.name ∙ c.load.ensures.name) (others_on (g.F.Files.holds c.args.files.now) (g.F.Files.holds c.load.new.files) (g.F.Files.holds c.without_pair-2.new.files) c.args.cache.now.name c.load.new.cache.name c.load.ensures.name c.load.ensures.others c.without_pair-2.ensures.others) c.write_child-2.ensures.others
+
+pub returns-in_err-left-clause-counted : goal.returns-in_err-left-clause-counted
+returns-in_err-left-clause-counted g t c = counts_on c.args.cache.now c.without_pair-2.new.cache c.write_child-2.new.cache (counts_on c.args.cache.now c.load.new.cache c.without_pair-2.new.cache c.load.ensures.counted c.without_pair-2.ensures.counted) c.write_child-2.ensures.counted
+
+pub returns-in_err-left-clause-cause : goal.returns-in_err-left-clause-cause
+returns-in_err-left-clause-cause g t c =
+    let e = err_from_is_err_and c.from_residual-in_err-left.result c.from_residual-in_err-left.ensures.1 in
+    cause_on File _ e.0 (g.F.Files.faults c.args.files.now) (g.F.Files.faults c.without_pair-2.new.files) (g.F.Files.faults c.write_child-2.new.files) c.from_residual-in_err-left.result e.1 e.2 (omega (arith, c.load.ensures.cause.later, c.without_pair-2.ensures.cause.later)) c.in_err-left.ensures.cause
+
+pub returns-clause-others : goal.returns-clause-others
+returns-clause-others g t c =
+    others_on (g.F.Files.holds c.args.files.now) (g.F.Files.holds c.without_pair-2.new.files) (g.F.Files.holds c.write_child-2.new.files) c.args.cache.now.name c.without_pair-2.new.cache.name (c.without_pair-2.ensures.name ∙ c.load.ensures.name) (others_on (g.F.Files.holds c.args.files.now) (g.F.Files.holds c.load.new.files) (g.F.Files.holds c.without_pair-2.new.files) c.args.cache.now.name c.load.new.cache.name c.load.ensures.name c.load.ensures.others c.without_pair-2.ensures.others) c.write_child-2.ensures.others
+
+pub returns-clause-counted : goal.returns-clause-counted
+returns-clause-counted g t c = counts_on c.args.cache.now c.without_pair-2.new.cache c.write_child-2.new.cache (counts_on c.args.cache.now c.load.new.cache c.without_pair-2.new.cache c.load.ensures.counted c.without_pair-2.ensures.counted) c.write_child-2.ensures.counted

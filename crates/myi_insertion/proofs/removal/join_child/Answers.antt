@@ -79,7 +79,19 @@ pub returns-clause-whole : goal.returns-clause-whole
 returns-clause-whole g c =
     let p = c.args.pending.now in
     let can = c.requires.pending in
-    c.in_ok-give_page.ensures.whole (place_whole p.i p.page.now.children.items c.index.result.now can.page.places (omega (arith, can.inside, branching c.args.setup.place.rec_ref p.page.now.pairs p.page.now.children.items can.page can.some)) c.index.ensures) c.in_ok-strip.ensures.whole
+    c.give_page.ensures.whole (place_whole p.i p.page.now.children.items c.index.result.now can.page.places (omega (arith, can.inside, branching c.args.setup.place.rec_ref p.page.now.pairs p.page.now.children.items can.page can.some)) c.index.ensures) c.settle.ensures.whole
+
+pub returns-in_err-give_page-clause-whole : goal.returns-in_err-give_page-clause-whole
+returns-in_err-give_page-clause-whole g c =
+    let p = c.args.pending.now in
+    let can = c.requires.pending in
+    c.give_page.ensures.whole (place_whole p.i p.page.now.children.items c.index.result.now can.page.places (omega (arith, can.inside, branching c.args.setup.place.rec_ref p.page.now.pairs p.page.now.children.items can.page can.some)) c.index.ensures) c.settle.ensures.whole
+
+pub returns-in_err-made-clause-whole : goal.returns-in_err-made-clause-whole
+returns-in_err-made-clause-whole g c =
+    let p = c.args.pending.now in
+    let can = c.requires.pending in
+    c.give_page.ensures.whole (place_whole p.i p.page.now.children.items c.index.result.now can.page.places (omega (arith, can.inside, branching c.args.setup.place.rec_ref p.page.now.pairs p.page.now.children.items can.page can.some)) c.index.ensures) c.settle.ensures.whole
 
 pub returns-in_err-other-clause-beside : goal.returns-in_err-other-clause-beside
 returns-in_err-other-clause-beside g c =

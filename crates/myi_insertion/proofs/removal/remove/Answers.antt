@@ -1,12 +1,13 @@
 use Rattle.std.proofs.Common.{◌≡◌, refl, sym, arith, ◌∙◌}
 use Rattle.std.proofs.lemmas.Result.{err_from_is_err_and}
 use Rattle.myi_insertion.specs.declared.page.PageData.{PageData}
-use Rattle.myi_btree.specs.CachedTrees.{node_lent}
+use Rattle.myi_btree.specs.CachedTrees.{node_lent, ReadsOnly}
+use Rattle.myi_search.proofs.CallerLemmas.{reads_none}
 use Rattle.myi_insertion.specs.Openings.{CanHold}
 use Rattle.myi_insertion.proofs.LoadLaws.{if_err}
 use Rattle.myi_insertion.proofs.SplitLaws.{if_some, if_none}
 use Rattle.myi_insertion.proofs.PuttingLaws.{never_in}
-use Rattle.myi_insertion.proofs.RemovalLaws.{TakesPair, SeeksPair, taken_from, none_from, none_at_all}
+use Rattle.myi_insertion.proofs.RemovalLaws.{TakesPair, SeeksPair, taken_from, none_from, none_stays, none_stays_empty, none_at_all}
 use Rattle.myi_insertion.proofs.DamageLaws.{damage_in}
 use Rattle.myi_insertion.proofs.removal.remove.Goals as goal
 
@@ -57,3 +58,17 @@ returns-in_err-taken-clause-damaged g c =
     let e = err_from_is_err_and c.from_residual.result c.from_residual.ensures.1 in
     if_err c.from_residual.result e.0 _ e.1
     (λ p d m held file. damage_in (node_lent c.args.place.now c.args.cache.now m) c.args.pair.now c.in-Some.root p c.args.place.now.root c.in-Some.is (c.in_err-taken.ensures.damaged p (sym e.2 ∙ d) m held file))
+
+pub returns-in_default-clause-quiet : goal.returns-in_default-clause-quiet
+returns-in_default-clause-quiet g c = λ e. reads_none (g.F.Files.holds c.args.files.now) c.args.cache.now
+
+pub returns-in_default-clause-same : goal.returns-in_default-clause-same
+returns-in_default-clause-same g c = λ e. none_stays_empty c.args.place.now c.args.cache.now (g.F.Files.holds c.args.files.now) c.args.room.now c.args.place.now.root
+
+pub returns-in_default-taken-clause-quiet : goal.returns-in_default-taken-clause-quiet
+returns-in_default-taken-clause-quiet g c = λ e. if_none c.in_ok-taken.taken (ReadsOnly (g.F.Files.holds c.args.files.now) (g.F.Files.holds c.without_pair.new.files) c.args.cache.now c.without_pair.new.cache) c.in_default-taken.is c.in_ok-taken.ensures.quiet
+
+pub returns-in_default-taken-clause-same : goal.returns-in_default-taken-clause-same
+returns-in_default-taken-clause-same g c = λ e. none_stays c.args.pair.now c.args.place.now c.args.cache.now (g.F.Files.holds c.args.files.now) (g.F.Files.holds c.without_pair.new.files) c.without_pair.new.cache c.args.room.now c.in-Some.root c.args.place.now.root
+    (if_none c.in_ok-taken.taken (SeeksPair c.args.pair.now c.args.place.now c.args.cache.now (g.F.Files.holds c.args.files.now) c.args.room.now c.in-Some.root (g.F.Files.holds c.without_pair.new.files) c.without_pair.new.cache) c.in_default-taken.is c.in_ok-taken.ensures.sought)
+    c.in-Some.is c.without_pair.ensures.others

@@ -7,6 +7,7 @@ use Rattle.myi_keypage.specs.Fitting.{used_length}
 use Rattle.myi_btree.specs.Nodes.{entries_of}
 use Rattle.myi_btree.specs.Walk.{node_with}
 use Rattle.myi_btree.specs.Building.{IsWritten}
+use Rattle.myi_search.proofs.CallerLemmas.{counts_none, counts_on}
 use Rattle.myi_insertion.specs.Written.{CanWrite, IsCut}
 use Rattle.myi_insertion.specs.Steps.{Settling}
 use Rattle.myi_insertion.proofs.PageLaws.{no_pair}
@@ -33,6 +34,7 @@ rest-init g c =
           rw (c.new-strip.ensures.places, c.new-strip.ensures.separators, kids) start;
       others = told_same (g.F.Files.holds c.args.files.now) (g.F.Files.holds c.args.files.now) (OthersStay c.args.cache.now.name) refl (λ m held q other. refl);
       name = refl;
+      counted = counts_none c.args.cache.now;
       later = omega arith;
       reads = omega arith;
     }
@@ -77,15 +79,14 @@ rest-preserved g c =
     let rest : List Pair = drop (c.rest.start + (n + 1)) pairs in
     let behind : drop (suc n) left ≡ rest = behind_it pairs c.rest.start n in
     let whole : left ≡ take n left ++ s ∷ rest = set_aside pairs c.rest.start n no_pair cut.1 in
-    let room = c.in_ok-at.ensures.whole c.requires.placed.whole i.whole in
     let len : length (take n left) ≡ n = omega (arith, length-take n left, cut.1) in
     record {
       some = omega (arith, cut.1, length-drop c.rest.start pairs);
       total = i.total;
       can = subst (λ (ps : List Pair). CanWrite place.rec_ref ps c.children_at.result.1.now) behind h.can;
       node = h.flag;
-      whole = room.1;
-      at_is = room.0;
+      whole = c.take_page.ensures.whole c.requires.placed.whole i.whole;
+      at_is = c.in_ok-at.ensures.place c.requires.placed.whole i.whole;
       buffer = whole_buffer c.put_chunk.new.page c.rest.buffer.items c.rest.buffer.len c.rest.buffer.ok.0 (c.put_chunk.ensures.long ∙ sym i.buffer) ∙ i.buffer;
       sides = sides_more place.rec_ref c.args.at c.rest.at c.in_ok-at.at c.rest.start n c.rest.strip.places.items c.push.new.self.places.items c.rest.strip.separators c.push.new.self.separators pairs c.rest.children.now no_pair i.sides i.at_is i.can cut.1 c.in_ok-push.ensures.places (c.in_ok-push.ensures.separators no_pair);
       told = λ m held height xs below stand can.
@@ -96,6 +97,7 @@ rest-preserved g c =
           (let l = c.requires.placed.least in omega arith) can t2 (h.first_is ∙ ap (λ (k : ℕ). take (suc k) c.rest.children.now) (sym len)) (h.others_is ∙ ap (λ (k : ℕ). drop (suc k) c.rest.children.now) (sym len)) c.in_ok-put_chunk.ensures.wrote c.in_ok-at.ensures.taken);
       others = told_then (g.F.Files.holds c.args.files.now) (g.F.Files.holds c.rest.files) (g.F.Files.holds c.put_chunk.new.files) _ _ _ i.others c.put_chunk.ensures.others (λ m n k before after q other. after q (λ e. other (e ∙ i.name)) ∙ before q other);
       name = c.put_chunk.ensures.name ∙ i.name;
+      counted = counts_on c.args.cache.now c.rest.cache c.put_chunk.new.cache i.counted c.put_chunk.ensures.counted;
       later = omega (arith, i.later, c.put_chunk.ensures.cause.later);
       reads = omega (arith, i.reads, c.put_chunk.ensures.reads);
     }

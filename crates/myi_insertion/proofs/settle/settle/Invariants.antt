@@ -3,6 +3,7 @@ use Rattle.myi_base.specs.Holding.{Holding, Told, OthersStay}
 use Rattle.myi_keypage.specs.Page.{IsPlace}
 use Rattle.myi_keylist.specs.declared.pair.Pair.{Pair}
 use Rattle.myi_btree.specs.CachedTrees.{node_lent}
+use Rattle.myi_search.specs.Counting.{CountsOn}
 use Rattle.myi_insertion.specs.Strips.{StandFor}
 use Rattle.myi_insertion.specs.Rooms.{IsWhole}
 use Rattle.myi_insertion.specs.CachedChanges.{CanChange}
@@ -25,6 +26,7 @@ invariant-rest g l = record {
       → Settling l.fn.setup.place l.fn.cache m (l.fn.at ∷ below) l.fn.room (g.F.Files.holds l.files) l.cache l.room l.at height xs l.strip.places.items l.strip.separators (drop l.start l.page.pairs) l.children;
   others : Told (g.F.Files.holds l.fn.files) (g.F.Files.holds l.files) (OthersStay l.fn.cache.name);
   name : l.cache.name ≡ l.fn.cache.name;
+  counted : CountsOn l.fn.cache l.cache;
   later : g.F.Files.faults l.fn.files ≤ g.F.Files.faults l.files;
   reads : g.F.Files.reads l.fn.files ≤ g.F.Files.reads l.files;
 }
