@@ -5,8 +5,8 @@ use Rattle.std.specs.Ordering.{is_eq}
 use Rattle.std.specs.declared.cmp.Ordering.TheVariants.{Less, Equal}
 use Rattle.std.specs.List.Sorted.{IsStrictlySortedBy}
 use Rattle.std.proofs.lemmas.Bool.{cases_Bool}
-use Rattle.myi_base.specs.Holding.{Holding, IfTold}
-use Rattle.myi_keycache.specs.Caching.{Caching}
+use Rattle.myi_base.specs.Holding.{Holding, IfTold, Told}
+use Rattle.myi_keycache.specs.Caching.{Caching, Stays}
 use Rattle.myi_keylist.specs.declared.pair.Pair.{Pair}
 use Rattle.myi_keylist.specs.PairOrder.{pair_cmp, put_pair}
 use Rattle.myi_btree.specs.declared.place.Place.{Place}
@@ -264,3 +264,23 @@ pub there_stands : (t : Trees) (told : Option Holding) (k : ℕ) (p : Place) (pa
 there_stands t told k p pair there at lt is = λ m held own lists s.
     let hold = held_here t m own lists s k p at lt in
     is m held (list_of lists k) (slice_index_or s.pages k []) hold.tree (can_change t m own lists s k p at lt) hold.ascend
+
+-- where the pair was not there the place is as before, and so are the places of all
+pub place_kept : (t : Trees) (k : ℕ) (p q : Place) → IsPlaceOf t k p → k < length t.places → q ≡ p → slice_set t.places k q ≡ t.places
+place_kept t k p q at lt same = ap (λ (r : Place). slice_set t.places k r) (same ∙ at) ∙ set_same t.places k p lt
+
+-- and nothing was put
+pub same_stands : (t : Trees) (told next : Option Holding) (k : ℕ) (p : Place) (new : Caching) → IsPlaceOf t k p → k < length t.places
+    → Told told next (λ m n. (xs : List Pair) (pages : List ℕ) → IsTree p t.cache m p.root xs pages → CanChange p t.cache m pages t.room → IsStrictlySortedBy pair_cmp xs → Stays t.cache new m n)
+    → Told told next (λ m n. (own : ℕ → ℕ) (lists : List (List Pair)) → Stand t m own lists → Stays t.cache new m n)
+same_stands t told next k p new at lt same = record {
+  told = λ m held.
+      let n = same.told m held in (
+        n.0,
+        n.1,
+        λ own lists s.
+            let hold = held_here t m own lists s k p at lt in
+            n.2 (list_of lists k) (slice_index_or s.pages k []) hold.tree (can_change t m own lists s k p at lt) hold.ascend,
+      );
+  untold = same.untold;
+}

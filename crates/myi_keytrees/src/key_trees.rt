@@ -41,7 +41,7 @@ impl Model for KeyTrees {
 }
 
 impl KeyTrees {
-    ghost use Rattle.std.specs.Prelude.{◌≡◌, ◌<◌, ◌≤◌, ◌^◌, ◌%◌, ◌-◌, ℕ, [], false, min, length};
+    ghost use Rattle.std.specs.Prelude.{◌≡◌, ◌<◌, ◌≤◌, ◌^◌, ◌%◌, ◌-◌, ℕ, List, [], false, min, length};
     ghost use Rattle.std.specs.Prelude.{IfOk, IfErr, OnOk, IsTrue, HoldsAt};
     ghost use Rattle.std.specs.List.{AllByRecursion};
     ghost use Rattle.std.specs.Option.{option_copied};
@@ -49,18 +49,20 @@ impl KeyTrees {
     ghost use Rattle.myi_base.specs.Causes.{HasCause};
     ghost use Rattle.myi_keycache.specs.Setup.{IsSetup};
     ghost use Rattle.myi_keycache.specs.Kept.{AllWritten};
-    ghost use Rattle.myi_keycache.specs.Caching.{pages_of, IsCurrent};
+    ghost use Rattle.myi_keycache.specs.Caching.{pages_of, IsCurrent, Stays};
     ghost use Rattle.myi_btree.specs.declared.fault.TreeFault.TheVariants.{File};
+    ghost use Rattle.myi_keylist.specs.declared.pair.Pair.{Pair};
     ghost use Rattle.myi_btree.specs.declared.place.Place.{Place};
     ghost use Rattle.myi_btree.specs.Faults.{DamagedAt, IsFileOrMemory};
     ghost use Rattle.myi_btree.specs.Sizes.{IsPlaced};
     ghost use Rattle.myi_btree.specs.CachedTrees.{ReadsOnly};
     ghost use Rattle.myi_search.specs.Least.{IsLeastRow, IsLeastAbove};
+    ghost use Rattle.myi_search.specs.Counting.{CountsOn};
     ghost use Rattle.myi_insertion.specs.Rooms.{IsWhole};
     ghost use Rattle.myi_insertion.specs.Removal.{has_pair};
     ghost use Rattle.myi_keytrees.specs.Trees.{SameKinds};
     ghost use Rattle.myi_keytrees.specs.InFile.{bytes_of_free};
-    ghost use Rattle.myi_keytrees.specs.Standing.{list_of, put_in, taken_out, StandThen, IfStand, StillStand, CanSearch, RoseByLevels};
+    ghost use Rattle.myi_keytrees.specs.Standing.{list_of, put_in, taken_out, Stand, StandThen, IfStand, StillStand, CanSearch, RoseByLevels};
 
     /// The trees at these places, by the number of their key, in the index file of that name. All bytes from `end` on
     /// are free, and none before it. Nothing is read yet.
@@ -115,6 +117,7 @@ impl KeyTrees {
         ensures room { self.new.room ≡ self.old.room }
         ensures cache { ReadsOnly (F.holds files.old) (F.holds files.new)
             self.old.cache self.new.cache }
+        ensures counted { CountsOn self.old.cache self.new.cache }
         ensures few { IfStand (F.holds files.old) self.old (λ m own lists.
             RoseByLevels (length (list_of lists key)) (F.reads files.old) (F.reads files.new)) }
         ensures asked { IfStand (F.holds files.old) self.old (λ m own lists.
@@ -149,6 +152,7 @@ impl KeyTrees {
         ensures room { self.new.room ≡ self.old.room }
         ensures cache { ReadsOnly (F.holds files.old) (F.holds files.new)
             self.old.cache self.new.cache }
+        ensures counted { CountsOn self.old.cache self.new.cache }
         ensures few { IfStand (F.holds files.old) self.old (λ m own lists.
             RoseByLevels (length (list_of lists key)) (F.reads files.old) (F.reads files.new)) }
         ensures asked { IfStand (F.holds files.old) self.old (λ m own lists.
@@ -181,10 +185,11 @@ impl KeyTrees {
         ensures never { IfErr result (DamagedAt (λ at.
             IfStand (F.holds files.old) self.old (λ m own lists. ⊥))) }
         ensures kinds { SameKinds self.old.places self.new.places }
-        ensures whole { OnOk result (IsWhole self.new.room) }
+        ensures whole { IsWhole self.new.room }
         ensures others { Told (F.holds files.old) (F.holds files.new)
             (OthersStay self.old.cache.name) }
         ensures name { self.new.cache.name ≡ self.old.cache.name }
+        ensures counted { CountsOn self.old.cache self.new.cache }
         ensures cause { HasCause File (F.faults files.old) (F.faults files.new) result }
         ensures reads { F.reads files.old ≤ F.reads files.new }
     {
@@ -217,13 +222,24 @@ impl KeyTrees {
         ensures removed { OnOk result (IfStand (F.holds files.old) self.old (λ m own lists.
             StandThen self.old m own (F.holds files.new) self.new
             (taken_out key pair.now lists))) }
+
+        // Where the pair was not there nothing changes: nothing was put, and the same is lent.
+        ensures kept { IfOk result (λ there. there ≡ false → (self.new.places ≡ self.old.places)
+            × (self.new.room ≡ self.old.room)) }
+        ensures quiet { IfOk result (λ there. there ≡ false → ReadsOnly
+            (F.holds files.old) (F.holds files.new) self.old.cache self.new.cache) }
+        ensures same { IfOk result (λ there. there ≡ false → Told
+            (F.holds files.old) (F.holds files.new) (λ m n. (own : ℕ → ℕ) (lists : List (List Pair))
+            → Stand self.old m own lists → Stays self.old.cache self.new.cache m n)) }
+
         ensures never { IfErr result (DamagedAt (λ at.
             IfStand (F.holds files.old) self.old (λ m own lists. ⊥))) }
         ensures kinds { SameKinds self.old.places self.new.places }
-        ensures whole { OnOk result (IsWhole self.new.room) }
+        ensures whole { IsWhole self.new.room }
         ensures others { Told (F.holds files.old) (F.holds files.new)
             (OthersStay self.old.cache.name) }
         ensures name { self.new.cache.name ≡ self.old.cache.name }
+        ensures counted { CountsOn self.old.cache self.new.cache }
         ensures cause { HasCause File (F.faults files.old) (F.faults files.new) result }
         ensures reads { F.reads files.old ≤ F.reads files.new }
     {
@@ -252,6 +268,7 @@ impl KeyTrees {
         ensures others { Told (F.holds files.old) (F.holds files.new)
             (OthersStay self.old.cache.name) }
         ensures name { self.new.cache.name ≡ self.old.cache.name }
+        ensures counted { CountsOn self.old.cache self.new.cache }
         ensures faults { IfErr result IsFileOrMemory }
         ensures cause { HasCause File (F.faults files.old) (F.faults files.new) result }
         ensures reads { F.reads files.new ≡ F.reads files.old }
