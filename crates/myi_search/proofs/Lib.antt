@@ -10,3 +10,5 @@ pub mod PathLaws
 pub mod DownLaws
 pub mod ToldLaws
 pub mod LeastLaws
+pub mod RunLaws
+pub mod GatherLaws

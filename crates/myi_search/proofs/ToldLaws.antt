@@ -1,5 +1,5 @@
 -- What a search that a key cache served says of the cache and the tree, where the files tell what they hold.
-use Rattle.std.proofs.Common.{◌≡◌, ℕ, ◌+◌, ◌≤◌, true, Option, Some, Result, Ok, Err, List, [], sym, ap, subst, ◌∙◌, arith, inl, inr}
+use Rattle.std.proofs.Common.{◌≡◌, ℕ, ◌+◌, ◌≤◌, Bool, true, Option, Some, None, Result, Ok, Err, List, [], sym, ap, subst, ◌∙◌, arith, inl, inr}
 use Rattle.std.specs.Prelude.{OnOk, IfErr}
 use Rattle.std.specs.List.{list_all}
 use Rattle.std.specs.Option.{option_to_list}
@@ -19,6 +19,7 @@ use Rattle.myi_search.specs.Path.{IsStopped, Arrives}
 use Rattle.myi_search.specs.Trees.{HasTree}
 use Rattle.myi_search.specs.Passing.{first_kept, IsParted}
 use Rattle.myi_search.specs.Seeking.{AskedSome, Ends, Stops}
+use Rattle.myi_search.specs.Runs.{IsRun}
 use Rattle.myi_search.proofs.Lists.{all_is}
 use Rattle.myi_search.proofs.TreeLaws.{Test}
 
@@ -64,6 +65,20 @@ found_told r place test told cache root best is begin ends = on_ok r (λ e m hel
     let (v, f, s, k) = begin m held current in
     let t = seen_tree place v cache m place.root root height pairs f s is has in
     (e v (can place v told cache root is k)).keeps height t.w t.walks (subst (IsParted test) t.is parted) ∙ ap (first_kept test) (sym t.is)) ends
+
+-- a tree without a root has no pairs
+pub no_pairs : (place : Place) (cache : Caching) (m : Holding) (root : Option ℕ) (height : ℕ) (pairs : List Pair) → root ≡ None → HasTree place cache m root height pairs → pairs ≡ []
+no_pairs place cache m None height pairs e has = has
+no_pairs place cache m (Some root) height pairs e has = absurd cc
+
+-- what was gathered
+pub run_told : {T : Type 0} (r : Result T TreeFault) (on : Bool) (place : Place) (test : Test) (told : Option Holding) (cache : Caching) (root : ℕ) (run : List Pair) → place.root ≡ Some root → Begins place told cache
+    → OnOk r (on ≡ true → (v : View) → CanAsk place v told cache root → (height : ℕ) (w : Walked) → walk_of (nodes_at place v) height root ≡ Some w → IsParted test (content w) → IsRun test (content w) run)
+    → OnOk r (on ≡ true → IfTold told (λ m. IsCurrent cache m → (height : ℕ) (pairs : List Pair) → HasTree place cache m place.root height pairs → IsParted test pairs → IsRun test pairs run))
+run_told r on place test told cache root run is begin ends = on_ok r (λ e gathers m held current height pairs has parted.
+    let (v, f, s, k) = begin m held current in
+    let t = seen_tree place v cache m place.root root height pairs f s is has in
+    subst (λ (ps : List Pair). IsRun test ps run) (sym t.is) (e gathers v (can place v told cache root is k) height t.w t.walks (subst (IsParted test) t.is parted))) ends
 
 pub arrives_told : {T : Type 0} (r : Result T TreeFault) (place : Place) (test : Test) (told : Option Holding) (cache : Caching) (root : ℕ) (best : Option Pair) → place.root ≡ Some root → Begins place told cache
     → OnOk r ((v : View) → CanAsk place v told cache root → Ends place test v root best)

@@ -1,7 +1,7 @@
 -- A search down from the root of a tree finds the first pair that it does not pass by.
-use Rattle.std.proofs.Common.{◌≡◌, ℕ, zero, suc, ◌<◌, Bool, true, false, cond, ltb, Option, Some, None, List, [], ◌∷◌, ◌++◌, length, map, refl, sym, ap, subst, ◌∙◌, arith, inl, inr}
+use Rattle.std.proofs.Common.{◌≡◌, ℕ, zero, suc, ◌<◌, Bool, true, false, cond, ltb, Option, Some, None, List, [], ◌∷◌, ◌++◌, length, map, refl, sym, ap, subst, ◌∙◌, append_assoc, arith, inl, inr}
 use Rattle.std.specs.List.{AllByRecursion}
-use Rattle.std.specs.Option.{option_or}
+use Rattle.std.specs.Option.{option_or, option_to_list}
 use Rattle.std.proofs.lemmas.Option.{same_Some, cond_some}
 use Rattle.std.proofs.lemmas.Bool.{cases_Bool, ltb-true}
 use Rattle.std.proofs.lemmas.List.{append-nil, map-append}
@@ -10,6 +10,7 @@ use Rattle.myi_btree.specs.Walk.{◌>>=◌, Node, Places, Walked, between_pairs,
 use Rattle.myi_btree.proofs.CallerLemmas.{bind_some}
 use Rattle.myi_search.specs.Path.{next_child}
 use Rattle.myi_search.specs.Passing.{first_kept, IsParted}
+use Rattle.myi_search.specs.Cursor.{from_kept}
 
 abbrev pub Test : Type 0
 Test = Pair → Bool
@@ -83,6 +84,32 @@ pub or_or : {A : Type 0} (a b c : Option A) → option_or (option_or a b) c ≡ 
 or_or None b c = refl
 or_or (Some x) b c = refl
 
+-- ---- all from the first that is kept on
+
+-- a front that is passed by
+pub past_front : (test : Test) (xs ys : List Pair) → first_kept test xs ≡ None → from_kept test (xs ++ ys) ≡ from_kept test ys
+past_front test [] ys e = refl
+past_front test (x ∷ xs) ys e = by (test x) e (λ f. past_front test xs ys f)
+  where
+    by : (b : Bool) → cond b (first_kept test xs) (Some x) ≡ None → (first_kept test xs ≡ None → from_kept test (xs ++ ys) ≡ from_kept test ys) → cond b (from_kept test (xs ++ ys)) (x ∷ (xs ++ ys)) ≡ from_kept test ys
+    by true f again = again f
+    by false f again = absurd cc
+
+-- what comes behind a pair that is kept does not matter before it
+pub stops_at : (test : Test) (xs : List Pair) (p : Pair) (ys : List Pair) → test p ≡ false → from_kept test (xs ++ p ∷ ys) ≡ from_kept test (xs ++ p ∷ []) ++ ys
+stops_at test [] p ys off = rw off refl
+stops_at test (x ∷ xs) p ys off = by (test x) (stops_at test xs p ys off)
+  where
+    by : (b : Bool) → from_kept test (xs ++ p ∷ ys) ≡ from_kept test (xs ++ p ∷ []) ++ ys → cond b (from_kept test (xs ++ p ∷ ys)) (x ∷ (xs ++ p ∷ ys)) ≡ cond b (from_kept test (xs ++ p ∷ [])) (x ∷ (xs ++ p ∷ [])) ++ ys
+    by true e = e
+    by false e = ap (λ (t : List Pair). x ∷ t) (sym (append_assoc xs (p ∷ []) ys))
+
+-- what a list keeps with a pair behind it begins with what a part of it does, with the first pair behind that part that is kept
+pub record Follows (test : Test) (xs : List Pair) (behind : Option Pair) (part : List Pair) (kept : Option Pair) : Type 0 where
+  pub rest : List Pair
+  pub is : from_kept test (xs ++ option_to_list behind) ≡ from_kept test (part ++ option_to_list (option_or kept behind)) ++ rest
+  pub none : kept ≡ None → rest ≡ []
+
 -- ---- the child that is next
 
 -- a tree stands at the child that is next, and what it keeps comes before the pair behind it
@@ -93,6 +120,7 @@ pub record Chosen (read : Places) (test : Test) (h : ℕ) (child : Option ℕ) (
   pub walks : walk_of read h at ≡ Some part
   pub parted : IsParted test xs → IsParted test (content part)
   pub first : IsParted test xs → first_kept test xs ≡ option_or (first_kept test (content part)) kept
+  pub ahead : IsParted test xs → (behind : Option Pair) → Follows test xs behind (content part) kept
 
 chosen : (read : Places) (test : Test) (h : ℕ) (ps : List Pair) (cs : List ℕ) (ws : List Walked) → each (walk_of read h) cs ≡ Some ws → length cs ≡ suc (length ps)
     → Chosen read test h (next_child test ps cs) (first_kept test ps) (weave (contents ws) ps)
@@ -110,6 +138,7 @@ chosen read test h [] (c ∷ []) ws e len =
       walks = a.1;
       parted = λ h. subst (IsParted test) all h;
       first = λ h. ap (first_kept test) all ∙ sym (or_none (first_kept test (content a.0)));
+      ahead = λ h o. record { rest = []; is = ap (λ (t : List Pair). from_kept test (t ++ option_to_list o)) all ∙ sym (append-nil (from_kept test (content a.0 ++ option_to_list o))); none = λ e. refl };
     }
 chosen read test h (p ∷ ps) (c ∷ cs) ws e len =
     let a = bind_some (walk_of read h c) (λ y. each (walk_of read h) cs >>= λ ys. Some (y ∷ ys)) ws e in
@@ -130,6 +159,15 @@ chosen read test h (p ∷ ps) (c ∷ cs) ws e len =
           walks = k.walks;
           parted = λ h. k.parted (parted_right test (content w) (p ∷ rest) h).1;
           first = λ h. kept-append test (content w) (p ∷ rest) ∙ rw (none_before test (content w) p rest h is) (passed ∙ k.first (parted_right test (content w) (p ∷ rest) h).1);
+          ahead = λ h o.
+              let l : List Pair = option_to_list o in
+              let f = k.ahead (parted_right test (content w) (p ∷ rest) h).1 o in
+              let by_it : from_kept test (p ∷ (rest ++ l)) ≡ from_kept test (rest ++ l) = rw is refl in
+              record {
+                rest = f.rest;
+                is = ap (from_kept test) (append_assoc (content w) (p ∷ rest) l) ∙ past_front test (content w) (p ∷ (rest ++ l)) (none_before test (content w) p rest h is) ∙ by_it ∙ f.is;
+                none = f.none;
+              };
         }
     by false is w walks rest k =
         let here : first_kept test (p ∷ rest) ≡ Some p = rw is refl in
@@ -140,6 +178,11 @@ chosen read test h (p ∷ ps) (c ∷ cs) ws e len =
           walks = walks;
           parted = λ h. parted_left test (content w) (p ∷ rest) h;
           first = λ h. kept-append test (content w) (p ∷ rest) ∙ ap (option_or (first_kept test (content w))) here;
+          ahead = λ h o. record {
+            rest = rest ++ option_to_list o;
+            is = ap (from_kept test) (append_assoc (content w) (p ∷ rest) (option_to_list o)) ∙ stops_at test (content w) p (rest ++ option_to_list o) is;
+            none = λ e. absurd cc;
+          };
         }
 
 -- ---- a page of a tree
@@ -148,12 +191,12 @@ leaf_content : (place : ℕ) (node : Node) (cs : List ℕ) (w : Walked) → as_l
 leaf_content place node [] w e = (refl, ap content (sym (same_Some _ _ e)) ∙ plain place node.pairs)
 leaf_content place node (c ∷ cs) w e = absurd cc
 
-pub in_leaf : (read : Places) (test : Test) (place : ℕ) (w : Walked) (node : Node) → walk_of read zero place ≡ Some w → read place ≡ Some node → (next_child test node.pairs node.children ≡ None) × (content w ≡ node.pairs)
+pub in_leaf : (read : Places) (test : Test) (place : ℕ) (w : Walked) (node : Node) → walk_of read zero place ≡ Some w → read place ≡ Some node → (next_child test node.pairs node.children ≡ None) × (content w ≡ node.pairs) × (node.children ≡ [])
 in_leaf read test place w node e stands =
     let a = bind_some (read place) (λ node. as_leaf place node node.children) w e in
     let same : a.0 ≡ node = same_Some a.0 node (sym a.1 ∙ stands) in
-    subst (λ (n : Node). (next_child test n.pairs n.children ≡ None) × (content w ≡ n.pairs)) same
-    (let k = leaf_content place a.0 a.0.children w a.2 in (ap (next_child test a.0.pairs) k.0, k.1))
+    subst (λ (n : Node). (next_child test n.pairs n.children ≡ None) × (content w ≡ n.pairs) × (n.children ≡ [])) same
+    (let k = leaf_content place a.0 a.0.children w a.2 in (ap (next_child test a.0.pairs) k.0, k.1, k.0))
 
 pub in_node : (read : Places) (test : Test) (h place : ℕ) (w : Walked) (node : Node) → walk_of read (suc h) place ≡ Some w → read place ≡ Some node → IsNode node
     → Chosen read test h (next_child test node.pairs node.children) (first_kept test node.pairs) (content w)

@@ -8,6 +8,8 @@ pub mod Path
 pub mod Trees
 -- the setup and the counters of a key cache through calls
 pub mod Counting
+-- a cursor in the pairs of a tree
+pub mod Cursor
 -- what serves private contracts
 
 -- codes that are read without their keys
@@ -16,3 +18,5 @@ pub mod ReadCodes
 pub mod Passing
 -- a search that is under way
 pub mod Seeking
+-- what a search gathers
+pub mod Runs

@@ -1,5 +1,5 @@
 //! Going down a tree, page by page.
-ghost use Rattle.std.specs.Prelude.{◌≡◌, ◌+◌, ◌≤◌, ◌⊎◌, ℕ, Some, None, IfOk, IfErr, OnOk};
+ghost use Rattle.std.specs.Prelude.{◌≡◌, ◌+◌, ◌≤◌, ◌⊎◌, ℕ, true, [], Some, None, IfOk, IfErr, OnOk};
 ghost use Rattle.myi_base.specs.Holding.{IfTold, Told};
 ghost use Rattle.myi_base.specs.Causes.{HasCause};
 ghost use Rattle.myi_keylist.specs.declared.pair.Pair.{Pair};
@@ -7,6 +7,7 @@ ghost use Rattle.std.specs.Prelude.{List};
 ghost use Rattle.myi_keycache.specs.Kept.{AddsOnly};
 ghost use Rattle.myi_keycache.specs.Caching.{pages_of, CanGet, IsCurrent, Stays};
 ghost use Rattle.myi_btree.specs.declared.fault.TreeFault.TheVariants.{File};
+ghost use Rattle.myi_btree.specs.Walk.{Walked, walk_of, content};
 ghost use Rattle.myi_btree.specs.Sizes.{IsPlaced};
 ghost use Rattle.myi_btree.specs.Faults.{DamagedAt};
 ghost use Rattle.myi_btree.specs.CachedTrees.{node_lent, MayGet, CanWalk, ReadsOnly, AddsNamed};
@@ -16,6 +17,7 @@ ghost use Rattle.myi_search.specs.Trees.{HasTree};
 ghost use Rattle.myi_search.specs.Counting.{CountsOn};
 ghost use Rattle.myi_search.specs.Passing.{passes, first_kept, IsParted, best_of, HasCode};
 ghost use Rattle.myi_search.specs.Seeking.{Enters, AskedSome, Ends, Stops};
+ghost use Rattle.myi_search.specs.Runs.{GathersLeaf, IsRun};
 
 use crate::bound::Bound;
 use crate::page::{Way, seek_in};
@@ -37,6 +39,7 @@ fn enter<F: Files>(
 ) -> Result<Option<u64>, TreeFault>
     requires placed { IsPlaced place.now }
     requires kept { MayGet F.writable cache.old }
+    requires code { HasCode reached.old }
     ensures enters { IfOk result (λ child. (v : View)
         → CanAsk place.now v (F.holds files.old) cache.old at
         → Enters (passes bound.now) (nodes_at place.now v at) child
@@ -44,7 +47,11 @@ fn enter<F: Files>(
     ensures damaged { IfErr result (DamagedAt (λ p. (p ≡ at) × ((v : View)
         → CanAsk place.now v (F.holds files.old) cache.old at
         → nodes_at place.now v at ≡ None))) }
-    ensures code { HasCode reached.old → OnOk result (HasCode reached.new) }
+    ensures code { OnOk result (HasCode reached.new) }
+    ensures gathers { reached.new.gathers ≡ reached.old.gathers }
+    ensures run { IfOk result (λ child. reached.old.gathers ≡ true → (v : View)
+        → CanAsk place.now v (F.holds files.old) cache.old at
+        → GathersLeaf (nodes_at place.now v at) (best_of reached.old) reached.new.run) }
     ensures stays { Told (F.holds files.old) (F.holds files.new)
         (λ m n. CanGet cache.old m at place.now.block_length → Stays cache.old cache.new m n) }
     ensures added { AddsOnly at place.now.block_length (pages_of cache.old) (pages_of cache.new) }
@@ -88,6 +95,11 @@ fn go_down<F: Files>(
         → CanAsk place.now v (F.holds files.old) cache.old root
         → Stops place.now (passes bound.now) v root at)) }
     ensures code { OnOk result (HasCode reached.new) }
+    ensures run { OnOk result (reached.old.gathers ≡ true → (v : View)
+        → CanAsk place.now v (F.holds files.old) cache.old root → (height : ℕ) (w : Walked)
+        → walk_of (nodes_at place.now v) height root ≡ Some w
+        → IsParted (passes bound.now) (content w)
+        → IsRun (passes bound.now) (content w) reached.new.run) }
     ensures cache { ReadsOnly (F.holds files.old) (F.holds files.new) cache.old cache.new }
     ensures counted { CountsOn cache.old cache.new }
     ensures cause { HasCause File (F.faults files.old) (F.faults files.new) result }
@@ -116,11 +128,17 @@ pub(crate) fn descend<F: Files>(
     requires placed { IsPlaced place.now }
     requires kept { CanWalk F.writable (F.holds files.old) place.now cache.old }
     requires none { reached.old.row ≡ None }
+    requires empty { reached.old.run ≡ [] }
     ensures found { OnOk result (IfTold (F.holds files.old) (λ m. IsCurrent cache.old m
         → (height : ℕ) (pairs : List Pair)
         → HasTree place.now cache.old m place.now.root height pairs
         → IsParted (passes bound.now) pairs
         → best_of reached.new ≡ first_kept (passes bound.now) pairs)) }
+    ensures run { OnOk result (reached.old.gathers ≡ true → IfTold (F.holds files.old) (λ m.
+        IsCurrent cache.old m → (height : ℕ) (pairs : List Pair)
+        → HasTree place.now cache.old m place.now.root height pairs
+        → IsParted (passes bound.now) pairs
+        → IsRun (passes bound.now) pairs reached.new.run)) }
     ensures arrives { OnOk result (IfTold (F.holds files.old) (λ m. IsCurrent cache.old m
         → Arrives (node_lent place.now cache.old m) (passes bound.now) place.now.root)) }
     ensures stopped { IfErr result (DamagedAt (λ at. IfTold (F.holds files.old) (λ m.

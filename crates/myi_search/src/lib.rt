@@ -8,6 +8,8 @@
 //!
 //! - `find` answers the least row of a key.
 //! - `next_after` answers the least pair above another one, or the least pair.
+//! - `TreeCursor` goes over the pairs one after the other, from the first or from behind a given one, and keeps the
+//!   pairs of the leaf that it is in.
 //! - The laws are the contracts of the functions in `laws`.
 //!
 //! ```
@@ -22,6 +24,7 @@
 
 mod bound;
 mod codes;
+mod cursor;
 mod descent;
 mod laws;
 mod page;
@@ -29,5 +32,6 @@ mod reached;
 mod search;
 
 pub use codes::is_code;
+pub use cursor::TreeCursor;
 pub use laws::{searches_are_short, searches_end_once};
 pub use search::{find, next_after};

@@ -77,7 +77,7 @@ pub fn find<F: Files>(
     ensures cause { HasCause File (F.faults files.old) (F.faults files.new) result }
     ensures reads { F.reads files.old ≤ F.reads files.new }
 {
-    let mut reached = Reached::new(alloc);
+    let mut reached = Reached::new(alloc, false);
     let bound = Bound::before_key(key);
     descend(place, files, cache, &bound, &mut reached)?;
     Ok(reached.row_of(key))
@@ -133,7 +133,7 @@ pub fn next_after<F: Files>(
     ensures cause { HasCause File (F.faults files.old) (F.faults files.new) result }
     ensures reads { F.reads files.old ≤ F.reads files.new }
 {
-    let mut reached = Reached::new(alloc);
+    let mut reached = Reached::new(alloc, false);
     let bound = Bound::behind(after);
     descend(place, files, cache, &bound, &mut reached)?;
     Ok(reached.into_pair())

@@ -2,7 +2,8 @@ use Rattle.std.proofs.Common.{Ok, Err, sym, ◌∙◌}
 use Rattle.std.proofs.lemmas.Result.{err_from_is_err_and}
 use Rattle.myi_search.specs.Passing.{passes, best_of}
 use Rattle.myi_search.proofs.Serving.{if_err}
-use Rattle.myi_search.proofs.ToldLaws.{Begins, found_told, arrives_told, stopped_told, never_told, asked_told, few_told, added_told, stays_told}
+use Rattle.myi_search.proofs.ToldLaws.{Begins, run_told, no_pairs, found_told, arrives_told, stopped_told, never_told, asked_told, few_told, added_told, stays_told}
+use Rattle.myi_search.proofs.RunLaws.{no_run}
 use Rattle.myi_search.proofs.descent.descend.Goals as goal
 
 pub returns-in_err-go_down-clause-stopped : goal.returns-in_err-go_down-clause-stopped
@@ -68,3 +69,12 @@ pub returns-clause-arrives : goal.returns-clause-arrives
 returns-clause-arrives g c =
     let begin : Begins c.args.place.now (g.F.Files.holds c.args.files.now) c.args.cache.now = λ m held current. c.walks_begin.ensures.begins g.F.Files.writable c.args.place.now (g.F.Files.holds c.args.files.now) c.args.cache.now m c.in-Some.root c.requires.kept held current c.in-Some.is in
     arrives_told {T = Unit {0}} (Ok tt) c.args.place.now (passes c.args.bound.now) (g.F.Files.holds c.args.files.now) c.args.cache.now c.in-Some.root (best_of c.go_down.new.reached) c.in-Some.is begin c.in_ok-go_down.ensures.ends
+
+pub returns-in_default-clause-run : goal.returns-in_default-clause-run
+returns-in_default-clause-run g c = λ on m held current height pairs has parted.
+    no_run (passes c.args.bound.now) pairs c.args.reached.now.run (no_pairs c.args.place.now c.args.cache.now m c.args.place.now.root height pairs c.in_default.is has) c.requires.empty
+
+pub returns-clause-run : goal.returns-clause-run
+returns-clause-run g c =
+    let begin : Begins c.args.place.now (g.F.Files.holds c.args.files.now) c.args.cache.now = λ m held current. c.walks_begin.ensures.begins g.F.Files.writable c.args.place.now (g.F.Files.holds c.args.files.now) c.args.cache.now m c.in-Some.root c.requires.kept held current c.in-Some.is in
+    run_told {T = Unit {0}} (Ok tt) c.args.reached.now.gathers c.args.place.now (passes c.args.bound.now) (g.F.Files.holds c.args.files.now) c.args.cache.now c.in-Some.root c.go_down.new.reached.run c.in-Some.is begin c.in_ok-go_down.ensures.run

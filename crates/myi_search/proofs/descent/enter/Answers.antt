@@ -4,6 +4,7 @@ use Rattle.myi_btree.specs.Walk.{Node}
 use Rattle.myi_btree.specs.Nodes.{node_in}
 use Rattle.myi_search.specs.Passing.{passes, best_of}
 use Rattle.myi_search.specs.Seeking.{Enters}
+use Rattle.myi_search.specs.Runs.{GathersLeaf}
 use Rattle.myi_search.proofs.SeekLaws.{enters_by, no_node}
 use Rattle.myi_search.proofs.Serving.{same_place, lent_off, lent_none, lent_is, short_only, if_err, can_get, shown_now}
 use Rattle.myi_search.proofs.descent.enter.Goals as goal
@@ -45,3 +46,17 @@ returns-in-NoPage-clause-damaged g c = λ p e. (
       ∙ lent_is c.args.place.now c.args.cache.now k.serves.now c.args.at c.in_ok-bytes.bytes.now (node_in c.args.place.now.rec_ref c.in_ok-bytes.bytes.now) c.if-at-ne0.false (c.in_ok-bytes.ensures.page k.serves.now k.serves.held (can_get c.args.place.now v (g.F.Files.holds c.args.files.now) c.args.cache.now c.args.at k)) refl
       ∙ no_node (passes c.args.bound.now) (node_in c.args.place.now.rec_ref c.in_ok-bytes.bytes.now) c.in_ok-child.field-0 (best_of c.args.reached.now) (best_of c.seek_in.new.reached) c.in_ok-child.ensures.seeks c.in-NoPage.is,
 )
+
+pub returns-in-Child-clause-run : goal.returns-in-Child-clause-run
+returns-in-Child-clause-run g c = λ on v k.
+    subst (λ (o : Option Node). GathersLeaf o (best_of c.args.reached.now) c.seek_in.new.reached.run)
+    (sym (lent_is c.args.place.now c.args.cache.now k.serves.now c.args.at c.in_ok-bytes.bytes.now (node_in c.args.place.now.rec_ref c.in_ok-bytes.bytes.now) c.if-at-ne0.false (c.in_ok-bytes.ensures.page k.serves.now k.serves.held (can_get c.args.place.now v (g.F.Files.holds c.args.files.now) c.args.cache.now c.args.at k)) refl)
+    ∙ shown_now c.args.place.now v (g.F.Files.holds c.args.files.now) c.args.cache.now c.args.at k)
+    (c.in_ok-child.ensures.run on)
+
+pub returns-in-Leaf-clause-run : goal.returns-in-Leaf-clause-run
+returns-in-Leaf-clause-run g c = λ on v k.
+    subst (λ (o : Option Node). GathersLeaf o (best_of c.args.reached.now) c.seek_in.new.reached.run)
+    (sym (lent_is c.args.place.now c.args.cache.now k.serves.now c.args.at c.in_ok-bytes.bytes.now (node_in c.args.place.now.rec_ref c.in_ok-bytes.bytes.now) c.if-at-ne0.false (c.in_ok-bytes.ensures.page k.serves.now k.serves.held (can_get c.args.place.now v (g.F.Files.holds c.args.files.now) c.args.cache.now c.args.at k)) refl)
+    ∙ shown_now c.args.place.now v (g.F.Files.holds c.args.files.now) c.args.cache.now c.args.at k)
+    (c.in_ok-child.ensures.run on)

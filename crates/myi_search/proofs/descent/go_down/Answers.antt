@@ -5,7 +5,10 @@ use Rattle.myi_search.specs.Passing.{passes, best_of}
 use Rattle.myi_search.specs.Seeking.{Going, Stops}
 use Rattle.myi_search.proofs.CountLaws.{counts_on}
 use Rattle.myi_search.proofs.Inserted.{seen_is, has_more}
-use Rattle.myi_search.proofs.Serving.{same_place, if_err, serves_on, reads_on}
+use Rattle.myi_search.proofs.Serving.{lent_shape, same_place, if_err, serves_on, reads_on, reads_none}
+use Rattle.myi_btree.specs.Serving.{nodes_at}
+use Rattle.myi_search.specs.Runs.{RunsIn}
+use Rattle.myi_search.proofs.RunLaws.{ahead_start, runs_more}
 use Rattle.myi_search.proofs.DownLaws.{can_go, went_more, going_more, going_ends, stops_none, stops_met, asked_one}
 use Rattle.myi_search.proofs.descent.go_down.Goals as goal
 
@@ -66,7 +69,14 @@ loop-down-preserved g c =
           (serves_on c.args.place.now v told (g.F.Files.holds c.enter.new.files) c.loop-down.cache c.enter.new.cache c.in-Some.at asks c.enter.ensures.cache c.enter.ensures.stays c.enter.ensures.added);
       cache = reads_on _ _ _ _ _ _ c.loop-down.invariant.cache c.enter.ensures.cache;
       counted = counts_on c.args.cache.now c.loop-down.cache c.enter.new.cache c.loop-down.invariant.counted c.enter.ensures.counted;
-      code = c.in_ok-down.ensures.code c.loop-down.invariant.code;
+      code = c.in_ok-down.ensures.code;
+      gathers = c.enter.ensures.gathers ∙ c.loop-down.invariant.gathers;
+      runs = λ on v k height w walk parted.
+          let told = g.F.Files.holds c.loop-down.files in
+          let going : Going c.args.place.now (passes c.args.bound.now) v told c.loop-down.cache c.args.root c.loop-down.invariant.seen (Some c.in-Some.at) (best_of c.loop-down.reached) = subst (λ (d : Option ℕ). Going c.args.place.now (passes c.args.bound.now) v told c.loop-down.cache c.args.root c.loop-down.invariant.seen d (best_of c.loop-down.reached)) c.in-Some.is (c.loop-down.invariant.going v k) in
+          let asks = can_go c.args.place.now (passes c.args.bound.now) v told c.loop-down.cache c.args.root c.loop-down.invariant.seen c.in-Some.at (best_of c.loop-down.reached) going in
+          let here : RunsIn (nodes_at c.args.place.now v) (passes c.args.bound.now) w (Some c.in-Some.at) (best_of c.loop-down.reached) c.loop-down.reached.run = subst (λ (d : Option ℕ). RunsIn (nodes_at c.args.place.now v) (passes c.args.bound.now) w d (best_of c.loop-down.reached) c.loop-down.reached.run) c.in-Some.is (c.loop-down.invariant.runs on v k height w walk parted) in
+          runs_more (nodes_at c.args.place.now v) (passes c.args.bound.now) w c.in-Some.at c.in_ok-down.down (best_of c.loop-down.reached) (best_of c.enter.new.reached) c.enter.new.reached.run (lent_shape c.args.place.now v.first v.start) here (c.in_ok-down.ensures.enters v asks) (c.in_ok-down.ensures.run (c.loop-down.invariant.gathers ∙ on) v asks);
       later = omega (arith, c.loop-down.invariant.later, c.enter.ensures.cause.later);
       reads = omega (arith, c.loop-down.invariant.reads, c.enter.ensures.reads);
     }
@@ -79,3 +89,7 @@ returns-clause-ends g c = λ v k.
     let told = g.F.Files.holds c.loop-down.files in
     going_ends c.args.place.now (passes c.args.bound.now) v told c.loop-down.cache c.args.root c.loop-down.invariant.seen (best_of c.loop-down.reached)
     (subst (λ (d : Option ℕ). Going c.args.place.now (passes c.args.bound.now) v told c.loop-down.cache c.args.root c.loop-down.invariant.seen d (best_of c.loop-down.reached)) c.in_default.is (c.loop-down.invariant.going v k))
+
+pub returns-clause-run : goal.returns-clause-run
+returns-clause-run g c = λ on v k height w walk parted.
+    subst (λ (d : Option ℕ). RunsIn (nodes_at c.args.place.now v) (passes c.args.bound.now) w d (best_of c.loop-down.reached) c.loop-down.reached.run) c.in_default.is (c.loop-down.invariant.runs on v k height w walk parted)

@@ -27,4 +27,6 @@ loop-item-preserved c =
       codes = rw (c.in_ok-read.ensures.code, c.in-Some.ensures.rest) (sym (codes_step c.loop-item.reached.code.items it rest (key_front c.deref.result.now) key_is) ∙ ap (λ (t : List Item). is_some (each pair_in (entries_after c.loop-item.reached.code.items t))) (sym items_are) ∙ c.loop-item.invariant.codes);
       best = c.in_ok-read.ensures.best ∙ c.loop-item.invariant.best;
       row = c.in_ok-read.ensures.row ∙ c.loop-item.invariant.row;
+      gathers = c.in_ok-read.ensures.gathers ∙ c.loop-item.invariant.gathers;
+      run = c.in_ok-read.ensures.run ∙ c.loop-item.invariant.run;
     }

@@ -10,6 +10,8 @@ invariant-loop-item l = record {
   codes : is_some (each pair_in (entries_after l.reached.code.items l.walk)) ≡ is_some (each pair_in (entries_after l.fn.reached.code.items l.fn.walk));
   best : l.reached.best ≡ l.fn.reached.best;
   row : l.reached.row ≡ l.fn.reached.row;
+  gathers : l.reached.gathers ≡ l.fn.reached.gathers;
+  run : l.reached.run ≡ l.fn.reached.run;
 }
 
 abbrev pub decreases-loop-item : goal.decreases-loop-item

@@ -19,6 +19,8 @@ loop-item-init c =
       seeking = rw (c.walk-walk.ensures, c.first_child-child.ensures) (seek_start (passes c.args.bound.now) c.args.view.now c.begin_page.new.self.code.items c.begin_page.ensures.code);
       best = c.begin_page.ensures.best;
       row = c.begin_page.ensures.row;
+      gathers = c.begin_page.ensures.gathers;
+      run = c.begin_page.ensures.run;
     }
 
 pub returns-then-not-is_code-clause-seeks : goal.returns-then-not-is_code-clause-seeks
@@ -81,4 +83,6 @@ loop-item-preserved c =
       seeking = rw (c.in_ok-read.ensures.code, c.next_item.ensures.rest) step;
       best = c.in_ok-read.ensures.best ∙ c.loop-item.invariant.best;
       row = c.in_ok-read.ensures.row ∙ c.loop-item.invariant.row;
+      gathers = c.in_ok-read.ensures.gathers ∙ c.loop-item.invariant.gathers;
+      run = c.in_ok-read.ensures.run ∙ c.loop-item.invariant.run;
     }

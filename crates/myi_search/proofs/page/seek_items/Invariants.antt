@@ -13,6 +13,8 @@ invariant-loop-item l = record {
   seeking : Seeking (passes l.bound) l.view l.reached.code.items l.walk l.child;
   best : l.reached.best ≡ l.fn.reached.best;
   row : l.reached.row ≡ l.fn.reached.row;
+  gathers : l.reached.gathers ≡ l.fn.reached.gathers;
+  run : l.reached.run ≡ l.fn.reached.run;
 }
 
 abbrev pub decreases-loop-item : goal.decreases-loop-item
