@@ -9,7 +9,7 @@ use Rattle.myi_pair.specs.Clean.{covers}
 use Rattle.myi_pair.specs.FirstBad.{first_gap}
 use Rattle.myi_check.specs.HeldBytes.{SameBytes, AreJoined, front_of, gap_behind}
 
-covers_byte : (p : ℕ) (rs : List Range) → list_any (covers p) rs ≡ cond (is_apart (p, suc p) rs) false true
+pub covers_byte : (p : ℕ) (rs : List Range) → list_any (covers p) rs ≡ cond (is_apart (p, suc p) rs) false true
 covers_byte p [] = refl
 covers_byte p (r ∷ rs) = by_test (is_apart (p, suc p) rs) (list_any (covers p) rs) (covers_byte p rs)
   where
@@ -23,7 +23,7 @@ gap_same u v s (suc n) p =
     let here : list_any (covers p) u ≡ list_any (covers p) v = covers_byte p u ∙ ap (λ b. cond b false true) (s (p, suc p) (omega arith)) ∙ sym (covers_byte p v) in
     ap (λ b. cond b (first_gap n (suc p) u) (Some p)) here ∙ ap (λ o. cond (list_any (covers p) v) o (Some p)) (gap_same u v s n (suc p))
 
-none_below : (p low : ℕ) (rs : List Range) → AreJoined low rs → p < low → list_any (covers p) rs ≡ false
+pub none_below : (p low : ℕ) (rs : List Range) → AreJoined low rs → p < low → list_any (covers p) rs ≡ false
 none_below p low [] h lt = refl
 none_below p low (r ∷ rs) h lt =
     let f : nat_le r.0 p ≡ false = lt-leb _ _ (omega (arith, h.0)) in

@@ -1,5 +1,6 @@
 pub mod HeldLemmas
 pub mod GapLemmas
+pub mod ByteCounts
 pub mod KeptLemmas
 pub mod MetLemmas
 pub mod RowsLemmas

@@ -1,16 +1,13 @@
 -- What was met, and one item more.
 use Rattle.std.proofs.Common.{◌≡◌, ℕ, zero, suc, ◌+◌, ◌-◌, Bool, true, false, List, [], ◌∷◌, ◌++◌, length, ◌⊎◌, inl, inr, Option, Some, Result, Ok, unwrap_or, refl, sym, ap, subst, ◌∙◌, arith, append_assoc}
-use Rattle.std.specs.Prelude.{◌&&◌, map, replicate}
+use Rattle.std.specs.Prelude.{◌&&◌, map, replicate, sum_by}
 use Rattle.std.specs.List.{AllByRecursion, Contains}
 use Rattle.std.proofs.lemmas.List.{append-nil, map-append, length-map, length_push, length-append, length-replicate}
 use Rattle.std.proofs.lemmas.List.Concat.{flat_map-append}
 use Rattle.std.proofs.lemmas.List.Folds.{list_all-append}
-use Rattle.std.proofs.lemmas.List.Sums.{sum_by-cons}
 use Rattle.std.proofs.lemmas.List.Elements.{Contains-append_left, Contains-append_right}
 use Rattle.myi_base.specs.Holding.{Holding, IfTold}
 use Rattle.myi_base.specs.Ranges.{Range, are_apart, is_apart}
-use Rattle.myi_defs.specs.declared.types.RowFormat.{RowFormat}
-use Rattle.myi_defs.specs.declared.types.RowFormat.TheVariants.{Static, Dynamic}
 use Rattle.myi_defs.specs.declared.types.Defs.{Defs}
 use Rattle.myi_chain.specs.declared.piece.Piece.{Piece}
 use Rattle.myi_chain.specs.declared.piece.Item.{Item}
@@ -37,6 +34,7 @@ use Rattle.myi_check.specs.HeldBytes.{SameBytes, EndsNear}
 use Rattle.myi_check.specs.Rows.{pair_lists, IsPlaceOf, ArePlacesOf}
 use Rattle.myi_check.specs.Met.{held_of, HasFrees, HasMet, KeepsFrees, KeepsRows, NotesPairs, NotesBlocks, NotesFree, Takes, Reads, MeetsAll}
 use Rattle.myi_check.proofs.HeldLemmas.{same_then, same_append, same_of}
+use Rattle.myi_check.proofs.ByteCounts.{total-append, total_at, total_push}
 
 -- ---- the pairs
 
@@ -100,7 +98,7 @@ frees_past is r = flat_map-append free_in is (row r ∷ []) ∙ append-nil (free
 ranges_with : (rows : List Row) (r : Row) → ranges_of (rows ++ r ∷ []) ≡ ranges_of rows ++ r.blocks
 ranges_with rows r = flat_map-append (λ (x : Row). x.blocks) rows (r ∷ []) ∙ ap (λ bs. ranges_of rows ++ bs) (append-nil r.blocks)
 
--- ---- the bytes of rows, and of deleted slots
+-- ---- the bytes of rows, and of deleted blocks
 
 three : (a b c : Bool) → ((a && b) && c) ≡ ((a && c) && b)
 three true true c = by c
@@ -125,27 +123,27 @@ same_middle u more v r some =
 ranges_more : (is : List chains.Item) (r : Row) (more : List Range) → more ≡ r.blocks → ranges_of (rows_of (is ++ row r ∷ [])) ≡ ranges_of (rows_of is) ++ more
 ranges_more is r more are = ap ranges_of (rows_with is r) ∙ ranges_with (rows_of is) r ∙ ap (λ bs. ranges_of (rows_of is) ++ bs) (sym are)
 
-held_row : (f : RowFormat) (is : List chains.Item) (r : Row) (more old new : List Range) → more ≡ r.blocks → SameBytes (held_of f is) old → SameBytes (old ++ more) new → SameBytes (held_of f (is ++ row r ∷ [])) new
-held_row Static is r more old new are has adds =
+held_row : (t : Bool) (is : List chains.Item) (r : Row) (more old new : List Range) → more ≡ r.blocks → SameBytes (held_of t is) old → SameBytes (old ++ more) new → SameBytes (held_of t (is ++ row r ∷ [])) new
+held_row true is r more old new are has adds =
     let rows = ranges_of (rows_of is) in
     let all : ranges_of (rows_of (is ++ row r ∷ [])) ++ frees_of (is ++ row r ∷ []) ≡ (rows ++ more) ++ frees_of is =
     ap (λ xs. xs ++ frees_of (is ++ row r ∷ [])) (ranges_more is r more are) ∙ ap (λ xs. (rows ++ more) ++ xs) (frees_past is r) in
     same_then _ _ _ (same_of _ _ all) (same_then _ _ _ (same_middle rows more (frees_of is)) (same_then _ _ _ (same_append (rows ++ frees_of is) old more has) adds))
-held_row Dynamic is r more old new are has adds =
+held_row false is r more old new are has adds =
     same_then _ _ _ (same_of _ _ (ranges_more is r more are)) (same_then _ _ _ (same_append (ranges_of (rows_of is)) old more has) adds)
 
-frees_row : (f : RowFormat) (is : List chains.Item) (r : Row) (old mid new : Met) → HasFrees f is old → KeepsFrees old mid → KeepsFrees mid new → HasFrees f (is ++ row r ∷ []) new
-frees_row Static is r old mid new has first second = record {
-  places = second.slots ∙ first.slots ∙ has.places ∙ ap (map (λ (a : Range). a.0)) (sym (frees_past is r));
+frees_row : (t : Bool) (is : List chains.Item) (r : Row) (old mid new : Met) → HasFrees t is old → KeepsFrees old mid → KeepsFrees mid new → HasFrees t (is ++ row r ∷ []) new
+frees_row true is r old mid new has first second = record {
+  places = second.deleted ∙ first.deleted ∙ has.places ∙ ap (map (λ (a : Range). a.0)) (sym (frees_past is r));
   empty = second.empty ∙ first.empty ∙ has.empty ∙ ap total (sym (frees_past is r));
 }
-frees_row Dynamic is r old mid new has first second = record {
+frees_row false is r old mid new has first second = record {
   ranges = ap ranges_at (second.frees ∙ first.frees) ∙ has.ranges ∙ sym (frees_past is r);
   near = subst (AllByRecursion EndsNear) (sym (second.frees ∙ first.frees)) has.near;
 }
 
-pub row_taken : (d : Defs) (r : Row) (blocks : List (ℕ × ℕ)) (old mid new : Met) → NotesPairs d r.at r.bytes old mid → NotesBlocks blocks mid new → ranges_at blocks ≡ r.blocks → Takes d (row r) old new
-row_taken d r blocks old mid new pairs noted are is has =
+pub row_taken : (d : Defs) (t : Bool) (r : Row) (blocks : List (ℕ × ℕ)) (old mid new : Met) → NotesPairs d r.at r.bytes old mid → NotesBlocks blocks mid new → ranges_at blocks ≡ r.blocks → Takes d t (row r) old new
+row_taken d t r blocks old mid new pairs noted are is has =
     let all : ranges_of (rows_of (is ++ row r ∷ [])) ≡ ranges_of (rows_of is) ++ ranges_at blocks = ap ranges_of (rows_with is r) ∙ ranges_with (rows_of is) r ∙ ap (λ bs. ranges_of (rows_of is) ++ bs) (sym are) in
     let number : length (rows_of (is ++ row r ∷ [])) ≡ length (rows_of is) + 1 = ap (λ (rs : List Row). length rs) (rows_with is r) ∙ length_push (rows_of is) r in
     let count : length (ranges_of (rows_of (is ++ row r ∷ []))) ≡ length (ranges_of (rows_of is)) + length blocks = ap (λ (rs : List Range). length rs) all ∙ length-append (ranges_of (rows_of is)) (ranges_at blocks) ∙ ap (λ n. length (ranges_of (rows_of is)) + n) (length-map blocks (λ b. (b.0, b.0 + b.1))) in
@@ -162,78 +160,76 @@ row_taken d r blocks old mid new pairs noted are is has =
       split = noted.split ∙ ap (λ n. n + length blocks) (pairs.split ∙ has.split) ∙ sym count;
       places = subst (λ (rs : List Row). ArePlacesOf rs new.places.items) (sym (rows_with is r))
           (subst (ArePlacesOf (rows_of is ++ r ∷ [])) (sym noted.places) (places_next (rows_of is) r old.places.items mid.places.items has.places pairs.places));
-      held = held_row d.format is r (ranges_at blocks) mid.held new.held are (subst (SameBytes (held_of d.format is)) (sym pairs.held) has.held) noted.held;
-      frees = frees_row d.format is r old mid new has.frees pairs.frees noted.frees;
+      row_bytes = noted.row_bytes ∙ ap (λ n. n + sum_by (λ (b : ℕ × ℕ). b.1) blocks) (pairs.row_bytes ∙ has.row_bytes) ∙ ap (λ n. total (ranges_of (rows_of is)) + n) (total_at blocks)
+          ∙ sym (ap total all ∙ total-append (ranges_of (rows_of is)) (ranges_at blocks));
+      held = held_row t is r (ranges_at blocks) mid.held new.held are (subst (SameBytes (held_of t is)) (sym pairs.held) has.held) noted.held;
+      frees = frees_row t is r old mid new has.frees pairs.frees noted.frees;
     }
 
 near_push : (bs : List (ℕ × ℕ)) (b : ℕ × ℕ) → AllByRecursion EndsNear bs → EndsNear b → AllByRecursion EndsNear (bs ++ b ∷ [])
 near_push [] b all near = (near, tt)
 near_push (x ∷ bs) b all near = (all.0, near_push bs b all.1 near)
 
-total_push : (rs : List Range) (a : Range) → total (rs ++ a ∷ []) ≡ total rs + (a.1 - a.0)
-total_push [] a = sum_by-cons (λ (r : Range). r.1 - r.0) a [] ∙ omega arith
-total_push (r ∷ rs) a =
-    sum_by-cons (λ (x : Range). x.1 - x.0) r (rs ++ a ∷ []) ∙ ap (λ n. (r.1 - r.0) + n) (total_push rs a)
-    ∙ omega arith ∙ ap (λ n. n + (a.1 - a.0)) (sym (sum_by-cons (λ (x : Range). x.1 - x.0) r rs))
+rows_stay : (t : Bool) (at size : ℕ) (old new : Met) → NotesFree t at size old new → KeepsRows old new
+rows_stay true at size old new noted = noted.rows
+rows_stay false at size old new noted = noted.rows
 
-rows_stay : (f : RowFormat) (at size : ℕ) (old new : Met) → NotesFree f at size old new → KeepsRows old new
-rows_stay Static at size old new noted = noted.rows
-rows_stay Dynamic at size old new noted = noted.rows
-
-held_free : (f : RowFormat) (is : List chains.Item) (at size : ℕ) (old new : Met) → NotesFree f at size old new → SameBytes (held_of f is) old.held → SameBytes (held_of f (is ++ free (at, at + size) ∷ [])) new.held
-held_free Static is at size old new noted has =
+held_free : (t : Bool) (is : List chains.Item) (at size : ℕ) (old new : Met) → NotesFree t at size old new → SameBytes (held_of t is) old.held → SameBytes (held_of t (is ++ free (at, at + size) ∷ [])) new.held
+held_free true is at size old new noted has =
     let a : Range = (at, at + size) in
     let rows = ranges_of (rows_of is) in
     let all : ranges_of (rows_of (is ++ free a ∷ [])) ++ frees_of (is ++ free a ∷ []) ≡ (rows ++ frees_of is) ++ a ∷ [] =
     ap (λ xs. xs ++ frees_of (is ++ free a ∷ [])) (ap ranges_of (rows_past is a)) ∙ ap (λ xs. rows ++ xs) (frees_with is a) ∙ sym (append_assoc rows (frees_of is) (a ∷ [])) in
     same_then _ _ _ (same_of _ _ all) (same_then _ _ _ (same_append (rows ++ frees_of is) old.held (a ∷ []) has) noted.held)
-held_free Dynamic is at size old new noted has =
+held_free false is at size old new noted has =
     same_then _ _ _ (same_of _ _ (ap ranges_of (rows_past is (at, at + size)))) (subst (SameBytes (ranges_of (rows_of is))) (sym noted.held) has)
 
-frees_more : (f : RowFormat) (is : List chains.Item) (at size : ℕ) (old new : Met) → NotesFree f at size old new → EndsNear (at, size) → HasFrees f is old → HasFrees f (is ++ free (at, at + size) ∷ []) new
-frees_more Static is at size old new noted near has =
+frees_more : (t : Bool) (is : List chains.Item) (at size : ℕ) (old new : Met) → NotesFree t at size old new → EndsNear (at, size) → HasFrees t is old → HasFrees t (is ++ free (at, at + size) ∷ []) new
+frees_more true is at size old new noted near has =
     let a : Range = (at, at + size) in
     let long : size ≡ (at + size) - at = omega arith in
     record {
-      places = noted.slots ∙ ap (λ ps. ps ++ at ∷ []) has.places ∙ sym (ap (map (λ (x : Range). x.0)) (frees_with is a) ∙ map-append (λ (x : Range). x.0) (frees_of is) (a ∷ []));
+      places = noted.deleted ∙ ap (λ ps. ps ++ at ∷ []) has.places ∙ sym (ap (map (λ (x : Range). x.0)) (frees_with is a) ∙ map-append (λ (x : Range). x.0) (frees_of is) (a ∷ []));
       empty = noted.empty ∙ ap (λ n. n + size) has.empty ∙ ap (λ n. total (frees_of is) + n) long ∙ sym (ap total (frees_with is a) ∙ total_push (frees_of is) a);
     }
-frees_more Dynamic is at size old new noted near has = record {
+frees_more false is at size old new noted near has = record {
   ranges = ap ranges_at noted.frees ∙ map-append (λ (b : ℕ × ℕ). (b.0, b.0 + b.1)) old.frees.items ((at, size) ∷ []) ∙ ap (λ rs. rs ++ (at, at + size) ∷ []) has.ranges ∙ sym (frees_with is (at, at + size));
   near = subst (AllByRecursion EndsNear) (sym noted.frees) (near_push old.frees.items (at, size) has.near near);
 }
 
-pub free_taken : (d : Defs) (at size : ℕ) (old new : Met) → NotesFree d.format at size old new → EndsNear (at, size) → Takes d (free (at, at + size)) old new
-free_taken d at size old new noted near is has =
-    let stay = rows_stay d.format at size old new noted in
+pub free_taken : (d : Defs) (t : Bool) (at size : ℕ) (old new : Met) → NotesFree t at size old new → EndsNear (at, size) → Takes d t (free (at, at + size)) old new
+free_taken d t at size old new noted near is has =
+    let stay = rows_stay t at size old new noted in
     record {
       keys = λ on. stay.keys ∙ has.keys (sym stay.with_keys ∙ on) ∙ ap (pair_lists d) (sym (rows_past is (at, at + size)));
       lists = ap (λ (ls : List (List Pair)). length ls) stay.keys ∙ has.lists;
       records = stay.records ∙ has.records ∙ ap (λ (rs : List Row). length rs) (sym (rows_past is (at, at + size)));
       split = stay.split ∙ has.split ∙ ap (λ rs. length (ranges_of rs)) (sym (rows_past is (at, at + size)));
       places = subst (λ (rs : List Row). ArePlacesOf rs new.places.items) (sym (rows_past is (at, at + size))) (subst (ArePlacesOf (rows_of is)) (sym stay.places) has.places);
-      held = held_free d.format is at size old new noted has.held;
-      frees = frees_more d.format is at size old new noted near has.frees;
+      row_bytes = stay.row_bytes ∙ has.row_bytes ∙ ap (λ rs. total (ranges_of rs)) (sym (rows_past is (at, at + size)));
+      held = held_free t is at size old new noted has.held;
+      frees = frees_more t is at size old new noted near has.frees;
     }
 
-none_held : (f : RowFormat) (h : List Range) → h ≡ [] → SameBytes (held_of f []) h
-none_held Static h none = same_of [] h (sym none)
-none_held Dynamic h none = same_of [] h (sym none)
+none_held : (t : Bool) (h : List Range) → h ≡ [] → SameBytes (held_of t []) h
+none_held true h none = same_of [] h (sym none)
+none_held false h none = same_of [] h (sym none)
 
-none_free : (f : RowFormat) (met : Met) → met.frees.items ≡ [] → met.slots.items ≡ [] → met.empty ≡ 0 → HasFrees f [] met
-none_free Static met frees slots empty = record { places = slots; empty = empty }
-none_free Dynamic met frees slots empty = record { ranges = ap ranges_at frees; near = subst (AllByRecursion EndsNear) (sym frees) tt }
+none_free : (t : Bool) (met : Met) → met.frees.items ≡ [] → met.deleted.items ≡ [] → met.empty ≡ 0 → HasFrees t [] met
+none_free true met frees deleted empty = record { places = deleted; empty = empty }
+none_free false met frees deleted empty = record { ranges = ap ranges_at frees; near = subst (AllByRecursion EndsNear) (sym frees) tt }
 
 -- nothing was met
-pub none_met : (d : Defs) (met : Met) → met.keys ≡ replicate (length d.keys) [] → met.places.items ≡ [] → met.records ≡ 0 → met.split ≡ 0 → met.held ≡ [] → met.frees.items ≡ [] → met.slots.items ≡ [] → met.empty ≡ 0 → HasMet d [] met
-none_met d met keys places records split held frees slots empty = record {
+pub none_met : (d : Defs) (t : Bool) (met : Met) → met.keys ≡ replicate (length d.keys) [] → met.places.items ≡ [] → met.records ≡ 0 → met.split ≡ 0 → met.held ≡ [] → met.frees.items ≡ [] → met.deleted.items ≡ [] → met.empty ≡ 0 → met.row_bytes ≡ 0 → HasMet d t [] met
+none_met d t met keys places records split held frees deleted empty bytes = record {
   keys = λ on. keys ∙ no_pairs d;
   lists = ap (λ (ls : List (List Pair)). length ls) keys ∙ length-replicate {A = List Pair} (length d.keys) [];
   records = records;
   split = split;
   places = subst (ArePlacesOf []) (sym places) tt;
-  held = none_held d.format met.held held;
-  frees = none_free d.format met frees slots empty;
+  row_bytes = bytes;
+  held = none_held t met.held held;
+  frees = none_free t met frees deleted empty;
 }
 
 -- ---- one call
@@ -261,13 +257,14 @@ free_is : (first : chains.Item) (at size : ℕ) (old new : List (ℕ × ℕ)) �
 free_is (row r) at size old new is = absurd is
 free_is (free a) at size old new is = ap (λ x. free x) is.0
 
-pub row_read : (d : Defs) (h : Option Holding) (s t : TableScan) (at : ℕ) (p : Piece) (bytes : List ℕ) (old mid new : Met) → AfterTable Items h s (Ok (Some (item.Row at p))) t → bytes ≡ piece_bytes p → NotesPairs d at bytes old mid → NotesBlocks t.blocks mid new → Reads d h s t old new
-row_read d h s t at p bytes old mid new answer shows pairs blocks =
+pub row_read : (d : Defs) (together : Bool) (h : Option Holding) (s t : TableScan) (at : ℕ) (p : Piece) (bytes : List ℕ) (old mid new : Met) → AfterTable Items h s (Ok (Some (item.Row at p))) t → bytes ≡ piece_bytes p → NotesPairs d at bytes old mid → NotesBlocks t.blocks mid new → Reads d together h s t old new
+row_read d together h s t at p bytes old mid new answer shows pairs blocks =
     let r : Row = record { at = at; bytes = bytes; blocks = ranges_at t.blocks } in
     record {
       item = row r;
-      takes = row_taken d r t.blocks old mid new pairs blocks refl;
+      takes = row_taken d together r t.blocks old mid new pairs blocks refl;
       with_keys = blocks.with_keys ∙ pairs.with_keys;
+      noting = blocks.together ∙ pairs.together;
       rises = answer.0.rises;
       within = answer.0.within;
       first = λ m told.
@@ -275,11 +272,12 @@ row_read d h s t at p bytes old mid new answer shows pairs blocks =
           given.1 ∙ ap (λ i. i ∷ items_ahead t m) (row_is given.0 at p s.blocks t.blocks bytes shows given.2);
     }
 
-pub free_read : (d : Defs) (h : Option Holding) (s t : TableScan) (at size : ℕ) (old new : Met) → AfterTable Items h s (Ok (Some (item.Free at size))) t → NotesFree d.format at size old new → Reads d h s t old new
-free_read d h s t at size old new answer noted = record {
+pub free_read : (d : Defs) (together : Bool) (h : Option Holding) (s t : TableScan) (at size : ℕ) (old new : Met) → AfterTable Items h s (Ok (Some (item.Free at size))) t → NotesFree together at size old new → Reads d together h s t old new
+free_read d together h s t at size old new answer noted = record {
   item = free (at, at + size);
-  takes = free_taken d at size old new noted answer.0.stands.1.1;
-  with_keys = (rows_stay d.format at size old new noted).with_keys;
+  takes = free_taken d together at size old new noted answer.0.stands.1.1;
+  with_keys = (rows_stay together at size old new noted).with_keys;
+  noting = (rows_stay together at size old new noted).together;
   rises = answer.0.rises;
   within = answer.0.within;
   first = λ m told.
@@ -295,17 +293,17 @@ blocks_near end (b ∷ bs) all = (all.0.1, blocks_near end bs all.1)
 -- ---- the loop
 
 -- these were met so far, and with those that are left they are all
-abbrev pub Meeting : Defs → Option Holding → TableScan → TableScan → List chains.Item → Met → Type 0
-Meeting d h start now is met = HasMet d is met × IfTold h (λ m. is ++ items_ahead now m ≡ items_ahead start m)
+abbrev pub Meeting : Defs → Bool → Option Holding → TableScan → TableScan → List chains.Item → Met → Type 0
+Meeting d t h start now is met = HasMet d t is met × IfTold h (λ m. is ++ items_ahead now m ≡ items_ahead start m)
 
-pub meets_more : (d : Defs) (h : Option Holding) (start now next : TableScan) (is : List chains.Item) (old new : Met) → Meeting d h start now is old → (read : Reads d h now next old new) → Meeting d h start next (is ++ read.item ∷ []) new
-meets_more d h start now next is old new so_far read = (
+pub meets_more : (d : Defs) (t : Bool) (h : Option Holding) (start now next : TableScan) (is : List chains.Item) (old new : Met) → Meeting d t h start now is old → (read : Reads d t h now next old new) → Meeting d t h start next (is ++ read.item ∷ []) new
+meets_more d t h start now next is old new so_far read = (
   read.takes is so_far.0,
   λ m told. append_assoc is (read.item ∷ []) (items_ahead next m) ∙ ap (λ xs. is ++ xs) (sym (read.first m told)) ∙ so_far.1 m told,
 )
 
-pub met_all : (d : Defs) (h : Option Holding) (start now : TableScan) (is : List chains.Item) (old new : Met) → Meeting d h start now is old → new ≡ old → IfTold h (λ m. items_ahead now m ≡ []) → MeetsAll d h start new
-met_all d h start now is old new so_far same none = (is, subst (HasMet d is) (sym same) so_far.0, λ m told. sym (append-nil is) ∙ ap (λ xs. is ++ xs) (sym (none m told)) ∙ so_far.1 m told)
+pub met_all : (d : Defs) (t : Bool) (h : Option Holding) (start now : TableScan) (is : List chains.Item) (old new : Met) → Meeting d t h start now is old → new ≡ old → IfTold h (λ m. items_ahead now m ≡ []) → MeetsAll d t h start new
+met_all d t h start now is old new so_far same none = (is, subst (HasMet d t is) (sym same) so_far.0, λ m told. sym (append-nil is) ∙ ap (λ xs. is ++ xs) (sym (none m told)) ∙ so_far.1 m told)
 
 pub same_then_scan : (a b c : TableScan) → IsSameScan a b → IsSameScan b c → IsSameScan a c
 same_then_scan a b c p q = record { name = q.name ∙ p.name; test = q.test ∙ p.test; extend = q.extend ∙ p.extend; end = omega (arith, p.end, q.end) }

@@ -1,10 +1,9 @@
 -- What was found of a data file, when all was met.
-use Rattle.std.proofs.Common.{◌≡◌, ℕ, zero, suc, ◌+◌, ◌-◌, ◌/◌, ◌<◌, ◌≤◌, Bool, true, false, cond, List, [], ◌∷◌, ◌++◌, length, take, drop, Some, unwrap_or, refl, sym, ap, subst, ◌∙◌, arith, add-one, ◌⊎◌, inl, inr}
-use Rattle.std.specs.Prelude.{◌&&◌, ◌||◌, nat_le, map, filter, sum_by}
+use Rattle.std.proofs.Common.{◌≡◌, ℕ, zero, suc, ◌+◌, ◌-◌, ◌/◌, ◌<◌, ◌≤◌, Bool, true, false, cond, List, [], ◌∷◌, ◌++◌, length, take, drop, Option, Some, None, unwrap_or, refl, sym, ap, subst, ◌∙◌, arith, add-one, ◌⊎◌, inl, inr}
+use Rattle.std.specs.Prelude.{map, filter, sum_by}
 use Rattle.std.specs.List.{AllByRecursion, flat_map}
 use Rattle.std.proofs.Math.Nat.{div-eq_of_lt, add-div_right}
-use Rattle.std.proofs.lemmas.Bool.{cases_lt, le-leb}
-use Rattle.std.proofs.lemmas.List.Sums.{sum_by-cons}
+use Rattle.std.proofs.lemmas.Bool.{cases_lt}
 use Rattle.std.proofs.lemmas.List.{take_all, length-drop, length-take-le}
 use Rattle.myi_base.specs.Holding.{Holding, bytes_of}
 use Rattle.myi_base.specs.Ranges.{Range, is_apart}
@@ -13,8 +12,8 @@ use Rattle.myi_defs.specs.declared.types.RowFormat.TheVariants.{Static, Dynamic}
 use Rattle.myi_defs.specs.declared.types.Defs.{Defs}
 use Rattle.myi_defs.specs.Addressable.{is_addressable}
 use Rattle.myi_defs.specs.Sound.{IsSound}
-use Rattle.myi_frames.specs.Block.{block_of}
-use Rattle.myi_chain.specs.Chain.{Reading, IsReading, ranges_at}
+use Rattle.myi_frames.specs.Block.{Block, block_of}
+use Rattle.myi_chain.specs.Chain.{Reading, IsReading, IsTail, AreLinked, ranges, ranges_at}
 use Rattle.myi_chain.specs.Readable.{Row, Item, row, free, rows_of, frees_of, rest}
 use Rattle.myi_chain.specs.Readable as chains
 use Rattle.myi_chain.specs.Meeting.{IsItemOf, ranges_of, ItemsRise}
@@ -31,9 +30,10 @@ use Rattle.myi_check.specs.declared.met.Met.{Met}
 use Rattle.myi_check.specs.declared.rows.RowsFound.{RowsFound}
 use Rattle.myi_check.specs.HeldBytes.{SameBytes, EndsNear, AreJoined, front_of, gap_behind, is_free}
 use Rattle.myi_check.specs.Rows.{IsAscending, ArePointed, ArePlacesOf, HasRows}
-use Rattle.myi_check.specs.Met.{held_of, HasSlots, HasBlocks, HasFrees, HasMet}
+use Rattle.myi_check.specs.Met.{HasBlocks, HasMet}
 use Rattle.myi_check.proofs.HeldLemmas.{same_then, same_append, same_of}
 use Rattle.myi_check.proofs.GapLemmas.{gap_same, gap_front}
+use Rattle.myi_check.proofs.ByteCounts.{total_at, AreSolid, apart_by_bytes}
 
 -- ---- deleted blocks stand in order
 
@@ -124,19 +124,9 @@ deleted_found d x met h kept rise held has same is =
     ap ranges_at is ∙ free_kept h met.frees.items ∙ ap (filter (λ a. is_apart a h)) has.ranges
     ∙ sym (same_kept 0 (ranges_of (rows_of (items_in d false x))) h (frees_of (items_in d false x)) (same_then _ _ _ held same) rise)
 
-pub blocks_of : (f : RowFormat) (met : Met) (is : List Item) → f ≡ Dynamic → HasFrees f is met → HasBlocks is met
-blocks_of f met is dynamic has = subst (λ g. HasFrees g is met) dynamic has
-
 pub places_of : (bs : List (ℕ × ℕ)) → map (λ b. b.0) bs ≡ map (λ (a : Range). a.0) (ranges_at bs)
 places_of [] = refl
 places_of (b ∷ bs) = ap (λ ps. b.0 ∷ ps) (places_of bs)
-
-pub total_of : (bs : List (ℕ × ℕ)) → sum_by (λ b. b.1) bs ≡ total (ranges_at bs)
-total_of [] = refl
-total_of (b ∷ bs) =
-    let e : b.1 ≡ (b.0 + b.1) - b.0 = omega arith in
-    sum_by-cons (λ (c : ℕ × ℕ). c.1) b bs ∙ ap (λ n. n + sum_by (λ (c : ℕ × ℕ). c.1) bs) e ∙ ap (λ n. ((b.0 + b.1) - b.0) + n) (total_of bs)
-    ∙ sym (sum_by-cons (λ (r : Range). r.1 - r.0) (b.0, b.0 + b.1) (ranges_at bs))
 
 pub near_kept : (p : ℕ × ℕ → Bool) (bs : List (ℕ × ℕ)) → AllByRecursion EndsNear bs → AllByRecursion EndsNear (filter p bs)
 near_kept p [] near = tt
@@ -146,44 +136,32 @@ near_kept p (b ∷ bs) near = by_test (p b) (near_kept p bs near.1)
     by_test true more = (near.0, more)
     by_test false more = more
 
--- ---- the deleted slots, which meet no row
+-- ---- the blocks of rows have bytes
 
-abbrev StandFrom : ℕ → List Range → Type 0
-StandFrom low rs = AllByRecursion (λ (a : Range). low ≤ a.0) rs
+solid_both : (u v : List Range) → AreSolid u → AreSolid v → AreSolid (u ++ v)
+solid_both [] v first second = second
+solid_both (r ∷ u) v first second = (first.0, solid_both u v first.1 second)
 
-stand_lower : (low more : ℕ) (rs : List Range) → more ≤ low → StandFrom low rs → StandFrom more rs
-stand_lower low more [] le all = tt
-stand_lower low more (a ∷ rs) le all = (omega (arith, all.0), stand_lower low more rs le all.1)
+tail_solid : (read : Reading) (len : ℕ) → IsReading read len → (next : Option ℕ) (bs : List Block) → IsTail read next bs → AreSolid (ranges bs)
+tail_solid read len stands None bs t = absurd t
+tail_solid read len stands (Some p) [] t = absurd t
+tail_solid read len stands (Some p) (b ∷ []) t = let s = stands p b t.0 in (omega (arith, s.least), tt)
+tail_solid read len stands (Some p) (b ∷ c ∷ bs) t = let s = stands p b t.0 in (omega (arith, s.least), tail_solid read len stands b.next (c ∷ bs) t.2)
 
-apart_above : (r : Range) (low : ℕ) (rs : List Range) → r.1 ≤ low → StandFrom low rs → is_apart r rs ≡ true
-apart_above r low [] le all = refl
-apart_above r low (s ∷ rs) le all =
-    let here : nat_le r.1 s.0 ≡ true = le-leb _ _ (omega (arith, all.0)) in
-    let more = apart_above r low rs le all.1 in
-    rw (here, more) refl
+chain_solid : (read : Reading) (len : ℕ) → IsReading read len → (p : ℕ) (bs : List Block) → AreLinked read p bs → AreSolid (ranges bs)
+chain_solid read len stands p [] t = absurd t
+chain_solid read len stands p (b ∷ []) t = let s = stands p b t.0 in (omega (arith, s.least), tt)
+chain_solid read len stands p (b ∷ c ∷ bs) t = let s = stands p b t.0 in (omega (arith, s.least), tail_solid read len stands b.next (c ∷ bs) t.2)
 
-abbrev AreApartFrom : List Range → List Range → Type 0
-AreApartFrom rows frees = AllByRecursion (λ a. is_apart a rows ≡ true) frees
+blocks_solid : (read : Reading) (len : ℕ) (accepts : List ℕ → Bool) (is : List Item) → IsReading read len → AllByRecursion (IsItemOf read accepts) is → AreSolid (ranges_of (rows_of is))
+blocks_solid read len accepts [] stands are = tt
+blocks_solid read len accepts (row r ∷ is) stands are =
+    solid_both r.blocks (ranges_of (rows_of is)) (subst AreSolid (sym are.0.blocks) (chain_solid read len stands r.at are.0.chain are.0.is.linked)) (blocks_solid read len accepts is stands are.1)
+blocks_solid read len accepts (free a ∷ is) stands are = blocks_solid read len accepts is stands are.1
 
-apart_more : (s : Range) (rows frees : List Range) → StandFrom s.1 frees → AreApartFrom rows frees → AreApartFrom (s ∷ rows) frees
-apart_more s rows [] stand all = tt
-apart_more s rows (a ∷ frees) stand all =
-    let here : nat_le s.1 a.0 ≡ true = le-leb _ _ stand.0 in
-    (rw (here, all.0) (either (nat_le a.1 s.0)), apart_more s rows frees stand.1 all.1)
-  where
-    either : (b : Bool) → ((b || true) && true) ≡ true
-    either true = refl
-    either false = refl
-
--- what these slots are: rows and deleted slots from a place on, of which none meet
-record SlotsApart (low : ℕ) (is : List Item) : Type 0 where
-  rows : StandFrom low (ranges_of (rows_of is))
-  frees : StandFrom low (frees_of is)
-  apart : AreApartFrom (ranges_of (rows_of is)) (frees_of is)
-
-slots_apart : (accepts : List ℕ → Bool) (n at size : ℕ) (xs : List ℕ) → 0 < size → n ≤ length xs / size → SlotsApart at (flat_map (slot_items accepts) (slots n at size xs))
-slots_apart accepts zero at size xs some few = record { rows = tt; frees = tt; apart = tt }
-slots_apart accepts (suc n) at size xs some few =
+slots_solid : (accepts : List ℕ → Bool) (n at size : ℕ) (xs : List ℕ) → 0 < size → n ≤ length xs / size → AreSolid (ranges_of (rows_of (flat_map (slot_items accepts) (slots n at size xs))))
+slots_solid accepts zero at size xs some few = tt
+slots_solid accepts (suc n) at size xs some few =
     let inside : size ≤ length xs = has_one (cases_lt (length xs) size) in
     let rest : length (drop size xs) ≡ length xs - size = length-drop size xs in
     let all : length xs ≡ length (drop size xs) + size = omega (arith, rest, inside) in
@@ -191,31 +169,37 @@ slots_apart accepts (suc n) at size xs some few =
     let slot : Slot = record { at = at; bytes = take size xs } in
     let long : length (take size xs) ≡ size = length-take-le size xs inside in
     let more : List Item = flat_map (slot_items accepts) (slots n (at + size) size (drop size xs)) in
-    let behind : SlotsApart (at + size) more = slots_apart accepts n (at + size) size (drop size xs) some (omega (arith, few, count)) in
-    let rows = stand_lower (at + size) at (ranges_of (rows_of more)) (omega arith) behind.rows in
-    let frees = stand_lower (at + size) at (frees_of more) (omega arith) behind.frees in
-    slot_cases (λ (is : List Item). SlotsApart at (is ++ more)) accepts slot
-    (λ _. record { rows = rows; frees = (omega arith, frees); apart = (apart_above (at, at + length (take size xs)) (at + size) (ranges_of (rows_of more)) (omega (arith, long)) behind.rows, behind.apart) })
-    (λ _. record { rows = (omega arith, rows); frees = frees; apart = apart_more (at, at + length (take size xs)) (ranges_of (rows_of more)) (frees_of more) (subst (λ e. StandFrom (at + e) (frees_of more)) (sym long) behind.frees) behind.apart })
-    (record { rows = rows; frees = frees; apart = behind.apart })
+    let behind : AreSolid (ranges_of (rows_of more)) = slots_solid accepts n (at + size) size (drop size xs) some (omega (arith, few, count)) in
+    slot_cases (λ (is : List Item). AreSolid (ranges_of (rows_of (is ++ more)))) accepts slot (λ _. behind) (λ _. (omega (arith, long, some), behind)) behind
   where
     has_one : (length xs < size) ⊎ (size ≤ length xs) → size ≤ length xs
     has_one (inl short) = absurd (omega (arith, few, div-eq_of_lt short))
     has_one (inr le) = le
 
-all_stay : (rows frees : List Range) → AreApartFrom rows frees → filter (λ a. is_apart a rows) frees ≡ frees
+table_solid : (d : Defs) (x : List ℕ) → IsSound d → AreSolid (ranges_of (rows_of (items_in d false x)))
+unfolding items_in items_at chains.items_in
+table_solid d x s = of_format d.format refl
+  where
+    of_format : (f : RowFormat) → d.format ≡ f → AreSolid (ranges_of (rows_of (items_by f d false x)))
+    of_format Static e = slots_solid (packs d) (length x / d.slot_length) 0 d.slot_length x (omega (arith, s.slot_pointer e)) (omega arith)
+    of_format Dynamic e = blocks_solid (block_of x) (length x) (packs d) (rest false (block_of x) (length x) (packs d) 0 []) (blocks_read x) (rest_fine (block_of x) (length x) (blocks_read x) false (packs d) 0 []).0
+
+rise_solid : (low : ℕ) (rs : List Range) → RangesRise low rs → AreSolid rs
+rise_solid low [] h = tt
+rise_solid low (a ∷ rs) h = (h.1, rise_solid a.1 rs h.2)
+
+-- ---- deleted blocks that meet no row
+
+all_stay : (rows frees : List Range) → AllByRecursion (λ a. is_apart a rows ≡ true) frees → filter (λ a. is_apart a rows) frees ≡ frees
 all_stay rows [] all = refl
 all_stay rows (a ∷ frees) all =
     let here = all.0 in
     let more = all_stay rows frees all.1 in
     rw here (ap (λ xs. a ∷ xs) more)
 
-slots_deleted : (d : Defs) (x : List ℕ) → IsSound d → d.format ≡ Static → deleted d x ≡ frees_of (items_in d false x)
-unfolding deleted readable items_in items_at
-slots_deleted d x s static =
-    let apart : SlotsApart 0 (items_by Static d false x) = slots_apart (packs d) (length x / d.slot_length) 0 d.slot_length x (omega (arith, s.slot_pointer static)) (omega arith) in
-    let is : SlotsApart 0 (items_by d.format d false x) = subst (λ f. SlotsApart 0 (items_by f d false x)) (sym static) apart in
-    all_stay _ _ is.apart
+all_deleted : (d : Defs) (x : List ℕ) → AllByRecursion (λ a. is_apart a (ranges_of (rows_of (items_in d false x))) ≡ true) (frees_of (items_in d false x)) → deleted d x ≡ frees_of (items_in d false x)
+unfolding deleted readable
+all_deleted d x apart = all_stay _ _ apart
 
 -- ---- the gap
 
@@ -278,15 +262,13 @@ deleted_pointed d x s static =
     (subst (λ (is : List Item). AllByRecursion (λ (a : Range). a.0 + d.rec_ref < length x) (frees_of is)) (sym (ap (λ (f : RowFormat). items_by f d false x) static))
     (slots_pointed (packs d) (length x / d.slot_length) 0 d.slot_length d.rec_ref (length x) x (omega (arith, s.slot_pointer static)) (omega arith) (omega arith))))
 
-pub rows_found : (d : Defs) (x : List ℕ) (met : Met) (h joined last : List Range) (kept : List (ℕ × ℕ)) (r : RowsFound) → RangesRise 0 (frees_of (items_in d false x)) → d.format ≡ Dynamic → HasMet d (items_in d false x) met
+pub rows_found : (d : Defs) (x : List ℕ) (met : Met) (h joined last : List Range) (kept : List (ℕ × ℕ)) (r : RowsFound) → RangesRise 0 (frees_of (items_in d false x)) → HasMet d false (items_in d false x) met
     → SameBytes met.held h → kept ≡ filter (is_free h) met.frees.items → SameBytes (h ++ ranges_at kept) joined → SameBytes joined last → AreJoined 0 last
     → r.keys ≡ met.keys → r.places.items ≡ met.places.items → r.records ≡ met.records → r.split ≡ met.split → r.deleted.items ≡ map (λ b. b.0) kept → r.empty ≡ sum_by (λ b. b.1) kept → r.gap ≡ gap_behind (cond (is_addressable d (length x)) (front_of last) 0) (length x) → IsSound d → HasRows d met.with_keys x r
 unfolding readable
-rows_found d x met h joined last kept r rise dynamic has first is second third order keys where_rows records split places empty gap s =
+rows_found d x met h joined last kept r rise has first is second third order keys where_rows records split places empty gap s =
     let is_of = items_in d false x in
-    let held : SameBytes (ranges_of (rows_of is_of)) met.held = subst (λ f. SameBytes (held_of f is_of) met.held) dynamic has.held in
-    let blocks : HasBlocks is_of met = subst (λ f. HasFrees f is_of met) dynamic has.frees in
-    let are = deleted_found d x met h kept rise held blocks first is in
+    let are = deleted_found d x met h kept rise has.held has.frees first is in
     let at : r.deleted.items ≡ deleted_places d x = places ∙ places_of kept ∙ ap (map (λ (a : Range). a.0)) are in
     record {
       keys = λ on. keys ∙ has.keys on;
@@ -296,22 +278,22 @@ rows_found d x met h joined last kept r rise dynamic has first is second third o
       deleted = at;
       ascends = subst IsAscending (sym at) (deleted_ascend d x rise);
       pointed = subst (ArePointed d (length x)) (sym at) (deleted_pointed d x s);
-      empty = empty ∙ total_of kept ∙ ap total are;
-      gap = gap ∙ gap_found d x met h joined last kept held are first second third order;
+      empty = empty ∙ total_at kept ∙ ap total are;
+      gap = gap ∙ gap_found d x met h joined last kept has.held are first second third order;
     }
 
--- the same of a static table
-pub slots_found : (d : Defs) (x : List ℕ) (met : Met) (last : List Range) (r : RowsFound) → RangesRise 0 (frees_of (items_in d false x)) → d.format ≡ Static → HasMet d (items_in d false x) met → SameBytes met.held last → AreJoined 0 last
-    → r.keys ≡ met.keys → r.places.items ≡ met.places.items → r.records ≡ met.records → r.split ≡ met.split → r.deleted.items ≡ met.slots.items → r.empty ≡ met.empty → r.gap ≡ gap_behind (cond (is_addressable d (length x)) (front_of last) 0) (length x) → IsSound d → HasRows d met.with_keys x r
+-- the same where rows and deleted blocks were noted together, and hold as many bytes as they have one by one
+pub together_found : (d : Defs) (x : List ℕ) (met : Met) (last : List Range) (r : RowsFound) → RangesRise 0 (frees_of (items_in d false x)) → HasMet d true (items_in d false x) met → SameBytes met.held last → AreJoined 0 last → total last ≡ met.row_bytes + met.empty
+    → r.keys ≡ met.keys → r.places.items ≡ met.places.items → r.records ≡ met.records → r.split ≡ met.split → r.deleted.items ≡ met.deleted.items → r.empty ≡ met.empty → r.gap ≡ gap_behind (cond (is_addressable d (length x)) (front_of last) 0) (length x) → IsSound d → HasRows d met.with_keys x r
 unfolding readable
-slots_found d x met last r rise static has first order keys where_rows records split places empty gap s =
+together_found d x met last r rise has first order bytes keys where_rows records split places empty gap s =
     let is_of = items_in d false x in
-    let held : SameBytes (ranges_of (rows_of is_of) ++ frees_of is_of) met.held = subst (λ f. SameBytes (held_of f is_of) met.held) static has.held in
-    let slots_met : HasSlots is_of met = subst (λ f. HasFrees f is_of met) static has.frees in
-    let are : deleted d x ≡ frees_of is_of = slots_deleted d x s static in
-    let at : r.deleted.items ≡ deleted_places d x = places ∙ slots_met.places ∙ ap (map (λ (a : Range). a.0)) (sym are) in
+    let rows = ranges_of (rows_of is_of) in
+    let count : total last ≡ total rows + total (frees_of is_of) = bytes ∙ ap (λ n. n + met.empty) has.row_bytes ∙ ap (λ n. total rows + n) has.frees.empty in
+    let are : deleted d x ≡ frees_of is_of = all_deleted d x (apart_by_bytes rows (frees_of is_of) last (table_solid d x s) (rise_solid 0 (frees_of is_of) rise) (same_then _ _ _ has.held first) order count) in
+    let at : r.deleted.items ≡ deleted_places d x = places ∙ has.frees.places ∙ ap (map (λ (a : Range). a.0)) (sym are) in
     let all : SameBytes (ranges_of (readable d false x) ++ deleted d x) last =
-    same_then _ _ _ (same_of _ _ (ap (λ rs. ranges_of (readable d false x) ++ rs) are)) (same_then _ _ _ held first) in
+    same_then _ _ _ (same_of _ _ (ap (λ rs. ranges_of (readable d false x) ++ rs) are)) (same_then _ _ _ has.held first) in
     record {
       keys = λ on. keys ∙ has.keys on;
       records = records ∙ has.records;
@@ -320,7 +302,7 @@ slots_found d x met last r rise static has first order keys where_rows records s
       deleted = at;
       ascends = subst IsAscending (sym at) (deleted_ascend d x rise);
       pointed = subst (ArePointed d (length x)) (sym at) (deleted_pointed d x s);
-      empty = empty ∙ slots_met.empty ∙ ap total (sym are);
+      empty = empty ∙ has.frees.empty ∙ ap total (sym are);
       gap = gap ∙ gap_by d x last all order;
     }
 

@@ -34,7 +34,7 @@ shown_tests marked s shown =
 abbrev pub pages_shown : Defs → List ℕ → Option ℕ
 pages_shown d x = if all_walk (all_walks d x) then Some (page_bytes d (all_walks d x)) else None
 
--- the bytes behind the header that belong to no page, by how many belong to pages
+-- the bytes from the place of the first page on that belong to no page, by how many belong to pages
 abbrev pub room_left : Defs → ℕ → Option ℕ → Option ℕ
 room_left d size pages = option_map (λ n. size - first_page_of d - n) pages
 

@@ -121,8 +121,8 @@ fn agrees(number: u64, shown: Option<u64>) -> bool
     }
 }
 
-/// How many bytes of an index file of `size` bytes belong to no page, behind the header, where so
-/// many belong to pages.
+/// How many bytes of an index file of `size` bytes, from the place of the first page on, belong to no page,
+/// where so many belong to pages.
 pub(crate) fn room_left(defs: &Defs, size: u64, pages: Option<u64>) -> Option<u64>
     requires { IsSound defs.now }
     ensures { result ≡ room_left defs.now size pages }

@@ -5,11 +5,13 @@
 //! it is put in order, and all that touch are joined. So it is no longer than that or twice as many as there
 //! are ranges that do not touch, and a range costs the logarithm of their number.
 ghost use Rattle.std.specs.Prelude.{◌≡◌, ◌≤◌, ◌++◌, ◌∷◌, [], OnOk, OnErr, IfOk};
+ghost use Rattle.myi_pair.specs.Trees.{total};
 ghost use Rattle.std.specs.List.{AllByRecursion};
 ghost use Rattle.std.specs.List.Sorted.{IsPermutation, IsNonDecreasingBy};
 ghost use Rattle.myi_base.specs.Ranges.{is_apart};
 ghost use Rattle.myi_check.specs.HeldBytes.{IsForward, AreJoined, touches, joined_with, join_all};
 
+use crate::met::sum;
 use std::alloc::{AllocError, Global};
 use std::marker::Model;
 
@@ -46,9 +48,10 @@ impl Model for HeldBytes {
 }
 
 impl HeldBytes {
-    ghost use Rattle.std.specs.Prelude.{◌≡◌, ◌≤◌, ◌++◌, ◌∷◌, [], OnOk};
+    ghost use Rattle.std.specs.Prelude.{◌≡◌, ◌≤◌, ◌++◌, ◌∷◌, [], OnOk, IfOk};
     ghost use Rattle.std.specs.List.{AllByRecursion};
     ghost use Rattle.myi_base.specs.Ranges.{is_apart};
+    ghost use Rattle.myi_pair.specs.Trees.{total};
     ghost use Rattle.myi_chain.specs.Chain.{ranges_at};
     ghost use Rattle.myi_check.specs.HeldBytes.{EndsNear, SameBytes, AreJoined, front_of};
 
@@ -103,6 +106,13 @@ impl HeldBytes {
         ensures { result ≡ is_apart (at, end) self.now }
     {
         is_apart(&self.ranges, at, end)
+    }
+
+    /// How many bytes they have, each counted as often as it belongs to one.
+    pub(crate) fn total(&self) -> Result<u64, AllocError>
+        ensures { IfOk result (λ bytes. bytes ≡ total self.now) }
+    {
+        bytes_of(&self.ranges)
     }
 
     /// Where the range ends that begins at the file's start, and 0 where none does. They are in order.
@@ -160,6 +170,19 @@ fn join(alloc: Global, ranges: &[(u64, u64)]) -> Result<Vec<(u64, u64)>, AllocEr
         push_joined(&mut joined, ranges[index])?;
     }
     Ok(joined)
+}
+
+// How many bytes ranges have.
+fn bytes_of(ranges: &[(u64, u64)]) -> Result<u64, AllocError>
+    requires { AllByRecursion IsForward ranges.now }
+    ensures { IfOk result (λ bytes. bytes ≡ total ranges.now) }
+{
+    let mut bytes = 0;
+    for index in 0..ranges.len() {
+        let (at, end) = ranges[index];
+        bytes = sum(bytes, end - at)?;
+    }
+    Ok(bytes)
 }
 
 // Whether no byte belongs to the range and to one of these, which are in order.

@@ -1,11 +1,11 @@
 //! `Met`: what was met of a data file so far.
 //!
-//! Of each row its pairs are noted, where they are wanted, how many blocks it has and which bytes they hold;
-//! of each deleted block its place and its size. A deleted block of a dynamic table is one of the table only if
-//! it meets no block of a row, be it before or behind, so that which of them count is told when all rows have
-//! come. A deleted slot of a static table meets none, so that its place is noted alone, and its bytes beside
-//! those of the rows.
-ghost use Rattle.std.specs.Prelude.{◌≡◌, ◌+◌, IfOk};
+//! Of each row its pairs are noted, where they are wanted, how many blocks it has and which bytes they hold.
+//! A deleted block is one of the table only if it meets no block of a row, be it before or behind, so that
+//! which of them count is told when all rows have come. Where all of them are taken to count, the place of
+//! each is noted alone, and its bytes together with those of the rows: in a sound table all bytes are one
+//! range then. Else its place and its size are noted.
+ghost use Rattle.std.specs.Prelude.{◌≡◌, ◌+◌, sum_by, IfOk};
 ghost use Rattle.myi_base.specs.HandsOn.{HandsOn};
 ghost use Rattle.myi_defs.specs.Sound.{IsSound};
 ghost use Rattle.myi_opening.specs.declared.fault.TableFault.TheVariants as table;
@@ -22,11 +22,22 @@ use myi_pack::view_packed;
 use myi_rowkeys::RowKeys;
 use std::alloc::{AllocError, Global};
 
+/// What is noted.
+#[derive(Clone, Copy)]
+pub(crate) struct Noting {
+    /// Whether the pairs of the rows are.
+    pub(crate) with_keys: bool,
+    /// Whether the bytes of deleted blocks are noted together with those of rows, and of each the place alone.
+    pub(crate) together: bool,
+}
+
 /// What was met so far.
 #[derive(Drop)]
 pub(crate) struct Met {
     /// Whether the pairs of the rows are noted.
     pub(crate) with_keys: bool,
+    /// Whether deleted blocks are noted together with rows.
+    pub(crate) together: bool,
     /// These pairs, a list for each key of the table. The lists are empty where none is noted.
     pub(crate) keys: RowKeys,
     /// Of a dynamic table the places of the rows, in order, where their pairs are not noted.
@@ -34,13 +45,15 @@ pub(crate) struct Met {
     pub(crate) records: u64,
     /// How many blocks the rows have.
     pub(crate) split: u64,
-    /// The bytes of these blocks, and of deleted slots.
+    /// How many bytes these blocks have.
+    pub(crate) row_bytes: u64,
+    /// Which bytes they are, together with those of deleted blocks where these are noted so.
     pub(crate) held: HeldBytes,
-    /// The deleted blocks of a dynamic table that were passed, each by its place and its size.
+    /// The deleted blocks, each by its place and its size, where they are not noted together with rows.
     pub(crate) frees: Vec<(u64, u32)>,
-    /// The places of the deleted slots of a static table, in order.
-    pub(crate) slots: Vec<u64>,
-    /// How many bytes these slots have.
+    /// Their places, in order, where they are.
+    pub(crate) deleted: Vec<u64>,
+    /// How many bytes these have.
     pub(crate) empty: u64,
 }
 
@@ -56,22 +69,25 @@ impl Met {
     ghost use Rattle.myi_data.specs.Readable.{packs};
     ghost use Rattle.myi_data.specs.Scanning.{IsAsKnown};
     ghost use Rattle.myi_check.specs.HeldBytes.{EndsNear};
-    ghost use Rattle.myi_check.specs.Met.{HasMet, ReadsIf, NotesKeys, NotesPlace, NotesPairs, NotesBlocks, NotesFree, NotesSlot};
+    ghost use Rattle.myi_check.specs.Met.{HasMet, ReadsIf, NotesKeys, NotesPlace, NotesPairs, NotesBlocks, NotesFree, NotesPlaced};
 
     /// Nothing was met yet, of a table with these definitions.
-    pub(crate) fn new(alloc: Global, defs: &Defs, with_keys: bool) -> Result<Met, AllocError>
-        ensures met { IfOk result (HasMet defs.now []) }
-        ensures keys { IfOk result (λ met. met.with_keys ≡ with_keys) }
+    pub(crate) fn new(alloc: Global, defs: &Defs, noting: Noting) -> Result<Met, AllocError>
+        ensures met { IfOk result (HasMet defs.now noting.together []) }
+        ensures keys { IfOk result (λ met. met.with_keys ≡ noting.with_keys) }
+        ensures together { IfOk result (λ met. met.together ≡ noting.together) }
     {
         Ok(Met {
-            with_keys,
+            with_keys: noting.with_keys,
+            together: noting.together,
             keys: RowKeys::new(alloc, defs.keys.as_slice().len())?,
             places: Vec::new(alloc),
             records: 0,
             split: 0,
+            row_bytes: 0,
             held: HeldBytes::new(alloc),
             frees: Vec::new(alloc),
-            slots: Vec::new(alloc),
+            deleted: Vec::new(alloc),
             empty: 0,
         })
     }
@@ -86,9 +102,10 @@ impl Met {
         requires current { IfTold (F.holds files.old) (IsAsKnown scan.old) }
         requires test { scan.old.test ≡ defs.now }
         requires defs { AreDefs defs.now }
-        requires met { (items : List chains.Item) × HasMet defs.now items self.old }
+        requires met { (items : List chains.Item) × HasMet defs.now self.old.together items self.old }
         ensures read { IfOk result (λ more.
-            ReadsIf more defs.now (F.holds files.old) scan.old scan.new self.old self.new) }
+            ReadsIf more defs.now self.old.together (F.holds files.old) scan.old scan.new
+            self.old self.new) }
         ensures same { OnOk result (IsSameScan scan.old scan.new) }
         ensures current { OnOk result (IfTold (F.holds files.old) (IsAsKnown scan.new)) }
         ensures holds { F.holds files.new ≡ F.holds files.old }
@@ -102,7 +119,7 @@ impl Met {
                 Ok(true)
             }
             Ok(Some(Item::Free { at, size })) => {
-                self.note_free(defs, at, size)?;
+                self.note_free(at, size)?;
                 Ok(true)
             }
             Ok(None) => Ok(false),
@@ -159,28 +176,30 @@ impl Met {
     {
         self.held.add_blocks(blocks)?;
         self.split = sum(self.split, blocks.len() as u64)?;
+        self.row_bytes = sum(self.row_bytes, bytes_in(blocks)?)?;
         Ok(())
     }
 
-    // Notes a deleted block or slot.
-    fn note_free(&mut self, defs: &Defs, at: u64, size: u32) -> Result<(), AllocError>
+    // Notes a deleted block.
+    fn note_free(&mut self, at: u64, size: u32) -> Result<(), AllocError>
         requires { EndsNear (at, size) }
-        ensures { OnOk result (NotesFree defs.now.format at size self.old self.new) }
+        ensures { OnOk result (NotesFree self.old.together at size self.old self.new) }
     {
-        match defs.format {
-            RowFormat::Static => self.note_slot(at, size)?,
-            RowFormat::Dynamic => self.frees.push((at, size))?,
+        if self.together {
+            self.note_place_alone(at, size)?;
+        } else {
+            self.frees.push((at, size))?;
         }
         Ok(())
     }
 
-    // Notes a deleted slot.
-    fn note_slot(&mut self, at: u64, size: u32) -> Result<(), AllocError>
+    // Notes the place of a deleted block, and its bytes together with those of rows.
+    fn note_place_alone(&mut self, at: u64, size: u32) -> Result<(), AllocError>
         requires { EndsNear (at, size) }
-        ensures { OnOk result (NotesSlot at size self.old self.new) }
+        ensures { OnOk result (NotesPlaced at size self.old self.new) }
     {
         self.held.add(at, at + size as u64)?;
-        self.slots.push(at)?;
+        self.deleted.push(at)?;
         self.empty = sum(self.empty, size as u64)?;
         Ok(())
     }
@@ -201,6 +220,17 @@ pub(crate) fn sum(count: u64, more: u64) -> Result<u64, AllocError>
     ensures { IfOk result (λ s. s ≡ count + more) }
 {
     count.checked_add(more).ok_or(AllocError)
+}
+
+/// How many bytes blocks have, each by its place and its size.
+pub(crate) fn bytes_in(blocks: &[(u64, u32)]) -> Result<u64, AllocError>
+    ensures { IfOk result (λ bytes. bytes ≡ sum_by (λ b. b.1) blocks.now) }
+{
+    let mut bytes = 0;
+    for index in 0..blocks.len() {
+        bytes = sum(bytes, blocks[index].1 as u64)?;
+    }
+    Ok(bytes)
 }
 
 // The pointer of the row at a place of the data file.

@@ -1,16 +1,16 @@
 //! What a scan of a data file finds.
 //!
-//! `find_rows` meets each row and each deleted block once, in order of their places (`Met`). When all rows
-//! of a dynamic table have come, it keeps of the deleted blocks those that meet no block of a row; deleted slots of a
-//! static one meet none. Then it looks for the lowest byte that belongs to nothing.
-ghost use Rattle.std.specs.Prelude.{◌≡◌, ◌<◌, ◌≤◌, ◌+◌, ◌++◌, ℕ, List, Some, false, map, filter, sum_by, if◌then◌else◌};
-ghost use Rattle.std.specs.Prelude.{take, drop, HoldsAt, IfOk, IfErr};
+//! `find_rows` meets each row and each deleted block, in order of their places (`Met`), and notes their bytes
+//! together. Where these are as many as the blocks have one by one, no byte belongs to two of them. Else the
+//! file is damaged, and is gone through once more: of the deleted blocks, by their places and sizes, those
+//! are kept that meet no block of a row. Then it looks for the lowest byte that belongs to nothing.
+ghost use Rattle.std.specs.Prelude.{◌≡◌, ◌<◌, ◌≤◌, ◌+◌, ◌++◌, ℕ, List, Some, true, false, map, filter, if◌then◌else◌};
+ghost use Rattle.std.specs.Prelude.{take, drop, HoldsAt, IfOk, IfErr, IfSome};
 ghost use Rattle.std.specs.Prelude as std;
 ghost use Rattle.std.specs.List.{AllByRecursion};
 ghost use Rattle.myi_base.specs.Holding.{IfTold};
 ghost use Rattle.myi_base.specs.Causes.{HasCause};
 ghost use Rattle.myi_defs.specs.ReadDefs.{AreDefs};
-ghost use Rattle.myi_defs.specs.declared.types.RowFormat.TheVariants.{Static, Dynamic};
 ghost use Rattle.myi_defs.specs.Sound.{IsSound};
 ghost use Rattle.myi_opening.specs.Opening.{IsCutOff};
 ghost use Rattle.myi_chain.specs.Readable.{Item};
@@ -22,10 +22,10 @@ ghost use Rattle.myi_check.specs.Met.{HasMet, MeetsAll};
 ghost use Rattle.myi_check.specs.Rows.{HasRows};
 
 use crate::held_bytes::HeldBytes;
-use crate::met::{Met, sum};
+use crate::met::{Met, Noting, bytes_in, sum};
 use myi_chain::{ScanSetup, rows_are_met};
 use myi_data::DataScan;
-use myi_defs::{Defs, RowFormat};
+use myi_defs::Defs;
 use myi_io::Files;
 use myi_opening::TableFault;
 use myi_rowkeys::RowKeys;
@@ -62,7 +62,7 @@ pub(crate) struct ScannedFile<'a> {
     pub(crate) places: &'a [u64],
 }
 
-/// Goes through a data file of that length once, and notes the pairs of its rows where they are wanted.
+/// Goes through a data file of that length, and notes the pairs of its rows where they are wanted.
 pub(crate) fn find_rows<F: Files>(
     alloc: Global,
     files: &mut F,
@@ -81,13 +81,50 @@ pub(crate) fn find_rows<F: Files>(
     ensures holds { F.holds files.new ≡ F.holds files.old }
     ensures cause { HasCause TableFault.File (F.faults files.old) (F.faults files.new) result }
 {
+    let noting = Noting {
+        with_keys,
+        together: true,
+    };
+    let met = meet_file(alloc, files, rows, defs, length, noting)?;
+    if let Some(found) = found_apart(met, defs, length)? {
+        return Ok(found);
+    }
+    let noting = Noting {
+        with_keys,
+        together: false,
+    };
+    let met = meet_file(alloc, files, rows, defs, length, noting)?;
+    Ok(found_meeting(alloc, met, defs, length)?)
+}
+
+// Meets all of a data file of that length.
+fn meet_file<F: Files>(
+    alloc: Global,
+    files: &mut F,
+    rows: &str,
+    defs: &Defs,
+    length: u64,
+    noting: Noting,
+) -> Result<Met, TableFault>
+    requires defs { AreDefs defs.now }
+    requires long { IfTold (F.holds files.old) (λ m.
+        (d : List ℕ) × (m rows.now ≡ Some d) × (length ≡ std.length d)) }
+    ensures some { IfOk result (λ met. (items : List Item)
+        × HasMet defs.now noting.together items met) }
+    ensures met { IfOk result (λ met. IfTold (F.holds files.old) (λ m. (d : List ℕ)
+        → m rows.now ≡ Some d
+        → HasMet defs.now noting.together (items_in defs.now false d) met)) }
+    ensures keys { IfOk result (λ met. met.with_keys ≡ noting.with_keys) }
+    ensures cut { IfErr result IsCutOff }
+    ensures holds { F.holds files.new ≡ F.holds files.old }
+    ensures cause { HasCause TableFault.File (F.faults files.old) (F.faults files.new) result }
+{
     let setup = ScanSetup {
         extend: false,
         file_len: length,
     };
     let mut scan = DataScan::of_file(rows, defs, setup)?;
-    let met = meet_all(alloc, files, &mut scan, defs, with_keys)?;
-    Ok(into_found(alloc, met, defs, length)?)
+    meet_all(alloc, files, &mut scan, defs, noting)
 }
 
 // Meets all that a scan has left.
@@ -96,61 +133,55 @@ fn meet_all<F: Files>(
     files: &mut F,
     scan: &mut DataScan,
     defs: &Defs,
-    with_keys: bool,
+    noting: Noting,
 ) -> Result<Met, TableFault>
     requires current { IfTold (F.holds files.old) (IsAsKnown scan.old) }
     requires test { scan.old.test ≡ defs.now }
     requires defs { AreDefs defs.now }
-    ensures met { IfOk result (MeetsAll defs.now (F.holds files.old) scan.old) }
-    ensures keys { IfOk result (λ met. met.with_keys ≡ with_keys) }
+    ensures met { IfOk result
+        (MeetsAll defs.now noting.together (F.holds files.old) scan.old) }
+    ensures keys { IfOk result (λ met. met.with_keys ≡ noting.with_keys) }
     ensures holds { F.holds files.new ≡ F.holds files.old }
     ensures cut { IfErr result IsCutOff }
     ensures cause { HasCause TableFault.File (F.faults files.old) (F.faults files.new) result }
 {
-    let mut met = Met::new(alloc, defs, with_keys)?;
+    let mut met = Met::new(alloc, defs, noting)?;
     while met.read(files, scan, defs)? {}
     Ok(met)
 }
 
-// What was found, of a data file of that length.
-fn into_found(alloc: Global, met: Met, defs: &Defs, length: u64) -> Result<RowsFound, AllocError>
+// What was found of a data file of that length, whose rows and deleted blocks were noted together, where no
+// byte belongs to two of them.
+fn found_apart(met: Met, defs: &Defs, length: u64) -> Result<Option<RowsFound>, AllocError>
     requires sound { IsSound defs.now }
-    requires met { (items : List Item) × HasMet defs.now items met }
-    ensures found { IfOk result (λ r. (d : List ℕ) → length ≡ std.length d
-        → HasMet defs.now (items_in defs.now false d) met
-        → HasRows defs.now met.with_keys d r) }
-    ensures lists { IfOk result (λ r. std.length r.keys ≡ std.length defs.now.keys) }
-{
-    match defs.format {
-        RowFormat::Static => slots_found(met, defs, length),
-        RowFormat::Dynamic => blocks_found(alloc, met, defs, length),
-    }
-}
-
-// The same of a static table.
-fn slots_found(met: Met, defs: &Defs, length: u64) -> Result<RowsFound, AllocError>
-    requires sound { IsSound defs.now }
-    requires format { defs.now.format ≡ Static }
-    requires met { (items : List Item) × HasMet defs.now items met }
-    ensures found { IfOk result (λ r. (d : List ℕ) → length ≡ std.length d
-        → HasMet defs.now (items_in defs.now false d) met
-        → HasRows defs.now met.with_keys d r) }
-    ensures lists { IfOk result (λ r. std.length r.keys ≡ std.length defs.now.keys) }
+    requires met { (items : List Item) × HasMet defs.now true items met }
+    ensures found { IfOk result (λ o. IfSome o (λ r. (d : List ℕ) → length ≡ std.length d
+        → HasMet defs.now true (items_in defs.now false d) met
+        → HasRows defs.now met.with_keys d r)) }
+    ensures lists { IfOk result (λ o. IfSome o (λ r.
+        std.length r.keys ≡ std.length defs.now.keys)) }
 {
     rows_are_met();
     let Met {
         with_keys: _,
+        together: _,
         keys,
         places: row_places,
         records,
         split,
+        row_bytes,
         mut held,
         frees: _,
-        slots: deleted,
+        deleted,
         empty,
     } = met;
     held.put_in_order()?;
-    Ok(RowsFound {
+    let bytes = held.total()?;
+    let sizes = sum(row_bytes, empty)?;
+    if bytes != sizes {
+        return Ok(None);
+    }
+    Ok(Some(RowsFound {
         keys,
         places: row_places,
         records,
@@ -158,29 +189,30 @@ fn slots_found(met: Met, defs: &Defs, length: u64) -> Result<RowsFound, AllocErr
         deleted,
         empty,
         gap: gap(&held, defs, length),
-    })
+    }))
 }
 
-// The same of a dynamic table.
-fn blocks_found(alloc: Global, met: Met, defs: &Defs, length: u64) -> Result<RowsFound, AllocError>
+// What was found of a data file of that length, whose deleted blocks may meet blocks of rows.
+fn found_meeting(alloc: Global, met: Met, defs: &Defs, length: u64) -> Result<RowsFound, AllocError>
     requires sound { IsSound defs.now }
-    requires format { defs.now.format ≡ Dynamic }
-    requires met { (items : List Item) × HasMet defs.now items met }
+    requires met { (items : List Item) × HasMet defs.now false items met }
     ensures found { IfOk result (λ r. (d : List ℕ) → length ≡ std.length d
-        → HasMet defs.now (items_in defs.now false d) met
+        → HasMet defs.now false (items_in defs.now false d) met
         → HasRows defs.now met.with_keys d r) }
     ensures lists { IfOk result (λ r. std.length r.keys ≡ std.length defs.now.keys) }
 {
     rows_are_met();
     let Met {
         with_keys: _,
+        together: _,
         keys,
         places: row_places,
         records,
         split,
+        row_bytes: _,
         mut held,
         frees: mut deleted,
-        slots: _,
+        deleted: _,
         empty: _,
     } = met;
     held.put_in_order()?;
@@ -251,17 +283,6 @@ fn places(alloc: Global, blocks: &[(u64, u32)]) -> Result<Vec<u64>, AllocError>
         places.push(blocks[index].0)?;
     }
     Ok(places)
-}
-
-// How many bytes blocks have.
-fn bytes_in(blocks: &[(u64, u32)]) -> Result<u64, AllocError>
-    ensures { IfOk result (λ bytes. bytes ≡ sum_by (λ b. b.1) blocks.now) }
-{
-    let mut bytes = 0;
-    for index in 0..blocks.len() {
-        bytes = sum(bytes, blocks[index].1 as u64)?;
-    }
-    Ok(bytes)
 }
 
 // The lowest byte of a data file of that length that is not held, by ranges that are in order. Where row

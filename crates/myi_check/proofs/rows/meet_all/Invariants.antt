@@ -12,9 +12,10 @@ invariant-loop-met g l = record {
   holds : g.F.Files.holds l.files ≡ g.F.Files.holds l.fn.files;
   current : IfTold (g.F.Files.holds l.files) (IsAsKnown l.scan);
   later : g.F.Files.faults l.fn.files ≤ g.F.Files.faults l.files;
-  keys : l.met.with_keys ≡ l.with_keys;
+  keys : l.met.with_keys ≡ l.fn.noting.with_keys;
+  together : l.met.together ≡ l.fn.noting.together;
   came : List Item;
-  so_far : Meeting l.defs (g.F.Files.holds l.fn.files) l.fn.scan l.scan came l.met;
+  so_far : Meeting l.defs l.fn.noting.together (g.F.Files.holds l.fn.files) l.fn.scan l.scan came l.met;
 }
 
 abbrev pub decreases-loop-met : goal.decreases-loop-met

@@ -22,11 +22,13 @@ push-requires-clause-row c = row-fits c.args.defs.now c.view_packed-row.result c
 pub returns : goal.returns
 returns c = record {
   with_keys = refl;
+  together = refl;
+  row_bytes = refl;
   keys = λ on. (c.view_packed-row.result, c.view_packed-row.ensures.found, c.in_ok-push.ensures ∙ ap (λ at. with_pairs at (row_keys c.args.defs.now c.view_packed-row.result) c.args.self.now.keys) c.pointer.ensures);
   lists = ap (λ (ls : List (List Pair)). length ls) c.in_ok-push.ensures ∙ length-with _ (row_keys c.args.defs.now c.view_packed-row.result) c.args.self.now.keys;
   records = refl;
   places = refl;
   split = refl;
   held = refl;
-  frees = record { frees = refl; slots = refl; empty = refl };
+  frees = record { frees = refl; deleted = refl; empty = refl };
 }

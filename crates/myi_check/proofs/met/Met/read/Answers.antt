@@ -25,7 +25,7 @@ returns-in_ok-note_blocks-in-Ok-Some-Row-clause-read g c =
     let h = g.F.Files.holds c.args.files.now in
     let new = c.next_item.follows.lender-at-none in
     let answer = answered_row h c.args.scan.now new _ _ _ c.in-Ok-Some-Row.at c.in-Ok-Some-Row.piece c.in-Ok-Some-Row.is c.in-Ok-Some-Row.field-0-is c.in-Ok-Some-Row.field-0-0-is c.next_item.follows.holds-at-none in
-    row_read c.args.defs.now h c.args.scan.now new c.in-Ok-Some-Row.at c.in-Ok-Some-Row.piece c.bytes.result.now c.args.self.now c.note_pairs.new.self c.note_blocks.new.self answer c.bytes.ensures c.in_ok-note_pairs-in-Ok-Some-Row.ensures
+    row_read c.args.defs.now c.args.self.now.together h c.args.scan.now new c.in-Ok-Some-Row.at c.in-Ok-Some-Row.piece c.bytes.result.now c.args.self.now c.note_pairs.new.self c.note_blocks.new.self answer c.bytes.ensures c.in_ok-note_pairs-in-Ok-Some-Row.ensures
     (subst (λ bs. NotesBlocks bs c.note_pairs.new.self c.note_blocks.new.self) c.blocks-in-Ok-Some-Row.ensures c.in_ok-note_blocks-in-Ok-Some-Row.ensures)
 
 pub returns-in_ok-note_free-in-Ok-Some-Free-clause-read : goal.returns-in_ok-note_free-in-Ok-Some-Free-clause-read
@@ -33,4 +33,4 @@ returns-in_ok-note_free-in-Ok-Some-Free-clause-read g c =
     let h = g.F.Files.holds c.args.files.now in
     let new = c.next_item.follows.lender-at-none in
     let answer = answered_free h c.args.scan.now new _ _ _ c.in-Ok-Some-Free.at c.in-Ok-Some-Free.size c.in-Ok-Some-Free.is c.in-Ok-Some-Free.field-0-is c.in-Ok-Some-Free.field-0-0-is c.next_item.follows.holds-at-none in
-    free_read c.args.defs.now h c.args.scan.now new c.in-Ok-Some-Free.at c.in-Ok-Some-Free.size c.args.self.now c.note_free.new.self answer c.in_ok-note_free-in-Ok-Some-Free.ensures
+    free_read c.args.defs.now c.args.self.now.together h c.args.scan.now new c.in-Ok-Some-Free.at c.in-Ok-Some-Free.size c.args.self.now c.note_free.new.self answer c.in_ok-note_free-in-Ok-Some-Free.ensures

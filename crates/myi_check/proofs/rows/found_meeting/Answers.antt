@@ -4,14 +4,14 @@ use Rattle.std.specs.List.{AllByRecursion}
 use Rattle.myi_defs.specs.Addressable.{is_addressable}
 use Rattle.myi_chain.specs.Chain.{ranges_at}
 use Rattle.myi_check.specs.HeldBytes.{SameBytes, EndsNear, front_of, gap_behind, is_free}
-use Rattle.myi_check.proofs.RowsLemmas.{table_rises, near_kept, blocks_of, rows_found}
-use Rattle.myi_check.proofs.rows.blocks_found.Goals as goal
+use Rattle.myi_check.proofs.RowsLemmas.{table_rises, near_kept, rows_found}
+use Rattle.myi_check.proofs.rows.found_meeting.Goals as goal
 
 pub add_blocks-requires : goal.add_blocks-requires
 add_blocks-requires c =
     let h = c.put_in_order.new.self in
     let kept = c.deref.ensures.value ∙ c.keep_apart.ensures in
-    subst (AllByRecursion EndsNear) (sym kept) (near_kept (is_free h) c.args.met.frees.items (blocks_of c.args.defs.now.format c.args.met c.requires.met.0 c.requires.format c.requires.met.1.frees).near)
+    subst (AllByRecursion EndsNear) (sym kept) (near_kept (is_free h) c.args.met.frees.items c.requires.met.1.frees.near)
 
 pub returns-clause-found : goal.returns-clause-found
 returns-clause-found c x long has =
@@ -19,7 +19,7 @@ returns-clause-found c x long has =
     let h = c.put_in_order.new.self in
     let last = c.put_in_order-2.new.self in
     let kept = c.keep_apart.new.blocks.items in
-    rows_found d x c.args.met h c.add_blocks.new.self last kept _ (table_rises c.rows_are_met.ensures.in_order d x c.requires.sound) c.requires.format has
+    rows_found d x c.args.met h c.add_blocks.new.self last kept _ (table_rises c.rows_are_met.ensures.in_order d x c.requires.sound) has
     c.in_ok-put_in_order.ensures.same c.keep_apart.ensures
     (subst (λ bs. SameBytes (h ++ ranges_at bs) c.add_blocks.new.self) c.deref.ensures.value c.in_ok-add_blocks.ensures)
     c.in_ok-put_in_order-2.ensures.same c.in_ok-put_in_order-2.ensures.order
