@@ -2,5 +2,3 @@
 
 -- the text of a row
 pub mod RowText
--- the buffers that serve for the texts of rows
-pub mod Buffers

@@ -26,12 +26,9 @@ impl RowTexts {
     ghost use Rattle.std.specs.Prelude.{◌≡◌, ◌++◌, Some, OnOk, OnErr};
     ghost use Rattle.myi_base.specs.Output.{AppendsPart};
     ghost use Rattle.myi_rowtext.specs.RowText.{row_text};
-    ghost use Rattle.myi_rowtext.specs.Buffers.{AreEmpty};
 
     /// Empty buffers, for which no memory is taken.
-    pub fn new(alloc: Global) -> RowTexts
-        ensures { AreEmpty result }
-    {
+    pub fn new(alloc: Global) -> RowTexts {
         RowTexts {
             number: String::new(alloc),
             value: Vec::new(alloc),
