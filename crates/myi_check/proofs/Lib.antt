@@ -22,3 +22,4 @@ pub mod ChainLaws
 pub mod ReadLaws
 pub mod AskedWalks
 pub mod CallerLemmas
+pub mod OrderLaws

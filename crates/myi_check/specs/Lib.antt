@@ -24,3 +24,5 @@ pub mod Asked
 pub mod Keys
 -- what the files show of the numbers of a header
 pub mod HeaderShown
+-- the sections of a check, and the order of its findings
+pub mod Sections

@@ -23,6 +23,7 @@ ghost use Rattle.myi_check.specs.WalksBusy.{HasBytes};
 ghost use Rattle.myi_check.specs.Walks.{EventList, events_in};
 ghost use Rattle.myi_check.specs.Keys.{HasKeys};
 ghost use Rattle.myi_check.specs.Asked.{AsksApart, IsNextAsked, IsGood, CanBeAsked, OfKey, AddsAsked};
+ghost use Rattle.myi_check.specs.Sections.{AreInOrder};
 
 use crate::busy::BusyPages;
 use crate::keys::{KeysFound, KeysSoFar, tree_key};
@@ -202,6 +203,9 @@ fn ask_key<F: Files>(
     ensures sized { IfOk result (λ is. is ≡ true → All HasBytes found.new.busy.trees.items) }
     ensures shows { IfOk result (λ is. is ≡ true → IfTold (F.holds files.old)
         (AddsAsked index.now key.now found.old found.new)) }
+    ensures order { IfOk result (λ is. is ≡ true
+        → AreInOrder 2 (1 + found.old.number) found.old.findings.items
+        → AreInOrder 2 (1 + found.new.number) found.new.findings.items) }
     ensures cut { IfErr result IsCutOff }
     ensures holds { F.holds files.new ≡ F.holds files.old }
     ensures cause { HasCause TableFault.File (F.faults files.old) (F.faults files.new) result }
@@ -229,6 +233,7 @@ pub(crate) fn ask_keys<F: Files>(
         (x d : List ℕ) → m index.now ≡ Some x → m file.now.name.now ≡ Some d
         → roots.now ≡ (state_of defs.now x).roots → IsScanned defs.now file.now d
         → HasKeys defs.now x (rows_in defs.now d) r))) }
+    ensures order { IfOk result (λ o. IfSome o (λ r. AreInOrder 2 256 r.findings.items)) }
     ensures cut { IfErr result IsCutOff }
     ensures holds { F.holds files.new ≡ F.holds files.old }
     ensures cause { HasCause TableFault.File (F.faults files.old) (F.faults files.new) result }

@@ -15,6 +15,7 @@ ghost use Rattle.myi_pair.specs.declared.finding.Finding.TheVariants as finding;
 ghost use Rattle.myi_check.specs.Checking.{Finds, Refuses, AreFindings};
 ghost use Rattle.myi_check.specs.Rows.{rows_in};
 ghost use Rattle.myi_check.specs.Keys.{HasKeys, FindsKeys};
+ghost use Rattle.myi_check.specs.Sections.{AreInOrder, AreInSections};
 
 use crate::asking::ask_keys;
 use crate::header::{Shown, StoredHeader, header_item, room_left, stored_header};
@@ -31,6 +32,10 @@ use std::alloc::{AllocError, Global};
 pub fn check<F: Files>(alloc: Global, files: &mut F, name: &str) -> Result<Vec<Finding>, TableFault>
     ensures findings { IfOk result (λ found.
         IfTold (F.holds files.old) (Finds name.now found.items)) }
+
+    // At most one finding of each section, in the order of the sections, over any files.
+    ensures sections { IfOk result (λ found. AreInSections found.items) }
+
     ensures refused { IfErr result (λ f.
         IsCutOff f ⊎ IfTold (F.holds files.old) (Refuses name.now f)) }
     ensures holds { F.holds files.new ≡ F.holds files.old }
@@ -55,6 +60,7 @@ fn check_opened<F: Files>(
         (HasTable index.now rows.now opened.now.defs opened.now.length) }
     ensures findings { IfOk result (λ found. IfTold (F.holds files.old)
         (AreFindings index.now rows.now found.items)) }
+    ensures sections { IfOk result (λ found. AreInSections found.items) }
     ensures refused { IfErr result (λ f. IsCutOff f
         ⊎ IfTold (F.holds files.old) (HasNoTable index.now rows.now f)) }
     ensures holds { F.holds files.new ≡ F.holds files.old }
@@ -81,6 +87,7 @@ fn check_sections<F: Files>(
     requires long { IfTold (F.holds files.old) (λ m. Measures (m index.now) (Some size)) }
     ensures findings { IfOk result (λ found. IfTold (F.holds files.old)
         (AreFindings index.now rows.now found.items)) }
+    ensures sections { IfOk result (λ found. AreInSections found.items) }
     ensures cut { IfErr result IsCutOff }
     ensures holds { F.holds files.new ≡ F.holds files.old }
     ensures cause { HasCause TableFault.File (F.faults files.old) (F.faults files.new) result }
@@ -134,6 +141,7 @@ fn keys_found<F: Files>(
     requires roots { length header.now.state.roots ≡ length opened.now.defs.keys }
     ensures found { IfOk result (λ r. IfTold (F.holds files.old)
         (FindsKeys index.now file.now opened.now.defs header.now r)) }
+    ensures order { IfOk result (λ r. AreInOrder 2 256 r.findings.items) }
     ensures foreign { IfOk result (λ r. header.now.marked ≡ false → r.findings.items ≡ []) }
     ensures cut { IfErr result IsCutOff }
     ensures holds { F.holds files.new ≡ F.holds files.old }
@@ -168,6 +176,7 @@ fn compare_keys<F: Files>(
         → m index.now ≡ Some x → m rows.now ≡ Some d
         → roots.now ≡ (state_of opened.now.defs x).roots
         → HasKeys opened.now.defs x (rows_in opened.now.defs d) r)) }
+    ensures order { IfOk result (λ r. AreInOrder 2 256 r.findings.items) }
     ensures cut { IfErr result IsCutOff }
     ensures holds { F.holds files.new ≡ F.holds files.old }
     ensures cause { HasCause TableFault.File (F.faults files.old) (F.faults files.new) result }

@@ -18,6 +18,7 @@ ghost use Rattle.myi_pair.specs.Findings.{told};
 ghost use Rattle.myi_check.specs.WalksBusy.{HasBytes};
 ghost use Rattle.myi_check.specs.Walks.{events_in};
 ghost use Rattle.myi_check.specs.Keys.{HasKeys, Adds, tree_key, tree_if};
+ghost use Rattle.myi_check.specs.Sections.{AreInOrder};
 
 use crate::busy::BusyPages;
 use crate::walks::{TreeKey, TreeWalk, walk_tree};
@@ -172,6 +173,8 @@ fn check_key<F: Files>(
     ensures shows { OnOk result (IfTold (F.holds files.old) (λ m. (x : List ℕ)
         → m index.now ≡ Some x
         → Adds key (sorted pairs) (events_in key.place x) found.old found.new)) }
+    ensures order { OnOk result (AreInOrder 2 (1 + found.old.number) found.old.findings.items
+        → AreInOrder 2 (1 + found.new.number) found.new.findings.items) }
     ensures cut { IfErr result IsCutOff }
     ensures holds { F.holds files.new ≡ F.holds files.old }
     ensures cause { HasCause TableFault.File (F.faults files.old) (F.faults files.new) result }
@@ -202,6 +205,7 @@ pub(crate) fn check_keys<F: Files>(
         → roots.now ≡ (state_of defs.now x).roots
         → lists ≡ map (λ k. pairs_of defs.now k rows) (key_numbers defs.now)
         → HasKeys defs.now x rows r)) }
+    ensures order { IfOk result (λ r. AreInOrder 2 256 r.findings.items) }
     ensures cut { IfErr result IsCutOff }
     ensures holds { F.holds files.new ≡ F.holds files.old }
     ensures cause { HasCause TableFault.File (F.faults files.old) (F.faults files.new) result }

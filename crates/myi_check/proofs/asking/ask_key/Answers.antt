@@ -1,9 +1,11 @@
-use Rattle.std.proofs.Common.{◌∙◌, ◌+◌, None, ap, sym, append-nil}
+use Rattle.std.proofs.Common.{◌∙◌, ◌+◌, None, ap, sym, subst, arith, append-nil}
 use Rattle.myi_keylist.specs.PairOrder.{sorted}
 use Rattle.myi_check.specs.declared.keys.KeysSoFar.{KeysSoFar}
 use Rattle.myi_check.specs.Walks.{events_in}
 use Rattle.myi_check.specs.Asked.{OfKey, row_pairs}
+use Rattle.myi_check.specs.Sections.{AreInOrder}
 use Rattle.myi_check.proofs.KeysLaws.{adds}
+use Rattle.myi_check.proofs.OrderLaws.{wider}
 use Rattle.myi_check.proofs.AskedWalks.{all_asked, none_after, pairs_many}
 use Rattle.myi_check.proofs.asking.ask_key.Goals as goal
 
@@ -26,3 +28,11 @@ returns-clause-shows g c = λ whole m held x d there file scanned.
       first = last.first;
       trees = last.trees;
     }) (none_after tree.unique list walk.met good count) shows
+
+pub returns-clause-order : goal.returns-clause-order
+returns-clause-order g c = λ whole order.
+    let last = c.in_ok-add_pages.ensures in
+    let fs = c.args.found.now.findings.items in
+    let n = c.args.found.now.number in
+    subst (AreInOrder 2 (1 + (c.add_pages.new.self.number + 1))) (sym (ap (λ v. v.items) last.findings))
+    (subst (λ k. AreInOrder 2 (1 + (k + 1)) fs) (sym last.number) (wider 2 (1 + n) (1 + (n + 1)) fs (omega arith) order))

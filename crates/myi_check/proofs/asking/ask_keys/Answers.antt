@@ -7,6 +7,8 @@ use Rattle.myi_pair.proofs.CallerLemmas.{placed}
 use Rattle.myi_check.specs.declared.walks.TreeKey.{TreeKey}
 use Rattle.myi_check.specs.Rows.{rows_in}
 use Rattle.myi_check.specs.Keys.{HasSoFar}
+use Rattle.myi_check.specs.Sections.{AreInOrder}
+use Rattle.myi_check.proofs.OrderLaws.{wider}
 use Rattle.myi_check.proofs.KeysLaws.{found_first, found_all, key_next, rooted, none_sized}
 use Rattle.myi_check.proofs.asking.ask_keys.Goals as goal
 
@@ -17,6 +19,7 @@ pub loop-key-init : goal.loop-key-init
 loop-key-init g c = record {
   number = c.new-found.ensures.number;
   sized = none_sized c.new-found.result.busy.trees.items c.new-found.ensures.none;
+  order = subst (AreInOrder 2 (1 + c.new-found.result.number)) (sym c.new-found.ensures.findings) (omega (arith, c.new-found.ensures.number));
   holds = refl;
   faults = omega arith;
   so_far = λ m held x d there file roots scanned. found_first c.args.defs.now x (rows_in c.args.defs.now d) c.new-found.result c.new-found.ensures.findings (c.new-found.ensures.first ∙ c.first_page.ensures.value) c.new-found.ensures.none c.new-found.ensures.walks c.new-found.ensures.bytes;
@@ -52,6 +55,7 @@ loop-key-preserved g c =
     record {
       number = omega (arith, one.number on, was.number);
       sized = one.sized on;
+      order = one.order on was.order;
       holds = c.ask_key.ensures.holds ∙ was.holds;
       faults = omega (arith, was.faults, c.ask_key.ensures.cause.later);
       so_far = λ m held x file there is roots scanned.
@@ -64,3 +68,9 @@ loop-key-preserved g c =
 pub returns-clause-found : goal.returns-clause-found
 returns-clause-found g c = λ m held x d there file roots scanned.
     found_all c.args.defs.now x (rows_in c.args.defs.now d) c.loop-key._key c.loop-key.found c.into_found.result (omega (arith, c.loop-key-test.false, c.requires.roots, c.loop-key.auto)) c.into_found.ensures.fits (ap (λ v. v.items) c.into_found.ensures.findings) c.into_found.ensures.bytes (c.loop-key.invariant.so_far m held x d there file roots scanned)
+
+pub returns-clause-order : goal.returns-clause-order
+returns-clause-order g c =
+    let was = c.loop-key.invariant in
+    subst (AreInOrder 2 256) (sym (ap (λ v. v.items) c.into_found.ensures.findings))
+    (wider 2 (1 + c.loop-key.found.number) 256 c.loop-key.found.findings.items (omega (arith, was.number, c.loop-key-test.false, c.requires.roots, c.loop-key.auto, (sound c.args.defs.now c.requires.defs).few_keys)) was.order)

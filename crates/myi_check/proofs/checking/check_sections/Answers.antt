@@ -7,6 +7,7 @@ use Rattle.myi_data.specs.Readable.{readable}
 use Rattle.myi_check.specs.Checking.{findings_by}
 use Rattle.myi_check.specs.Rows.{IsAscending, ArePointed, ArePlacesOf}
 use Rattle.myi_check.proofs.SectionLemmas.{all_sections, list_found, item_found, keys_are, shown_are, same_size}
+use Rattle.myi_check.proofs.OrderLaws.{all_in_order}
 use Rattle.myi_check.proofs.checking.check_sections.Goals as goal
 
 pub stored_header-requires : goal.stored_header-requires
@@ -53,3 +54,6 @@ returns-clause-findings g c m held =
     (list_found d h.data_file h.index_file c.deref.result.now c.in_ok-header.header.state.dellink c.in_ok-listed.listed (c.deref.ensures.value ∙ found.deleted) (ap (λ (s : State). s.dellink) state) listed)
     (keys_are d h.data_file h.index_file c.in_ok-header.header.marked c.in_ok-keys.keys mark keys c.in_ok-keys.ensures.foreign)
     found.gap c.in_ok-all_findings.ensures))
+
+pub returns-clause-sections : goal.returns-clause-sections
+returns-clause-sections g c = all_in_order c.header_item-item.result c.in_ok-listed.listed c.in_ok-found.found.gap c.in_ok-keys.keys.findings.items c.in_ok-all_findings.field-0.items c.in_ok-keys.ensures.order c.in_ok-all_findings.ensures

@@ -1,11 +1,15 @@
-use Rattle.std.proofs.Common.{◌∙◌, ◌+◌, ◌&&◌, ◌++◌, Bool, ℕ, List, not, cond, ap, subst, arith}
+use Rattle.std.proofs.Common.{◌∙◌, ◌+◌, ◌&&◌, ◌++◌, Bool, ℕ, List, not, cond, map, ap, sym, subst, arith}
 use Rattle.myi_keylist.specs.declared.pair.Pair.{Pair}
 use Rattle.myi_pair.specs.Findings.{told}
 use Rattle.myi_check.specs.declared.busy.BusyPages.{BusyPages}
 use Rattle.myi_check.specs.declared.keys.KeysSoFar.{KeysSoFar}
 use Rattle.myi_check.specs.Walks.{events_in}
 use Rattle.myi_check.specs.Keys.{Adds, tree_if}
+use Rattle.myi_check.specs.Sections.{AreInOrder}
 use Rattle.myi_check.proofs.KeysLaws.{sized_more, adds}
+use Rattle.myi_check.proofs.OrderLaws.{key_more}
+use Rattle.myi_pair.specs.declared.finding.Finding.TheVariants as finding
+use Rattle.std.specs.Option.{option_to_list}
 use Rattle.myi_check.proofs.keys.check_key.Goals as goal
 
 pub returns-clause-sized : goal.returns-clause-sized
@@ -30,3 +34,9 @@ returns-clause-shows g c = λ m held x is.
       first = last.first ∙ ap (λ (b : BusyPages). b.first_page) mid.busy;
       trees = last.trees ∙ ap (λ (b : BusyPages). b.trees.items ++ tree_if walk block) mid.busy;
     }) (c.first_bad.ensures key.unique) (c.in_ok-walk.ensures.shows m held x is))
+
+pub returns-clause-order : goal.returns-clause-order
+returns-clause-order g c order =
+    subst (AreInOrder 2 (1 + (c.add_pages.new.self.number + 1))) (sym (ap (λ v. v.items) c.in_ok-add_pages.ensures.findings ∙ c.in_ok-add_finding.ensures.findings))
+    (subst (λ n. AreInOrder 2 (1 + (n + 1)) (c.args.found.now.findings.items ++ map (λ at. finding.Key c.args.found.now.number at) (option_to_list c.first_bad.result))) (sym (c.in_ok-add_pages.ensures.number ∙ c.in_ok-add_finding.ensures.number))
+    (key_more c.args.found.now.number c.args.found.now.findings.items c.first_bad.result order))
