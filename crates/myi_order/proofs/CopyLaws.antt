@@ -1,6 +1,5 @@
 -- A file that is copied by pieces.
-use Rattle.std.proofs.Common.{◌≡◌, ◌≢◌, ℕ, zero, suc, ◌+◌, ◌-◌, ◌<◌, ◌≤◌, Bool, true, false, cond, eqb, min, List, [], ◌∷◌, ◌++◌, length, take, drop, Option, Some, unwrap_or, refl, sym, ap, ◌∙◌, arith, length-take, length-drop}
-use Rattle.std.proofs.lemmas.Bool.{eqb-true, eqb-false}
+use Rattle.std.proofs.Common.{◌≡◌, ◌≢◌, ℕ, zero, suc, ◌+◌, ◌-◌, ◌<◌, ◌≤◌, min, List, [], ◌∷◌, ◌++◌, length, take, drop, Option, Some, unwrap_or, refl, sym, ap, ◌∙◌, arith, length-take, length-drop}
 use Rattle.std.proofs.lemmas.List.{append-nil, take_all, drop_all}
 use Rattle.myi_base.specs.Holding.{Holding, Told, Sets, OthersStay, bytes_of, overwritten}
 use Rattle.myi_base.proofs.CallerLemmas.{told_then}
@@ -27,15 +26,7 @@ front_more zero most x few = front_again most x ∙ ap (λ n. take n x) (let e :
 front_more (suc at) most [] few = absurd (omega arith)
 front_more (suc at) most (b ∷ x) few = ap (λ xs. b ∷ xs) (front_more at most x (omega arith)) ∙ ap (λ n. take n (b ∷ x)) (let e : suc (at + length (take most (drop at x))) ≡ suc at + length (take most (drop at x)) = omega arith in e)
 
--- where copying goes on
-goes_to : (at count size next : ℕ) → 0 < count → at + count ≤ size → next ≡ cond (eqb count 0) size (min size (at + count)) → next ≡ at + count
-goes_to at count size next some inside is = by (eqb count 0) refl
-  where
-    by : (b : Bool) → eqb count 0 ≡ b → next ≡ at + count
-    by false none = omega (arith, is ∙ ap (λ c. cond c size (min size (at + count))) none, inside)
-    by true none = absurd (omega (arith, eqb-true count 0 none, some))
-
-pub one_piece : (from to : List ℕ) (size at most count next : ℕ) (m n k : Holding) → from ≢ to → at < size → 0 < most → next ≡ cond (eqb count 0) size (min size (at + count))
+pub one_piece : (from to : List ℕ) (size at most count next : ℕ) (m n k : Holding) → from ≢ to → at < size → 0 < most → next ≡ min size (at + count)
     → CopiedTo from to size at m n → CopiesPiece from to at most count n k → CopiedTo from to size next m k
 one_piece from to size at most count next m n k apart low some is so_far piece =
     let x : List ℕ = bytes_of from m in
@@ -44,7 +35,7 @@ one_piece from to size at most count next m n k apart low some is so_far piece =
     let part : List ℕ = take most (drop at x) in
     let many : count ≡ length part = piece.many ∙ ap (λ (b : List ℕ). length (take most (drop at b))) same in
     let long : length part ≡ min most (length x - at) = length-take most (drop at x) ∙ ap (min most) (length-drop at x) in
-    let behind : next ≡ at + count = goes_to at count size next (omega (arith, many, long, so_far.long, low, some)) (omega (arith, many, long, so_far.long, low)) is in
+    let behind : next ≡ at + count = omega (arith, is, many, long, so_far.long, low) in
     let fronted : length (take at x) ≡ at = omega (arith, length-take at x, so_far.long, low) in
     let made : overwritten at (take most (drop at (bytes_of from n))) (bytes_of to n) ≡ take next x =
     ap (λ b. overwritten at (take most (drop at b)) (bytes_of to n)) same ∙ ap (overwritten at part) front ∙ appended at (take at x) part fronted ∙ front_more at most x (omega (arith, so_far.long, low))
@@ -53,13 +44,6 @@ one_piece from to size at most count next m n k apart low some is so_far piece =
       long = so_far.long;
       sets = record { here = piece.sets.here ∙ ap Some made; others = λ q other. piece.sets.others q other ∙ so_far.sets.others q other };
     }
-
-pub next_within : (at count size next : ℕ) → at < size → next ≡ cond (eqb count 0) size (min size (at + count)) → (at < next) × (next ≤ size)
-next_within at count size next low is = by (eqb count 0) refl
-  where
-    by : (b : Bool) → eqb count 0 ≡ b → (at < next) × (next ≤ size)
-    by true none = let e : next ≡ size = is ∙ ap (λ c. cond c size (min size (at + count))) none in (omega (arith, e, low), omega (arith, e))
-    by false none = let e : next ≡ min size (at + count) = is ∙ ap (λ c. cond c size (min size (at + count))) none in (omega (arith, e, low, eqb-false count 0 none), omega (arith, e))
 
 pub others_on : (to : List ℕ) (old mid new : Option Holding) → Told old mid (OthersStay to) → Told mid new (OthersStay to) → Told old new (OthersStay to)
 others_on to old mid new first next = told_then old mid new _ _ _ first next (λ m n k one two q other. two q other ∙ one q other)

@@ -38,6 +38,10 @@ pub fn analyze<F: Files>(
     ensures analyzed { IfOk result (λ parts. Told (F.holds files.old) (F.holds files.new)
         (Analyzes name.now parts.items)) }
 
+    // No number is greater than four bytes hold, over any files.
+    ensures small { IfOk result (λ parts.
+        AllByRecursion (λ n. n < 256 ^ 4) (all_per parts.items)) }
+
     // What stays.
     ensures kept { OnErr result (Told (F.holds files.old) (F.holds files.new)
         (KeepsBoth name.now)) }
@@ -69,6 +73,8 @@ fn analyze_clean<F: Files>(
     requires clean { IfTold (F.holds files.old) (Finds name.now []) }
     ensures analyzed { IfOk result (λ parts. Told (F.holds files.old) (F.holds files.new)
         (Analyzes name.now parts.items)) }
+    ensures small { IfOk result (λ parts.
+        AllByRecursion (λ n. n < 256 ^ 4) (all_per parts.items)) }
     ensures kept { OnErr result (Told (F.holds files.old) (F.holds files.new)
         (KeepsBoth name.now)) }
     ensures others { Told (F.holds files.old) (F.holds files.new) (OthersStay name.now) }

@@ -1,5 +1,8 @@
 //! Copying a file by pieces.
-ghost use Rattle.std.specs.Prelude.{◌≡◌, ◌≢◌, ◌<◌, ◌+◌, ◌==◌, [], Some, length, min, if◌then◌else◌, IfOk, IfErr, OnOk, IsTrue};
+//!
+//! A file that is not there, or ends before its length, counts as want of memory: no file that tells what it
+//! holds has been lost since it was checked. So a copy is never short of what it is a copy of.
+ghost use Rattle.std.specs.Prelude.{◌≡◌, ◌≢◌, ◌<◌, [], Some, length, IfOk, IfErr, OnOk, IsTrue};
 ghost use Rattle.myi_base.specs.Holding.{IfTold, Told, Sets, OthersStay, bytes_of};
 ghost use Rattle.myi_base.specs.Causes.{HasCause};
 ghost use Rattle.myi_order.specs.Faults.{CutsOff};
@@ -12,7 +15,7 @@ use std::alloc::Global;
 /// How many bytes are copied at a time.
 const PIECE: u64 = 131_072;
 
-/// Copies the bytes of a file into another, which is made anew. A file that is not there has none.
+/// Copies the bytes of a file into another, which is made anew.
 pub(crate) fn copy_file<F: Files>(
     alloc: Global,
     files: &mut F,
@@ -27,7 +30,9 @@ pub(crate) fn copy_file<F: Files>(
     ensures cut { IfErr result CutsOff }
     ensures cause { HasCause OrderFault.File (F.faults files.old) (F.faults files.new) result }
 {
-    let size = files.length(from)?.unwrap_or(0);
+    let Some(size) = files.length(from)? else {
+        return Err(OrderFault::Memory);
+    };
     files.cut(to, 0)?;
     let mut piece = Vec::new(alloc);
     piece.resize(PIECE.min(size) as usize, 0)?;
@@ -56,20 +61,12 @@ fn copy_pieces<F: Files>(
     let mut at = 0;
     while at < size {
         let count = copy_piece(files, from, to, at, piece)?;
-        at = after(at, count, size);
+        if count == 0 {
+            return Err(OrderFault::Memory);
+        }
+        at = at.saturating_add(count as u64).min(size);
     }
     Ok(())
-}
-
-// Where copying goes on behind so many bytes: at the end where the file gave none.
-fn after(at: u64, count: usize, size: u64) -> u64
-    requires { at < size }
-    ensures { result ≡ (if count == 0 then size else min size (at + count)) }
-{
-    if count == 0 {
-        return size;
-    }
-    at.saturating_add(count as u64).min(size)
 }
 
 // Copies the bytes that a file has from a place on, as many as the piece holds, to the same place of the
