@@ -97,7 +97,7 @@ unfolding ok_or
 ok_same x y r a b = sym (ap (ok_or x) a) ∙ ap (ok_or x) b
 
 -- what is recovered is sound
-sound_of : (defs : Defs) (extend : Bool) (d : List ℕ) (now : ℕ) (e y : List ℕ) → Recovered defs extend d now e y → AreSound e y
+pub sound_of : (defs : Defs) (extend : Bool) (d : List ℕ) (now : ℕ) (e y : List ℕ) → Recovered defs extend d now e y → AreSound e y
 sound_of defs extend d now e y made = (record defs { raw = take (num_at 6 2 defs.raw) y }, made.rebuilt.definitions, none_where_clean _ e y made.rebuilt.definitions made.rebuilt.clean)
 
 -- a table was repaired

@@ -1,13 +1,13 @@
 -- What words are to the options that have a value.
-use Rattle.std.proofs.Common.{◌≡◌, ◌≢◌, ◌⊎◌, inl, inr, ℕ, zero, suc, Bool, true, false, List, [], ◌∷◌, ◌++◌, length, take, drop, map, Option, Some, None, refl, sym, ap, subst, ◌∙◌, filter, get_or, append_assoc, arith}
-use Rattle.std.specs.Prelude.{◌&&◌, ◌||◌, ◌-◌, not, nat_lt, ◌==◌, slice_index, codes, if◌then◌else◌}
+use Rattle.std.proofs.Common.{◌≡◌, ◌⊎◌, inl, inr, ℕ, suc, Bool, true, false, List, [], ◌∷◌, ◌++◌, length, take, map, Option, Some, None, refl, sym, ap, subst, ◌∙◌, filter, get_or, append_assoc, arith}
+use Rattle.std.specs.Prelude.{◌&&◌, ◌-◌, not, nat_lt, ◌==◌, slice_index, codes, if◌then◌else◌}
 use Rattle.std.specs.List.{flat_map}
 use Rattle.std.specs.Str.{bytes_eq}
 use Rattle.std.proofs.lemmas.Bool.{cases_Bool, lt-ltb, eqb-true}
 use Rattle.std.proofs.lemmas.Slice.Eq.{bytes_eq-Decides}
 use Rattle.myisamkit.specs.declared.options.Flag.{Flag}
-use Rattle.myisamkit.specs.Words.{is_end, is_option, is_long, flags_of, flags_in, names_in, before_end, after_end, has_dash, before_valued, letters_alone, joined, spelled_by, spelled_out}
-use Rattle.myisamkit.specs.Options.{letter_flag, long_flag, sort_flag, sort_records}
+use Rattle.myisamkit.specs.Words.{is_end, is_option, is_long, flags_of, flags_in, names_in, before_end, after_end, has_dash, before_valued, letters_alone, joined, spelled_out}
+use Rattle.myisamkit.specs.Options.{letter_flag, sort_flag, sort_records}
 
 -- the words that are no options, and those that are
 abbrev pub names_among : List (List ℕ) → List (List ℕ)

@@ -1,17 +1,15 @@
 -- Words that are read one after the other, and what they are together.
-use Rattle.std.proofs.Common.{◌≡◌, ◌≢◌, ◌⊎◌, inl, inr, ℕ, zero, suc, Bool, true, false, List, [], ◌∷◌, ◌++◌, length, take, drop, map, Option, Some, None, refl, sym, ap, subst, ◌∙◌, filter, get_or}
-use Rattle.std.specs.Prelude.{◌&&◌, ◌||◌, not, nat_lt, ◌==◌, slice_index, codes, is_some, if◌then◌else◌, option_and_then, option_map}
-use Rattle.std.specs.List.{list_all, flat_map}
-use Rattle.std.specs.Str.{bytes_eq}
-use Rattle.std.proofs.lemmas.Bool.{cases_Bool}
+use Rattle.std.proofs.Common.{◌≡◌, ℕ, Bool, true, false, List, [], ◌∷◌, ◌++◌, map, Option, Some, None, refl, sym, ap, ◌∙◌}
+use Rattle.std.specs.Prelude.{◌&&◌, ◌||◌, not, is_some, if◌then◌else◌, option_and_then, option_map}
+use Rattle.std.specs.List.{list_all}
 use Rattle.myisamkit.specs.declared.options.Flag.{Flag}
 use Rattle.myisamkit.specs.declared.options.Options.{Options}
 use Rattle.myisamkit.specs.declared.options.Seen.{Seen}
 use Rattle.myisamkit.specs.declared.words.Read.{Read}
 use Rattle.myisamkit.specs.declared.words.Names.{Names}
-use Rattle.myisamkit.specs.Words.{is_end, is_option, is_long, is_name, is_empty, names_table, flags_of, flags_in, names_in, before_end, after_end, are_accepted, has_dash, before_valued, letters_alone, joined, spelled_by, spelled_out, table_name}
-use Rattle.myisamkit.specs.Options.{go_together, options_in, letter_flag, sort_flag, sort_records}
-use Rattle.myisamkit.specs.Reading.{seen_after, seen_with, options_seen, read_words, read_word, read_name, read_flags, read_flags_by, read_value, options_read, chk_options, is_table, names_behind, tables_left}
+use Rattle.myisamkit.specs.Words.{is_end, is_option, is_name, is_empty, flags_of, flags_in, names_in, are_accepted, has_dash, before_valued, letters_alone, joined, spelled_by, spelled_out, table_name}
+use Rattle.myisamkit.specs.Options.{go_together, options_in, sort_flag}
+use Rattle.myisamkit.specs.Reading.{seen_after, seen_with, options_seen, read_words, read_word, read_name, read_flags, read_flags_by, options_read, chk_options, tables_left}
 use Rattle.myisamkit.proofs.OptionLaws.{seen_of, seen-append, options_met}
 use Rattle.myisamkit.proofs.ValueLaws.{end_names, end_flags, name_names, name_flags, option_names, option_flags, IsValued, is_valued, IsPlain, is_plain, long_word, long_flags, long_no_end, long_option, HasHead, head_of}
 

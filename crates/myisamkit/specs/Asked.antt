@@ -1,9 +1,9 @@
 -- What words that are accepted ask for, and why words are refused.
-use Rattle.std.specs.Prelude.{◌≡◌, ◌≢◌, false, true, List, [], ◌∷◌, length, ℕ, map, codes, is_some}
+use Rattle.std.specs.Prelude.{◌≡◌, ◌≢◌, false, true, List, [], ◌∷◌, length, ℕ, None, Some, map, codes, is_some}
 use Rattle.std.specs.List.{list_all, list_any}
 use Rattle.myisamkit.specs.declared.options.Options.{Options}
 use Rattle.myisamkit.specs.declared.options.Mode.TheVariants.{Check}
-use Rattle.myisamkit.specs.Words.{is_empty, is_name, names_in, flags_in, spelled_out, table_name}
+use Rattle.myisamkit.specs.Words.{is_empty, is_name, names_in, flags_in, spelled_out, table_name, count_of, seed_of}
 use Rattle.myisamkit.specs.Options.{is_mode, is_extend, is_force, is_silent, at_most_one, mode_or}
 
 -- these words are `chk` with these options and tables
@@ -43,9 +43,23 @@ pub record AreDump (words : List (List ℕ)) (table : List ℕ) : Type 0 where
   pub in_form : is_name name ≡ true
   pub table_is : table ≡ table_name name
 
+-- these words are `make` with these numbers and this table
+pub record AreMake (words : List (List ℕ)) (count seed : ℕ) (table : List ℕ) : Type 0 where
+  pub others : List (List ℕ)
+  pub command : words ≡ codes "make" ∷ others
+  pub no_option : flags_in others ≡ []
+  pub count_word : List ℕ
+  pub seed_word : List ℕ
+  pub name : List ℕ
+  pub named : names_in others ≡ count_word ∷ seed_word ∷ name ∷ []
+  pub counted : count_of count_word ≡ Some count
+  pub seeded : seed_of seed_word ≡ Some seed
+  pub in_form : is_name name ≡ true
+  pub table_is : table ≡ table_name name
+
 -- why words are refused: the command is none, or of the words behind it one of these holds
 pub data AreRefused (words : List (List ℕ)) : Type 0 where
-  no_command : ((others : List (List ℕ)) → words ≢ codes "chk" ∷ others) → ((others : List (List ℕ)) → words ≢ codes "create" ∷ others) → ((others : List (List ℕ)) → words ≢ codes "dump" ∷ others) → AreRefused words
+  no_command : ((others : List (List ℕ)) → words ≢ codes "chk" ∷ others) → ((others : List (List ℕ)) → words ≢ codes "create" ∷ others) → ((others : List (List ℕ)) → words ≢ codes "dump" ∷ others) → ((others : List (List ℕ)) → words ≢ codes "make" ∷ others) → AreRefused words
   no_name : (others : List (List ℕ)) → words ≡ codes "chk" ∷ others → is_empty (names_in (spelled_out others)) ≡ true → AreRefused words
   bad_name : (others : List (List ℕ)) → words ≡ codes "chk" ∷ others → list_all is_name (names_in (spelled_out others)) ≡ false → AreRefused words
   unknown_option : (others : List (List ℕ)) → words ≡ codes "chk" ∷ others → list_all is_some (flags_in (spelled_out others)) ≡ false → AreRefused words
@@ -58,3 +72,8 @@ pub data AreRefused (words : List (List ℕ)) : Type 0 where
   dump_option : (others : List (List ℕ)) → words ≡ codes "dump" ∷ others → flags_in others ≢ [] → AreRefused words
   dump_names : (others : List (List ℕ)) → words ≡ codes "dump" ∷ others → length (names_in others) ≢ 1 → AreRefused words
   dump_bad_name : (others : List (List ℕ)) (name : List ℕ) → words ≡ codes "dump" ∷ others → names_in others ≡ name ∷ [] → is_name name ≡ false → AreRefused words
+  make_option : (others : List (List ℕ)) → words ≡ codes "make" ∷ others → flags_in others ≢ [] → AreRefused words
+  make_names : (others : List (List ℕ)) → words ≡ codes "make" ∷ others → length (names_in others) ≢ 3 → AreRefused words
+  make_bad_count : (others : List (List ℕ)) (count : List ℕ) (names : List (List ℕ)) → words ≡ codes "make" ∷ others → names_in others ≡ count ∷ names → count_of count ≡ None → AreRefused words
+  make_bad_seed : (others : List (List ℕ)) (count seed : List ℕ) (names : List (List ℕ)) → words ≡ codes "make" ∷ others → names_in others ≡ count ∷ seed ∷ names → seed_of seed ≡ None → AreRefused words
+  make_bad_name : (others : List (List ℕ)) (count seed name : List ℕ) → words ≡ codes "make" ∷ others → names_in others ≡ count ∷ seed ∷ name ∷ [] → is_name name ≡ false → AreRefused words

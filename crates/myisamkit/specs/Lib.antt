@@ -2,6 +2,8 @@
 
 -- the words of a command
 pub mod Words
+-- numbers among them
+pub mod Numbers
 -- which options are known, and what they ask for together
 pub mod Options
 -- what accepted words ask for; why words are refused
@@ -16,6 +18,8 @@ pub mod Statuses
 pub mod Turns
 -- what the making of a table says and leaves
 pub mod Creates
+-- what the making of a table of rows says and leaves
+pub mod Makes
 -- what a dump of a table says
 pub mod Dumps
 -- what a run says and does: its tables one after the other

@@ -66,6 +66,11 @@ fault_line name repair.Memory = []
 abbrev pub created_line : List ℕ → List ℕ
 created_line name = name ++ codes ": created\n"
 
+-- a table of so many rows was made, so many blocks of it were damaged, and so many rows were recovered
+abbrev pub made_line : List ℕ → ℕ → ℕ → ℕ → List ℕ
+made_line name count damaged kept =
+    name ++ (codes ": made " ++ (decimal count ++ (codes ", damaged " ++ (decimal damaged ++ (codes ", recovered " ++ (decimal kept ++ codes ", ok\n"))))))
+
 -- a line of a text is the first that is not in its grammar
 abbrev pub text_line : List ℕ → ℕ → List ℕ
 text_line file n = file ++ (codes ": line " ++ (decimal n ++ codes "\n"))

@@ -1,8 +1,8 @@
 -- The options of `chk` (MySQL Reference Manual, "myisamchk General Options", "Check Options", "Repair Options", "Other myisamchk Options").
-use Rattle.std.specs.Prelude.{ℕ, Bool, true, false, List, [], ◌∷◌, length, take, drop, nat_lt, nat_le, Option, None, Some, option_map, ◌==◌, ◌&&◌, not, if◌then◌else◌, codes, is_some}
+use Rattle.std.specs.Prelude.{ℕ, Bool, true, false, List, [], ◌∷◌, take, drop, Option, None, Some, option_map, ◌==◌, ◌&&◌, not, if◌then◌else◌, codes, is_some}
 use Rattle.std.specs.List.{list_all, list_any}
 use Rattle.std.specs.Str.{bytes_eq}
-use Rattle.myi_defs.specs.Text.{is_digit, value}
+use Rattle.myisamkit.specs.Numbers.{number_in}
 use Rattle.myisamkit.specs.declared.options.Mode.{Mode}
 use Rattle.myisamkit.specs.declared.options.Mode.TheVariants.{Check, Recover, Describe, Analyze, Sort}
 use Rattle.myisamkit.specs.declared.options.Flag.{Flag}
@@ -21,10 +21,9 @@ letter_flag letter =
     (if letter == 102 then Some flag.Force else
     (if letter == 115 then Some flag.Silent else None)))))))
 
--- the number of a key, from 1 to 64, in decimal digits, at most twenty
+-- the number of a key, from 1 to 64
 abbrev pub key_of : List ℕ → Option ℕ
-key_of word =
-    if (nat_lt 0 (length word) && nat_le (length word) 20) && (list_all is_digit word && (nat_lt 0 (value word) && nat_le (value word) 64)) then Some (value word) else None
+key_of word = number_in 1 64 word
 
 -- what the option that sorts rows says with this value
 abbrev pub sort_flag : List ℕ → Option Flag

@@ -9,6 +9,7 @@ use Rattle.myisamkit.specs.declared.options.Options.{Options}
 use Rattle.myisamkit.specs.declared.options.Seen.{Seen}
 use Rattle.myisamkit.specs.declared.words.Read.{Read}
 use Rattle.myisamkit.specs.declared.words.Names.{Names}
+use Rattle.myisamkit.specs.declared.words.Rows.{Rows}
 use Rattle.myisamkit.specs.Options.{sort_flag}
 use Rattle.myisamkit.specs.Words.{is_end, is_option, is_name, names_table, flags_of, before_valued, has_dash, table_name}
 
@@ -104,6 +105,33 @@ create_left ended name file [] = both_names name file
 create_left ended name file (word ∷ words) =
     if names_table ended word then option_and_then (λ both. create_left ended both.0 both.1 words) (one_name_more name file word) else
     (if is_end word then create_left true name file words else None)
+
+-- the rows of these numbers, where both are in form
+abbrev pub rows_of : Option ℕ → Option ℕ → Option Rows
+rows_of None seed = None
+rows_of (Some count) None = None
+rows_of (Some count) (Some seed) = Some (record { count = count; seed = seed })
+
+-- the three words of these
+abbrev pub all_three : Option (List ℕ) → Option (List ℕ) → Option (List ℕ) → Option (List ℕ × List ℕ × List ℕ)
+all_three None second third = None
+all_three (Some first) None third = None
+all_three (Some first) (Some second) None = None
+all_three (Some first) (Some second) (Some third) = Some (first, second, third)
+
+-- a word behind these, where one is missing
+abbrev pub one_word_more : Option (List ℕ) → Option (List ℕ) → Option (List ℕ) → List ℕ → Option (Option (List ℕ) × Option (List ℕ) × Option (List ℕ))
+one_word_more first second third word =
+    if is_none first then Some (Some word, second, third) else
+    (if is_none second then Some (first, Some word, third) else
+    (if is_none third then Some (first, second, Some word) else None))
+
+-- the three words among those behind `make` that are no options, behind these, where the word -- came or not
+abbrev pub make_left : Bool → Option (List ℕ) → Option (List ℕ) → Option (List ℕ) → List (List ℕ) → Option (List ℕ × List ℕ × List ℕ)
+make_left ended first second third [] = all_three first second third
+make_left ended first second third (word ∷ words) =
+    if names_table ended word then option_and_then (λ all. make_left ended all.0 all.1 all.2 words) (one_word_more first second third word) else
+    (if is_end word then make_left true first second third words else None)
 
 -- ---- the tables that words name, one word after the other
 

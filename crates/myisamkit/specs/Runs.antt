@@ -9,11 +9,12 @@ use Rattle.myisamkit.specs.declared.status.Status.TheVariants as status
 use Rattle.myisamkit.specs.declared.status.Stop.{Stop}
 use Rattle.myisamkit.specs.declared.status.Stop.TheVariants as stop
 use Rattle.myisamkit.specs.declared.options.Options.{Options}
-use Rattle.myisamkit.specs.Words.{Request, usage, chk, create, dump}
+use Rattle.myisamkit.specs.Words.{Request, usage, chk, create, dump, make}
 use Rattle.myisamkit.specs.Statuses.{IsFault, worse}
 use Rattle.myisamkit.specs.Lines.{usage_line}
 use Rattle.myisamkit.specs.Creates.{create_turn, CreateLeaves}
 use Rattle.myisamkit.specs.Dumps.{dump_turn}
+use Rattle.myisamkit.specs.Makes.{make_turn, MakeLeaves}
 use Rattle.myisamkit.specs.Turns.{Turn, then_turn, turn, MayFind, TurnRecovers, CutsTurnOff, FailsInTurn}
 
 -- the tables of these names, behind tables of this status: all lines, the greatest status, the files at the end
@@ -27,13 +28,15 @@ run_of usage now m = record { text = usage_line; status = status.Usage; files = 
 run_of (chk o names) now m = tables_run status.Ok o now names m
 run_of (create name file) now m = create_turn name file m
 run_of (dump name) now m = dump_turn name m
+run_of (make count seed name) now m = make_turn count seed name now m
 
--- the answer may be that something was found
+-- the answer may be that something was found: of `make` by its own check, which finds nothing where files tell
 abbrev pub MayFindAny : Request → Type 0
 MayFindAny usage = ⊥
 MayFindAny (chk o names) = MayFind o
 MayFindAny (create name file) = ⊥
 MayFindAny (dump name) = ⊥
+MayFindAny (make count seed name) = Unit {0}
 
 -- ---- the files
 
@@ -76,6 +79,7 @@ Leaves usage now before after s m n = n ≡ m
 Leaves (chk o names) now before after s m n = TablesLeave o now before after names s m n
 Leaves (create name file) now before after s m n = CreateLeaves name file s m n
 Leaves (dump name) now before after s m n = n ≡ m
+Leaves (make count seed name) now before after s m n = MakeLeaves count seed name now s m n
 
 -- what was written is this text, or a front of it where a fault cut the run off
 abbrev pub Says : List ℕ → Option (List ℕ) → Option (List ℕ) → Status → Type 0
@@ -104,6 +108,7 @@ tables_of usage = []
 tables_of (chk o names) = names
 tables_of (create name file) = name ∷ []
 tables_of (dump name) = name ∷ []
+tables_of (make count seed name) = name ∷ []
 
 -- files that are none of a request's tables hold what they held
 abbrev pub KeepsOthers : Request → Holding → Holding → Type 0

@@ -1,20 +1,22 @@
 -- What the words of a command line ask for (MySQL Reference Manual, "myisamchk"; the commands are this
 -- project's own).
-use Rattle.std.specs.Prelude.{◌-◌, None, Some, ◌&&◌, ◌||◌, true, false, ◌==◌, not, nat_lt, nat_le, ℕ, Bool, List, [], ◌∷◌, ◌++◌, length, take, drop, map, filter, slice_index, if◌then◌else◌, codes, String, string_bytes, Option}
+use Rattle.std.specs.Prelude.{◌-◌, ◌^◌, None, Some, ◌&&◌, ◌||◌, true, false, ◌==◌, not, nat_lt, nat_le, ℕ, Bool, List, [], ◌∷◌, ◌++◌, length, take, drop, map, filter, slice_index, if◌then◌else◌, codes, String, string_bytes, Option}
 use Rattle.std.specs.List.{list_all, flat_map}
 use Rattle.std.specs.Str.{bytes_eq}
 use Rattle.std.specs.declared.alloc.Global.{Global}
 use Rattle.myisamkit.specs.declared.options.Flag.{Flag}
 use Rattle.myisamkit.specs.declared.options.Options.{Options}
+use Rattle.myisamkit.specs.Numbers.{number_in}
 use Rattle.myisamkit.specs.Options.{letter_flag, long_flag, sort_records, go_together, options_in}
 
--- A command with its options and the names of its tables, or a refusal. `create` makes one table, by the text of a file, and
--- `dump` prints one.
+-- A command with its options and the names of its tables, or a refusal. `create` makes one table, by the text of a file,
+-- `dump` prints one, and `make` makes one of so many rows, which a seed decides.
 pub data Request : Type 0 where
   usage : Request
   chk : Options → List (List ℕ) → Request
   create : List ℕ → List ℕ → Request
   dump : List ℕ → Request
+  make : ℕ → ℕ → List ℕ → Request
 
 -- ---- what a word is
 
@@ -131,12 +133,38 @@ dump_of (f ∷ flags) names = usage
 abbrev pub plan_dump : List (List ℕ) → Request
 plan_dump words = dump_of (flags_in words) (names_in words)
 
+-- of how many rows a table is made, and of which seed
+abbrev pub count_of : List ℕ → Option ℕ
+count_of word = number_in 1 100000 word
+
+abbrev pub seed_of : List ℕ → Option ℕ
+seed_of word = number_in 0 (2 ^ 64 - 1) word
+
+-- where both numbers and the name are in form
+abbrev pub make_by : Option ℕ → Option ℕ → List ℕ → Request
+make_by None seed name = usage
+make_by (Some count) None name = usage
+make_by (Some count) (Some seed) name = if is_name name then make count seed (table_name name) else usage
+
+-- `make` has no options, two numbers and one table
+abbrev pub make_of : List (Option Flag) → List (List ℕ) → Request
+make_of [] [] = usage
+make_of [] (count ∷ []) = usage
+make_of [] (count ∷ (seed ∷ [])) = usage
+make_of [] (count ∷ (seed ∷ (name ∷ []))) = make_by (count_of count) (seed_of seed) name
+make_of [] (count ∷ (seed ∷ (name ∷ (other ∷ names)))) = usage
+make_of (f ∷ flags) names = usage
+
+abbrev pub plan_make : List (List ℕ) → Request
+plan_make words = make_of (flags_in words) (names_in words)
+
 abbrev pub plan : List (List ℕ) → Request
 plan [] = usage
 plan (command ∷ words) =
     if bytes_eq command (codes "chk") then plan_chk (spelled_out words) else
     (if bytes_eq command (codes "create") then plan_create words else
-    (if bytes_eq command (codes "dump") then plan_dump words else usage))
+    (if bytes_eq command (codes "dump") then plan_dump words else
+    (if bytes_eq command (codes "make") then plan_make words else usage)))
 
 -- what these words ask for
 abbrev pub request_of : List (String Global) → Request

@@ -6,7 +6,7 @@
 //! run say, answer and do is defined over what the files hold before (`Turns`, `Runs`), and the files
 //! that a repair leaves over the bytes of the two files before it (`Rattle.myi_pair.specs`,
 //! `RecoveredBytes` and `Recovered`), what a check finds over the same bytes (`Findings`); analysis and sorting are those of `myi_order`. Of the commands
-//! `chk`, `create` and `dump` are built.
+//! `chk`, `create`, `dump` and `make` are built.
 //!
 //! ```
 //! let mut words = Vec::new(alloc);
@@ -29,6 +29,8 @@ mod dump;
 mod host;
 mod laws;
 mod lines;
+mod make;
+mod numbers;
 mod options;
 mod ordering;
 mod recover;
@@ -42,7 +44,7 @@ mod words;
 
 pub use laws::{
     accepted_words_are_a_command, creating_words_are_a_command, dumping_words_are_a_command,
-    refused_words_have_a_reason,
+    making_words_are_a_command, refused_words_have_a_reason,
 };
 pub use status::Status;
 pub use top::kit;

@@ -5,6 +5,7 @@ ghost use Rattle.myi_opening.specs.Names.{file_of};
 ghost use Rattle.myisamkit.specs.Lines as spec;
 
 use myi_defs::DefFault;
+use myi_make::Made;
 use myi_opening::TableFile;
 use myi_order::KeyParts;
 use myi_pair::{Finding, HeaderItem};
@@ -77,6 +78,21 @@ pub(crate) fn created_line(alloc: Global, name: &str) -> Result<String, AllocErr
     ensures { IfOk result (λ line. string_bytes line ≡ spec.created_line name.now) }
 {
     format!(in alloc; "{name}: created\n")
+}
+
+/// The line on a table of so many rows that was made, with so many blocks damaged, and recovered.
+pub(crate) fn made_line(
+    alloc: Global,
+    name: &str,
+    count: u32,
+    made: &Made,
+) -> Result<String, AllocError>
+    ensures { IfOk result (λ line. string_bytes line
+        ≡ spec.made_line name.now count made.now.damaged made.now.report.kept) }
+{
+    let damaged = made.damaged;
+    let kept = made.report.kept;
+    format!(in alloc; "{name}: made {count}, damaged {damaged}, recovered {kept}, ok\n")
 }
 
 pub(crate) fn text_line(alloc: Global, file: &str, number: u32) -> Result<String, AllocError>

@@ -1,11 +1,11 @@
 //! The options of a command: `Flag` is what one of them says, `Seen` which were met so far, and `Options`
 //! what all of them ask for.
-ghost use Rattle.std.specs.Prelude.{◌≡◌, None, Some, nat_le, if◌then◌else◌};
-ghost use Rattle.std.specs.List.{list_all};
-ghost use Rattle.myi_defs.specs.Text.{is_digit, value};
+ghost use Rattle.std.specs.Prelude.{◌≡◌};
 ghost use Rattle.myisamkit.specs.Options as spec;
 ghost use Rattle.myisamkit.specs.Reading.{seen_with, options_seen};
 ghost use Rattle.myisamkit.specs.Turns.{without_extend};
+
+use crate::numbers::number_in;
 
 /// What is done with a table.
 #[derive(Clone, Copy, Debug, PartialEq, Eq)]
@@ -161,42 +161,10 @@ pub(crate) fn sort_flag(value: &str) -> Option<Flag>
     Some(Flag::Mode(Mode::Sort { key }))
 }
 
-// The number of a key, of which a table has at most 64, in at most twenty digits.
-fn key_of(digits: &[u8]) -> Option<u8>
-    ensures { result ≡ spec.key_of digits.now }
+// The number of a key, of which a table has at most 64.
+fn key_of(word: &[u8]) -> Option<u8>
+    ensures { result ≡ spec.key_of word.now }
 {
-    if digits.is_empty() || digits.len() > 20 || !are_digits(digits) {
-        return None;
-    }
-    let key = number_up_to_64(digits)?;
-    if key == 0 {
-        return None;
-    }
-    Some(key)
-}
-
-fn are_digits(word: &[u8]) -> bool
-    ensures { result ≡ list_all is_digit word.now }
-{
-    word.iter().all(|byte| is_digit(*byte))
-}
-
-fn is_digit(byte: u8) -> bool
-    ensures { result ≡ is_digit byte }
-{
-    byte >= b'0' && byte <= b'9'
-}
-
-// The number that digits write, where it is at most 64.
-fn number_up_to_64(digits: &[u8]) -> Option<u8>
-    ensures { result ≡ (if nat_le (value digits.now) 64 then Some (value digits.now) else None) }
-{
-    let mut number = 0u16;
-    for digit in digits {
-        number = number * 10 + (*digit as u16).saturating_sub(48);
-        if number > 64 {
-            return None;
-        }
-    }
-    Some(number as u8)
+    let key = number_in(1, 64, word)?;
+    Some(key as u8)
 }

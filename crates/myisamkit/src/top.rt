@@ -14,6 +14,7 @@ use crate::create::create_from_text;
 use crate::dump::dump_table;
 use crate::host::Host;
 use crate::lines::usage_line;
+use crate::make::make_of_rows;
 use crate::say::say;
 use crate::status::{Status, Stop};
 use crate::tables::run_tables;
@@ -53,7 +54,8 @@ pub fn kit<R: Threads + Sync, F: Files, O: Sink>(
         IsOrFault (run_of (request_of words.now) now m).status result) }
     ensures usage { IsFault result ⊎ ((request_of words.now ≡ usage) ↔ (result ≡ Status.Usage)) }
 
-    // That something was found is answered by a check without force, an analysis, or sorting, alone.
+    // That something was found is answered by a check without force, an analysis, sorting, or the
+    // check of a table that is made, alone.
     ensures findings { result ≡ Status.Findings → MayFindAny (request_of words.now) }
 
     // The tables are done, or done up to the one in whose turn a fault came; what is repaired is
@@ -114,5 +116,6 @@ fn run<R: Threads + Sync, F: Files, O: Sink>(
         Plan::Chk { options, words } => run_tables(host, files, out, &options, words, now),
         Plan::Create(name, text) => create_from_text(host.alloc, files, out, name, text),
         Plan::Dump(name) => dump_table(host.alloc, files, out, name),
+        Plan::Make(rows, name) => make_of_rows(host.alloc, files, out, rows, name, now),
     }
 }

@@ -6,7 +6,15 @@ ghost use Rattle.myisamkit.specs.Options.{letter_flag};
 ghost use Rattle.myisamkit.specs.Reading as reading;
 ghost use Rattle.myisamkit.specs.Plans.{asked};
 
+use crate::numbers::number_in;
 use crate::options::{Options, Seen, letter_flag, long_flag, sort_flag};
+
+/// How many rows a table is made of, and the seed that decides them.
+#[derive(Clone, Copy)]
+pub(crate) struct Rows {
+    pub(crate) count: u32,
+    pub(crate) seed: u64,
+}
 
 /// What the words ask for.
 #[derive(Clone, Copy)]
@@ -22,6 +30,8 @@ pub(crate) enum Plan<'a> {
     Create(&'a str, &'a str),
     /// The rows of the table of this name are printed.
     Dump(&'a str),
+    /// A table of this name is made of these rows, damaged and recovered.
+    Make(Rows, &'a str),
 }
 
 /// What was read of a list of words.
@@ -44,6 +54,7 @@ pub(crate) fn read_words(words: &[String]) -> Plan<'_>
         Some((command, others)) if command.as_str() == "chk" => plan_chk(others),
         Some((command, others)) if command.as_str() == "create" => plan_create(others),
         Some((command, others)) if command.as_str() == "dump" => plan_dump(others),
+        Some((command, others)) if command.as_str() == "make" => plan_make(others),
         _ => Plan::Usage,
     }
 }
@@ -126,6 +137,71 @@ fn only_name(words: &[String]) -> Option<&str>
         }
     }
     name
+}
+
+fn plan_make(words: &[String]) -> Plan<'_>
+    ensures { asked result ≡ spec.plan_make (map (λ w. string_bytes w) words.now) }
+{
+    match three_words(words) {
+        Some((count, seed, name)) => plan_rows(count, seed, name),
+        None => Plan::Usage,
+    }
+}
+
+// The three words among those behind `make` that are no options, where no other word stands beside them but one
+// that ends the options.
+fn three_words(words: &[String]) -> Option<(&str, &str, &str)>
+    ensures { option_map (λ w. (w.0.now, w.1.now, w.2.now)) result
+        ≡ reading.make_left false None None None (map (λ w. string_bytes w) words.now) }
+{
+    let mut first = None;
+    let mut second = None;
+    let mut third = None;
+    let mut ended = false;
+    for word in words {
+        let word = word.as_str();
+        if names_table(word, ended) {
+            if first.is_none() {
+                first = Some(word);
+            } else if second.is_none() {
+                second = Some(word);
+            } else if third.is_none() {
+                third = Some(word);
+            } else {
+                return None;
+            }
+        } else if is_end(word) {
+            ended = true;
+        } else {
+            return None;
+        }
+    }
+    Some((first?, second?, third?))
+}
+
+fn plan_rows<'a>(count: &str, seed: &str, name: &'a str) -> Plan<'a>
+    ensures { asked result
+        ≡ spec.make_by (spec.count_of count.now) (spec.seed_of seed.now) name.now }
+{
+    match rows_of(count, seed) {
+        Some(rows) if is_name(name) => Plan::Make(rows, table_name(name)),
+        _ => Plan::Usage,
+    }
+}
+
+fn rows_of(count: &str, seed: &str) -> Option<Rows>
+    ensures { result ≡ reading.rows_of (spec.count_of count.now) (spec.seed_of seed.now) }
+{
+    let count = count_of(count)?;
+    let seed = number_in(0, u64::MAX, seed.as_bytes())?;
+    Some(Rows { count, seed })
+}
+
+fn count_of(word: &str) -> Option<u32>
+    ensures { result ≡ spec.count_of word.now }
+{
+    let count = number_in(1, 100000, word.as_bytes())?;
+    Some(count as u32)
 }
 
 // The options among the words behind `chk`, where all words are in form and there is a name.

@@ -1,4 +1,4 @@
-use Rattle.myisamkit.proofs.AskedLaws.{words_refused, reasons_refuse}
+use Rattle.myisamkit.proofs.RefusedLaws.{words_refused, reasons_refuse}
 use Rattle.myisamkit.proofs.laws.refused_words_have_a_reason.Goals as goal
 
 pub returns : goal.returns
