@@ -1,6 +1,7 @@
 -- Rows at positions of a data file, by its format.
-use Rattle.std.proofs.Common.{◌≡◌, ◌≤◌, ◌+◌, ℕ, true, Some, ap, subst, sym, ◌∙◌}
+use Rattle.std.proofs.Common.{◌≡◌, ◌≤◌, ◌+◌, ℕ, true, Some, None, ap, subst, sym, ◌∙◌}
 use Rattle.myi_base.specs.Holding.{Holding, bytes_of, blocks}
+use Rattle.myi_defs.specs.declared.types.RowFormat.{RowFormat}
 use Rattle.myi_defs.specs.declared.types.RowFormat.TheVariants.{Static, Dynamic}
 use Rattle.myi_pack.specs.Packed.{Values}
 use Rattle.myi_slots.specs.SlotBytes.{is_row, row_there}
@@ -34,3 +35,17 @@ static_few r v f at reads now m is view form few = subst (λ (g : SlotFile). Rea
 
 pub dynamic_few : (r : Rows) (v d : NotedFile) (at reads now : ℕ) (m : Holding) → r ≡ rows.Dynamic d → noted_of r ≡ v → AreInFormat r → dynamic.ReadsFew d.file at reads now m → ReadsFew v.file at reads now m
 dynamic_few r v d at reads now m is view form few = subst (λ (g : SlotFile). ReadsFew g at reads now m) (dynamic_is r v d is view) (subst (λ k. ReadsFewBy k d.file at reads now m) (sym (subst AreInFormat is form)) few)
+
+-- ---- what is said of slots or of blocks, said of the file by its format
+
+static_all : (r : Rows) (v : NotedFile) (f : SlotFile) → r ≡ rows.Static f → noted_of r ≡ v → record { file = f; places = None } ≡ v
+static_all r v f is view = sym (ap (λ (q : Rows). noted_of q) is) ∙ view
+
+dynamic_all : (r : Rows) (v d : NotedFile) → r ≡ rows.Dynamic d → noted_of r ≡ v → d ≡ v
+dynamic_all r v d is view = sym (ap (λ (q : Rows). noted_of q) is) ∙ view
+
+pub static_by : (W : RowFormat → NotedFile → Type 0) (r : Rows) (v : NotedFile) (f : SlotFile) → r ≡ rows.Static f → noted_of r ≡ v → AreInFormat r → W Static (record { file = f; places = None }) → W v.file.defs.format v
+static_by W r v f is view form here = subst (λ (n : NotedFile). W n.file.defs.format n) (static_all r v f is view) (subst (λ k. W k (record { file = f; places = None })) (sym (subst AreInFormat is form)) here)
+
+pub dynamic_by : (W : RowFormat → NotedFile → Type 0) (r : Rows) (v d : NotedFile) → r ≡ rows.Dynamic d → noted_of r ≡ v → AreInFormat r → W Dynamic d → W v.file.defs.format v
+dynamic_by W r v d is view form here = subst (λ (n : NotedFile). W n.file.defs.format n) (dynamic_all r v d is view) (subst (λ k. W k d) (sym (subst AreInFormat is form)) here)

@@ -2,3 +2,5 @@
 
 -- the data file of a table that changes, in either format
 pub mod RowFile
+-- why a call is refused
+pub mod Refusals

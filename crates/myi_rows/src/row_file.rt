@@ -40,16 +40,17 @@ impl Model for RowFile {
 }
 
 impl RowFile {
-    ghost use Rattle.std.specs.Prelude.{◌≡◌, is_some, unwrap_or, None, IfOk, IfErr, OnOk, OnErr, IsTrue};
+    ghost use Rattle.std.specs.Prelude.{◌≡◌, ◌≤◌, ◌<◌, ◌-◌, true, is_some, unwrap_or, None, IfOk, IfErr, OnOk, OnErr, IsTrue};
     ghost use Rattle.myi_base.specs.Holding.{IfTold, Told, OthersStay};
     ghost use Rattle.myi_base.specs.Causes.{HasCause};
     ghost use Rattle.myi_defs.specs.Sound.{IsSound};
     ghost use Rattle.myi_pack.specs.Spelling.{fits};
     ghost use Rattle.myi_state.specs.Changes.{insert, insert_at_end, delete, update};
     ghost use Rattle.myi_slots.specs.declared.fault.DataFault.TheVariants.{File};
-    ghost use Rattle.myi_slots.specs.SlotFile.{IsLong, IfRefused, ByCause, Never, counts_in};
-    ghost use Rattle.myi_blocks.specs.Places.{StepsNoted, RefusesNoted, StaysNoted, ReadsNoted};
+    ghost use Rattle.myi_slots.specs.SlotFile.{IsLong, IfRefused, ByCause, Never, counts_in, is_reached, risen};
+    ghost use Rattle.myi_blocks.specs.Places.{StepsNoted, RefusesNoted, StaysNoted, ReadsNoted, LooksUp};
     ghost use Rattle.myi_rows.specs.RowFile.{HasRow, IsRowAt, ReadsFew, SaysNoRow};
+    ghost use Rattle.myi_rows.specs.Refusals.{FindsRow, FindsNone, TakesAway, LacksRoom, LacksEnd, LacksOther, LacksReach, FindsBad, FindsOtherBad, FindsRowBad, ReadsBad};
 
     /// The data file of that name, with these definitions of a table and this state. Nothing is read yet.
     pub fn new(alloc: Global, name: &str, defs: &Defs, state: &State) -> Result<RowFile, AllocError>
@@ -103,10 +104,18 @@ impl RowFile {
             (OthersStay self.old.file.name) }
         ensures place { IfOk result (λ at.
             at ≡ unwrap_or self.old.file.counts.dellink self.old.file.counts.length) }
+        ensures inside { IfOk result (λ at. at ≤ self.new.file.counts.length) }
+        ensures room { OnOk result
+            (is_reached self.new.file.counts.length self.old.file ≡ true) }
+        ensures records { OnOk result
+            (self.new.file.counts.records ≡ risen self.old.file.counts.records 1) }
         ensures rows { IfErr result (λ f. SaysNoRow f → ⊥) }
         ensures object { self.new.file ≡ record self.old.file {
           counts = self.new.file.counts;
         } }
+        ensures causes { IfErr result (ByCause Never
+            (LacksRoom self.old.file row.now (F.holds files.old))
+            (FindsBad self.old.file row.now (F.holds files.old))) }
         ensures unchanged { IfErr result (λ f. IfRefused f
             (F.holds files.new ≡ F.holds files.old)) }
         ensures same { OnErr result (self.new ≡ self.old) }
@@ -131,10 +140,17 @@ impl RowFile {
         ensures others { Told (F.holds files.old) (F.holds files.new)
             (OthersStay self.old.file.name) }
         ensures place { IfOk result (λ at. at ≡ self.old.file.counts.length) }
+        ensures inside { IfOk result (λ at. at ≤ self.new.file.counts.length) }
+        ensures room { OnOk result
+            (is_reached self.new.file.counts.length self.old.file ≡ true) }
+        ensures records { OnOk result
+            (self.new.file.counts.records ≡ risen self.old.file.counts.records 1) }
         ensures rows { IfErr result (λ f. SaysNoRow f → ⊥) }
         ensures object { self.new.file ≡ record self.old.file {
           counts = self.new.file.counts;
         } }
+        ensures causes { IfErr result
+            (ByCause Never (LacksEnd self.old.file row.now) Never) }
         ensures unchanged { IfErr result (λ f. IfRefused f
             (F.holds files.new ≡ F.holds files.old)) }
         ensures same { OnErr result (self.new ≡ self.old) }
@@ -157,9 +173,21 @@ impl RowFile {
             (RefusesNoted (delete at) self.old f)) }
         ensures others { Told (F.holds files.old) (F.holds files.new)
             (OthersStay self.old.file.name) }
+        ensures stood { OnOk result (TakesAway self.old self.new at (F.holds files.old)) }
+        ensures room { OnOk result
+            (is_reached self.old.file.counts.length self.old.file ≡ true) }
         ensures object { self.new.file ≡ record self.old.file {
           counts = self.new.file.counts;
         } }
+        ensures records { OnOk result
+            (self.new.file.counts.records ≡ self.old.file.counts.records - 1) }
+        ensures length { OnOk result
+            (self.new.file.counts.length ≡ self.old.file.counts.length) }
+        ensures causes { IfErr result (ByCause (λ p. (p ≡ at)
+            × FindsNone self.old.file self.new.places at (F.holds files.old))
+            (LacksReach self.old.file self.new.places at)
+            (FindsRowBad self.old.file self.new.places at (F.holds files.old))) }
+        ensures noted { OnErr result (IfTold (F.holds files.old) (LooksUp self.old self.new)) }
         ensures unchanged { IfErr result (λ f. IfRefused f
             (F.holds files.new ≡ F.holds files.old)) }
         ensures kept { OnErr result (IfTold (F.holds files.old) (StaysNoted self.old self.new)) }
@@ -189,9 +217,21 @@ impl RowFile {
             (RefusesNoted (update at row.now) self.old f)) }
         ensures others { Told (F.holds files.old) (F.holds files.new)
             (OthersStay self.old.file.name) }
+        ensures stood { OnOk result
+            (FindsRow self.old.file self.new.places at (F.holds files.old)) }
+        ensures inside { OnOk result (at < self.new.file.counts.length) }
+        ensures room { OnOk result
+            (is_reached self.new.file.counts.length self.old.file ≡ true) }
         ensures object { self.new.file ≡ record self.old.file {
           counts = self.new.file.counts;
         } }
+        ensures records { OnOk result
+            (self.new.file.counts.records ≡ self.old.file.counts.records) }
+        ensures causes { IfErr result (ByCause (λ p. (p ≡ at)
+            × FindsNone self.old.file self.new.places at (F.holds files.old))
+            (LacksOther self.old.file self.new.places at row.now (F.holds files.old))
+            (FindsOtherBad self.old.file self.new.places at row.now (F.holds files.old))) }
+        ensures noted { IfTold (F.holds files.old) (LooksUp self.old self.new) }
         ensures unchanged { IfErr result (λ f. IfRefused f
             (F.holds files.new ≡ F.holds files.old)) }
         ensures kept { OnErr result (IfTold (F.holds files.old) (StaysNoted self.old self.new)) }
@@ -204,12 +244,18 @@ impl RowFile {
         }
     }
 
-    /// The row at any position, and of a file that stands for a state `NoRow` where the state has none there.
+    /// The row at any position, which fits the definitions, and of a file that stands for a state `NoRow` where the
+    /// state has none there. `NoRow` names the position.
     pub fn read_at<F: Files>(&mut self, files: &mut F, at: u64) -> Result<Row, DataFault>
         requires long { IfTold (F.holds files.old) (IsLong self.old.file) }
         ensures told { IfTold (F.holds files.old) (ReadsNoted self.old at result) }
         ensures there { IfOk result (λ row. IfTold (F.holds files.old)
             (IsRowAt self.old.file at row)) }
+        ensures fits { IfOk result (λ row. fits self.old.file.defs row ≡ true) }
+        ensures causes { IfErr result (ByCause (λ p. (p ≡ at)
+            × FindsNone self.old.file self.new.places at (F.holds files.old))
+            ⊥ (λ p. ReadsBad self.old.file self.new.places at (F.holds files.old))) }
+        ensures noted { IfTold (F.holds files.old) (LooksUp self.old self.new) }
         ensures kept { IfTold (F.holds files.old) (StaysNoted self.old self.new) }
         ensures file { self.new.file ≡ self.old.file }
         ensures holds { F.holds files.new ≡ F.holds files.old }
@@ -228,6 +274,7 @@ impl RowFile {
         requires there { IfTold (F.holds files.old) (HasRow self.old.file at) }
         ensures told { IfOk result (λ row. IfTold (F.holds files.old)
             (IsRowAt self.old.file at row)) }
+        ensures fits { IfOk result (λ row. fits self.old.file.defs row ≡ true) }
         ensures err { IfErr result (ByCause Never ⊥ (λ p. F.holds files.old ≡ None)) }
         ensures few { IfTold (F.holds files.old)
             (ReadsFew self.old.file at (F.reads files.old) (F.reads files.new)) }
