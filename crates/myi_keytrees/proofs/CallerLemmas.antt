@@ -8,5 +8,7 @@ pub use Rattle.myi_keytrees.proofs.OpenLaws.{opened, none_in_front}
 pub use Rattle.myi_keytrees.proofs.CountLaws.{counted, few}
 -- calls_follow
 pub use Rattle.myi_keytrees.proofs.FlushLaws.{stand_start, stand_follow, stand_search}
+-- other_files_may_change
+pub use Rattle.myi_keytrees.proofs.FlushLaws.{stand_elsewhere}
 -- walks_stay_between
 pub use Rattle.myi_keytrees.proofs.OtherFile.{walks_stay, cut_keeps}

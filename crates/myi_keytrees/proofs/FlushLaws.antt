@@ -1,11 +1,12 @@
 -- What was put is written, and all trees still stand; calls follow one another.
 use Rattle.std.proofs.Common.{◌≡◌, ℕ, ◌<◌, true, Bool, Some, Option, List, [], ◌∷◌, refl, sym, ap, subst, ◌∙◌, is_some, inr}
-use Rattle.std.specs.Prelude.{IsTrue}
+use Rattle.std.specs.Prelude.{IsTrue, All, unwrap_or}
 use Rattle.std.specs.List.{AllByRecursion}
 use Rattle.std.proofs.lemmas.Option.{same_Some}
 use Rattle.myi_base.specs.Holding.{Holding, Told}
 use Rattle.myi_keycache.specs.Kept.{is_kept, NoOtherMeets, SameKept}
-use Rattle.myi_keycache.specs.Caching.{Caching, pages_of, IsCurrent, SameLent}
+use Rattle.myi_keycache.specs.Lent.{lent}
+use Rattle.myi_keycache.specs.Caching.{Caching, pages_of, IsClean, IsCurrent, SameLent}
 use Rattle.myi_keylist.specs.declared.pair.Pair.{Pair}
 use Rattle.myi_btree.specs.declared.place.Place.{Place}
 use Rattle.myi_btree.specs.declared.place.Room.{Room}
@@ -67,6 +68,24 @@ flush_stands t told next new same flushed = λ m held own lists s.
       };
       lent = λ at len x some off e. both.1 at len x e;
     }
+
+-- ---- another file
+
+told_both : (m n : Holding) (P : Holding → Holding → Type 0) → P m n → Told (Some m) (Some n) P
+told_both m n P both = record {
+  told = λ q held. (n, refl, subst (λ (x : Holding). P x n) (same_Some m q held) both);
+  untold = λ none. absurd cc;
+}
+
+pub stand_elsewhere : (t : Trees) (m n : Holding) (own : ℕ → ℕ) (lists : List (List Pair)) → n t.cache.name ≡ m t.cache.name → Stand t m own lists → StandThen t m own (Some n) t lists
+stand_elsewhere t m n own lists same s =
+    let bytes = ap (λ (o : Option (List ℕ)). unwrap_or o []) same in
+    flush_stands t (Some m) (Some n) t.cache (λ at len. refl)
+    (told_both m n (λ x y. IsCurrent t.cache x → IsCurrent t.cache y × SameLent t.cache x t.cache y)
+    (λ current. (
+      record { clean = subst (λ (b : List ℕ). All (IsClean b) (pages_of t.cache)) (sym bytes) current.clean; placed = current.placed },
+      λ at len x e. ap (λ (b : List ℕ). lent (pages_of t.cache) b at len) bytes ∙ e,
+    ))) m refl own lists s
 
 -- ---- one call after another
 

@@ -72,6 +72,13 @@ pub fn calls_follow()
         → StandThen old m own told new lists → CanSearch writable told new }
 {}
 
+/// Trees know their own file alone: where files of other names are changed they stand as before.
+pub fn other_files_may_change()
+    ensures stand { (trees : Trees) (m n : Holding) (own : ℕ → ℕ) (lists : List (List Pair))
+        → n trees.cache.name ≡ m trees.cache.name → Stand trees m own lists
+        → StandThen trees m own (Some n) trees lists }
+{}
+
 /// Trees that stand in a file stand in each other one with the same bytes between its front and a place that no page ends
 /// behind: in the file that is cut there, and in the one whose front is written over.
 pub fn walks_stay_between()

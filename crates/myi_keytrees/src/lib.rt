@@ -29,6 +29,6 @@ mod laws;
 
 pub use key_trees::KeyTrees;
 pub use laws::{
-    bytes_are_counted, calls_follow, opened_trees_stand, walks_stay_between,
-    written_trees_stand_in_the_file,
+    bytes_are_counted, calls_follow, opened_trees_stand, other_files_may_change,
+    walks_stay_between, written_trees_stand_in_the_file,
 };

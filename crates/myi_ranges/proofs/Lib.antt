@@ -1,3 +1,4 @@
+pub mod CallerLemmas
 pub mod LeftLemmas
 pub mod RowLemmas
 pub mod TreeLemmas

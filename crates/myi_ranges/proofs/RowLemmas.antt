@@ -109,9 +109,12 @@ inside size end at is = grind (arith, nat_tests)
 least : (p end at : ℕ) → p ≡ at → at ≤ end → min p end ≡ at
 least p end at is le = grind (arith)
 
-pub position_is : (f : SlotFile) (s : TableState) (m : Holding) (r : StoredRow) → IsSound f.defs → IsFileOf f s m → row_at r.at s.rows ≡ Some r → AllByRecursion (λ (q : StoredRow). position f.defs (pointer f.defs q.at) ≡ q.at) s.rows → position_within f.defs f.counts.length (pointer f.defs r.at) ≡ r.at
-position_is f s m r sound is e back = by f.defs.format refl (all_found (λ (q : StoredRow). position f.defs (pointer f.defs q.at) ≡ q.at) r.at s.rows r back e)
+pub position_named : (f : SlotFile) (s : TableState) (m : Holding) (p : ℕ) (r : StoredRow) → IsSound f.defs → IsFileOf f s m → row_at r.at s.rows ≡ Some r → position f.defs p ≡ r.at → position_within f.defs f.counts.length p ≡ r.at
+position_named f s m p r sound is e here = by f.defs.format refl here
   where
-    by : (k : RowFormat) → f.defs.format ≡ k → position_by k f.defs.slot_length (pointer f.defs r.at) ≡ r.at → position_by_end k f.defs.slot_length f.counts.length (pointer f.defs r.at) ≡ r.at
-    by Static static here = least (pointer f.defs r.at * f.defs.slot_length) f.counts.length r.at here (subst (λ (n : ℕ). r.at ≤ n) (file_long f s m is) (inside f.defs.slot_length (length (bytes_of f.name m)) r.at (slot_there f s m r.at r sound static is e).slot))
+    by : (k : RowFormat) → f.defs.format ≡ k → position_by k f.defs.slot_length p ≡ r.at → position_by_end k f.defs.slot_length f.counts.length p ≡ r.at
+    by Static static here = least (p * f.defs.slot_length) f.counts.length r.at here (subst (λ (n : ℕ). r.at ≤ n) (file_long f s m is) (inside f.defs.slot_length (length (bytes_of f.name m)) r.at (slot_there f s m r.at r sound static is e).slot))
     by Dynamic dynamic here = here
+
+pub position_is : (f : SlotFile) (s : TableState) (m : Holding) (r : StoredRow) → IsSound f.defs → IsFileOf f s m → row_at r.at s.rows ≡ Some r → AllByRecursion (λ (q : StoredRow). position f.defs (pointer f.defs q.at) ≡ q.at) s.rows → position_within f.defs f.counts.length (pointer f.defs r.at) ≡ r.at
+position_is f s m r sound is e back = position_named f s m (pointer f.defs r.at) r sound is e (all_found (λ (q : StoredRow). position f.defs (pointer f.defs q.at) ≡ q.at) r.at s.rows r back e)

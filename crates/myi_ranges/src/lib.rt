@@ -6,6 +6,7 @@
 //!
 //! - `new` takes the key and its bounds, and reads nothing.
 //! - `next_row` answers the next row with its position, and None where none is to come.
+//! - `position_of` answers where the row of a pointer stands.
 //! - The law `rows_that_come_match` says that the rows of all pairs to come are those that match the bounds.
 //!
 //! ```
@@ -21,5 +22,5 @@ mod laws;
 mod ranges;
 
 pub use fault::RangeFault;
-pub use laws::rows_that_come_match;
-pub use ranges::RangeRows;
+pub use laws::{pointers_lead_to_rows, rows_that_come_match};
+pub use ranges::{RangeRows, position_of};

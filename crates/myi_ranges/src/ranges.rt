@@ -80,8 +80,8 @@ fn first_from<F: Files>(
     Ok(pair)
 }
 
-// The position of the row that a pointer names, but in a static table no place behind the end of the file.
-fn position_of(defs: &Defs, pointer: u64, end: u64) -> u64
+/// The position of the row that a pointer names, but in a static table no place behind the end of the data file.
+pub fn position_of(defs: &Defs, pointer: u64, end: u64) -> u64
     ensures { result ≡ position_within defs.now end pointer }
 {
     match defs.format {

@@ -5,3 +5,5 @@ pub mod RowLemmas
 pub mod HeldLemmas
 pub mod FirstLemmas
 pub mod LackLemmas
+pub mod MoveLemmas
+pub mod PlaceLemmas

@@ -4,3 +4,5 @@
 pub mod RowLists
 -- the first unique key in which another row has the complete key of a row
 pub mod Duplicates
+-- where the trees of a table stand
+pub mod Places

@@ -1,8 +1,10 @@
 -- The lists of pairs that the trees of a table have, one for each key, and the pairs of a row in them.
-use Rattle.std.specs.Prelude.{◌≡◌, ◌≢◌, ◌<◌, ◌^◌, ℕ, List, [], ◌∷◌, map}
+use Rattle.std.specs.Prelude.{◌≢◌, ◌<◌, ◌^◌, ℕ, if◌then◌else◌, List, [], ◌∷◌, map}
 use Rattle.std.specs.List.{AllByRecursion}
+use Rattle.std.specs.Ordering.{is_eq}
 use Rattle.myi_defs.specs.declared.types.Defs.{Defs}
 use Rattle.myi_pack.specs.Packed.{Values}
+use Rattle.myi_keys.specs.Order.{key_cmp}
 use Rattle.myi_keylist.specs.declared.pair.Pair.{Pair}
 use Rattle.myi_keylist.specs.PairOrder.{pair_with, put_pair}
 use Rattle.myi_btree.specs.declared.place.Place.{Place}
@@ -31,6 +33,17 @@ abbrev pub take_each : List Pair → List (List Pair) → List (List Pair)
 take_each [] lists = lists
 take_each (p ∷ ps) [] = []
 take_each (p ∷ ps) (xs ∷ lists) = without_pair p xs ∷ take_each ps lists
+
+-- a pair in place of another one, but where both have one key nothing is changed
+abbrev pub moved_in : Pair → Pair → List Pair → List Pair
+moved_in was now xs = if is_eq (key_cmp was.key now.key) then xs else put_pair now (without_pair was xs)
+
+-- each pair in place of the one before, in the list of its key
+abbrev pub move_each : List Pair → List Pair → List (List Pair) → List (List Pair)
+move_each [] news lists = lists
+move_each (p ∷ olds) [] lists = lists
+move_each (p ∷ olds) (q ∷ news) [] = []
+move_each (p ∷ olds) (q ∷ news) (xs ∷ lists) = moved_in p q xs ∷ move_each olds news lists
 
 -- no pair of the lists has this pointer
 abbrev pub LackPointer : ℕ → List (List Pair) → Type 0

@@ -6,6 +6,7 @@ ghost use Rattle.myi_defs.specs.Sound.{IsSound};
 ghost use Rattle.myi_pack.specs.Packed.{Values};
 ghost use Rattle.myi_btree.specs.declared.fault.TreeFault.TheVariants.{File};
 ghost use Rattle.myi_btree.specs.Faults.{DamagedAt};
+ghost use Rattle.myi_search.specs.Counting.{CountsOn};
 ghost use Rattle.myi_data.specs.Keys.{key_of};
 ghost use Rattle.myi_state.specs.State.{TableState};
 ghost use Rattle.myi_keytrees.specs.Standing.{list_of, IfStand, StillStand, CanSearch};
@@ -69,6 +70,7 @@ fn other_row<F: Files>(
     ensures others { Told (F.holds files.old) (F.holds files.new)
         (OthersStay trees.old.cache.name) }
     ensures name { trees.new.cache.name ≡ trees.old.cache.name }
+    ensures counted { CountsOn trees.old.cache trees.new.cache }
     ensures cause { HasCause File (F.faults files.old) (F.faults files.new) result }
     ensures reads { F.reads files.old ≤ F.reads files.new }
 {
@@ -109,6 +111,7 @@ pub fn first_duplicate<F: Files>(
     ensures others { Told (F.holds files.old) (F.holds files.new)
         (OthersStay trees.old.cache.name) }
     ensures name { trees.new.cache.name ≡ trees.old.cache.name }
+    ensures counted { CountsOn trees.old.cache trees.new.cache }
     ensures cause { HasCause File (F.faults files.old) (F.faults files.new) result }
     ensures reads { F.reads files.old ≤ F.reads files.new }
 {

@@ -3,9 +3,11 @@
 //! A row has one pair for each key of its table: the row's key, and the row's pointer. `specs/RowLists` says which
 //! lists the trees of a table have, and what becomes of them where a row comes, goes or gets other values.
 //!
-//! - `pairs_of_row` makes the pairs of a row.
+//! - `pairs_of_row` makes the pairs of a row, with the pointer that `pointer_of` answers.
 //! - `first_duplicate` finds the first unique key in which another row has the row's complete key.
-//! - `put_row` puts a row's pairs into the trees, and `take_row` takes them out.
+//! - `put_row` puts a row's pairs into the trees, `take_row` takes them out, and `move_row` puts the pairs of a row in place of
+//!   those that it had.
+//! - `places_of` makes the places of a table's trees from their roots.
 //! - The laws are the contracts of the functions in `laws`.
 //!
 //! ```
@@ -20,8 +22,10 @@ mod changes;
 mod duplicates;
 mod laws;
 mod pairs;
+mod places;
 
-pub use changes::{put_row, take_row};
+pub use changes::{move_row, put_row, take_row};
 pub use duplicates::{Duplicate, first_duplicate};
-pub use laws::{lists_follow_rows, new_rows_are_in_no_list};
-pub use pairs::pairs_of_row;
+pub use laws::{lists_follow_rows, new_rows_are_in_no_list, trees_of_pairs_are_trees};
+pub use pairs::{pairs_of_row, pointer_of};
+pub use places::places_of;

@@ -1,6 +1,7 @@
 use Rattle.std.proofs.Common.{sym, ◌∙◌, arith}
 use Rattle.std.proofs.lemmas.Result.{err_from_is_err_and}
 use Rattle.myi_rowtrees.proofs.EachLemmas.{same_count, same_pointers, room_at, room_of, put_step, put_never, put_whole}
+use Rattle.myi_search.proofs.CallerLemmas.{counts_on}
 use Rattle.myi_rowtrees.proofs.ToldLemmas.{if_err, others_follow}
 use Rattle.myi_rowtrees.proofs.changes.put_row.Goals as goal
 
@@ -17,6 +18,9 @@ returns-in_err-insert-clause-never g c =
     if_err c.from_residual.result e.0 _ e.1
     (λ p d. put_never c.args.trees.now c.loop-i.trees (g.F.Files.holds c.args.files.now) (g.F.Files.holds c.loop-i.files) c.args.pairs.now c.loop-i.i c.loop-i.invariant.put (c.in_err-insert.ensures.never p (sym e.2 ∙ d)))
 
+pub returns-in_err-insert-clause-counted : goal.returns-in_err-insert-clause-counted
+returns-in_err-insert-clause-counted g c = counts_on c.args.trees.now.cache c.loop-i.trees.cache c.insert.new.self.cache c.loop-i.invariant.counted c.in_err-insert.ensures.counted
+
 pub loop-i-preserved : goal.loop-i-preserved
 loop-i-preserved g c =
     let k = c.loop-i.invariant in
@@ -25,6 +29,7 @@ loop-i-preserved g c =
       put = put_step c.args.trees.now c.loop-i.trees c.insert.new.self (g.F.Files.holds c.args.files.now) (g.F.Files.holds c.loop-i.files) (g.F.Files.holds c.insert.new.files) c.args.pairs.now c.loop-i.i c.index-pairs-i.result k.put n.inserted c.loop-i-test.true c.requires.each (sym c.index-pairs-i.is);
       kinds = n.kinds ∙ k.kinds;
       whole = n.whole;
+      counted = counts_on c.args.trees.now.cache c.loop-i.trees.cache c.insert.new.self.cache k.counted n.counted;
       others = others_follow (g.F.Files.holds c.args.files.now) (g.F.Files.holds c.loop-i.files) (g.F.Files.holds c.insert.new.files) c.args.trees.now.cache.name c.loop-i.trees.cache.name k.name k.others n.others;
       name = n.name ∙ k.name;
       faults = let one = k.faults in let two = n.cause.later in omega (arith, one, two);

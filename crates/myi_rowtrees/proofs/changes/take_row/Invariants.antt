@@ -1,5 +1,6 @@
 use Rattle.std.proofs.Common.{◌≡◌, ◌≤◌, take}
 use Rattle.myi_base.specs.Holding.{Told, OthersStay}
+use Rattle.myi_search.specs.Counting.{CountsOn}
 use Rattle.myi_insertion.specs.Rooms.{IsWhole}
 use Rattle.myi_keytrees.specs.Trees.{SameKinds}
 use Rattle.myi_keytrees.specs.Standing.{StandThen, IfStand}
@@ -13,6 +14,7 @@ invariant-loop-i g l = record {
       StandThen l.fn.trees m own (g.F.Files.holds l.files) l.trees (take_each (take l.i l.pairs) lists));
   kinds : SameKinds l.fn.trees.places l.trees.places;
   whole : IsWhole l.trees.room;
+  counted : CountsOn l.fn.trees.cache l.trees.cache;
   others : Told (g.F.Files.holds l.fn.files) (g.F.Files.holds l.files) (OthersStay l.fn.trees.cache.name);
   name : l.trees.cache.name ≡ l.fn.trees.cache.name;
   faults : g.F.Files.faults l.fn.files ≤ g.F.Files.faults l.files;

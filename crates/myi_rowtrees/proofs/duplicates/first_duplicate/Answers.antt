@@ -3,6 +3,7 @@ use Rattle.std.specs.Prelude.{option_map}
 use Rattle.std.proofs.lemmas.Result.{err_from_is_err_and}
 use Rattle.myi_tablestate.specs.Listed.{position}
 use Rattle.myi_rowtrees.specs.Duplicates.{others}
+use Rattle.myi_search.proofs.CallerLemmas.{counts_on}
 use Rattle.myi_rowtrees.proofs.ToldLemmas.{if_err, others_follow}
 use Rattle.myi_rowtrees.proofs.FirstLemmas.{still_follow, first_none, first_some, first_all, list_at, key_at, none_of}
 use Rattle.myi_rowtrees.proofs.duplicates.first_duplicate.Goals as goal
@@ -31,6 +32,12 @@ returns-in-Some-clause-first g c = λ m told own lists st s values pointer t sam
 pub returns-in-Some-clause-stand : goal.returns-in-Some-clause-stand
 returns-in-Some-clause-stand g c = still_follow (g.F.Files.holds c.args.files.now) (g.F.Files.holds c.loop-i.files) (g.F.Files.holds c.other_row.new.files) c.args.trees.now c.loop-i.trees c.other_row.new.trees c.loop-i.invariant.stand c.in_ok-row.ensures.stand
 
+pub returns-in_err-row-clause-counted : goal.returns-in_err-row-clause-counted
+returns-in_err-row-clause-counted g c = counts_on c.args.trees.now.cache c.loop-i.trees.cache c.other_row.new.trees.cache c.loop-i.invariant.counted c.in_err-row.ensures.counted
+
+pub returns-in-Some-clause-counted : goal.returns-in-Some-clause-counted
+returns-in-Some-clause-counted g c = counts_on c.args.trees.now.cache c.loop-i.trees.cache c.other_row.new.trees.cache c.loop-i.invariant.counted c.in_ok-row.ensures.counted
+
 pub loop-i-preserved : goal.loop-i-preserved
 loop-i-preserved g c =
     let d = c.args.defs.now in
@@ -49,6 +56,7 @@ loop-i-preserved g c =
       room = n.room ∙ k.room;
       others = others_follow (g.F.Files.holds c.args.files.now) (g.F.Files.holds c.loop-i.files) (g.F.Files.holds c.other_row.new.files) c.args.trees.now.cache.name c.loop-i.trees.cache.name k.name k.others n.others;
       name = n.name ∙ k.name;
+      counted = counts_on c.args.trees.now.cache c.loop-i.trees.cache c.other_row.new.trees.cache k.counted n.counted;
       search = n.search c.requires.writable;
       faults = let one = k.faults in let two = n.cause.later in omega (arith, one, two);
       reads = let one = k.reads in let two = n.reads in omega (arith, one, two);

@@ -1,5 +1,6 @@
 use Rattle.std.proofs.Common.{◌≡◌, ◌≤◌, ℕ, take, None}
 use Rattle.myi_base.specs.Holding.{Told, OthersStay}
+use Rattle.myi_search.specs.Counting.{CountsOn}
 use Rattle.myi_pack.specs.Packed.{Values}
 use Rattle.myi_rowkeys.specs.TableKeys.{key_numbers}
 use Rattle.myi_state.specs.State.{TableState}
@@ -19,6 +20,7 @@ invariant-loop-i g l = record {
   room : l.trees.room ≡ l.fn.trees.room;
   others : Told (g.F.Files.holds l.fn.files) (g.F.Files.holds l.files) (OthersStay l.fn.trees.cache.name);
   name : l.trees.cache.name ≡ l.fn.trees.cache.name;
+  counted : CountsOn l.fn.trees.cache l.trees.cache;
   search : CanSearch g.F.Files.writable (g.F.Files.holds l.files) l.trees;
   faults : g.F.Files.faults l.fn.files ≤ g.F.Files.faults l.files;
   reads : g.F.Files.reads l.fn.files ≤ g.F.Files.reads l.files;
