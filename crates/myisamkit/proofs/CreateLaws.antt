@@ -17,7 +17,7 @@ use Rattle.myi_defs.proofs.CallerLemmas.{print_reads, text_defs, text_bytes}
 use Rattle.myi_pair.proofs.CallerLemmas.{empty_is_clean}
 use Rattle.myi_create.specs.declared.fault.CreateFault.{CreateFault}
 use Rattle.myi_create.specs.Names.{ThreeNames, names_for}
-use Rattle.myi_create.specs.Creating.{by_text, definitions_of, definitions_in, Makes, MakesPart, Creates, IsCutOff, IsRefused}
+use Rattle.myi_create.specs.Creating.{by_text, definitions_of, Makes, MakesPart, Creates, IsCutOff, IsRefused}
 use Rattle.myisamkit.specs.declared.status.Status.{Status}
 use Rattle.myisamkit.specs.declared.status.Status.TheVariants as status
 use Rattle.myisamkit.specs.declared.status.Stop.{Stop}

@@ -1,10 +1,9 @@
 -- Tables that have their turns one after the other: what is done and what is left give the whole.
-use Rattle.std.proofs.Common.{◌≡◌, ◌≤◌, ◌<◌, suc, None, drop, get_or, ◌⊎◌, ℕ, Bool, true, false, List, [], ◌∷◌, ◌++◌, Option, Some, refl, sym, subst, ap, ◌∙◌, inl, inr, map, append_assoc, append-nil, take, length, length-append, arith, ◌+◌}
-use Rattle.std.specs.Prelude.{nat_lt, not, ◌||◌, if◌then◌else◌}
+use Rattle.std.proofs.Common.{◌≡◌, ◌≤◌, ◌<◌, suc, None, drop, get_or, ℕ, Bool, true, false, List, [], ◌∷◌, ◌++◌, Option, Some, refl, sym, subst, ap, ◌∙◌, inl, inr, map, append_assoc, append-nil, take, length, length-append, arith, ◌+◌}
+use Rattle.std.specs.Prelude.{nat_lt, if◌then◌else◌}
 use Rattle.std.proofs.Math.Seq.{take-append-add, drop-cons}
 use Rattle.std.proofs.Common.{add-one}
 use Rattle.std.proofs.lemmas.List.{take-append-le}
-use Rattle.std.proofs.lemmas.Bool.{cases_Bool}
 use Rattle.myisamkit.proofs.TurnLaws.{cut_earlier}
 use Rattle.myi_base.specs.Holding.{Holding, IfTold, Told}
 use Rattle.myi_base.specs.Output.{AppendsPart}

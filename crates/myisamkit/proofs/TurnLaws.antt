@@ -18,8 +18,7 @@ use Rattle.myi_repair.specs.Repaired.{LeavesRepaired, OldOrNew}
 use Rattle.myisamkit.specs.declared.options.Mode.{Mode}
 use Rattle.myisamkit.specs.declared.options.Mode.TheVariants.{Check, Recover, Describe, Analyze, Sort}
 use Rattle.myisamkit.specs.declared.options.Options.{Options}
-use Rattle.myi_opening.specs.Opening as opening
-use Rattle.myi_opening.specs.Names.{index_file, rows_file}
+use Rattle.myi_opening.specs.Names.{index_file}
 use Rattle.myi_repair.specs.Names.{new_index_file}
 use Rattle.myi_data.specs.Stored.{SizedRow}
 use Rattle.myi_pair.specs.Clean.{IsClean}

@@ -1,4 +1,4 @@
-use Rattle.std.proofs.Common.{arith, ◌≡◌, ◌≢◌, ◌<◌, length, false, true, map, drop, ◌+◌, string_bytes, sym, subst, ap, ◌∙◌, Err}
+use Rattle.std.proofs.Common.{arith, ◌≡◌, ◌≢◌, ◌<◌, length, true, map, drop, ◌+◌, string_bytes, sym, subst, ap, ◌∙◌, Err}
 use Rattle.std.specs.Prelude.{IfErr, OnErr}
 use Rattle.std.proofs.lemmas.Result.{err_from_is_err_and}
 use Rattle.myi_base.specs.Holding.{Told, IfTold}
