@@ -1,0 +1,10 @@
+-- What a reader of the contracts has to believe.
+
+-- the object, when it stands for a table, and what its calls do
+pub mod KeyedRows
+-- how the refusals of the calls on the two files are told
+pub mod Faults
+-- What serves private contracts.
+
+-- a row that is tested in the unique keys
+pub mod Checking
