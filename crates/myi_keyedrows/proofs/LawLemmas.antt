@@ -22,6 +22,9 @@ use Rattle.myi_keyedrows.specs.Checking.{Looks, next_at}
 use Rattle.myi_keyedrows.proofs.HoldLemmas.{fits_again, kept_follow, kept_long}
 use Rattle.myi_keyedrows.proofs.StepLemmas.{KeyedLaws}
 use Rattle.myi_slots.specs.SlotFile.{IsLong}
+use Rattle.myi_keycache.specs.Caching.{Caching}
+use Rattle.myi_search.specs.Counting.{CountsOn}
+use Rattle.myi_search.proofs.CallerLemmas.{counts_none}
 
 -- steps that are made, and tables that stay tables
 pub record StepLaws : Type 0 where
@@ -86,3 +89,11 @@ read_fit old new fit same trees = fits_again old new fit (ap (λ (f : SlotFile).
 
 pub read_kept : (told next : Option Holding) (old new : KeyedRows) → IsKept told old → StillHold told next old new → next ≡ told → IsKept next new
 read_kept told next old new kept still same = kept_follow old new told next (λ none. same ∙ none) still kept
+
+-- ---- the counters of the key cache
+
+pub counted_none : (old : KeyedRows) (trees : Trees) → trees ≡ old.trees → CountsOn old.trees.cache trees.cache
+counted_none old trees same = subst (λ (t : Trees). CountsOn old.trees.cache t.cache) (sym same) (counts_none old.trees.cache)
+
+pub counted_back : (old mid : KeyedRows) (cache : Caching) → mid.trees ≡ old.trees → CountsOn mid.trees.cache cache → CountsOn old.trees.cache cache
+counted_back old mid cache same on = subst (λ (t : Trees). CountsOn t.cache cache) same on

@@ -4,6 +4,7 @@ use Rattle.myi_base.specs.Holding.{Holding, Told, OthersStay}
 use Rattle.myi_defs.specs.declared.types.Defs.{Defs}
 use Rattle.myi_pack.specs.Packed.{Values}
 use Rattle.myi_keylist.specs.declared.pair.Pair.{Pair}
+use Rattle.myi_search.specs.Counting.{CountsOn}
 use Rattle.myi_state.specs.declared.counts.Counts.{Counts}
 use Rattle.myi_state.specs.State.{StoredRow, row_at}
 use Rattle.myi_state.specs.Changes.{Change, insert, insert_at_end}
@@ -55,4 +56,5 @@ pub record Looks (told next : Option Holding) (old new : KeyedRows) : Type 0 whe
   pub places : new.trees.places ≡ old.trees.places
   pub room : new.trees.room ≡ old.trees.room
   pub name : new.trees.cache.name ≡ old.trees.cache.name
+  pub counted : CountsOn old.trees.cache new.trees.cache
   pub others : Told told next (OthersStay old.trees.cache.name)

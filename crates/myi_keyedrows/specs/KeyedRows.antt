@@ -20,7 +20,8 @@ use Rattle.myi_keyedrows.specs.declared.fault.KeyedFault.TheVariants as fault
 abbrev pub defs_of : KeyedRows → Defs
 defs_of k = k.rows.file.defs
 
--- for each key there is a tree, whose pages have row pointers of the table's width; the room has whole pages; the two files are two
+-- for each key there is a tree, whose pages have row pointers of the table's width; the end of the room and its free places are
+-- multiples of 1024; the two files have different names
 pub record IsFit (k : KeyedRows) : Type 0 where
   pub sound : IsSound (defs_of k)
   pub each : length k.trees.places ≡ length (defs_of k).keys
@@ -77,7 +78,7 @@ IsReplyOf reply fault.Memory = Unit {0}
 abbrev pub Refuses : Change → Option Holding → KeyedRows → KeyedFault → Type 0
 Refuses c told old f = IfHold told old (λ m own s. IsReplyOf (keyed_step (defs_of old) s c).reply f)
 
--- a refusal that is a reply changes nothing
+-- the fault is the reply of a step, and this holds
 abbrev pub IfReply : KeyedFault → Type 0 → Type 0
 IfReply (fault.NoRow at) P = P
 IfReply (fault.Duplicate key at) P = P
@@ -85,6 +86,12 @@ IfReply fault.Full P = P
 IfReply (fault.Damaged at) P = Unit {0}
 IfReply fault.File P = Unit {0}
 IfReply fault.Memory P = Unit {0}
+
+-- the numbers of the data file, the roots of the trees and the room are as before
+pub record IsLeft (old new : KeyedRows) : Type 0 where
+  pub file : new.rows.file ≡ old.rows.file
+  pub places : new.trees.places ≡ old.trees.places
+  pub room : new.trees.room ≡ old.trees.room
 
 -- it is the same table: its definitions, and the names of its two files
 pub record IsSameTable (old new : KeyedRows) : Type 0 where

@@ -1,27 +1,27 @@
-//! Why a change of a table did not take place.
+//! Why a change of a table was refused or cut off.
 use myi_btree::TreeFault;
 use myi_slots::DataFault;
 use std::alloc::AllocError;
 use thiserror::Error;
 
-/// Why a change of a table did not take place, or a row was not read.
+/// Why a change of a table was refused or cut off.
 #[derive(Clone, Copy, Debug, PartialEq, Eq, Error)]
 pub enum KeyedFault {
     /// In the unique key of that number, counted from 1, the row at this position has the complete key of the
-    /// row. Nothing was changed.
+    /// row. The table is as before.
     #[error("the row at {at} has the same key {key}")]
     Duplicate { key: u64, at: u64 },
-    /// No row stands at this position. Nothing was changed.
+    /// No row stands at this position. The table is as before.
     #[error("no row stands at {at}")]
     NoRow { at: u64 },
-    /// The data file would become longer than row pointers reach. Nothing was changed.
+    /// The data file would become longer than row pointers reach. The table is as before.
     #[error("the table is full")]
     Full,
     /// What stands at this place of the data file is not what the deleted list or a row needs there, or at this
-    /// place of the index file no page of a tree.
+    /// place of the index file no page of a tree; it does not say of which file. What the files hold then is free.
     #[error("the table is damaged at {at}")]
     Damaged { at: u64 },
-    /// A file call failed. The files' count of faults rose.
+    /// A file call failed. The files' count of faults rose. The row may be written and the trees changed in part.
     #[error("a file of the table cannot be read or written")]
     File,
     #[error("out of memory")]

@@ -89,6 +89,7 @@ impl KeyedRows {
     ghost use Rattle.myi_base.specs.Causes.{HasCause};
     ghost use Rattle.myi_pack.specs.Packed.{Values};
     ghost use Rattle.myi_pack.specs.Spelling.{fits};
+    ghost use Rattle.myi_search.specs.Counting.{CountsOn};
     ghost use Rattle.myi_state.specs.State.{row_at};
     ghost use Rattle.myi_state.specs.Changes.{insert, insert_at_end, delete, update};
     ghost use Rattle.myi_pair.specs.FirstRows.{key_numbers};
@@ -96,7 +97,8 @@ impl KeyedRows {
     ghost use Rattle.myi_rowtrees.specs.RowLists.{row_pairs};
     ghost use Rattle.myi_rowtrees.specs.Duplicates.{others};
     ghost use Rattle.myi_keyedrows.specs.declared.fault.KeyedFault.TheVariants.{File};
-    ghost use Rattle.myi_keyedrows.specs.KeyedRows.{IsFit, IsKept, IfHold, StillHold, Makes, Refuses, IfReply, IsSameTable, ChangesItsOwn};
+    ghost use Rattle.myi_keyedrows.specs.KeyedRows.{IsFit, IsKept, IfHold, StillHold, Makes, Refuses, IfReply, IsLeft, IsSameTable, ChangesItsOwn};
+    ghost use Rattle.myi_keytrees.specs.Trees.{SameKinds};
     ghost use Rattle.myi_keyedrows.specs.Checking.{come, IsHeldBy, Looks, HasPairsAt, IsAbsent};
 
     // Refuses a row with these pairs where another row has its complete key in a unique key. Of a row that is in the
@@ -158,6 +160,9 @@ impl KeyedRows {
         ensures apart { IfErr result (λ f. IfReply f
             (Told (F.holds files.old) (F.holds files.new) (OthersStay self.old.trees.cache.name))) }
         ensures others { ChangesItsOwn (F.holds files.old) (F.holds files.new) self.old }
+        ensures left { IfErr result (λ f. IfReply f (IsLeft self.old self.new)) }
+        ensures kinds { SameKinds self.old.trees.places self.new.trees.places }
+        ensures counted { CountsOn self.old.trees.cache self.new.trees.cache }
         ensures same { IsSameTable self.old self.new }
         ensures fit { IsFit self.new }
         ensures cause { HasCause File (F.faults files.old) (F.faults files.new) result }
@@ -199,6 +204,9 @@ impl KeyedRows {
         ensures apart { IfErr result (λ f. IfReply f
             (Told (F.holds files.old) (F.holds files.new) (OthersStay self.old.trees.cache.name))) }
         ensures others { ChangesItsOwn (F.holds files.old) (F.holds files.new) self.old }
+        ensures left { IfErr result (λ f. IfReply f (IsLeft self.old self.new)) }
+        ensures kinds { SameKinds self.old.trees.places self.new.trees.places }
+        ensures counted { CountsOn self.old.trees.cache self.new.trees.cache }
         ensures same { IsSameTable self.old self.new }
         ensures fit { IsFit self.new }
         ensures cause { HasCause File (F.faults files.old) (F.faults files.new) result }
@@ -229,6 +237,9 @@ impl KeyedRows {
         ensures apart { IfErr result (λ f. IfReply f
             (Told (F.holds files.old) (F.holds files.new) (OthersStay self.old.trees.cache.name))) }
         ensures others { ChangesItsOwn (F.holds files.old) (F.holds files.new) self.old }
+        ensures left { IfErr result (λ f. IfReply f (IsLeft self.old self.new)) }
+        ensures kinds { SameKinds self.old.trees.places self.new.trees.places }
+        ensures counted { CountsOn self.old.trees.cache self.new.trees.cache }
         ensures same { IsSameTable self.old self.new }
         ensures fit { IsFit self.new }
         ensures cause { HasCause File (F.faults files.old) (F.faults files.new) result }
@@ -284,6 +295,9 @@ impl KeyedRows {
             (StillHold (F.holds files.old) (F.holds files.new) self.old self.new)) }
         ensures apart { IfErr result (λ f. IfReply f (F.holds files.new ≡ F.holds files.old)) }
         ensures others { ChangesItsOwn (F.holds files.old) (F.holds files.new) self.old }
+        ensures left { IfErr result (λ f. IfReply f (IsLeft self.old self.new)) }
+        ensures kinds { SameKinds self.old.trees.places self.new.trees.places }
+        ensures counted { CountsOn self.old.trees.cache self.new.trees.cache }
         ensures same { IsSameTable self.old self.new }
         ensures fit { IsFit self.new }
         ensures cause { HasCause File (F.faults files.old) (F.faults files.new) result }
@@ -322,6 +336,9 @@ impl KeyedRows {
         ensures apart { IfErr result (λ f. IfReply f
             (Told (F.holds files.old) (F.holds files.new) (OthersStay self.old.trees.cache.name))) }
         ensures others { ChangesItsOwn (F.holds files.old) (F.holds files.new) self.old }
+        ensures left { IfErr result (λ f. IfReply f (IsLeft self.old self.new)) }
+        ensures kinds { SameKinds self.old.trees.places self.new.trees.places }
+        ensures counted { CountsOn self.old.trees.cache self.new.trees.cache }
         ensures same { IsSameTable self.old self.new }
         ensures fit { IsFit self.new }
         ensures cause { HasCause File (F.faults files.old) (F.faults files.new) result }

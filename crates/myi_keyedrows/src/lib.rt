@@ -2,8 +2,8 @@
 //!
 //! `KeyedRows` is a data file (`myi_rows`) and the trees in its index file (`myi_keytrees`) side by side. It stands for a table
 //! (`myi_tablestate`), and each change is a step of it: a row that repeats the complete key of another one in a unique
-//! key is refused before anything is written. It keeps no header: what the index file has before its first page stays as
-//! it is, and whoever opens and closes the table reads and writes it.
+//! key is refused before a row or a pair is written. It keeps no header: bytes of the index file that are no page and no
+//! room stay as they are, and whoever opens and closes the table reads and writes them.
 //!
 //! - `insert` puts a row where the first deleted slot or block is, or behind the end; `insert_at_end` behind the end always;
 //!   `update` gives a row other values; `delete` takes one away.

@@ -10,7 +10,7 @@ use Rattle.myi_keyedrows.proofs.HoldLemmas.{still_follow, kept_long}
 use Rattle.myi_keyedrows.proofs.RowLemmas.{noted_holds}
 use Rattle.myi_keyedrows.proofs.StepLemmas.{half_made, half_whole, half_never, refuses_data, refuses_tree, reply_data}
 use Rattle.myi_keyedrows.proofs.AnswerLemmas.{Goes, goes_absent, goes_free, goes_follow, goes_never, has_as}
-use Rattle.myi_keyedrows.proofs.LawLemmas.{StepLaws, laws_of, both_fit, read_fit, read_kept}
+use Rattle.myi_keyedrows.proofs.LawLemmas.{counted_none, counted_back, StepLaws, laws_of, both_fit, read_fit, read_kept}
 use Rattle.myi_keyedrows.proofs.keyed_rows.KeyedRows.delete.Goals as goal
 
 pub returns-in_err-had-clause-refused : goal.returns-in_err-had-clause-refused
@@ -134,3 +134,15 @@ returns-clause-made g c =
     let has = has_as told old c.args.defs.now (defs_of mid) at c.in_ok-had.had.items had same c.as_slice.ensures.value c.in_ok-had.ensures.pairs in
     half_whole (delete at) old mid rows c.take_row.new.trees told next last at fit.apart c.in_ok-had.ensures.file (ap (λ (f : SlotFile). f.defs) c.in_ok-delete_at.ensures.object) (ap (λ (f : SlotFile). f.name) c.in_ok-delete_at.ensures.object)
     keyed (goes_free told old at) half (goes_follow told next last old mid c.take_row.new.trees had at goes has c.in_ok-take_row.ensures.taken) c.in_ok-take_row.ensures.others
+
+pub returns-in_err-had-clause-counted : goal.returns-in_err-had-clause-counted
+returns-in_err-had-clause-counted g c = counted_none c.args.self.now c.pairs_at.new.self.trees c.in_err-had.ensures.trees
+
+pub returns-in_err-delete_at-clause-counted : goal.returns-in_err-delete_at-clause-counted
+returns-in_err-delete_at-clause-counted g c = counted_none c.args.self.now c.pairs_at.new.self.trees c.in_ok-had.ensures.trees
+
+pub returns-in_err-take_row-clause-counted : goal.returns-in_err-take_row-clause-counted
+returns-in_err-take_row-clause-counted g c = counted_back c.args.self.now c.pairs_at.new.self c.take_row.new.trees.cache c.in_ok-had.ensures.trees c.in_err-take_row.ensures.counted
+
+pub returns-clause-counted : goal.returns-clause-counted
+returns-clause-counted g c = counted_back c.args.self.now c.pairs_at.new.self c.take_row.new.trees.cache c.in_ok-had.ensures.trees c.in_ok-take_row.ensures.counted

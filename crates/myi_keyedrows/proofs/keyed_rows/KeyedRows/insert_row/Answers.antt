@@ -8,6 +8,7 @@ use Rattle.myi_keyedrows.specs.declared.fault.KeyedFault.{KeyedFault}
 use Rattle.myi_keyedrows.specs.declared.keyed_rows.KeyedRows.{KeyedRows}
 use Rattle.myi_keyedrows.specs.KeyedRows.{defs_of, Refuses, IfReply, StillHold}
 use Rattle.myi_keyedrows.specs.Checking.{come}
+use Rattle.myi_search.proofs.CallerLemmas.{counts_none, counts_on}
 use Rattle.myi_keyedrows.proofs.FaultLemmas.{if_err}
 use Rattle.myi_keyedrows.proofs.RowLemmas.{pairs_long, pairs_fit}
 use Rattle.myi_keyedrows.proofs.StepLemmas.{half_made, half_whole, half_never, refuses_data, refuses_tree, reply_data}
@@ -162,3 +163,18 @@ returns-clause-made g c =
     let last = g.F.Files.holds c.put_row.new.files in
     half_whole ch old mid c.put_in_file.new.rows c.put_row.new.trees told next last at fit.apart (looked_file told then old mid looks) (ap (λ (f : SlotFile). f.defs) c.in_ok-at.ensures.object) (ap (λ (f : SlotFile). f.name) c.in_ok-at.ensures.object)
     keyed none half (comes_follow ch row told next last old mid c.put_row.new.trees pairs at come_laws placed c.in_ok-put_row.ensures.put) c.in_ok-put_row.ensures.others
+
+pub returns-in_err-made-clause-counted : goal.returns-in_err-made-clause-counted
+returns-in_err-made-clause-counted g c = counts_none c.args.self.now.trees.cache
+
+pub returns-in_err-refuse_duplicate-clause-counted : goal.returns-in_err-refuse_duplicate-clause-counted
+returns-in_err-refuse_duplicate-clause-counted g c = c.in_err-refuse_duplicate.ensures.looks.counted
+
+pub returns-in_err-at-clause-counted : goal.returns-in_err-at-clause-counted
+returns-in_err-at-clause-counted g c = c.in_ok-refuse_duplicate.ensures.looks.counted
+
+pub returns-in_err-put_row-clause-counted : goal.returns-in_err-put_row-clause-counted
+returns-in_err-put_row-clause-counted g c = counts_on c.args.self.now.trees.cache c.refuse_duplicate.new.self.trees.cache c.put_row.new.trees.cache c.in_ok-refuse_duplicate.ensures.looks.counted c.in_err-put_row.ensures.counted
+
+pub returns-clause-counted : goal.returns-clause-counted
+returns-clause-counted g c = counts_on c.args.self.now.trees.cache c.refuse_duplicate.new.self.trees.cache c.put_row.new.trees.cache c.in_ok-refuse_duplicate.ensures.looks.counted c.in_ok-put_row.ensures.counted

@@ -29,6 +29,7 @@ returns-in_err-found-clause-looks g c = record {
   places = c.in_err-found.ensures.places;
   room = c.in_err-found.ensures.room;
   name = c.in_err-found.ensures.name;
+  counted = c.in_err-found.ensures.counted;
   others = c.in_err-found.ensures.others;
 }
 
@@ -45,6 +46,7 @@ returns-in_default-clause-looks g c = record {
   places = c.in_ok-found.ensures.places;
   room = c.in_ok-found.ensures.room;
   name = c.in_ok-found.ensures.name;
+  counted = c.in_ok-found.ensures.counted;
   others = c.in_ok-found.ensures.others;
 }
 
@@ -62,5 +64,6 @@ returns-clause-looks g c = record {
   places = c.in_ok-found.ensures.places;
   room = c.in_ok-found.ensures.room;
   name = c.in_ok-found.ensures.name;
+  counted = c.in_ok-found.ensures.counted;
   others = c.in_ok-found.ensures.others;
 }

@@ -11,12 +11,13 @@ use Rattle.myi_keyedrows.specs.declared.keyed_rows.KeyedRows.{KeyedRows}
 use Rattle.myi_keyedrows.specs.declared.fault.KeyedFault.{KeyedFault}
 use Rattle.myi_keyedrows.specs.KeyedRows.{defs_of, Refuses, IfReply, StillHold}
 use Rattle.myi_keyedrows.specs.Checking.{IsHeldBy}
+use Rattle.myi_search.proofs.CallerLemmas.{counts_on}
 use Rattle.myi_keyedrows.proofs.FaultLemmas.{if_err}
 use Rattle.myi_keyedrows.proofs.HoldLemmas.{still_follow}
 use Rattle.myi_keyedrows.proofs.RowLemmas.{pairs_long, pairs_fit, noted_holds}
 use Rattle.myi_keyedrows.proofs.StepLemmas.{half_made, half_whole, half_never, refuses_data, refuses_tree, reply_data, reply_any}
 use Rattle.myi_keyedrows.proofs.AnswerLemmas.{Back, OfHolder, Moves, stays_absent, stays_free, stays_held, moves_follow, moves_never, held_before, has_as}
-use Rattle.myi_keyedrows.proofs.LawLemmas.{StepLaws, laws_of, looked_defs, looked_file, looked_fit, looked_long, both_fit, read_fit, read_kept}
+use Rattle.myi_keyedrows.proofs.LawLemmas.{counted_none, counted_back, StepLaws, laws_of, looked_defs, looked_file, looked_fit, looked_long, both_fit, read_fit, read_kept}
 use Rattle.myi_keyedrows.proofs.keyed_rows.KeyedRows.update.Goals as goal
 
 pub returns-in_err-had-clause-refused : goal.returns-in_err-had-clause-refused
@@ -381,3 +382,21 @@ returns-clause-made g c =
     let last = g.F.Files.holds c.move_row.new.files in
     half_whole (update at row) old mid rows c.move_row.new.trees told next last at fit.apart alike (ap (λ (f : SlotFile). f.defs) c.in_ok-update_at.ensures.object) (ap (λ (f : SlotFile). f.name) c.in_ok-update_at.ensures.object)
     keyed none half (moves_follow row told next last old mid c.move_row.new.trees had pairs at moves has placed c.in_ok-move_row.ensures.moved) c.in_ok-move_row.ensures.others
+
+pub returns-in_err-had-clause-counted : goal.returns-in_err-had-clause-counted
+returns-in_err-had-clause-counted g c = counted_none c.args.self.now c.pairs_at.new.self.trees c.in_err-had.ensures.trees
+
+pub returns-in_err-made-clause-counted : goal.returns-in_err-made-clause-counted
+returns-in_err-made-clause-counted g c = counted_none c.args.self.now c.pairs_at.new.self.trees c.in_ok-had.ensures.trees
+
+pub returns-in_err-refuse_duplicate-clause-counted : goal.returns-in_err-refuse_duplicate-clause-counted
+returns-in_err-refuse_duplicate-clause-counted g c = counted_back c.args.self.now c.pairs_at.new.self c.refuse_duplicate.new.self.trees.cache c.in_ok-had.ensures.trees c.in_err-refuse_duplicate.ensures.looks.counted
+
+pub returns-in_err-update_at-clause-counted : goal.returns-in_err-update_at-clause-counted
+returns-in_err-update_at-clause-counted g c = counted_back c.args.self.now c.pairs_at.new.self c.refuse_duplicate.new.self.trees.cache c.in_ok-had.ensures.trees c.in_ok-refuse_duplicate.ensures.looks.counted
+
+pub returns-in_err-move_row-clause-counted : goal.returns-in_err-move_row-clause-counted
+returns-in_err-move_row-clause-counted g c = counted_back c.args.self.now c.pairs_at.new.self c.move_row.new.trees.cache c.in_ok-had.ensures.trees (counts_on c.pairs_at.new.self.trees.cache c.refuse_duplicate.new.self.trees.cache c.move_row.new.trees.cache c.in_ok-refuse_duplicate.ensures.looks.counted c.in_err-move_row.ensures.counted)
+
+pub returns-clause-counted : goal.returns-clause-counted
+returns-clause-counted g c = counted_back c.args.self.now c.pairs_at.new.self c.move_row.new.trees.cache c.in_ok-had.ensures.trees (counts_on c.pairs_at.new.self.trees.cache c.refuse_duplicate.new.self.trees.cache c.move_row.new.trees.cache c.in_ok-refuse_duplicate.ensures.looks.counted c.in_ok-move_row.ensures.counted)
