@@ -1,11 +1,12 @@
 //! Stored cases of data files that change: calls, read from standard input, and what they answer.
 //!
-//! `docs/CASES.md` has the grammar of the lines, which `case_lines` reads. The modules `lists`,
-//! `blocks` and `rows` have one call each, and the table of their calls in `answer`. The stored input and output lie beside `src`.
+//! `docs/CASES.md` has the grammar of the lines, which `case_lines` reads. The modules `lists`, `blocks`,
+//! `row_files` and `rows` have one call each, and the table of their calls in `answer`. The stored input and output lie beside `src`.
 #![tactic(auto)]
 
 mod blocks;
 mod lists;
+mod row_files;
 mod rows;
 mod tables;
 
@@ -21,6 +22,9 @@ impl Calls for TheCalls {
             return Some(answer);
         }
         if let Some(answer) = blocks::answer(words, name, args) {
+            return Some(answer);
+        }
+        if let Some(answer) = row_files::answer(words, name, args) {
             return Some(answer);
         }
         rows::answer(words, name, args)
