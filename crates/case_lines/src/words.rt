@@ -10,7 +10,8 @@ ghost use Rattle.myi_defs.specs.ReadDefs.{AreDefs};
 
 use hex::FromHexError;
 use myi_base::pointer_of;
-use myi_defs::{DefFault, Defs, TextFault, definitions_are_sound, parse_text, read_defs};
+use myi_defs::{DefFault, Defs, definitions_are_sound, read_defs};
+use myi_deftext::{TextFault, parse_text};
 use myi_io::MemFiles;
 use myi_keys::{KeyFault, KeyVal, decode};
 use std::alloc::{AllocError, AllocFailed, Global};

@@ -1,6 +1,7 @@
 //! The definitions of a table.
 use case_lines::{Fault, Words, digest, number, word};
-use myi_defs::{DefFault, Defs, Field, Key, Segment, TextFault, parse_text, print_defs, read_defs};
+use myi_defs::{DefFault, Defs, Field, Key, Segment, print_defs, read_defs};
+use myi_deftext::{TextFault, parse_text};
 use std::alloc::AllocError;
 
 fn push_field(out: &mut String, field: &Field) -> Result<(), AllocError> {

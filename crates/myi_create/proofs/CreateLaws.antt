@@ -5,9 +5,9 @@ use Rattle.std.proofs.lemmas.List.{append_cancel_left, append-nil, take_all, dro
 use Rattle.myi_base.specs.Holding.{Holding, IfTold, Told, Sets, Cuts, Writes, bytes_of, resized, overwritten, Measures, IsFront}
 use Rattle.myi_base.proofs.CallerLemmas.{told_then, told_more}
 use Rattle.myi_defs.specs.declared.types.Defs.{Defs}
-use Rattle.myi_defs.specs.declared.parse.TextFault.{TextFault}
-use Rattle.myi_defs.specs.declared.parse.TextFault.TheVariants as text
-use Rattle.myi_defs.specs.ParseText.{parse_text}
+use Rattle.myi_deftext.specs.declared.parse.TextFault.{TextFault}
+use Rattle.myi_deftext.specs.declared.parse.TextFault.TheVariants as text
+use Rattle.myi_deftext.specs.ParseText.{parse_text}
 use Rattle.myi_create.specs.declared.fault.CreateFault.{CreateFault}
 use Rattle.myi_create.specs.declared.fault.CreateFault.TheVariants.{Memory}
 use Rattle.myi_create.specs.Names.{ThreeNames, names_for, AreApart}

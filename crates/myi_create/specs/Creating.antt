@@ -3,9 +3,9 @@
 use Rattle.std.specs.Prelude.{◌≡◌, ◌≢◌, ◌⊎◌, ℕ, List, [], Option, Some, None, Result, Ok, Err}
 use Rattle.myi_base.specs.Holding.{Holding, IfTold}
 use Rattle.myi_defs.specs.declared.types.Defs.{Defs}
-use Rattle.myi_defs.specs.declared.parse.TextFault.{TextFault}
-use Rattle.myi_defs.specs.declared.parse.TextFault.TheVariants as text
-use Rattle.myi_defs.specs.ParseText.{parse_text}
+use Rattle.myi_deftext.specs.declared.parse.TextFault.{TextFault}
+use Rattle.myi_deftext.specs.declared.parse.TextFault.TheVariants as text
+use Rattle.myi_deftext.specs.ParseText.{parse_text}
 use Rattle.myi_defs.specs.EmptyTable.{empty_header}
 use Rattle.myi_create.specs.declared.fault.CreateFault.{CreateFault}
 use Rattle.myi_create.specs.declared.fault.CreateFault.TheVariants.{Absent, Line, Def, File, Memory}

@@ -9,7 +9,8 @@ ghost use Rattle.myi_create.specs.Creating.{definitions_of, definitions_in, Make
 
 use crate::fault::CreateFault;
 use crate::names::NewFiles;
-use myi_defs::{Defs, parse_text, print_defs};
+use myi_defs::{Defs, print_defs};
+use myi_deftext::parse_text;
 use myi_io::{Files, read_front};
 use std::alloc::Global;
 

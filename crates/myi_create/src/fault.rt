@@ -2,7 +2,8 @@
 ghost use Rattle.std.specs.Prelude.{◌≡◌};
 ghost use Rattle.myi_create.specs.declared.fault.CreateFault.TheVariants.{Memory};
 
-use myi_defs::{DefFault, TextFault};
+use myi_defs::DefFault;
+use myi_deftext::TextFault;
 use myi_io::FileErr;
 use std::alloc::{AllocError, AllocFailed};
 use thiserror::Error;

@@ -2,11 +2,8 @@
 
 -- definitions_are_sound
 pub use Rattle.myi_defs.proofs.SoundLaws.{sound}
-pub use Rattle.myi_defs.proofs.ReadLemmas.{are_defs}
+pub use Rattle.myi_defs.proofs.ReadLemmas.{are_defs, raw-header}
 -- definitions_rest_on_the_header
 pub use Rattle.myi_defs.proofs.ElsewhereLaws.{read_defs-take, elsewhere}
 -- empty_tables_print_again
 pub use Rattle.myi_defs.proofs.PrintLemmas.{printed-again, print_reads}
--- texts_are_read_by_the_grammar
-pub use Rattle.myi_defs.proofs.ParseLaws.{made}
-pub use Rattle.myi_defs.proofs.BytesLaws.{text_defs, text_bytes}

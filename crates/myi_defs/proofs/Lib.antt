@@ -8,9 +8,3 @@ pub mod SoundSegments
 pub mod PrintLemmas
 pub mod SameLemmas
 pub mod ElsewhereLaws
-pub mod TextLemmas
-pub mod SaysLaws
-pub mod GrammarLaws
-pub mod ParseLaws
-pub mod BytesLaws
-pub mod TableHeaderLaws

@@ -315,7 +315,9 @@ fn lacks_room(block_length: u16, rec_ref: u8, segments: &[SegItem]) -> bool
     needed > block_length as u32
 }
 
-pub(crate) fn seg_cost(length: u16) -> u32
+/// The most bytes that a segment of this length takes in the code of a key: its own, and before them its length
+/// in one byte, or in three.
+pub fn seg_cost(length: u16) -> u32
     ensures { result ≡ kinds.seg_cost length }
 {
     if length < 254 {

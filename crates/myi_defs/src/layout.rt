@@ -9,7 +9,7 @@ pub const FRONT_LENGTH: usize = 24;
 pub const BASE_LENGTH: usize = 100;
 /// What a header says of the length of the state. It has as many bytes without those of its keys, page sizes
 /// and key parts, and with the first 24.
-pub(crate) const STATE_LENGTH: u16 = 176;
+pub const STATE_LENGTH: u16 = 176;
 /// Where the roots of the trees stand in a header.
 pub const ROOTS_PLACE: usize = 124;
 /// The last bytes of the base section of an index file that this project wrote: "RK", and the version
@@ -20,12 +20,12 @@ pub const MARK_PLACE: usize = 94;
 /// Pages stand at multiples of this many bytes.
 const PAGE_UNIT: usize = 1024;
 
-/// The most keys of a table, segments of a key and fields of a table.
-pub(crate) const MOST_KEYS: u8 = 64;
-
-pub(crate) const MOST_SEGMENTS: u8 = 16;
-
-pub(crate) const MOST_FIELDS: u16 = 4096;
+/// The most keys of a table.
+pub const MOST_KEYS: u8 = 64;
+/// The most segments of a key.
+pub const MOST_SEGMENTS: u8 = 16;
+/// The most fields of a table.
+pub const MOST_FIELDS: u16 = 4096;
 
 /// Where the parts of a header stand whose place depends on its counts.
 #[derive(Clone, Copy)]
@@ -56,7 +56,7 @@ impl Layout {
 }
 
 /// Where the base section stands.
-pub(crate) fn base_place(keys: u32, page_sizes: u32, key_parts: u32) -> u32
+pub fn base_place(keys: u32, page_sizes: u32, key_parts: u32) -> u32
     requires keys { keys ≤ 65535 }
     requires sizes { page_sizes ≤ 65535 }
     requires parts { key_parts ≤ 65535 }

@@ -6,9 +6,9 @@
 //!
 //! The model is the definition "read definitions" (`specs/ReadDefs`) over the bytes of an index file: the
 //! first of fifteen numbered conditions that holds, or the definitions. `read_defs` answers it. `print_defs`
-//! gives the header of an empty table with given definitions, and `parse_text` the definitions that a
-//! creating text stands for. `Defs::addressable` says which data files row pointers reach, and
-//! `definitions_are_sound` is the law on which the crates above rest.
+//! gives the header of an empty table with given definitions. `Defs::addressable` says which data files
+//! row pointers reach, and `definitions_are_sound` is the law on which the crates above rest. `Front`,
+//! `SegItem` and the constants are what a header is made of, for who prints one.
 //!
 //! ```
 //! match read_defs(alloc, &bytes) {
@@ -30,22 +30,18 @@ mod header;
 mod laws;
 mod layout;
 mod outline;
-mod parse;
 mod places;
 mod print;
 mod read;
-mod text;
-mod text_header;
 mod types;
 
-pub use laws::{
-    definitions_are_sound, definitions_rest_on_the_header, empty_tables_print_again,
-    headers_say_the_table, texts_are_read_by_the_grammar, texts_describe_one_table,
-};
+pub use conditions::seg_cost;
+pub use header::{Front, SegItem};
+pub use laws::{definitions_are_sound, definitions_rest_on_the_header, empty_tables_print_again};
 pub use layout::{
-    BASE_LENGTH, FRONT_LENGTH, Layout, MARK, MARK_PLACE, ROOTS_PLACE, first_page_behind,
+    BASE_LENGTH, FRONT_LENGTH, Layout, MARK, MARK_PLACE, MOST_FIELDS, MOST_KEYS, MOST_SEGMENTS,
+    ROOTS_PLACE, STATE_LENGTH, base_place, first_page_behind,
 };
-pub use parse::{TextFault, parse_text};
-pub use print::print_defs;
+pub use print::{append_state, append_zeros, print_defs};
 pub use read::read_defs;
 pub use types::{DefFault, Defs, Field, FieldKind, Key, RowFormat, SegType, Segment};

@@ -65,9 +65,9 @@ fn base_bytes(raw: &[u8], at: usize) -> &[u8]
     &raw[at..at + MARK_PLACE]
 }
 
-/// Appends the state of a table without rows.
+/// Appends the state of a table without rows, whose index file has this length.
 #[tactic(auto, unfolding(crate::specs::EmptyTable::empty_state))]
-pub(crate) fn append_state(
+pub fn append_state(
     out: &mut Vec<u8>,
     front: &Front,
     index_length: u64,
@@ -86,8 +86,9 @@ pub(crate) fn append_state(
     Ok(())
 }
 
+/// Appends so many zeros.
 #[tactic(auto, unfolding(crate::specs::EmptyTable::zeros))]
-pub(crate) fn append_zeros(out: &mut Vec<u8>, count: usize) -> Result<(), AllocError>
+pub fn append_zeros(out: &mut Vec<u8>, count: usize) -> Result<(), AllocError>
     ensures { OnOk result (out.new.items ≡ out.old.items ++ spec.zeros count) }
 {
     match out.len().checked_add(count) {

@@ -2,13 +2,13 @@
 use Rattle.std.proofs.Common.{◌≡◌, ◌≢◌, ◌∙◌, Ok, Err, refl, sym}
 use Rattle.std.specs.Prelude.{Result}
 use Rattle.myi_defs.specs.declared.types.Defs.{Defs}
-use Rattle.myi_defs.specs.declared.parse.TextFault.{TextFault}
-use Rattle.myi_defs.specs.declared.parse.TextFault.TheVariants as fault
+use Rattle.myi_deftext.specs.declared.parse.TextFault.{TextFault}
+use Rattle.myi_deftext.specs.declared.parse.TextFault.TheVariants as fault
 use Rattle.myi_base.specs.Numbers.{num, num_bytes}
-use Rattle.myi_defs.specs.ParseText.{parse_text}
-use Rattle.myi_defs.specs.Text.{step, line_of, two_words, format_of, field_line, kind_of, number, is_decimal, value, unique_of, seg_line, seg_of, signed_of, unsigned_of}
+use Rattle.myi_deftext.specs.ParseText.{parse_text}
+use Rattle.myi_deftext.specs.Text.{step, line_of, two_words, format_of, field_line, kind_of, number, is_decimal, value, unique_of, seg_line, seg_of, signed_of, unsigned_of}
 use Rattle.myi_defs.specs.ReadDefs.{read_defs, is_short, has_other_magic, has_wrong_lengths, refusal}
-use Rattle.myi_defs.specs.TextHeader.{text_header, base_spelling, front_said, front_spelling, key_bytes, seg_bytes}
+use Rattle.myi_deftext.specs.TextHeader.{text_header, base_spelling, front_said, front_spelling, key_bytes, seg_bytes}
 use Rattle.myi_defs.specs.Conditions.{has_fulltext, has_long_keys, has_spatial, has_wrong_blocks, has_wrong_collation, has_wrong_fields, has_wrong_front, has_wrong_keys, has_wrong_place, has_wrong_pointers, has_wrong_row, has_wrong_segment, has_wrong_types, is_misplaced}
 use Rattle.myi_defs.specs.EmptyTable.{empty_header, empty_state, front_bytes, base_bytes, nulls, zeros}
 use Rattle.myi_defs.specs.Header.{base, field_item, field_items, front, key_item, key_items, outline, seg_item, seg_items}

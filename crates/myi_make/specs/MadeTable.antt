@@ -6,8 +6,8 @@ use Rattle.myi_defs.specs.declared.types.RowFormat.TheVariants.{Dynamic}
 use Rattle.myi_defs.specs.declared.types.FieldKind.TheVariants.{Normal, Blob, Varchar}
 use Rattle.myi_defs.specs.declared.types.SegType.TheVariants.{LongInt, VarText}
 use Rattle.myi_defs.specs.declared.types.Defs.{Defs}
-use Rattle.myi_defs.specs.Text.{lines, said}
-use Rattle.myi_defs.specs.TextHeader.{text_header}
+use Rattle.myi_deftext.specs.Text.{lines, said}
+use Rattle.myi_deftext.specs.TextHeader.{text_header}
 use Rattle.myi_pack.specs.Packed.{Values}
 use Rattle.myi_pack.specs.Spelling.{spelling}
 use Rattle.myi_data.specs.Stored.{own_block}

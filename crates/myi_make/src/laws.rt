@@ -2,7 +2,7 @@
 //! proved with the crate and stands for the crates above.
 ghost use Rattle.std.specs.Prelude.{◌≡◌, ◌≤◌, ℕ, true, length, Ok};
 ghost use Rattle.myi_defs.specs.ReadDefs.{read_defs};
-ghost use Rattle.myi_defs.specs.ParseText.{parse_text};
+ghost use Rattle.myi_deftext.specs.ParseText.{parse_text};
 ghost use Rattle.myi_defs.specs.EmptyTable.{empty_header};
 ghost use Rattle.myi_pack.specs.Spelling.{fits, spelling};
 ghost use Rattle.myi_make.specs.MadeTable.{text, header, defs, row_of};

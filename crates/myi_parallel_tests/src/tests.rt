@@ -3,7 +3,7 @@ ghost use Rattle.std.specs.Prelude.{◌≡◌, All, length, IfOk};
 ghost use Rattle.myi_btree.specs.Sizes.{IsPlaced, AreSized};
 
 use myi_btree::{Laid, Place};
-use myi_defs::parse_text;
+use myi_deftext::parse_text;
 use myi_io::MemFiles;
 use myi_keylist::PairList;
 use myi_parallel::{KeyGate, KeyPairs, OpenGate, Workers, lay_all, parallel_recover};

@@ -5,8 +5,8 @@ use Rattle.std.specs.List.{prefix_len}
 use Rattle.std.proofs.lemmas.List.{take-append-drop, append-nil}
 use Rattle.std.proofs.Math.Seq.{take-append_seam, drop-append_seam}
 use Rattle.myi_defs.specs.declared.types.Defs.{Defs}
-use Rattle.myi_defs.specs.Text.{number}
-use Rattle.myi_defs.specs.Grammar.{IsNumber}
+use Rattle.myi_deftext.specs.Text.{number}
+use Rattle.myi_deftext.specs.Grammar.{IsNumber}
 use Rattle.myi_keys.specs.declared.values.KeySeg.{KeySeg}
 use Rattle.myi_locks.specs.declared.steps.LockKind.TheVariants.{Read, ReadLocal, Write}
 use Rattle.myi_script.specs.declared.types.Act.{Act}

@@ -9,7 +9,7 @@ use Rattle.myi_defs.specs.declared.types.FieldKind.TheVariants as kind
 use Rattle.myi_defs.specs.declared.types.SegType.TheVariants as seg
 use Rattle.myi_defs.specs.declared.types.Segment.{Segment}
 use Rattle.myi_defs.specs.declared.types.Defs.{Defs}
-use Rattle.myi_defs.specs.Text.{value}
+use Rattle.myi_deftext.specs.Text.{value}
 use Rattle.myi_keys.specs.declared.values.KeySeg.{KeySeg}
 use Rattle.myi_script.specs.declared.types.Act.{Act}
 use Rattle.myi_script.specs.declared.types.Act.TheVariants as act

@@ -5,7 +5,7 @@ use Rattle.std.specs.Result.{MatchResult, is_ok}
 use Rattle.std.specs.Str.{IsUtf8, is_utf8}
 use Rattle.std.proofs.lemmas.Str.{IsUtf8-from_is_utf8, is_utf8-from_IsUtf8}
 use Rattle.myi_defs.specs.declared.types.Defs.{Defs}
-use Rattle.myi_defs.specs.Text.{lines}
+use Rattle.myi_deftext.specs.Text.{lines}
 use Rattle.myi_script.specs.declared.types.Act.{Act}
 use Rattle.myi_script.specs.declared.types.Line.{Line}
 use Rattle.myi_script.specs.Grammar.{IsLine}

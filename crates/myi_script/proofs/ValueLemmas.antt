@@ -5,8 +5,8 @@ use Rattle.std.specs.List.{AllByRecursion, list_all}
 use Rattle.std.proofs.lemmas.Bool.Decides.{nat_tests, eqb_tells}
 use Rattle.std.proofs.Math.Seq.{take-append_seam}
 use Rattle.myi_base.specs.Numbers.{low_num_bytes}
-use Rattle.myi_defs.specs.Text.{is_digit, is_decimal, value, number}
-use Rattle.myi_defs.specs.Grammar.{IsNumber}
+use Rattle.myi_deftext.specs.Text.{is_digit, is_decimal, value, number}
+use Rattle.myi_deftext.specs.Grammar.{IsNumber}
 use Rattle.myi_script.specs.declared.form.Form.{Form}
 use Rattle.myi_script.specs.Values.{greatest, depth, fits_form, FitsForm, hex_digit, hex_text, IsHex, IsPrintable, filled, IsQuoted, IsPositive, IsNegative, IsEmpty, IsValue, hex, quoted, positive, negative, empty}
 use Rattle.myi_script.specs.Reading.{digit_of, byte_of, byte_before, unhex, fitting, hex_of, is_printable, quoted_of, positive_by, positive_of, negative_by, negative_of, number_of, empty_of, is_nil, value_of}

@@ -4,7 +4,7 @@ use Rattle.std.specs.List.{AllByRecursion, list_all, prefix_len}
 use Rattle.std.proofs.lemmas.Bool.Decides.{nat_tests}
 use Rattle.std.proofs.lemmas.List.{take-append-drop}
 use Rattle.std.proofs.Math.Seq.{take-append_seam, drop-append_seam}
-use Rattle.myi_defs.specs.Text.{is_digit, is_decimal}
+use Rattle.myi_deftext.specs.Text.{is_digit, is_decimal}
 use Rattle.myi_script.specs.declared.form.Form.{Form}
 use Rattle.myi_script.specs.Values.{hex_text, IsPrintable, IsValue, hex, quoted, positive, negative, empty}
 use Rattle.myi_script.specs.Reading.{goes_on, value_len, next_value}

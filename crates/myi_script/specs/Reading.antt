@@ -4,7 +4,7 @@ use Rattle.std.specs.List.{list_all, prefix_len}
 use Rattle.myi_base.specs.Numbers.{low_num_bytes}
 use Rattle.myi_defs.specs.declared.types.Segment.{Segment}
 use Rattle.myi_defs.specs.declared.types.Defs.{Defs}
-use Rattle.myi_defs.specs.Text.{number}
+use Rattle.myi_deftext.specs.Text.{number}
 use Rattle.myi_keys.specs.declared.values.KeySeg.{KeySeg}
 use Rattle.myi_keys.specs.declared.values.KeySeg.TheVariants.{Absent, Weights}
 use Rattle.myi_keys.specs.Weights.{weights}

@@ -4,7 +4,7 @@ use Rattle.std.specs.Prelude.{◌≡◌, ℕ, ◌+◌, ◌-◌, ◌≤◌, Bool,
 use Rattle.std.specs.List.{list_any}
 use Rattle.std.specs.Str.{IsUtf8, is_utf8}
 use Rattle.myi_defs.specs.declared.types.Defs.{Defs}
-use Rattle.myi_defs.specs.Text.{lines}
+use Rattle.myi_deftext.specs.Text.{lines}
 use Rattle.myi_script.specs.declared.types.Act.{Act}
 use Rattle.myi_script.specs.declared.types.Act.TheVariants as act
 use Rattle.myi_script.specs.declared.types.Line.{Line}

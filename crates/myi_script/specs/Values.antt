@@ -9,7 +9,7 @@ use Rattle.myi_defs.specs.declared.types.SegType.{SegType}
 use Rattle.myi_defs.specs.declared.types.SegType.TheVariants as seg
 use Rattle.myi_defs.specs.declared.types.Segment.{Segment}
 use Rattle.myi_defs.specs.Kinds.{is_variable}
-use Rattle.myi_defs.specs.Grammar.{IsNumber}
+use Rattle.myi_deftext.specs.Grammar.{IsNumber}
 use Rattle.myi_pack.specs.Lengths.{length_bytes}
 use Rattle.myi_script.specs.declared.form.Numbers.{Numbers}
 use Rattle.myi_script.specs.declared.form.Numbers.TheVariants.{Nothing, Unsigned, Signed, Either}

@@ -3,7 +3,7 @@ ghost use Rattle.std.specs.Prelude.{◌≡◌, ◌==◌, ◌<◌, ◌^◌, ℕ, 
 ghost use Rattle.std.specs.List.{slice_split};
 ghost use Rattle.std.specs.Str.{is_utf8};
 ghost use Rattle.myi_defs.specs.Sound.{IsSound};
-ghost use Rattle.myi_defs.specs.Text.{lines, without_end};
+ghost use Rattle.myi_deftext.specs.Text.{lines, without_end};
 ghost use Rattle.myi_script.specs.declared.types.ScriptFault.TheVariants as fault;
 ghost use Rattle.myi_script.specs.Script as spec;
 

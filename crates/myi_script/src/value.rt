@@ -2,7 +2,7 @@
 ghost use Rattle.std.specs.Prelude.{◌≡◌, ◌≤◌, ◌<◌, ◌+◌, ◌-◌, ◌*◌, ◌^◌, nat_le, if◌then◌else◌, length, Option, Some, None, IfOk, IfSome};
 ghost use Rattle.std.specs.List.{list_all};
 ghost use Rattle.myi_base.specs.Numbers.{low_num_bytes};
-ghost use Rattle.myi_defs.specs.Text as text;
+ghost use Rattle.myi_deftext.specs.Text as text;
 ghost use Rattle.myi_script.specs.Values.{IsForm, filled};
 ghost use Rattle.myi_script.specs.Reading as spec;
 
@@ -109,7 +109,7 @@ fn is_digit(byte: u8) -> bool
     byte >= b'0' && byte <= b'9'
 }
 
-#[tactic(auto, unfolding(myi_defs::specs::Text::is_decimal))]
+#[tactic(auto, unfolding(myi_deftext::specs::Text::is_decimal))]
 fn is_decimal(word: &[u8]) -> bool
     ensures { result ≡ text.is_decimal word.now }
 {
@@ -117,7 +117,7 @@ fn is_decimal(word: &[u8]) -> bool
 }
 
 // The number that digits say, and none where it is above the greatest.
-#[tactic(auto, unfolding(myi_defs::specs::Text::value))]
+#[tactic(auto, unfolding(myi_deftext::specs::Text::value))]
 fn value_up_to(most: u64, word: &[u8]) -> Option<u64>
     ensures value { result
         ≡ (if nat_le (text.value word.now) most then Some (text.value word.now) else None) }
@@ -134,7 +134,7 @@ fn value_up_to(most: u64, word: &[u8]) -> Option<u64>
 }
 
 /// The number that a word says, from a least one to a greatest, in decimal digits without a leading zero.
-#[tactic(auto, unfolding(myi_defs::specs::Text::number))]
+#[tactic(auto, unfolding(myi_deftext::specs::Text::number))]
 pub(crate) fn number(least: u64, most: u64, word: &[u8]) -> Option<u64>
     ensures value { result ≡ text.number least most word.now }
     ensures few { IfSome result (λ n. n ≤ most) }

@@ -1,5 +1,5 @@
 //! Each file call of a repair failing in turn.
-use myi_defs::parse_text;
+use myi_deftext::parse_text;
 use myi_io::{Files, MemFiles, MemSink};
 use myisamkit::{Status, kit};
 use std::alloc::{AllocError, Global};

@@ -10,10 +10,11 @@ use Rattle.myi_io.specs.declared.sink.SinkErr.{SinkErr}
 use Rattle.myi_io.specs.declared.sink.SinkErr.TheVariants as sink
 use Rattle.myi_base.proofs.CallerLemmas.{told_same, told_more}
 use Rattle.myi_defs.specs.declared.types.Defs.{Defs}
-use Rattle.myi_defs.specs.declared.parse.TextFault.{TextFault}
+use Rattle.myi_deftext.specs.declared.parse.TextFault.{TextFault}
 use Rattle.myi_defs.specs.EmptyTable.{empty_header}
-use Rattle.myi_defs.specs.ParseText.{parse_text}
-use Rattle.myi_defs.proofs.CallerLemmas.{print_reads, text_defs, text_bytes}
+use Rattle.myi_deftext.specs.ParseText.{parse_text}
+use Rattle.myi_defs.proofs.CallerLemmas.{print_reads}
+use Rattle.myi_deftext.proofs.CallerLemmas.{text_defs, text_bytes}
 use Rattle.myi_pair.proofs.CallerLemmas.{empty_is_clean}
 use Rattle.myi_create.specs.declared.fault.CreateFault.{CreateFault}
 use Rattle.myi_create.specs.Names.{ThreeNames, names_for}

@@ -3,7 +3,7 @@ use Rattle.std.proofs.Common.{◌≡◌, ◌≤◌, arith, ℕ, Bool, true, fals
 use Rattle.std.specs.Prelude.{◌&&◌, ◌||◌, not, nat_lt, nat_le, option_and_then, if◌then◌else◌}
 use Rattle.std.specs.List.{list_all, flat_map}
 use Rattle.std.proofs.lemmas.Bool.{leb-true}
-use Rattle.myi_defs.specs.Text.{is_digit, value}
+use Rattle.myi_deftext.specs.Text.{is_digit, value}
 use Rattle.myisamkit.specs.declared.options.Flag.{Flag}
 use Rattle.myisamkit.specs.Numbers.{number_in}
 use Rattle.myisamkit.specs.Words.{Request, usage, make_by, make_of, count_of, seed_of, is_end, is_option, flags_of, flags_in, names_in, before_end, after_end}

@@ -1,7 +1,7 @@
 -- Numbers among the words of a command: decimal digits, at most twenty (the form is this project's own).
 use Rattle.std.specs.Prelude.{ℕ, List, length, nat_lt, nat_le, Option, None, Some, ◌&&◌, if◌then◌else◌}
 use Rattle.std.specs.List.{list_all}
-use Rattle.myi_defs.specs.Text.{is_digit, value}
+use Rattle.myi_deftext.specs.Text.{is_digit, value}
 
 -- the number of a word, where it is from the one number to the other; zeros may stand before it
 abbrev pub number_in : ℕ → ℕ → List ℕ → Option ℕ

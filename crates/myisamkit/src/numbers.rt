@@ -1,7 +1,7 @@
 //! Numbers among the words of a command.
 ghost use Rattle.std.specs.Prelude.{◌≡◌, ◌≤◌, None, Some, IfSome, nat_le, if◌then◌else◌};
 ghost use Rattle.std.specs.List.{list_all};
-ghost use Rattle.myi_defs.specs.Text.{is_digit, value};
+ghost use Rattle.myi_deftext.specs.Text.{is_digit, value};
 ghost use Rattle.myisamkit.specs.Numbers as spec;
 
 /// The number of a word of one to twenty digits, where it is from the one number to the other.

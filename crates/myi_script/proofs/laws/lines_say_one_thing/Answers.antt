@@ -1,5 +1,5 @@
 use Rattle.std.proofs.Common.{◌≡◌, [], Ok, sym, ◌∙◌}
-use Rattle.myi_defs.specs.Text.{lines}
+use Rattle.myi_deftext.specs.Text.{lines}
 use Rattle.myi_script.proofs.LineLemmas.{line_back}
 use Rattle.myi_script.proofs.ScriptLemmas.{same_line, lines_back}
 use Rattle.myi_script.proofs.SoundLemmas.{have_segments}

@@ -1,6 +1,6 @@
 use Rattle.std.proofs.Common.{◌≡◌, false, arith, refl, nat_le, ◌+◌}
 use Rattle.std.proofs.lemmas.Bool.{lt-leb}
-use Rattle.myi_defs.specs.Text.{value}
+use Rattle.myi_deftext.specs.Text.{value}
 use Rattle.myi_script.proofs.ReadingLemmas.{value_part, value_more}
 use Rattle.myi_script.proofs.value.value_up_to.Goals as goal
 

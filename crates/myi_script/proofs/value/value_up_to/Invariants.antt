@@ -1,5 +1,5 @@
 use Rattle.std.proofs.Common.{◌≡◌, ◌≤◌, take}
-use Rattle.myi_defs.specs.Text.{value}
+use Rattle.myi_deftext.specs.Text.{value}
 use Rattle.myi_script.proofs.value.value_up_to.Given as goal
 
 abbrev pub invariant-loop-byte : goal.invariant-loop-byte

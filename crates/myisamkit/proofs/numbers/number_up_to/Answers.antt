@@ -1,7 +1,7 @@
 use Rattle.std.proofs.Common.{◌≡◌, ◌≤◌, ◌<◌, ◌+◌, ◌-◌, ◌*◌, ℕ, List, [], ◌∷◌, suc, length, get_or, arith, sym, ◌∙◌, ap, drop, fold, nat_le, false, refl}
 use Rattle.std.proofs.lemmas.Bool.{lt-leb}
 use Rattle.std.proofs.Math.Seq.{drop-cons}
-use Rattle.myi_defs.specs.Text.{value}
+use Rattle.myi_deftext.specs.Text.{value}
 use Rattle.myisamkit.proofs.numbers.number_up_to.Goals as goal
 
 -- the number of more digits is no less

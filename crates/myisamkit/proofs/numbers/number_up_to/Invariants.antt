@@ -1,5 +1,5 @@
 use Rattle.std.proofs.Common.{◌≡◌, ◌≤◌, ◌+◌, ◌-◌, ◌*◌, drop, fold}
-use Rattle.myi_defs.specs.Text.{value}
+use Rattle.myi_deftext.specs.Text.{value}
 use Rattle.myisamkit.proofs.numbers.number_up_to.Given as goal
 
 abbrev pub invariant-loop-digit : goal.invariant-loop-digit
