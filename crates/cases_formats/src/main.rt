@@ -1,34 +1,22 @@
-//! Stored cases of the formats of a table: calls, read from standard input, and what they answer.
+//! Stored cases of keys, definitions and states: calls, read from standard input, and what they answer.
 //!
 //! `docs/CASES.md` has the grammar of the lines, which `case_lines` reads. Each module has one function a
 //! call, and the table of its calls in `answer`. The stored input and output lie beside `src`.
 #![tactic(auto)]
 
-mod blocks;
 mod definitions;
 mod keys;
-mod numbers;
-mod pages;
 mod states;
 
 use case_lines::{Calls, Fault, Words};
 use std::io;
 
-/// The calls on numbers, blocks, pages, keys, definitions and states.
+/// The calls on keys, definitions and states.
 struct TheCalls;
 
 impl Calls for TheCalls {
     fn answer(&self, words: &Words, name: &str, args: &[&str]) -> Option<Result<String, Fault>> {
-        if let Some(answer) = numbers::answer(words, name, args) {
-            return Some(answer);
-        }
-        if let Some(answer) = blocks::answer(words, name, args) {
-            return Some(answer);
-        }
         if let Some(answer) = keys::answer(words, name, args) {
-            return Some(answer);
-        }
-        if let Some(answer) = pages::answer(words, name, args) {
             return Some(answer);
         }
         if let Some(answer) = definitions::answer(words, name, args) {

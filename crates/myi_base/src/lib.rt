@@ -12,7 +12,7 @@
 //! let place = pointer_of(number);
 //! ```
 //!
-//! The case `number` in `crates/cases_formats/src/numbers.rt` runs it.
+//! The case `number` in `crates/cases_blocks/src/numbers.rt` runs it.
 #![tactic(auto)]
 
 mod blanks;

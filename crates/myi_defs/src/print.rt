@@ -67,11 +67,7 @@ fn base_bytes(raw: &[u8], at: usize) -> &[u8]
 
 /// Appends the state of a table without rows, whose index file has this length.
 #[tactic(auto, unfolding(crate::specs::EmptyTable::empty_state))]
-pub fn append_state(
-    out: &mut Vec<u8>,
-    front: &Front,
-    index_length: u64,
-) -> Result<(), AllocError>
+pub fn append_state(out: &mut Vec<u8>, front: &Front, index_length: u64) -> Result<(), AllocError>
     ensures { OnOk result
         (out.new.items ≡ out.old.items ++ spec.empty_state front.now index_length) }
 {

@@ -19,7 +19,7 @@
 //! }
 //! ```
 //!
-//! The case `block` in `crates/cases_formats/src/blocks.rt` runs it.
+//! The case `block` in `crates/cases_blocks/src/blocks.rt` runs it.
 #![tactic(auto)]
 
 mod form;

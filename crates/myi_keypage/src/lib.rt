@@ -22,7 +22,7 @@
 //! }
 //! ```
 //!
-//! The case `page` in `crates/cases_formats/src/pages.rt` runs it.
+//! The case `page` in `crates/cases_blocks/src/pages.rt` runs it.
 #![tactic(auto)]
 
 mod entry;

@@ -1,5 +1,5 @@
 use Rattle.std.proofs.Common.{length}
-use Rattle.cases_formats.proofs.pages.page_text.Given as goal
+use Rattle.cases_blocks.proofs.pages.page_text.Given as goal
 
 abbrev pub decreases-loop-item : goal.decreases-loop-item
 decreases-loop-item l = length l.walk

@@ -1,0 +1,32 @@
+//! Stored cases of numbers in bytes, blocks of a data file and pages of an index: calls, read from standard
+//! input, and what they answer.
+//!
+//! `docs/CASES.md` has the grammar of the lines, which `case_lines` reads. Each module has one function a
+//! call, and the table of its calls in `answer`. The stored input and output lie beside `src`.
+#![tactic(auto)]
+
+mod blocks;
+mod numbers;
+mod pages;
+
+use case_lines::{Calls, Fault, Words};
+use std::io;
+
+/// The calls on numbers, blocks and pages.
+struct TheCalls;
+
+impl Calls for TheCalls {
+    fn answer(&self, words: &Words, name: &str, args: &[&str]) -> Option<Result<String, Fault>> {
+        if let Some(answer) = numbers::answer(words, name, args) {
+            return Some(answer);
+        }
+        if let Some(answer) = blocks::answer(words, name, args) {
+            return Some(answer);
+        }
+        pages::answer(words, name, args)
+    }
+}
+
+fn main(rt: HostRuntime) -> io::Result<()> {
+    case_lines::run(&rt, rt.alloc(), &TheCalls)
+}
