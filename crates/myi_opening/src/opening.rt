@@ -35,6 +35,7 @@ pub fn open_table<F: Files>(
     ensures header { IfOk result (λ o. AreBytes o.defs.raw) }
     ensures refused { IfErr result (λ f.
         IsCutOff f ⊎ IfTold (F.holds files.old) (HasNoTable index.now rows.now f)) }
+    ensures memory { IfErr result (λ f. f ≢ TableFault.Def DefFault.Memory) }
     ensures holds { F.holds files.new ≡ F.holds files.old }
     ensures cause { HasCause TableFault.File (F.faults files.old) (F.faults files.new) result }
 {
@@ -58,6 +59,7 @@ fn defs_of(alloc: Global, header: &[u8]) -> Result<Defs, TableFault>
     ensures refused { IfErr result (λ f. (f ≡ TableFault.Memory)
         ⊎ ((x d : List ℕ) → header.now ≡ take 65535 x → table_by (read_defs x) d x ≡ Err f)) }
     ensures file { IfErr result (λ f. f ≢ TableFault.File) }
+    ensures memory { IfErr result (λ f. f ≢ TableFault.Def DefFault.Memory) }
 {
     match read_defs(alloc, header) {
         Ok(defs) => Ok(defs),
@@ -69,6 +71,7 @@ fn of_defs(fault: DefFault) -> TableFault
     ensures refused { (result ≡ TableFault.Memory)
         ⊎ ((fault ≢ DefFault.Memory) × (result ≡ TableFault.Def fault)) }
     ensures file { result ≢ TableFault.File }
+    ensures memory { result ≢ TableFault.Def DefFault.Memory }
 {
     match fault {
         DefFault::Memory => TableFault::Memory,
