@@ -4,7 +4,7 @@
 //! in the same form.
 use crate::spelled::push_word;
 use crate::words::Fault;
-use myi_io::MemFiles;
+use myi_memfiles::MemFiles;
 use std::alloc::AllocError;
 
 /// The name of a file that is given.

@@ -3,9 +3,10 @@
 //! A call on a file that tells nothing asks nothing of what the file holds, so that any line may be read
 //! into it.
 ghost use Rattle.std.specs.Prelude.{None, true};
-ghost use Rattle.myi_io.specs.MemFiles.{files_faults, files_reads};
+ghost use Rattle.myi_memfiles.specs.MemFiles.{files_faults, files_reads};
 
-use myi_io::{FileErr, Files, MemFiles};
+use myi_io::{FileErr, Files};
+use myi_memfiles::MemFiles;
 
 /// Files in memory, of which nothing is told.
 #[derive(Drop)]

@@ -12,8 +12,8 @@ use hex::FromHexError;
 use myi_base::pointer_of;
 use myi_defs::{DefFault, Defs, definitions_are_sound, read_defs};
 use myi_deftext::{TextFault, parse_text};
-use myi_io::MemFiles;
 use myi_keys::{KeyFault, KeyVal, decode};
+use myi_memfiles::MemFiles;
 use std::alloc::{AllocError, AllocFailed, Global};
 use std::collections::BTreeMap;
 

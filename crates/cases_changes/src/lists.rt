@@ -4,7 +4,8 @@ ghost use Rattle.myi_frames.specs.Block.{IsPlace};
 
 use case_lines::{Fault, PlaceText, Untold, Words, four_bytes, number, place, push_file};
 use myi_dellist::{FreeFault, FreeList, Limits};
-use myi_io::{Files, MemFiles};
+use myi_io::Files;
+use myi_memfiles::MemFiles;
 use std::alloc::{AllocError, Global};
 
 /// The name of the data file.

@@ -7,7 +7,7 @@ use case_lines::{Fault, PlaceText, Untold, Words, place, push_word};
 use myi_base::Sequence;
 use myi_defs::Defs;
 use myi_header::{State, stored_state};
-use myi_io::MemFiles;
+use myi_memfiles::MemFiles;
 use myi_pack::{Row, fits};
 use myi_slots::DataFault;
 use myi_state::Counts;

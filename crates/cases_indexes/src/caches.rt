@@ -3,8 +3,9 @@ ghost use Rattle.std.specs.Prelude.{◌≡◌, true, IfOk};
 ghost use Rattle.myi_keycache.specs.Setup.{IsSetup};
 
 use case_lines::{Fault, Words, file_name, four_bytes, number, push_file, push_word, sides, size};
-use myi_io::{Files, MemFiles};
+use myi_io::Files;
 use myi_keycache::{CacheFault, CacheSetup, KeyCache};
+use myi_memfiles::MemFiles;
 use std::alloc::AllocError;
 
 /// The greatest length of a page, in bytes.

@@ -1,6 +1,7 @@
 //! Files and sinks in memory.
 use case_lines::{Fault, Words, halves, number, push_files, push_word};
-use myi_io::{FileErr, Files, MemFiles, MemSink, Sink, SinkErr};
+use myi_io::{FileErr, Files, Sink, SinkErr};
+use myi_memfiles::{MemFiles, MemSink};
 use std::alloc::AllocError;
 
 fn of_file(fault: FileErr) -> Result<&'static str, Fault> {

@@ -3,7 +3,8 @@ ghost use Rattle.std.specs.Prelude.{IsTrue};
 
 use crate::short::ShortFiles;
 use case_lines::{Fault, Words, halves, number, push_files};
-use myi_io::{Files, MemSink};
+use myi_io::Files;
+use myi_memfiles::MemSink;
 use myisamkit::{Status, kit};
 use std::str;
 use std::thread::Threads;

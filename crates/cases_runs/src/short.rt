@@ -1,8 +1,9 @@
 //! `ShortFiles`: files in memory that tell nothing, of which one says that it is longer or shorter than it is.
 ghost use Rattle.std.specs.Prelude.{None, true};
-ghost use Rattle.myi_io.specs.MemFiles.{files_faults, files_reads};
+ghost use Rattle.myi_memfiles.specs.MemFiles.{files_faults, files_reads};
 
-use myi_io::{FileErr, Files, MemFiles};
+use myi_io::{FileErr, Files};
+use myi_memfiles::MemFiles;
 
 /// Files in memory, of which nothing is told.
 #[derive(Drop)]

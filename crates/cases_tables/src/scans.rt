@@ -8,7 +8,7 @@ use case_lines::{Fault, Untold, Words, number, push_word, yes_or_no};
 use myi_chain::{Item, Piece, ScanFault};
 use myi_data::{DataFile, DataScan};
 use myi_header::stored_state;
-use myi_io::MemFiles;
+use myi_memfiles::MemFiles;
 use std::alloc::AllocError;
 
 /// The name of the data file.

@@ -7,10 +7,10 @@ ghost use Rattle.myi_insertion.specs.Rooms.{IsWhole};
 use crate::trees::{FIRST, is_row, of_tree, unrooted};
 use case_lines::{Fault, Words, key_of_code, number, push_word, size};
 use myi_btree::{Pair, Place, Tree, TreeFault};
-use myi_io::MemFiles;
 use myi_keycache::{CacheSetup, KeyCache};
 use myi_keys::KeyVal;
 use myi_keytrees::KeyTrees;
+use myi_memfiles::MemFiles;
 use std::alloc::{AllocError, Global};
 
 /// The name of the index file.

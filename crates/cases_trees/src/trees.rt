@@ -10,10 +10,10 @@ use case_lines::{
 };
 use myi_base::Sequence;
 use myi_btree::{Event, Events, Pair, Place, Room, Tree, TreeFault};
-use myi_io::MemFiles;
 use myi_keycache::{CacheFault, CacheSetup, KeyCache};
 use myi_keylist::PairList;
 use myi_keys::{KeySeg, KeyVal, MOST_WEIGHTS, WeightList, encode, key_with};
+use myi_memfiles::MemFiles;
 use std::alloc::{AllocError, Global};
 
 /// The name of the index file.

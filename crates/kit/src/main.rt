@@ -1,7 +1,9 @@
 //! The program `kit`: the top call on real files and standard output.
 #![tactic(auto)]
 
-use myi_io::{FileErr, Gathering, RealFiles, RealSink};
+use myi_adapters::Gathering;
+use myi_io::FileErr;
+use myi_realfiles::{RealFiles, RealSink};
 use myisamkit::{Status, kit};
 use std::io::ErrorKind;
 use std::process::ExitCode;

@@ -1,6 +1,8 @@
 //! Files in memory: their readers, and gathered writes over them.
 use crate::expect::expect;
-use myi_io::{FileErr, FileReader, Files, Gathering, MemFiles, Opened, ReaderFiles};
+use myi_adapters::{Gathering, Opened, ReaderFiles};
+use myi_io::{FileErr, FileReader, Files};
+use myi_memfiles::MemFiles;
 use std::alloc::{AllocError, Global};
 use std::test::Fail;
 

@@ -2,7 +2,9 @@
 ghost use Rattle.std.specs.Prelude.{IsTrue};
 
 use crate::expect::expect;
-use myi_io::{FileErr, FileReader, Files, Gathering, RealFiles};
+use myi_adapters::Gathering;
+use myi_io::{FileErr, FileReader, Files};
+use myi_realfiles::RealFiles;
 use std::alloc::Global;
 use std::os::unix::fs::{MetadataExt, PermissionsExt, symlink};
 use std::process::Abort;

@@ -4,8 +4,8 @@ ghost use Rattle.myi_btree.specs.Sizes.{IsPlaced, AreSized};
 
 use myi_btree::{Laid, Place};
 use myi_deftext::parse_text;
-use myi_io::MemFiles;
 use myi_keylist::PairList;
+use myi_memfiles::MemFiles;
 use myi_parallel::{KeyGate, KeyPairs, OpenGate, Workers, lay_all, parallel_recover};
 use myi_repair::recover;
 use std::alloc::{AllocError, Global};

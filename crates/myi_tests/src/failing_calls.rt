@@ -1,6 +1,7 @@
 //! Each file call of a repair failing in turn.
 use myi_deftext::parse_text;
-use myi_io::{Files, MemFiles, MemSink};
+use myi_io::Files;
+use myi_memfiles::{MemFiles, MemSink};
 use myisamkit::{Status, kit};
 use std::alloc::{AllocError, Global};
 use std::process::Abort;
