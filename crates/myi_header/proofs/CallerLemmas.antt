@@ -6,3 +6,5 @@ pub use Rattle.myi_header.proofs.HeaderLaws.{header-long, header-read, header-st
 pub use Rattle.myi_header.proofs.HeaderLaws.{state-take, state-rest}
 -- empty_tables_are_empty
 pub use Rattle.myi_header.proofs.EmptyLaws.{empty-header, empty-read, empty-again}
+-- numbers_read_back
+pub use Rattle.myi_header.proofs.AnalysisLaws.{numbers-read, numbers-front, numbers-between, numbers-behind, numbers-bits}

@@ -3,3 +3,4 @@ pub mod RootLaws
 pub mod PrintLaws
 pub mod HeaderLaws
 pub mod EmptyLaws
+pub mod AnalysisLaws

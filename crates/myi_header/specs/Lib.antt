@@ -10,3 +10,5 @@ pub mod StateOf
 pub mod HeaderOf
 -- the state of a table without rows
 pub mod EmptyState
+-- what an index file says of the last analysis
+pub mod Analysis

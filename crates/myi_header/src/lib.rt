@@ -5,7 +5,8 @@
 //! as they are. An index file that this project wrote carries a mark in the last six bytes of the base
 //! section; a file without it is foreign. `read_state` reads the state of a marked file, `print_state`
 //! writes the header with a state and the mark, and `first_page` is the place behind it at which the
-//! first page of a tree stands.
+//! first page of a tree stands. What the file says of the last analysis is read by `changed_bits`,
+//! `rows_counted` and `part_number`, and `new_numbers` gives the bytes that an analysis writes.
 //!
 //! ```
 //! match read_state(alloc, &defs, &bytes) {
@@ -18,12 +19,19 @@
 //! The case `state` in `crates/cases_formats/src/states.rt` runs it.
 #![tactic(auto)]
 
+mod analysis;
 mod laws;
 mod print;
 mod read;
 mod state;
 
-pub use laws::{empty_tables_are_empty, headers_read_back, states_rest_on_the_header};
+pub use analysis::{
+    ANEW_BITS, CHANGED_PLACE, NOT_ANALYZED, NOT_SORTED_PAGES, NewNumbers, changed_bits,
+    new_numbers, part_number, rows_counted,
+};
+pub use laws::{
+    empty_tables_are_empty, headers_read_back, numbers_read_back, states_rest_on_the_header,
+};
 pub use myi_defs::MARK;
 pub use print::print_state;
 pub use read::{read_state, stored_state};
