@@ -1,5 +1,5 @@
 //! `Sink`: where text goes.
-ghost use Rattle.std.specs.Prelude.{◌≡◌, ℕ, List, Option, OnOk, OnErr};
+ghost use Rattle.std.specs.Prelude.{ℕ, List, Option, OnOk, OnErr};
 ghost use Rattle.myi_io.specs.declared.sink.SinkErr.TheVariants.{Failed};
 ghost use Rattle.myi_base.specs.Causes.{HasCause};
 ghost use Rattle.myi_base.specs.Holding.{IfTold};
