@@ -1,4 +1,4 @@
-use Rattle.std.proofs.Common.{◌≡◌, ◌≤◌}
+use Rattle.std.proofs.Common.{◌≡◌}
 use Rattle.std.specs.Prelude.{All, length}
 use Rattle.myi_keys.specs.Limits.{IsSeg}
 use Rattle.cases_formats.proofs.keys.key.Given as goal
