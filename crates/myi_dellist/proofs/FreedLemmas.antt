@@ -10,7 +10,9 @@ use Rattle.myi_dellist.specs.Areas.{Area}
 use Rattle.myi_dellist.specs.Releasing.{most_size, front_part, back_part}
 use Rattle.myi_dellist.specs.Placing.{area_of}
 use Rattle.myi_dellist.specs.Freeing.{hole_in, plan_in}
-use Rattle.myi_dellist.specs.Several.{over, hide, plan_heads, with_heads, heads_by, next_of, heads_in, added_by, added_in, parts_of, PlansPart, PartBad}
+use Rattle.myi_dellist.specs.Heads.{over}
+use Rattle.myi_dellist.proofs.HeadsLemmas.{over-append}
+use Rattle.myi_dellist.specs.Several.{hide, plan_heads, with_heads, heads_by, next_of, heads_in, added_by, added_in, parts_of, PlansPart}
 use Rattle.myi_dellist.specs.Planning.{alone_by}
 use Rattle.myi_dellist.specs.Freed.{part_area, parts_in}
 
@@ -38,10 +40,6 @@ push-long ps qs rs p back front lt b f are more =
 
 -- ---- planned one after the other
 
-over_append : (xs ys : List Head) (s : ℕ → Option Head) → over (xs ++ ys) s ≡ over ys (over xs s)
-over_append [] ys s = refl
-over_append (x ∷ xs) ys s = over_append xs ys (Rattle.myi_dellist.specs.Several.put_over x s)
-
 heads_append : (xs ys : List Head) (r : Result (List Head) ℕ) → with_heads (xs ++ ys) r ≡ with_heads xs (with_heads ys r)
 heads_append xs ys (Ok zs) = ap (λ (hs : List Head). Ok hs) (append_assoc xs ys zs)
 heads_append xs ys (Err p) = refl
@@ -55,7 +53,7 @@ plans-next d head left behind p hidden hs more added all is next plans so_far =
     let found : plan_in (hide (next_of areas) (over hs s)) head a.at a.size ≡ Ok plans.plan = ap (λ (o : Option ℕ). plan_in (hide o (over hs s)) head a.at a.size) (sym next) ∙ plans.found in
     ap (λ (xs : List Head). with_heads xs (heads_in (over xs s) (Some p.at) areas)) plans.heads_are
     ∙ heads_append hs new (heads_in (over (hs ++ new) s) (Some p.at) areas)
-    ∙ ap (λ (t : ℕ → Option Head). with_heads hs (with_heads new (heads_in t (Some p.at) areas))) (over_append hs new s)
+    ∙ ap (λ (t : ℕ → Option Head). with_heads hs (with_heads new (heads_in t (Some p.at) areas))) (over-append hs new s)
     ∙ ap (λ (r : Result ReleasePlan ℕ). with_heads hs (heads_by a (λ xs. heads_in (over xs (over hs s)) (Some p.at) areas) r)) (sym found)
     ∙ ap (λ (xs : List Part). with_heads hs (heads_in (over hs s) head (parts_in xs))) (sym is) ∙ so_far
 
@@ -68,5 +66,5 @@ adds-next d head left behind p hidden hs more added n all is next plans so_far =
     let found : plan_in (hide (next_of areas) (over hs s)) head a.at a.size ≡ Ok plans.plan = ap (λ (o : Option ℕ). plan_in (hide o (over hs s)) head a.at a.size) (sym next) ∙ plans.found in
     let first : added_in (over hs s) head (parts_in left) ≡ added_in (over hs s) head (a ∷ areas) = ap (λ (xs : List Part). added_in (over hs s) head (parts_in xs)) is in
     let one : added_in (over hs s) head (a ∷ areas) ≡ alone_by plans.plan.joined + added_in (over new (over hs s)) (Some p.at) areas = ap (added_by a (λ xs. added_in (over xs (over hs s)) (Some p.at) areas)) found in
-    let rest : added_in (over more s) (Some p.at) areas ≡ added_in (over new (over hs s)) (Some p.at) areas = ap (λ (xs : List Head). added_in (over xs s) (Some p.at) areas) plans.heads_are ∙ ap (λ (t : ℕ → Option Head). added_in t (Some p.at) areas) (over_append hs new s) in
+    let rest : added_in (over more s) (Some p.at) areas ≡ added_in (over new (over hs s)) (Some p.at) areas = ap (λ (xs : List Head). added_in (over xs s) (Some p.at) areas) plans.heads_are ∙ ap (λ (t : ℕ → Option Head). added_in t (Some p.at) areas) (over-append hs new s) in
     omega (arith, so_far, first, one, rest, plans.added_is)

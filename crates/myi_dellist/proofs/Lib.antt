@@ -32,6 +32,7 @@ pub mod OwnLemmas
 pub mod AgainLemmas
 pub mod PieceLemmas
 pub mod TallyLemmas
+pub mod HeadsLemmas
 pub mod SightLemmas
 pub mod ChainLemmas
 pub mod FreedLemmas

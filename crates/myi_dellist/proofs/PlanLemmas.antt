@@ -11,7 +11,8 @@ use Rattle.myi_dellist.specs.Areas.{Area, IsApart, AreApart}
 use Rattle.myi_dellist.specs.Releasing.{most_size, hole_at, without, joined, release_one, IsHole}
 use Rattle.myi_dellist.specs.Standing.{hole_block, first_or, last_or, IsPart, HasList, with_head, with_next, with_prev, without_block, with_first, before, behind, without_at, joined_bytes, release_one_bytes}
 use Rattle.myi_dellist.specs.Freeing.{hole_in, same_link, if_says, names_next, names_prev, block_before, block_named, block_linked, if_short, hole_behind, first_without, without_prev, next_past, with_joined, plan_linked, plan_in, area_at, behind_bytes, taken_off_bytes, put_first_bytes, plan_bytes, joined_size, place_at, first_head}
-use Rattle.myi_dellist.specs.Several.{over, joined_heads, first_heads, plan_heads}
+use Rattle.myi_dellist.specs.Heads.{over}
+use Rattle.myi_dellist.specs.Several.{joined_heads, first_heads, plan_heads}
 use Rattle.myi_dellist.specs.Planning.{alone_by}
 use Rattle.myi_dellist.proofs.LinkLemmas.{all_split, all_join, apart_split}
 use Rattle.myi_dellist.proofs.ReleasedLemmas.{SplitsAt, found_splits, both}

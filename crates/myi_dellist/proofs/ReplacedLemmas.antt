@@ -7,7 +7,6 @@ use Rattle.myi_dellist.specs.declared.pieces.Piece.{Piece}
 use Rattle.myi_dellist.specs.declared.rows.Replaced.{Replaced}
 use Rattle.myi_dellist.specs.declared.taking.ListEnds.{ListEnds}
 use Rattle.myi_dellist.specs.Areas.{Area}
-use Rattle.myi_dellist.specs.Releasing.{release_all}
 use Rattle.myi_dellist.specs.Placing.{Space, Placing, areas_of, sizes_of, own_areas, update}
 use Rattle.myi_dellist.specs.Standing.{first_or}
 use Rattle.myi_dellist.specs.Freeing.{hole_in}

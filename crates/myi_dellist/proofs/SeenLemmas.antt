@@ -12,7 +12,8 @@ use Rattle.myi_dellist.specs.Areas.{Area, IsApart, AreApart}
 use Rattle.myi_dellist.specs.Releasing.{hole_at, IsHole}
 use Rattle.myi_dellist.specs.Standing.{hole_block, first_or, last_or, IsPart, HasList}
 use Rattle.myi_dellist.specs.Freeing.{if_deleted, hole_in, place_at, first_head}
-use Rattle.myi_dellist.specs.Several.{put_over, over, before_heads, behind_heads, joined_heads, first_heads}
+use Rattle.myi_dellist.specs.Heads.{put_over, over}
+use Rattle.myi_dellist.specs.Several.{before_heads, behind_heads, joined_heads, first_heads}
 use Rattle.myi_dellist.proofs.LinkLemmas.{all_split}
 
 -- the header of a block on the list

@@ -11,7 +11,8 @@ use Rattle.myi_dellist.specs.Releasing.{most_size, hole_at, without, joined, rel
 use Rattle.myi_dellist.specs.Standing.{first_or, HasList, KeepsBut, release_one_bytes}
 use Rattle.myi_dellist.specs.Freeing.{hole_in, place_at, plan_bytes, before_bytes, behind_bytes, unlinked_bytes, put_first_bytes, joined_size, first_head}
 use Rattle.myi_dellist.specs.Rows.{KeepsApart}
-use Rattle.myi_dellist.specs.Several.{over, hide, before_heads, behind_heads, joined_heads, first_heads, plan_heads, with_heads, heads_by, next_of, heads_in, heads_written, added_by, added_in, release_ones, release_ones_bytes, parts_of, AreClear, MayReleaseAll}
+use Rattle.myi_dellist.specs.Heads.{over}
+use Rattle.myi_dellist.specs.Several.{hide, before_heads, behind_heads, joined_heads, first_heads, plan_heads, with_heads, heads_by, next_of, heads_in, heads_written, added_by, added_in, release_ones, release_ones_bytes, parts_of, AreClear, MayReleaseAll}
 use Rattle.myi_dellist.proofs.AreaLemmas.{below-append, once-apart}
 use Rattle.myi_dellist.proofs.ReleaseLemmas.{below-release_one, holes-release_one}
 use Rattle.myi_dellist.proofs.LinkLemmas.{all_split, all_join, apart_split}

@@ -18,7 +18,7 @@ use Rattle.myi_dellist.specs.Placing.{Placing, room, sizes_of, fits, take_last, 
 use Rattle.myi_dellist.specs.Freeing.{IsHoleIn}
 use Rattle.myi_dellist.specs.FreeList.{ListState, HasHoles, IsLong}
 use Rattle.myi_dellist.specs.Taking.{IsRun, TakesFull}
-use Rattle.myi_dellist.specs.Rows.{AreListedBehind, Tallies, TalliesNew}
+use Rattle.myi_dellist.specs.Rows.{AreListedBehind, TalliesNew}
 use Rattle.myi_dellist.specs.Planning.{rest_plan, last_piece, row_plan_in, alone_by, more_by}
 use Rattle.myi_dellist.specs.Putting.{CountsBehind, CountsIn, PutCounts, ends_of}
 use Rattle.myi_dellist.proofs.FreeLemmas.{short_release}

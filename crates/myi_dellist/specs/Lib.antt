@@ -22,6 +22,8 @@ pub mod Rows
 pub mod Taking
 pub mod Planning
 pub mod Putting
+-- what is seen once headers are written
+pub mod Heads
 -- several releases, planned before anything is written
 pub mod Several
 -- the blocks of a row that stands in a file

@@ -2,10 +2,12 @@
 -- what the releases before it will write there, and else what stands in the file.
 use Rattle.std.specs.Prelude.{◌≡◌, ℕ, ◌+◌, ◌==◌, nat_le, if◌then◌else◌, List, [], ◌∷◌, ◌++◌, Option, Some, None, Result, Ok, Err}
 use Rattle.std.specs.List.{AllByRecursion}
+use Rattle.std.specs.Option.{option_copied, unwrap_or}
 use Rattle.myi_frames.specs.declared.head.Head.{Head}
 use Rattle.myi_dellist.specs.declared.linked.Linked.{Linked}
 use Rattle.myi_dellist.specs.declared.linked.ReleasePlan.{ReleasePlan}
 use Rattle.myi_dellist.specs.declared.linked.Sight.{Sight}
+use Rattle.myi_dellist.specs.Heads.{over}
 use Rattle.myi_dellist.specs.Areas.{Area, AreApart}
 use Rattle.myi_dellist.specs.Releasing.{most_size, hole_at, front_part, back_part, release_one, IsHole}
 use Rattle.myi_dellist.specs.Standing.{with_head, release_one_bytes}
@@ -14,27 +16,22 @@ use Rattle.myi_dellist.specs.Planning.{alone_by}
 
 -- ---- what is seen
 
--- a block that will be written is seen so
-abbrev pub put_over : Head → (ℕ → Option Head) → ℕ → Option Head
-put_over h seen p = if h.at == p then Some h else seen p
-
--- blocks that will be written one after another
-abbrev pub over : List Head → (ℕ → Option Head) → (ℕ → Option Head)
-over [] seen = seen
-over (h ∷ heads) seen = over heads (put_over h seen)
-
 -- no deleted block is seen at this place, where there is one
 abbrev pub hide : Option ℕ → (ℕ → Option Head) → (ℕ → Option Head)
 hide None seen = seen
 hide (Some q) seen = λ p. if q == p then None else seen p
 
+-- the headers that a reader has planned to write
+abbrev pub planned_in : Sight → List Head
+planned_in s = unwrap_or (option_copied s.heads) []
+
 -- what a reader sees that has planned to write headers
 abbrev pub seen_in : Sight → List ℕ → (ℕ → Option Head)
-seen_in s d = hide s.hidden (over s.heads.now (hole_in d))
+seen_in s d = hide s.hidden (over (planned_in s) (hole_in d))
 
 -- these headers are those of deleted blocks in the file
 abbrev pub IsSight : Sight → Type 0
-IsSight s = AllByRecursion (IsHoleIn s.end) s.heads.now
+IsSight s = AllByRecursion (IsHoleIn s.end) (planned_in s)
 
 -- ---- the headers that a release writes, in their order
 

@@ -3,6 +3,7 @@
 //! The links stand in the file; a `FreeList` keeps where the list begins and where the file ends.
 use crate::chains::read_row;
 use crate::fault::FreeFault;
+use crate::heads::Heads;
 use crate::links::{merge_one, release_one, release_two};
 use crate::pieces::{Piece, sizes_of};
 use crate::replacing::{add_own, replaced, take_own};
@@ -10,7 +11,7 @@ use crate::rows::{FileEnd, Freed, Put, Replaced, Room, put_at_end, put_beyond, p
 use crate::several::{Part, plan_releases, split, write_heads};
 use crate::taking::ListEnds;
 use crate::writing::write_pieces;
-use myi_frames::{Head, MOST_SIZE};
+use myi_frames::MOST_SIZE;
 use myi_io::Files;
 use std::alloc::{AllocError, Global};
 use std::marker::Model;
@@ -35,7 +36,7 @@ pub struct FreeList {
     areas: Vec<Piece>,
     /// What is released of them, and the headers that this writes.
     parts: Vec<Part>,
-    heads: Vec<Head>,
+    heads: Heads,
 }
 
 impl Drop for FreeList {
@@ -111,7 +112,7 @@ impl FreeList {
             own: Vec::new(alloc),
             areas: Vec::new(alloc),
             parts: Vec::new(alloc),
-            heads: Vec::new(alloc),
+            heads: Heads::new(alloc),
         })
     }
 
@@ -357,7 +358,7 @@ impl FreeList {
         split(&self.pieces, &mut self.parts)?;
         self.heads.clear();
         let released = plan_releases(files, &self.name, &list, &self.parts, &mut self.heads)?;
-        write_heads(files, &self.name, &self.heads)?;
+        write_heads(files, &self.name, self.heads.as_slice())?;
         self.head = released.head;
         Ok(Freed {
             blocks: self.pieces.len() as u64,
@@ -429,7 +430,7 @@ impl FreeList {
         self.heads.clear();
         let freed = plan_releases(files, &self.name, &room.list, &self.parts, &mut self.heads)?;
         write_pieces(files, &self.name, &self.pieces, packed)?;
-        write_heads(files, &self.name, &self.heads)?;
+        write_heads(files, &self.name, self.heads.as_slice())?;
         self.head = freed.head;
         Ok(replaced(at, &self.own, &self.pieces, 0, freed.more))
     }

@@ -35,6 +35,7 @@
 mod chains;
 mod fault;
 mod free_list;
+mod heads;
 mod laws;
 mod linked;
 mod links;

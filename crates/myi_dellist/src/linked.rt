@@ -1,5 +1,5 @@
 //! Deleted blocks as they stand in a file, and what a release needs of them. Nothing is written here.
-ghost use Rattle.std.specs.Prelude.{◌≡◌, ◌≤◌, ◌<◌, ◌+◌, ◌^◌, ℕ, List, None, length, IfOk, IfErr, IfSome, OnOk};
+ghost use Rattle.std.specs.Prelude.{◌≡◌, ◌≤◌, ◌<◌, ◌+◌, ◌^◌, ℕ, List, [], None, length, IfOk, IfErr, IfSome, OnOk};
 ghost use Rattle.myi_base.specs.Holding.{IfTold, bytes_of};
 ghost use Rattle.myi_base.specs.Causes.{HasCause};
 ghost use Rattle.myi_io.specs.declared.files.FileErr.TheVariants.{Failed};
@@ -10,10 +10,12 @@ ghost use Rattle.myi_dellist.specs.Freeing.{block_linked, hole_behind, first_wit
 ghost use Rattle.myi_dellist.specs.Releasing.{most_size};
 ghost use Rattle.myi_dellist.specs.Merging.{merge_in};
 ghost use Rattle.myi_dellist.specs.Planning.{alone_by};
-ghost use Rattle.myi_dellist.specs.Several.{over, seen_in, IsSight};
-ghost use Rattle.std.specs.List.{AllByRecursion};
+ghost use Rattle.myi_dellist.specs.Heads.{over};
+ghost use Rattle.myi_dellist.specs.Several.{seen_in, IsSight};
+ghost use Rattle.std.specs.Option.{option_copied, unwrap_or};
 
 use crate::fault::FreeFault;
+use crate::heads::Heads;
 use myi_base::slices_are_bytes;
 use myi_frames::{FrameKind, Head, LEAST_SIZE, MOST_SIZE, header_at};
 use myi_io::{FileErr, Files};
@@ -39,7 +41,7 @@ pub(crate) struct ReleasePlan {
 #[derive(Clone, Copy)]
 pub(crate) struct Sight<'a> {
     pub end: u64,
-    pub heads: &'a [Head],
+    pub heads: Option<&'a Heads>,
     pub hidden: Option<u64>,
 }
 
@@ -114,21 +116,14 @@ pub(crate) fn is_same(a: Option<u64>, b: Option<u64>) -> bool
     }
 }
 
-/// The last of these headers that is one of a place.
-fn planned(heads: &[Head], at: u64) -> Option<Head>
-    ensures told { result ≡ over heads.now (λ p. None) at }
-    ensures hole { (end : ℕ) → AllByRecursion (IsHoleIn end) heads.now
-        → IfSome result (IsHoleAt at end) }
+/// The last planned header that is one of a place.
+fn planned(heads: Option<&Heads>, at: u64) -> Option<Head>
+    ensures { result ≡ over (unwrap_or (option_copied heads.entry) []) (λ p. None) at }
 {
-    let mut found = None;
-    let mut left = heads;
-    while let Some((head, behind)) = left.split_first() {
-        if head.at == at {
-            found = Some(*head);
-        }
-        left = behind;
+    match heads {
+        Some(heads) => heads.last_at(at),
+        None => None,
     }
-    found
 }
 
 /// The deleted block that is seen at a place.
@@ -415,7 +410,7 @@ pub(crate) fn block_named<F: Files>(
 {
     let sight = Sight {
         end,
-        heads: &[],
+        heads: None,
         hidden: None,
     };
     see_named(files, name, &sight, prev, link)
@@ -441,7 +436,7 @@ pub(crate) fn plan_release<F: Files>(
 {
     let sight = Sight {
         end,
-        heads: &[],
+        heads: None,
         hidden: None,
     };
     see_release(files, name, &sight, head, at, size)
@@ -468,7 +463,7 @@ pub(crate) fn plan_merge<F: Files>(
 {
     let sight = Sight {
         end,
-        heads: &[],
+        heads: None,
         hidden: None,
     };
     let Some(hole) = hole_behind(files, name, &sight, at, size)? else {

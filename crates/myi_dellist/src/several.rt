@@ -1,6 +1,5 @@
 //! Areas that are released one after another, where all is read before anything is written: what is to be
-//! written is planned as a list of headers, and a release sees those of the releases before it. It looks
-//! through that list, so that a row of very many blocks takes long to release.
+//! written is planned as a list of headers, and a release sees those of the releases before it.
 ghost use Rattle.std.specs.Prelude.{◌≡◌, ◌≤◌, ◌<◌, ◌+◌, ◌^◌, ◌++◌, ◌∷◌, [], Ok, Err, IfOk, IfErr, IfSome, OnOk, IsTrue, length};
 ghost use Rattle.std.specs.List.{AllByRecursion};
 ghost use Rattle.myi_base.specs.Holding.{Told, IfTold, OthersStay, bytes_of};
@@ -15,6 +14,7 @@ ghost use Rattle.myi_dellist.specs.Rows.{AreBelow};
 ghost use Rattle.myi_dellist.specs.Freed.{parts_in, part_area, freed_parts, IsPart};
 
 use crate::fault::FreeFault;
+use crate::heads::Heads;
 use crate::linked::{Linked, ReleasePlan, Sight, alone_by, see_release};
 use crate::links::{HALF, place_at, write_head};
 use crate::pieces::Piece;
@@ -78,8 +78,8 @@ pub(crate) fn split(own: &[Piece], parts: &mut Vec<Part>) -> Result<(), FreeFaul
 }
 
 /// Adds the header of the block before one that is taken off the list.
-fn push_before(heads: &mut Vec<Head>, hole: &Head, before: Option<Head>) -> Result<(), FreeFault>
-    ensures heads { OnOk result (heads.new.items ≡ heads.old.items ++ before_heads hole.now before) }
+fn push_before(heads: &mut Heads, hole: &Head, before: Option<Head>) -> Result<(), FreeFault>
+    ensures heads { OnOk result (heads.new ≡ heads.old ++ before_heads hole.now before) }
     ensures only { IfErr result (λ f. f ≡ Memory) }
 {
     let Some(before) = before else {
@@ -93,8 +93,8 @@ fn push_before(heads: &mut Vec<Head>, hole: &Head, before: Option<Head>) -> Resu
 }
 
 /// Adds the header of the block behind one that is taken off the list.
-fn push_behind(heads: &mut Vec<Head>, hole: &Head, behind: Option<Head>) -> Result<(), FreeFault>
-    ensures heads { OnOk result (heads.new.items ≡ heads.old.items ++ behind_heads hole.now behind) }
+fn push_behind(heads: &mut Heads, hole: &Head, behind: Option<Head>) -> Result<(), FreeFault>
+    ensures heads { OnOk result (heads.new ≡ heads.old ++ behind_heads hole.now behind) }
     ensures only { IfErr result (λ f. f ≡ Memory) }
 {
     let Some(behind) = behind else {
@@ -109,9 +109,9 @@ fn push_behind(heads: &mut Vec<Head>, hole: &Head, behind: Option<Head>) -> Resu
 
 /// Adds the headers that taking a block off the list writes, if one is, and answers how long an area is that
 /// is joined with it.
-fn push_joined(heads: &mut Vec<Head>, size: u32, joined: Option<Linked>) -> Result<u32, FreeFault>
+fn push_joined(heads: &mut Heads, size: u32, joined: Option<Linked>) -> Result<u32, FreeFault>
     requires short { IfSome joined (λ l. size + l.hole.size ≤ most_size) }
-    ensures heads { OnOk result (heads.new.items ≡ heads.old.items ++ joined_heads joined) }
+    ensures heads { OnOk result (heads.new ≡ heads.old ++ joined_heads joined) }
     ensures size { IfOk result (λ whole. whole ≡ joined_size size joined) }
     ensures only { IfErr result (λ f. f ≡ Memory) }
 {
@@ -124,8 +124,8 @@ fn push_joined(heads: &mut Vec<Head>, size: u32, joined: Option<Linked>) -> Resu
 }
 
 /// Adds the header of the block that is the first of the list, once an area is before it.
-fn push_first(heads: &mut Vec<Head>, at: u64, first: Option<Head>) -> Result<(), FreeFault>
-    ensures heads { OnOk result (heads.new.items ≡ heads.old.items ++ first_heads at first) }
+fn push_first(heads: &mut Heads, at: u64, first: Option<Head>) -> Result<(), FreeFault>
+    ensures heads { OnOk result (heads.new ≡ heads.old ++ first_heads at first) }
     ensures only { IfErr result (λ f. f ≡ Memory) }
 {
     let Some(first) = first else {
@@ -139,10 +139,10 @@ fn push_first(heads: &mut Vec<Head>, at: u64, first: Option<Head>) -> Result<(),
 }
 
 /// Adds the headers that a release writes.
-fn push_plan(heads: &mut Vec<Head>, part: &Part, plan: &ReleasePlan) -> Result<(), FreeFault>
+fn push_plan(heads: &mut Heads, part: &Part, plan: &ReleasePlan) -> Result<(), FreeFault>
     requires short { IfSome plan.now.joined (λ l. part.now.size + l.hole.size ≤ most_size) }
-    ensures heads { OnOk result (heads.new.items
-        ≡ heads.old.items ++ plan_heads (part_area part.now) plan.now) }
+    ensures heads { OnOk result (heads.new
+        ≡ heads.old ++ plan_heads (part_area part.now) plan.now) }
     ensures only { IfErr result (λ f. f ≡ Memory) }
 {
     let size = push_joined(heads, part.size, plan.joined)?;
@@ -175,25 +175,25 @@ fn plan_part<F: Files>(
     list: &ListEnds,
     part: &Part,
     hidden: Option<u64>,
-    heads: &mut Vec<Head>,
+    heads: &mut Heads,
 ) -> Result<u64, FreeFault>
     requires part { IsPart list.now.end (part_area part.now) }
-    requires heads { AllByRecursion (IsHoleIn list.now.end) heads.old.items }
+    requires heads { AllByRecursion (IsHoleIn list.now.end) heads.old }
     ensures told { IfOk result (λ added. IfTold (F.holds files.old) (λ m.
         length (bytes_of name.now m) ≡ list.now.end → PlansPart (bytes_of name.now m) list.now.head
-        (part_area part.now) hidden heads.old.items heads.new.items added)) }
+        (part_area part.now) hidden heads.old heads.new added)) }
     ensures few { IfOk result (λ added. added ≤ 1) }
     ensures bad { IfErr result (λ f. IfDamaged f (λ p. IfTold (F.holds files.old) (λ m.
         length (bytes_of name.now m) ≡ list.now.end
-        → PartBad (bytes_of name.now m) list.now.head (part_area part.now) hidden heads.old.items p))) }
-    ensures heads { OnOk result (AllByRecursion (IsHoleIn list.now.end) heads.new.items) }
+        → PartBad (bytes_of name.now m) list.now.head (part_area part.now) hidden heads.old p))) }
+    ensures heads { OnOk result (AllByRecursion (IsHoleIn list.now.end) heads.new) }
     ensures holds { F.holds files.new ≡ F.holds files.old }
     ensures room { IfErr result IsNotFull }
     ensures cause { HasCause File (F.faults files.old) (F.faults files.new) result }
 {
     let sight = Sight {
         end: list.end,
-        heads,
+        heads: Some(heads),
         hidden,
     };
     let plan = see_release(files, name, &sight, list.head, part.at, part.size)?;
@@ -208,17 +208,17 @@ pub(crate) fn plan_releases<F: Files>(
     name: &str,
     list: &ListEnds,
     parts: &[Part],
-    heads: &mut Vec<Head>,
+    heads: &mut Heads,
 ) -> Result<Released, FreeFault>
-    requires none { heads.old.items ≡ [] }
+    requires none { heads.old ≡ [] }
     requires parts { AllByRecursion (IsPart list.now.end) (parts_in parts.now) }
     ensures told { OnOk result (IfTold (F.holds files.old) (λ m.
         length (bytes_of name.now m) ≡ list.now.end → heads_in (hole_in (bytes_of name.now m))
-        list.now.head (parts_in parts.now) ≡ Ok heads.new.items)) }
+        list.now.head (parts_in parts.now) ≡ Ok heads.new)) }
     ensures bad { IfErr result (λ f. IfDamaged f (λ p. IfTold (F.holds files.old) (λ m.
         length (bytes_of name.now m) ≡ list.now.end → heads_in (hole_in (bytes_of name.now m))
         list.now.head (parts_in parts.now) ≡ Err p))) }
-    ensures heads { OnOk result (AllByRecursion (IsHoleIn list.now.end) heads.new.items) }
+    ensures heads { OnOk result (AllByRecursion (IsHoleIn list.now.end) heads.new) }
     ensures head { IfOk result (λ r. r.head ≡ head_after list.now.head (parts_in parts.now)) }
     ensures more { IfOk result (λ r. IfTold (F.holds files.old) (λ m.
         length (bytes_of name.now m) ≡ list.now.end → r.more

@@ -19,8 +19,8 @@ loop-part-preserved g c =
       holds = done.holds ∙ was.holds;
       faults = omega (arith, was.faults, done.cause.later);
       so_far = λ m held long.
-          plans-next (bytes_of c.args.name.now m) c.loop-part.head c.loop-part.left.now c.in-Some.behind.now c.in-Some.part.now c.next_of.result c.loop-part.heads.items c.plan_part.new.heads.items _ _ is c.next_of.ensures (done.told m (was.holds ∙ held) long) (was.so_far m held long);
+          plans-next (bytes_of c.args.name.now m) c.loop-part.head c.loop-part.left.now c.in-Some.behind.now c.in-Some.part.now c.next_of.result c.loop-part.heads c.plan_part.new.heads _ _ is c.next_of.ensures (done.told m (was.holds ∙ held) long) (was.so_far m held long);
       added = λ m held long.
-          adds-next (bytes_of c.args.name.now m) c.loop-part.head c.loop-part.left.now c.in-Some.behind.now c.in-Some.part.now c.next_of.result c.loop-part.heads.items c.plan_part.new.heads.items _ c.loop-part.more _ is c.next_of.ensures (done.told m (was.holds ∙ held) long) (was.added m held long);
+          adds-next (bytes_of c.args.name.now m) c.loop-part.head c.loop-part.left.now c.in-Some.behind.now c.in-Some.part.now c.next_of.result c.loop-part.heads c.plan_part.new.heads _ c.loop-part.more _ is c.next_of.ensures (done.told m (was.holds ∙ held) long) (was.added m held long);
       few = omega (arith, was.few, done.few, ap (λ (xs : List Part). length xs) is);
     }

@@ -1,4 +1,4 @@
-use Rattle.std.proofs.Common.{◌≡◌, ◌-◌, ◌^◌, length, ◌∙◌, ◌++◌, List, sym, ap, subst, rules}
+use Rattle.std.proofs.Common.{◌≡◌, ◌-◌, ◌^◌, ◌∙◌, ◌++◌, List, sym, ap, subst, rules}
 use Rattle.std.specs.Prelude.{min}
 use Rattle.std.specs.List.{AllByRecursion}
 use Rattle.myi_frames.specs.declared.head.Head.{Head}
@@ -22,7 +22,7 @@ plan_releases-requires-clause-parts g c κs within =
 
 pub write_heads-requires-clause-heads : goal.write_heads-requires-clause-heads
 write_heads-requires-clause-heads g c κs within =
-    subst (λ (hs : List Head). AllByRecursion IsLinkable hs) (sym c.deref-6.ensures.value) (heads-ready c.self.inside.end c.plan_releases.new.heads.items (search rules) c.in_ok-released.ensures.heads)
+    subst (λ (hs : List Head). AllByRecursion IsLinkable hs) (sym c.as_slice.ensures) (heads-ready c.self.inside.end c.plan_releases.new.heads (search rules) c.in_ok-released.ensures.heads)
 
 pub returns-clause-ok : goal.returns-clause-ok
 returns-clause-ok g c = told-freed _ _ c.args.self.now _ c.args.at c.requires.long (search rules)
@@ -31,7 +31,7 @@ pub returns-clause-tallies : goal.returns-clause-tallies
 returns-clause-tallies g c =
     let own : List Piece = c.read_row.new.own.items in
     let freed : Freed = record { blocks = c.len.result; bytes = c.sizes_of.result; more = c.in_ok-released.released.more } in
-    let bytes = c.sizes_of.ensures ∙ ap (λ (xs : List Piece). min (sizes_of xs) (2 ^ 64 - 1)) c.deref-7.ensures.value in
+    let bytes = c.sizes_of.ensures ∙ ap (λ (xs : List Piece). min (sizes_of xs) (2 ^ 64 - 1)) c.deref-6.ensures.value in
     let name : c.deref-3.result.now ≡ c.args.self.now.name = search rules in
     let o : IsOf c.args.self.now c.deref-3.result.now c.self.inside.end c.self.inside.head = record { name_is = name; end_is = ap (λ (l : ListState). l.end) c.self.view_is; head_is = ap (λ (l : ListState). l.head) c.self.view_is } in
     let parts = ap parts_in c.deref-4.ensures.value ∙ c.in_ok-split.ensures.parts ∙ ap (λ (xs : List Part). parts_in xs ++ freed_parts c.deref-2.result.now) c.clear-2.ensures.items ∙ ap freed_parts c.deref-2.ensures.value in

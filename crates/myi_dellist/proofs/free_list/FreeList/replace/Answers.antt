@@ -118,7 +118,7 @@ write_pieces-requires-clause-below g c κs within =
 
 pub write_heads-requires-clause-heads : goal.write_heads-requires-clause-heads
 write_heads-requires-clause-heads g c κs within =
-    subst (λ (hs : List Head). AllByRecursion IsLinkable hs) (sym c.deref-9.ensures.value) (heads-ready c.self.inside.end c.plan_releases.new.heads.items (search rules) c.in_ok-freed.ensures.heads)
+    subst (λ (hs : List Head). AllByRecursion IsLinkable hs) (sym c.as_slice.ensures) (heads-ready c.self.inside.end c.plan_releases.new.heads (search rules) c.in_ok-freed.ensures.heads)
 
 pub returns-clause-ok : goal.returns-clause-ok
 returns-clause-ok g c = told-again _ _ c.args.self.now _ c.args.at c.args.packed.now (search rules) c.requires.some c.requires.few (search rules) c.requires.long (search rules)
@@ -155,6 +155,6 @@ returns-clause-tallies g c =
     let added = told-added (g.F.Files.holds c.args.files.now) (g.F.Files.holds c.read_row.new.files) c.args.self.now c.deref-4.result.now c.self.inside.end c.self.inside.head (parts_in c.deref-5.result.now) (own_released (own_taking len (areas_of own))) more o c.in_ok-read_row.ensures.holds parts c.in_ok-freed.ensures.more in
     let all : HasTaken (areas_of areas) len ps 0 = (c.in_ok-left.ensures.taken.0, omega (arith, c.in_ok-left.ensures.taken.1, c.if-left-gt0.false)) in
     let mine = subst (λ (xs : List Area). HasTaken xs len ps 0) is all in
-    let result = c.replaced-2.ensures ∙ ap (λ (xs : List Piece). replaced_of c.args.at xs c.deref-11.result.now 0 more) c.deref-10.ensures.value ∙ ap (λ (xs : List Piece). replaced_of c.args.at own xs 0 more) c.deref-11.ensures.value in
+    let result = c.replaced-2.ensures ∙ ap (λ (xs : List Piece). replaced_of c.args.at xs c.deref-10.result.now 0 more) c.deref-9.ensures.value ∙ ap (λ (xs : List Piece). replaced_of c.args.at own xs 0 more) c.deref-10.ensures.value in
     subst (λ (r : Replaced). IfTold (g.F.Files.holds c.args.files.now) (TalliesReplaced c.args.self.now c.args.at len r)) (sym result)
     (tallies-ends (g.F.Files.holds c.args.files.now) c.args.self.now own ps c.args.at len more c.requires.some c.requires.long (search rules) mine added)
