@@ -4,7 +4,7 @@
 //! blocks (`list`) and walks the tree of each key (`asking`, and where that does not serve, behind another pass for
 //! the keys of all rows, `keys`). What the header says is compared with
 //! what these found (`header`). The sections' findings are put together at the end.
-ghost use Rattle.std.specs.Prelude.{◌≡◌, ◌⊎◌, ◌++◌, ℕ, false, List, [], length, map, Some, IfOk, IfErr};
+ghost use Rattle.std.specs.Prelude.{◌≡◌, ◌≢◌, ◌⊎◌, ◌++◌, ℕ, false, List, [], length, map, Some, IfOk, IfErr};
 ghost use Rattle.std.specs.Option.{option_to_list};
 ghost use Rattle.myi_base.specs.Holding.{IfTold, Measures};
 ghost use Rattle.myi_base.specs.Causes.{HasCause};
@@ -22,6 +22,7 @@ use crate::header::{Shown, StoredHeader, header_item, room_left, stored_header};
 use crate::keys::{KeysFound, check_keys};
 use crate::list::check_list;
 use crate::rows::{RowsFound, ScannedFile, find_rows};
+use myi_defs::DefFault;
 use myi_io::Files;
 use myi_opening::{OpenedTable, TableFault, TableFile, open_table};
 use myi_pair::{Finding, HeaderItem};
@@ -38,6 +39,7 @@ pub fn check<F: Files>(alloc: Global, files: &mut F, name: &str) -> Result<Vec<F
 
     ensures refused { IfErr result (λ f.
         IsCutOff f ⊎ IfTold (F.holds files.old) (Refuses name.now f)) }
+    ensures memory { IfErr result (λ f. f ≢ TableFault.Def DefFault.Memory) }
     ensures holds { F.holds files.new ≡ F.holds files.old }
     ensures cause { HasCause TableFault.File (F.faults files.old) (F.faults files.new) result }
 {
@@ -63,6 +65,7 @@ fn check_opened<F: Files>(
     ensures sections { IfOk result (λ found. AreInSections found.items) }
     ensures refused { IfErr result (λ f. IsCutOff f
         ⊎ IfTold (F.holds files.old) (HasNoTable index.now rows.now f)) }
+    ensures memory { IfErr result (λ f. f ≢ TableFault.Def DefFault.Memory) }
     ensures holds { F.holds files.new ≡ F.holds files.old }
     ensures cause { HasCause TableFault.File (F.faults files.old) (F.faults files.new) result }
 {
