@@ -90,13 +90,18 @@ can_walk writable told t k p at lt (inr can) = inr (
       is_clear p t.cache m p.root (slice_index_or st.2.pages k []) (walked t m st.0 st.1 st.2 k p at lt) (held_here t m st.0 st.1 st.2 k p at lt).meets,
 )
 
+-- the tree of a key, in order and each pair once, as a cursor wants it
+pub sought_once : (t : Trees) (told : Option Holding) (k : ℕ) (p : Place) (P : List Pair → Type 0) → IsPlaceOf t k p → k < length t.places
+    → IfTold told (λ m. IsCurrent t.cache m → (h : ℕ) (xs : List Pair) → HasTree p t.cache m p.root h xs → IsStrictlySortedBy pair_cmp xs → P xs) → IfStand told t (λ m own lists. P (list_of lists k))
+sought_once t told k p P at lt found = λ m held own lists s.
+    let hold = held_here t m own lists s k p at lt in
+    let has = has_tree p t.cache m p.root (list_of lists k) (slice_index_or s.pages k []) hold.tree in
+    found m held s.current has.0 (list_of lists k) has.1 hold.ascend
+
 -- the tree of a key, in order, as a search wants it
 pub sought : (t : Trees) (told : Option Holding) (k : ℕ) (p : Place) (P : List Pair → Type 0) → IsPlaceOf t k p → k < length t.places
     → IfTold told (λ m. IsCurrent t.cache m → (h : ℕ) (xs : List Pair) → HasTree p t.cache m p.root h xs → IsSorted pair_cmp xs → P xs) → IfStand told t (λ m own lists. P (list_of lists k))
-sought t told k p P at lt found = λ m held own lists s.
-    let hold = held_here t m own lists s k p at lt in
-    let has = has_tree p t.cache m p.root (list_of lists k) (slice_index_or s.pages k []) hold.tree in
-    found m held s.current has.0 (list_of lists k) has.1 (in_order (list_of lists k) hold.ascend)
+sought t told k p P at lt found = sought_once t told k p P at lt (λ m held current h xs tree once. found m held current h xs tree (in_order xs once))
 
 pub never_sought : (t : Trees) (told : Option Holding) (k : ℕ) (p : Place) → IsPlaceOf t k p → k < length t.places
     → IfTold told (λ m. IsCurrent t.cache m → (h : ℕ) (xs : List Pair) → HasTree p t.cache m p.root h xs → ⊥) → IfStand told t (λ m own lists. ⊥)

@@ -5,7 +5,7 @@ use myi_insertion::{insert, remove};
 use myi_io::Files;
 use myi_keycache::{CacheSetup, Counters, KeyCache};
 use myi_keys::KeyVal;
-use myi_search::{find, next_after, searches_are_short};
+use myi_search::{TreeCursor, find, next_after, searches_are_short};
 use std::alloc::{AllocError, Global};
 use std::marker::Model;
 
@@ -41,8 +41,8 @@ impl Model for KeyTrees {
 }
 
 impl KeyTrees {
-    ghost use Rattle.std.specs.Prelude.{◌≡◌, ◌<◌, ◌≤◌, ◌^◌, ◌%◌, ◌-◌, ℕ, List, [], false, min, length};
-    ghost use Rattle.std.specs.Prelude.{IfOk, IfErr, OnOk, IsTrue, HoldsAt};
+    ghost use Rattle.std.specs.Prelude.{◌≡◌, ◌≢◌, ◌<◌, ◌≤◌, ◌^◌, ◌%◌, ◌-◌, ℕ, List, [], true, false, min, length, is_some};
+    ghost use Rattle.std.specs.Prelude.{IsOk, IfOk, IfErr, OnOk, OnErr, IsTrue, HoldsAt};
     ghost use Rattle.std.specs.List.{AllByRecursion};
     ghost use Rattle.std.specs.Option.{option_copied};
     ghost use Rattle.myi_base.specs.Holding.{Holding, Told, OthersStay};
@@ -57,6 +57,7 @@ impl KeyTrees {
     ghost use Rattle.myi_btree.specs.Sizes.{IsPlaced};
     ghost use Rattle.myi_btree.specs.CachedTrees.{ReadsOnly};
     ghost use Rattle.myi_search.specs.Least.{IsLeastRow, IsLeastAbove};
+    ghost use Rattle.myi_search.specs.Cursor.{StandsIn, Advances};
     ghost use Rattle.myi_search.specs.Counting.{CountsOn};
     ghost use Rattle.myi_insertion.specs.Rooms.{IsWhole};
     ghost use Rattle.myi_insertion.specs.Removal.{has_pair};
@@ -166,6 +167,92 @@ impl KeyTrees {
         let place = self.places[key];
         let pair = next_after(self.alloc, &place, files, &mut self.cache, after)?;
         Ok(pair)
+    }
+
+    /// A cursor behind a pair, whether it is in a list or not, or before all where none is given. It has read no pair,
+    /// and so stands in the list of each key.
+    pub fn cursor(&self, after: Option<&Pair>) -> Result<TreeCursor, AllocError>
+        ensures { IfOk result (λ cursor. cursor ≡ record {
+          last = option_copied after.entry;
+          ahead = [];
+        }) }
+    {
+        match after {
+            Some(pair) => {
+                let cursor = TreeCursor::behind(self.alloc, pair)?;
+                Ok(cursor)
+            }
+            None => Ok(TreeCursor::new(self.alloc)),
+        }
+    }
+
+    /// A cursor behind the pair that this one stands behind, which has read no pair: for a list that may have
+    /// changed since this one was made.
+    pub fn cursor_again(&self, cursor: &TreeCursor) -> Result<TreeCursor, AllocError>
+        ensures { IfOk result (λ again. again ≡ record {
+          last = cursor.now.last;
+          ahead = [];
+        }) }
+    {
+        let Some((code, row)) = cursor.pair() else {
+            return Ok(TreeCursor::new(self.alloc));
+        };
+        let mut key = Vec::new(self.alloc);
+        key.extend_from_slice(code)?;
+        let pair = Pair {
+            key: KeyVal::of_code(key),
+            row,
+        };
+        let again = TreeCursor::behind(self.alloc, &pair)?;
+        Ok(again)
+    }
+
+    /// Goes on with a cursor behind the next pair in the list of a key, and answers whether there is one. It is asked of
+    /// the cursor that it stands in the list, as it does afterwards while the list stays as it is. What is
+    /// said of `find` beside its answer holds of this call too; where the cursor has read a pair before, nothing is
+    /// asked for.
+    pub fn advance<F: Files>(
+        &mut self,
+        files: &mut F,
+        key: usize,
+        cursor: &mut TreeCursor,
+    ) -> Result<bool, TreeFault>
+        requires key { key < length self.old.places }
+        requires kept { CanSearch F.writable (F.holds files.old) self.old }
+
+        // It stands behind the least pair above the one before, or there is none and it stays.
+        ensures next { IfOk result (λ there. IfStand (F.holds files.old) self.old (λ m own lists.
+            StandsIn (list_of lists key) cursor.old
+            → Advances (list_of lists key) cursor.old cursor.new there)) }
+        ensures some { IfOk result (λ there. there ≡ true → is_some cursor.new.last ≡ true) }
+        ensures end { IfOk result (λ there. there ≡ false → cursor.new ≡ cursor.old) }
+        ensures refused { OnErr result (cursor.new ≡ cursor.old) }
+
+        // What was read before is answered with no page asked for.
+        ensures quiet { cursor.old.ahead ≢ []
+            → IsOk result × (files.new ≡ files.old) × (self.new ≡ self.old) }
+
+        ensures stand { StillStand (F.holds files.old) (F.holds files.new) self.old self.new }
+        ensures never { IfErr result (DamagedAt (λ at.
+            IfStand (F.holds files.old) self.old (λ m own lists. ⊥))) }
+        ensures places { self.new.places ≡ self.old.places }
+        ensures room { self.new.room ≡ self.old.room }
+        ensures cache { ReadsOnly (F.holds files.old) (F.holds files.new)
+            self.old.cache self.new.cache }
+        ensures counted { CountsOn self.old.cache self.new.cache }
+        ensures few { IfStand (F.holds files.old) self.old (λ m own lists.
+            RoseByLevels (length (list_of lists key)) (F.reads files.old) (F.reads files.new)) }
+        ensures asked { IfStand (F.holds files.old) self.old (λ m own lists.
+            RoseByLevels (length (list_of lists key)) self.old.cache.counters.read_requests
+            self.new.cache.counters.read_requests) }
+        ensures cause { HasCause File (F.faults files.old) (F.faults files.new) result }
+        ensures reads { F.reads files.old ≤ F.reads files.new }
+    {
+        searches_are_short();
+        walks_add_their_own();
+        let place = self.places[key];
+        let more = cursor.advance(self.alloc, &place, files, &mut self.cache)?;
+        Ok(more)
     }
 
     /// Puts a pair that is not there into the list of a key. After a refusal nothing is said of the trees.

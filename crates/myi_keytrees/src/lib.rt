@@ -8,6 +8,8 @@
 //!
 //! - `KeyTrees::open` takes the places of the trees, and reads nothing.
 //! - `find` answers the least row of a key value, `next_after` the least pair above another one.
+//! - `cursor` makes a cursor of `myi_search`, and `advance` goes on with it to the next pair of a key, and asks
+//!   for no page where the cursor has read that pair before.
 //! - `insert` puts a pair into the list of a key, `remove` takes one out.
 //! - `flush` writes what was put: each tree stands in the file then (`specs/InFile`).
 //! - `place` answers where a tree stands, with its root, and `room_bytes` and `end` what the room has.
