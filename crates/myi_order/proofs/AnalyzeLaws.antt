@@ -29,15 +29,16 @@ use Rattle.myi_base.specs.Causes.{Rose, HasCause}
 use Rattle.myi_io.specs.declared.files.FileErr.{FileErr}
 use Rattle.myi_io.specs.declared.files.FileErr.TheVariants.{Failed}
 use Rattle.myi_order.specs.declared.key_parts.KeyParts.{KeyParts}
-use Rattle.myi_order.specs.declared.numbers.NewNumbers.{NewNumbers}
+use Rattle.myi_header.specs.declared.analysis.NewNumbers.{NewNumbers}
 use Rattle.myi_order.specs.declared.counting.Counted.{Counted}
 use Rattle.myi_order.specs.Faults.{order_fault, CutsOff, faults_told, Clears, IsCleared}
 use Rattle.myi_order.specs.KeyParts.{key_parts}
 use Rattle.myi_order.specs.Counting.{CountsFile}
-use Rattle.myi_order.specs.Numbers.{changed_place, rows_place, changed_bits, analyzed_bits, all_per, number_bytes, with_numbers}
+use Rattle.myi_header.specs.Analysis.{changed_place, rows_place, changed_bits, analyzed_bits, number_bytes, with_numbers}
+use Rattle.myi_order.specs.Numbers.{all_per}
 use Rattle.myi_order.specs.Storing.{with_new, Replaces, KeepsIndex, OthersStayOf, Stores}
 use Rattle.myi_order.specs.Analyzing.{table_in, table_by, clean_by, Refuses, IsRefused, rows_in, Analyzes, KeepsBoth}
-use Rattle.myi_order.proofs.NumberLaws.{header_bits, numbers_read_back}
+use Rattle.myi_header.proofs.CallerLemmas.{numbers-bits, numbers-read}
 use Rattle.myi_order.proofs.ListedLaws.{parts_few, all_small}
 
 ok_same : {A E : Type 0} (x y : A) → ◌≡◌ {A = Result A E} (Ok x) (Ok y) → x ≡ y
@@ -121,7 +122,7 @@ unfolding with_numbers
 stored_by index working d c numbers m n good raw changed place bytes put = record {
   stored = λ x here read.
       let old : bytes_of index m ≡ x = ap (λ o. unwrap_or o []) here in
-      let bits : numbers.changed ≡ analyzed_bits (changed_bits x) = changed ∙ ap analyzed_bits (header_bits d x good (raw x read)) in
+      let bits : numbers.changed ≡ analyzed_bits (changed_bits x) = changed ∙ ap analyzed_bits (numbers-bits d x good (raw x read)) in
       put.there
       ∙ ap (λ b. Some (with_new numbers b)) old
       ∙ ap (λ b. Some (overwritten numbers.place numbers.bytes.items (overwritten changed_place (b ∷ []) x))) bits
@@ -146,9 +147,12 @@ analyzed_by name index working d size c m n good raw few stays index_is working_
       gone = sym (ap n working_is) ∙ put.none;
       clean = stays opened.data_file opened.index d (length (rows_in t)) (all_per (key_parts d (rows_in t))) opened.read (parts_few d (rows_in t) good) (omega (arith, few, counts.count)) (all_small d (rows_in t) (key_numbers d))
           (clean_where_none d opened.data_file opened.index opened.read opened.none);
-      numbers = numbers_read_back d (length (rows_in t)) (all_per (key_parts d (rows_in t))) opened.index good
-          (omega (arith, ap (λ (xs : List ℕ). length xs) (raw opened.index opened.read), length-take (num_at 6 2 opened.index) opened.index))
-          (parts_few d (rows_in t) good) (omega (arith, few, counts.count)) (all_small d (rows_in t) (key_numbers d));
+      numbers = numbers-read d (length (rows_in t)) (all_per (key_parts d (rows_in t))) opened.index good (record {
+        long = omega (arith, ap (λ (xs : List ℕ). length xs) (raw opened.index opened.read), length-take (num_at 6 2 opened.index) opened.index);
+        few = parts_few d (rows_in t) good;
+        counted = omega (arith, few, counts.count);
+        small = all_small d (rows_in t) (key_numbers d);
+      });
     }
 
 -- ---- what stays

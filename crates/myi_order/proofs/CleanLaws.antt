@@ -37,8 +37,8 @@ use Rattle.myi_pair.specs.FirstRows.{repeats, AreDistinct, key_numbers}
 use Rattle.myi_pair.specs.KeyList.{PlacedRow, key_list}
 use Rattle.myi_pair.specs.Trees.{block_of_key, pages_on, AreFree, HasWalkApart, HaveWalks, AreKeyLists, all_pages, total}
 use Rattle.myi_pair.specs.Clean.{values_of, placed_row, covers, next_by, next_deleted, Follows, IsClean}
-use Rattle.myi_order.specs.Numbers.{rows_place, part_place, with_numbers}
-use Rattle.myi_order.proofs.NumberLaws as numbers
+use Rattle.myi_header.specs.Analysis.{rows_place, part_place, with_numbers, HasRoomFor}
+use Rattle.myi_header.proofs.CallerLemmas as header
 
 -- ---- what does not depend on the header's bytes
 
@@ -164,10 +164,10 @@ module _ (d : Defs) (r : List ℕ) (first : ℕ) (x y : List ℕ) (same : SameBe
 
 -- ---- the numbers of the state that stay
 
-module _ (d : Defs) (rows : ℕ) (per x : List ℕ) (room : numbers.HasRoom d rows per x) where
+module _ (d : Defs) (rows : ℕ) (per x : List ℕ) (good : IsSound d) (room : HasRoomFor d rows per x) where
   num_same : (p w : ℕ) → 27 ≤ p → p + w ≤ rows_place d → num_at p w (with_numbers d rows per x) ≡ num_at p w x
   num_same p w low high =
-      sym (num-take w w (drop p (with_numbers d rows per x)) (omega arith)) ∙ ap (num w) (numbers.part_same d rows per x room p w low high) ∙ num-take w w (drop p x) (omega arith)
+      sym (num-take w w (drop p (with_numbers d rows per x)) (omega arith)) ∙ ap (num w) (header.numbers-between d rows per x p w good room low high) ∙ num-take w w (drop p x) (omega arith)
 
   roots_same : (at n : ℕ) → 27 ≤ at → at + 8 * n ≤ rows_place d → numbers at (replicate n 8) (with_numbers d rows per x) ≡ numbers at (replicate n 8) x
   roots_same at zero low high = refl
@@ -204,11 +204,11 @@ module _ (file x : List ℕ) (rows : ℕ) (per : List ℕ) (c : IsClean file x) 
   short : length c.defs.raw ≤ length x
   short = omega (arith, ap (λ (xs : List ℕ). length xs) raw, length-take (num_at 6 2 x) x)
 
-  room : numbers.HasRoom c.defs rows per x
-  room = numbers.has_room c.defs rows per x good short few counted small
+  room : HasRoomFor c.defs rows per x
+  room = record { long = short; few = few; counted = counted; small = small }
 
   long : length (with_numbers c.defs rows per x) ≡ length x
-  long = (numbers.reads_back c.defs rows per x room).long
+  long = (header.numbers-read c.defs rows per x good room).long
 
   raw_is : c.defs.raw ≡ take (num_at 6 2 c.defs.raw) x
   raw_is = raw ∙ same_front (num_at 6 2 x) (length c.defs.raw) x (ap (λ (xs : List ℕ). length xs) raw) ∙ ap (λ n. take n x) good.header
@@ -225,11 +225,11 @@ module _ (file x : List ℕ) (rows : ℕ) (per : List ℕ) (c : IsClean file x) 
   agrees : AgreeOutsideState c.defs.raw (with_numbers c.defs rows per x)
   agrees = record {
     long = omega (arith, long, short, good.header);
-    front = numbers.front_same c.defs rows per x room 24 (omega arith) ∙ sym (ap (take 24) raw_is ∙ same_n 24 (num_at 6 2 c.defs.raw) x early);
-    base = ap (take 94) (numbers.back_same c.defs rows per x room (num_at 12 2 c.defs.raw) behind)
+    front = header.numbers-front c.defs rows per x 24 good room (omega arith) ∙ sym (ap (take 24) raw_is ∙ same_n 24 (num_at 6 2 c.defs.raw) x early);
+    base = ap (take 94) (header.numbers-behind c.defs rows per x (num_at 12 2 c.defs.raw) good room behind)
         ∙ sym (ap (λ xs. take 94 (drop (num_at 12 2 c.defs.raw) xs)) raw_is ∙ inner (num_at 12 2 c.defs.raw) 94 (num_at 6 2 c.defs.raw) x (omega (arith, wide)));
     back = dropped (num_at 12 2 c.defs.raw + 100) (num_at 6 2 c.defs.raw) (with_numbers c.defs rows per x) wide
-        ∙ ap (take (num_at 6 2 c.defs.raw - (num_at 12 2 c.defs.raw + 100))) (numbers.back_same c.defs rows per x room (num_at 12 2 c.defs.raw + 100) (omega (arith, behind)))
+        ∙ ap (take (num_at 6 2 c.defs.raw - (num_at 12 2 c.defs.raw + 100))) (header.numbers-behind c.defs rows per x (num_at 12 2 c.defs.raw + 100) good room (omega (arith, behind)))
         ∙ sym (dropped (num_at 12 2 c.defs.raw + 100) (num_at 6 2 c.defs.raw) x wide)
         ∙ sym (ap (λ xs. drop (num_at 12 2 c.defs.raw + 100) (take (num_at 6 2 c.defs.raw) xs)) raw_is ∙ ap (drop (num_at 12 2 c.defs.raw + 100)) (same_n (num_at 6 2 c.defs.raw) (num_at 6 2 c.defs.raw) x (omega arith)));
   }
@@ -256,20 +256,20 @@ module _ (file x : List ℕ) (rows : ℕ) (per : List ℕ) (c : IsClean file x) 
   unfolding has_mark
   marked =
       ap (λ b. bytes_eq (part (b + 94) 6 (with_numbers c.defs rows per x)) mark) base_same
-      ∙ ap (λ b. bytes_eq (take 6 b) mark) (numbers.back_same c.defs rows per x room ((layout_of c.defs).base + 94) (omega (arith, few)))
+      ∙ ap (λ b. bytes_eq (take 6 b) mark) (header.numbers-behind c.defs rows per x ((layout_of c.defs).base + 94) good room (omega (arith, few)))
       ∙ c.mark
 
   same_behind : SameBehind (first_page_of c.defs) x (with_numbers c.defs rows per x)
-  same_behind = record { long = long; same = λ p low. numbers.back_same c.defs rows per x room p (omega (arith, behind, wide, good.header, low, page_behind)) }
+  same_behind = record { long = long; same = λ p low. header.numbers-behind c.defs rows per x p good room (omega (arith, behind, wide, good.header, low, page_behind)) }
     where
       page_behind : length c.defs.raw ≤ first_page_of c.defs
       page_behind = omega arith
 
   head_same : pointer_of (num_at 52 8 (with_numbers c.defs rows per x)) ≡ pointer_of (num_at 52 8 x)
-  head_same = ap pointer_of (num_same c.defs rows per x room 52 8 (omega arith) (omega arith))
+  head_same = ap pointer_of (num_same c.defs rows per x good room 52 8 (omega arith) (omega arith))
 
   roots_are : roots_in (length c.defs.keys) (with_numbers c.defs rows per x) ≡ roots_in (length c.defs.keys) x
-  roots_are = ap (map pointer_of) (roots_same c.defs rows per x room 124 (length c.defs.keys) (omega arith) (omega arith))
+  roots_are = ap (map pointer_of) (roots_same c.defs rows per x good room 124 (length c.defs.keys) (omega arith) (omega arith))
 
   pub clean_again : IsClean file (with_numbers c.defs rows per x)
   unfolding state_of
@@ -289,12 +289,12 @@ module _ (file x : List ℕ) (rows : ℕ) (per : List ℕ) (c : IsClean file x) 
           subst (λ h. Follows e file None h c.list.0) (sym head_same) (follows_same c.defs r file None _ c.list.0 c.list.2),
         );
         counts = record {
-          records = num_same c.defs rows per x room 28 8 (omega arith) (omega arith) ∙ c.counts.records ∙ sym (ap (λ (rs : List Row). length rs) (readable_same c.defs r file));
-          del = num_same c.defs rows per x room 36 8 (omega arith) (omega arith) ∙ c.counts.del ∙ sym (ap (λ (rs : List Range). length rs) (deleted_same c.defs r file));
-          split = num_same c.defs rows per x room 44 8 (omega arith) (omega arith) ∙ c.counts.split ∙ sym (ap (λ rs. length (ranges_of rs)) (readable_same c.defs r file));
-          key_file_length = num_same c.defs rows per x room 60 8 (omega arith) (omega arith) ∙ c.counts.key_file_length ∙ sym long;
-          data_file_length = num_same c.defs rows per x room 68 8 (omega arith) (omega arith) ∙ c.counts.data_file_length;
-          empty = num_same c.defs rows per x room 76 8 (omega arith) (omega arith) ∙ c.counts.empty ∙ sym (ap total (deleted_same c.defs r file));
+          records = num_same c.defs rows per x good room 28 8 (omega arith) (omega arith) ∙ c.counts.records ∙ sym (ap (λ (rs : List Row). length rs) (readable_same c.defs r file));
+          del = num_same c.defs rows per x good room 36 8 (omega arith) (omega arith) ∙ c.counts.del ∙ sym (ap (λ (rs : List Range). length rs) (deleted_same c.defs r file));
+          split = num_same c.defs rows per x good room 44 8 (omega arith) (omega arith) ∙ c.counts.split ∙ sym (ap (λ rs. length (ranges_of rs)) (readable_same c.defs r file));
+          key_file_length = num_same c.defs rows per x good room 60 8 (omega arith) (omega arith) ∙ c.counts.key_file_length ∙ sym long;
+          data_file_length = num_same c.defs rows per x good room 68 8 (omega arith) (omega arith) ∙ c.counts.data_file_length;
+          empty = num_same c.defs rows per x good room 76 8 (omega arith) (omega arith) ∙ c.counts.empty ∙ sym (ap total (deleted_same c.defs r file));
         };
         walks = c.walks;
         trees = subst (λ f. HaveWalks e n ((0, f) ∷ []) (key_numbers c.defs) (roots_in (length c.defs.keys) n) c.walks) (sym first_same)
@@ -302,7 +302,7 @@ module _ (file x : List ℕ) (rows : ℕ) (per : List ℕ) (c : IsClean file x) 
             (walks_stay c.defs r (first_page_of c.defs) x n same_behind frame [] (key_numbers c.defs) _ c.walks c.trees));
         lists = subst (λ ps. AreKeyLists e ps (key_numbers c.defs) c.walks) (sym (ap (map (placed_row e)) (readable_same c.defs r file) ∙ placed_same c.defs r (readable c.defs false file)))
             (lists_same c.defs r (map (placed_row c.defs) (readable c.defs false file)) (key_numbers c.defs) c.walks c.lists);
-        key_empty = num_same c.defs rows per x room 84 8 (omega arith) (omega arith) ∙ c.key_empty
+        key_empty = num_same c.defs rows per x good room 84 8 (omega arith) (omega arith) ∙ c.key_empty
             ∙ ap (λ l. l - first_page_of c.defs - total (all_pages c.defs (key_numbers c.defs) c.walks)) (sym long)
             ∙ ap (λ f. length n - f - total (all_pages c.defs (key_numbers c.defs) c.walks)) (sym first_same)
             ∙ ap (λ ps. length n - first_page_of e - total ps) (sym (pages_same c.defs r (key_numbers c.defs) c.walks));

@@ -16,7 +16,8 @@ use Rattle.myi_order.specs.declared.fault.OrderFault.TheVariants.{Damaged}
 use Rattle.myi_order.specs.declared.key_parts.KeyParts.{KeyParts}
 use Rattle.myi_order.specs.Faults.{order_fault}
 use Rattle.myi_order.specs.KeyParts.{key_parts}
-use Rattle.myi_order.specs.Numbers.{all_per, with_numbers, IsAnalyzed}
+use Rattle.myi_header.specs.Analysis.{with_numbers, IsAnalyzed}
+use Rattle.myi_order.specs.Numbers.{all_per}
 
 -- by what is wrong with its files
 abbrev pub clean_by : Table → List Finding → Result Table OrderFault

@@ -4,7 +4,7 @@
 pub mod Prefixes
 -- the rows per prefix of all keys of a table
 pub mod KeyParts
--- the numbers of an index file that an analysis sets
+-- the numbers of all keys, as an index file has them
 pub mod Numbers
 -- the faults of an analysis and of sorting
 pub mod Faults

@@ -3,9 +3,10 @@ use Rattle.std.specs.Prelude.{◌≡◌, ◌≢◌, ℕ, List, [], ◌∷◌, So
 use Rattle.myi_base.specs.Holding.{Holding, bytes_of, overwritten}
 use Rattle.myi_defs.specs.declared.types.Defs.{Defs}
 use Rattle.myi_defs.specs.ReadDefs.{read_defs}
-use Rattle.myi_order.specs.declared.numbers.NewNumbers.{NewNumbers}
+use Rattle.myi_header.specs.declared.analysis.NewNumbers.{NewNumbers}
 use Rattle.myi_order.specs.declared.counting.Counted.{Counted}
-use Rattle.myi_order.specs.Numbers.{changed_place, all_per, with_numbers}
+use Rattle.myi_header.specs.Analysis.{changed_place, with_numbers}
+use Rattle.myi_order.specs.Numbers.{all_per}
 
 -- a file with new numbers
 abbrev pub with_new : NewNumbers → List ℕ → List ℕ

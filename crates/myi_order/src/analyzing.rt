@@ -15,10 +15,11 @@ use crate::counting::{Counted, count_trees};
 use crate::fault::OrderFault;
 use crate::key_parts::KeyParts;
 use crate::laws::analyzed_tables_are_clean;
-use crate::numbers::new_numbers;
+use crate::numbers::all_numbers;
 use crate::storing::replace_index;
 use myi_check::check;
 use myi_defs::{Defs, definitions_are_sound};
+use myi_header::new_numbers;
 use myi_io::Files;
 use myi_opening::open_table;
 use myi_repair::TableFiles;
@@ -118,7 +119,8 @@ fn store<F: Files>(
     ensures cause { HasCause OrderFault.File (F.faults files.old) (F.faults files.new) result }
 {
     definitions_are_sound();
-    let numbers = new_numbers(alloc, defs, counted.rows, &counted.parts)?;
+    let parts = all_numbers(alloc, &counted.parts)?;
+    let numbers = new_numbers(alloc, defs, counted.rows, &parts)?;
     let working = table.new_index.as_str();
     replace_index(alloc, files, table.index.as_str(), working, &numbers)
 }

@@ -3,9 +3,9 @@
 ghost use Rattle.std.specs.Prelude.{◌≡◌, ◌<◌, ◌≤◌, ◌^◌, ℕ, List, [], length, map, Ok, IsSorted};
 ghost use Rattle.std.specs.List.{AllByRecursion};
 ghost use Rattle.myi_defs.specs.declared.types.Defs.{Defs};
-ghost use Rattle.myi_defs.specs.Sound.{IsSound};
 ghost use Rattle.myi_defs.specs.ReadDefs.{read_defs};
 ghost use Rattle.myi_header.specs.Layout.{key_parts};
+ghost use Rattle.myi_header.specs.Analysis.{with_numbers};
 ghost use Rattle.myi_keylist.specs.declared.pair.Pair.{Pair};
 ghost use Rattle.myi_keylist.specs.PairOrder.{pair_cmp, sorted};
 ghost use Rattle.myi_keylist.specs.Repeats.{keys_of};
@@ -14,7 +14,6 @@ ghost use Rattle.myi_pair.specs.Clean.{values_of, IsClean};
 ghost use Rattle.myi_pair.specs.FirstRows.{AreDistinct};
 ghost use Rattle.myi_order.specs.InOrder.{placed_key, in_order, IsInOrder};
 ghost use Rattle.myi_order.specs.Prefixes.{distinct_prefixes, per, per_each, prefix_ends};
-ghost use Rattle.myi_order.specs.Numbers.{with_numbers, IsAnalyzed};
 
 use myi_btree::walks_depend_on_their_pages;
 use myi_defs::definitions_are_sound;
@@ -47,15 +46,6 @@ pub fn rows_are_put_in_order()
     ensures distinct { (d : Defs) (k : ℕ) (rows : List Row)
         → AreDistinct d [] (map (values_of d) rows)
         → AreDistinct d [] (map (values_of d) (in_order d k rows)) }
-{}
-
-/// What is read of an index file with new numbers: each of these numbers, the changed bits without the one
-/// that says not analyzed, and all other bytes of the file before.
-pub fn numbers_read_back()
-    ensures { (d : Defs) (rows : ℕ) (parts x : List ℕ) → IsSound d → length d.raw ≤ length x
-        → length parts ≤ key_parts d → rows < 256 ^ 8
-        → AllByRecursion (λ n. n < 256 ^ 4) parts
-        → IsAnalyzed d rows parts x (with_numbers d rows parts x) }
 {}
 
 /// A table that is clean is clean with new numbers in its index file: no definition of a clean pair reads

@@ -2,8 +2,8 @@
 //! table in the order of a key.
 //!
 //! The optimizer of a server reads the numbers there. The definitions are in `specs/`: `Prefixes` has the rows per
-//! prefix of any list of keys, `KeyParts` those of the keys of a table, `Numbers` where they stand in an
-//! index file, and `Analyzing` what an analysis of a table answers and leaves.
+//! prefix of any list of keys, `KeyParts` those of the keys of a table, `Numbers` those of all keys in
+//! one list, and `Analyzing` what an analysis of a table answers and leaves.
 //!
 //! `analyze` checks a table, and walks the tree of each key once more. Its pairs come in order, so that keys that
 //! share a prefix follow one another, and the distinct prefixes of all lengths are counted as they come
@@ -46,7 +46,6 @@ pub use analyzing::analyze;
 pub use fault::OrderFault;
 pub use key_parts::KeyParts;
 pub use laws::{
-    analyzed_tables_are_clean, numbers_read_back, prefixes_end_in_order, rows_are_put_in_order,
-    sorting_keeps_prefixes,
+    analyzed_tables_are_clean, prefixes_end_in_order, rows_are_put_in_order, sorting_keeps_prefixes,
 };
 pub use sorting::sort_records;

@@ -7,7 +7,7 @@ ghost use Rattle.myi_order.specs.Storing.{with_new, Replaces, KeepsIndex, Others
 
 use crate::copying::copy_file;
 use crate::fault::OrderFault;
-use crate::numbers::{CHANGED_PLACE, NewNumbers};
+use myi_header::{CHANGED_PLACE, NewNumbers};
 use myi_io::Files;
 use std::alloc::Global;
 

@@ -7,6 +7,7 @@ use Rattle.myi_header.specs.declared.state.State.{State}
 use Rattle.myi_header.specs.Layout.{page_sizes, first_page_of}
 use Rattle.myi_header.specs.StateOf.{state_of}
 use Rattle.myi_header.specs.HeaderOf.{header_of}
+use Rattle.myi_header.specs.Analysis.{anew_bits}
 use Rattle.myi_data.specs.Stored.{SizedRow, stored_size, stored_file, block_count}
 use Rattle.myi_keylist.specs.declared.pair.Pair.{Pair}
 use Rattle.myi_btree.specs.Walk.{Node}
@@ -62,7 +63,7 @@ without_free_pages d rest = take 24 rest ++ (replicate (8 * page_sizes d) 255 ++
 abbrev pub new_state : Defs → State → ℕ → ℕ → ℕ → List (Option ℕ) → ℕ → ℕ → State
 new_state d s rows blocks data_length roots index_length now = record s {
   open_count = 0;
-  changed = 40;
+  changed = anew_bits;
   records = rows;
   del = 0;
   split = blocks;

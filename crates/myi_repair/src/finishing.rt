@@ -14,12 +14,9 @@ use crate::gathering::Gathered;
 use crate::names::TableFiles;
 use myi_base::{Sequence, u8_at};
 use myi_defs::Defs;
-use myi_header::{State, print_state, stored_state};
+use myi_header::{ANEW_BITS, State, print_state, stored_state};
 use myi_io::Files;
 use std::alloc::{AllocError, Global};
-
-/// What the state says of a table after a repair: not analyzed, and pages not sorted.
-const REPAIRED: u8 = 40;
 
 /// Writes the header, with the mark and the state that a repair sets, to the front of the working index
 /// file, `NAME.TMI`, makes that file `index_length` bytes long, and gives first the working data file and
@@ -179,7 +176,7 @@ fn new_state(
     let page_sizes = u8_at(defs.raw.as_slice(), 21) as usize;
     Ok(State {
         open_count: 0,
-        changed: REPAIRED,
+        changed: ANEW_BITS,
         sortkey: stored.sortkey,
         records: gathered.report.kept,
         del: 0,
