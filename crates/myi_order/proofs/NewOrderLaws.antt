@@ -32,6 +32,9 @@ use Rattle.myi_order.specs.declared.rows_read.RowsRead.{RowsRead}
 use Rattle.myi_order.specs.InOrder.{placed_key, in_order}
 use Rattle.myi_order.specs.Counting.{placed_pair, HasRead}
 use Rattle.myi_order.specs.AtPlaces.{Stands}
+use Rattle.myi_order.specs.declared.nearby.Nearby.{Nearby}
+use Rattle.myi_order.specs.Nearby.{Knows}
+use Rattle.myi_window.specs.Excerpt.{StandsIn, GoesOnStanding}
 use Rattle.myi_order.specs.NewOrder.{HasPut, Puts, Appends, AreAt, IsOrder, GathersInOrder}
 
 -- ---- one row
@@ -84,29 +87,43 @@ map_take f (suc i) (x ∷ xs) = ap (λ ys. f x ∷ ys) (map_take f i xs)
 storable_front : (d : Defs) (i : ℕ) (rs : List Row) → AreStorable d (map (sized_row d) rs) → AreStorable d (map (sized_row d) (take i rs))
 storable_front d i rs all = subst (AreStorable d) (sym (map_take (sized_row d) i rs)) (all_of (IsStorable d) i (map (sized_row d) rs) all)
 
+-- the same, and what is held of the data file stands in it
+abbrev pub PutNear : FourNames → OpenedTable → List Pair → ℕ → List SizedRow → Nearby → Holding → Holding → Type 0
+PutNear t o order i rows near m n = PutTo t o order i rows m n × StandsIn near.window (bytes_of t.rows n)
+
 -- the row that stands at a place of the data file is this
-abbrev pub IsThere : List ℕ → OpenedTable → ℕ → SizedRow → Holding → Type 0
-IsThere name o at row k = length (bytes_of name k) ≡ o.length → (r : Row) → r.at ≡ at → Stands o.defs (bytes_of name k) r → sized_row o.defs r ≡ row
+abbrev pub IsThere : List ℕ → OpenedTable → Nearby → ℕ → SizedRow → Holding → Type 0
+IsThere name o near at row k = Knows near name k → (r : Row) → r.at ≡ at → Stands o.defs (bytes_of name k) r → sized_row o.defs r ≡ row
 
--- one row was put
-abbrev pub Steps : FourNames → OpenedTable → ℕ → SizedRow → NewTable → Holding → Holding → Type 0
-Steps t o at row new k n = Appends o.defs t.new_rows new k n × OthersStay t.new_rows k n × IsThere t.rows o at row k
+-- it was read on, and one row was put
+pub record Steps (t : FourNames) (o : OpenedTable) (old near : Nearby) (at : ℕ) (row : SizedRow) (new : NewTable) (k n : Holding) : Type 0 where
+  pub appends : Appends o.defs t.new_rows new k n
+  pub others : OthersStay t.new_rows k n
+  pub stands : GoesOnStanding t.rows old.window near.window k
+  pub there : IsThere t.rows o near at row k
 
-pub put_next : (t : FourNames) (o : OpenedTable) (order : List Pair) (i at : ℕ) (rows : List SizedRow) (row : SizedRow) (new : NewTable) (m k n : Holding) → (t.rows ≡ t.new_rows → ⊥) → i < length order → ((p : Pair) → at ≡ (get_or order i p).row) → PutTo t o order i rows m k → IsPrepared o.defs row new.next → IsThere t.rows o at row k → HasPut o.defs rows new
+put_next : (t : FourNames) (o : OpenedTable) (order : List Pair) (i at : ℕ) (rows : List SizedRow) (row : SizedRow) (near : Nearby) (new : NewTable) (m k n : Holding) → near.end ≡ o.length → StandsIn near.window (bytes_of t.rows k) → (t.rows ≡ t.new_rows → ⊥) → i < length order → ((p : Pair) → at ≡ (get_or order i p).row) → PutTo t o order i rows m k → IsPrepared o.defs row new.next → IsThere t.rows o near at row k → HasPut o.defs rows new
     → Appends o.defs t.new_rows new k n → OthersStay t.new_rows k n → PutTo t o order (i + 1) (rows ++ row ∷ []) m n
-put_next t o order i at rows row new m k n apart inside is before prepared there put appends others = (
+put_next t o order i at rows row near new m k n end held apart inside is before prepared there put appends others = (
   ap (λ (b : Option (List ℕ)). unwrap_or b []) (others t.rows apart) ∙ before.0,
   λ rs long are.
       let d = o.defs in
       let was = before.1 rs long are in
       let next = place_next (Stands d (bytes_of t.rows m)) order rs i at are.places inside is are.stand in
       let stands : Stands d (bytes_of t.rows k) next.0 = subst (λ x. Stands d x next.0) (sym before.0) next.2 in
-      let same : sized_row d next.0 ≡ row = there (ap (λ (x : List ℕ). length x) before.0 ∙ long) next.0 next.1 stands in
+      let same : sized_row d next.0 ≡ row = there (record { long = ap (λ (x : List ℕ). length x) before.0 ∙ long ∙ sym end; stands = held }) next.0 next.1 stands in
       let came : rows ++ row ∷ [] ≡ map (sized_row d) (take (i + 1) rs) =
       ap (λ qs. qs ++ row ∷ []) was.0 ∙ ap (λ r. map (sized_row d) (take i rs) ++ r ∷ []) (sym same) ∙ sym (map-append (sized_row d) (take i rs) (next.0 ∷ [])) ∙ ap (map (sized_row d)) (sym next.3) in
       let can : AreStorable d rows = subst (AreStorable d) (sym was.0) (storable_front d i rs are.storable) in
       (came, appends row rows prepared put can was.1),
 )
+
+pub put_near : (t : FourNames) (o : OpenedTable) (order : List Pair) (i at : ℕ) (rows : List SizedRow) (row : SizedRow) (old near : Nearby) (new : NewTable) (m k n : Holding) → near.end ≡ o.length → (t.rows ≡ t.new_rows → ⊥) → i < length order → ((p : Pair) → at ≡ (get_or order i p).row) → PutNear t o order i rows old m k
+    → IsPrepared o.defs row new.next → HasPut o.defs rows new → Steps t o old near at row new k n → PutNear t o order (i + 1) (rows ++ row ∷ []) near m n
+put_near t o order i at rows row old near new m k n end apart inside is before prepared put step =
+    let held : StandsIn near.window (bytes_of t.rows k) = step.stands before.1 in
+    let same : bytes_of t.rows n ≡ bytes_of t.rows k = ap (λ (b : Option (List ℕ)). unwrap_or b []) (step.others t.rows apart) in
+    (put_next t o order i at rows row near new m k n end held apart inside is before.0 prepared step.there put step.appends step.others, subst (StandsIn near.window) (sym same) held)
 
 pub put_whole : (t : FourNames) (o : OpenedTable) (order : List Pair) (i : ℕ) (rows : List SizedRow) (m n : Holding) → length order ≤ i → PutTo t o order i rows m n → (rs : List Row) → length (bytes_of t.rows m) ≡ o.length → AreAt o.defs (bytes_of t.rows m) order rs → (rows ≡ map (sized_row o.defs) rs) × (n t.new_rows ≡ Some (stored_file o.defs rows))
 put_whole t o order i rows m n end is rs long are =

@@ -1,8 +1,10 @@
 -- Readable rows stand at their places, and what is read there is the row.
 use Rattle.std.proofs.Common.{◌≡◌, ◌∙◌, ℕ, zero, suc, ◌+◌, ◌-◌, false, List, [], ◌∷◌, ◌++◌, length, map, take, drop, min, unwrap_or, ◌≤◌, Some, refl, sym, ap, subst, arith}
 use Rattle.std.specs.List.{flat_map, AllByRecursion}
-use Rattle.std.proofs.lemmas.List.{append-nil, drop_all, length-take-le, length-drop, drop-drop}
+use Rattle.std.proofs.lemmas.List.{append-nil, drop_all, take-take, length-take-le, length-drop, drop-drop}
 use Rattle.myi_base.specs.Ranges.{Range}
+use Rattle.myi_window.specs.Excerpt.{Excerpt, bytes_from, StandsIn}
+use Rattle.myi_window.proofs.CallerLemmas.{excerpt_front}
 use Rattle.myi_defs.specs.declared.types.Defs.{Defs}
 use Rattle.myi_defs.specs.declared.types.RowFormat.{RowFormat}
 use Rattle.myi_defs.specs.declared.types.RowFormat.TheVariants.{Static, Dynamic}
@@ -57,6 +59,10 @@ filled-behind start at count k into new post d inside size long none told bytes 
     let tail : drop (length (drop at d)) (take k (drop start into)) ≡ [] = drop_all (length (drop at d)) (take k (drop start into)) (omega (arith, told, mid, all)) in
     let is : new ≡ take count (drop at d) = bytes ∙ ap (λ (ys : List ℕ). take (length (take k (drop start into))) (drop at d) ++ ys) tail ∙ append-nil (take (length (take k (drop start into))) (drop at d)) ∙ ap (λ n. take n (drop at d)) (mid ∙ sym all) in
     ap (λ (ys : List ℕ). take start into ++ (new ++ ys)) none ∙ ap (λ (ys : List ℕ). take start into ++ ys) (append-nil new ∙ is)
+
+-- bytes that are held of a file from a place on are the file's
+pub held_front : (at count : ℕ) (e : Excerpt) (d : List ℕ) → StandsIn e d → count ≤ length (bytes_from at e) → take count (bytes_from at e) ≡ take count (drop at d)
+held_front at count e d stands few = ap (take count) (excerpt_front at e d stands) ∙ take-take count (length (bytes_from at e)) (drop at d) few
 
 -- ---- what was read is the row
 

@@ -14,6 +14,8 @@ use Rattle.myi_pair.specs.Clean.{sized_row}
 use Rattle.myi_repair.specs.declared.next_row.NextRow.{NextRow}
 use Rattle.myi_repair.specs.Keeping.{IsPrepared}
 use Rattle.myi_order.specs.declared.row_at.RowAt.{RowAt}
+use Rattle.myi_order.specs.declared.nearby.Nearby.{Nearby}
+use Rattle.myi_order.specs.Nearby.{Knows}
 
 -- the row is the slot at its place
 pub record IsInSlot (d : Defs) (x : List ℕ) (r : Row) : Type 0 where
@@ -33,8 +35,8 @@ pub record Holds (a : RowAt) (r : Row) : Type 0 where
   pub bytes : a.bytes.items ≡ r.bytes
   pub blocks : ranges_at a.blocks.items ≡ r.blocks
 
--- a row was read from a place and spelled: the one that stands there, where one does
-pub record ReadsThere (d : Defs) (name : List ℕ) (end at : ℕ) (told : Option Holding) (next : NextRow) : Type 0 where
+-- a row was read from a place of a file of which a part is held, and spelled: the one that stands there, where one does
+pub record ReadsThere (d : Defs) (name : List ℕ) (near : Nearby) (at : ℕ) (told : Option Holding) (next : NextRow) : Type 0 where
   pub row : SizedRow
   pub prepared : IsPrepared d row next
-  pub there : IfTold told (λ m. length (bytes_of name m) ≡ end → (r : Row) → r.at ≡ at → Stands d (bytes_of name m) r → sized_row d r ≡ row)
+  pub there : IfTold told (λ m. Knows near name m → (r : Row) → r.at ≡ at → Stands d (bytes_of name m) r → sized_row d r ≡ row)

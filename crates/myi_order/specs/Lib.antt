@@ -28,6 +28,8 @@ pub mod Listed
 pub mod Counting
 -- how the blocks of a row are read one after the other
 pub mod RowLinks
+-- a part of a data file that is held
+pub mod Nearby
 -- a readable row at its place
 pub mod AtPlaces
 -- what is written of a table whose rows are sorted

@@ -11,8 +11,8 @@
 //! what a check holds, some pages of the index file, and no file as a whole.
 //!
 //! `sort_records` checks a table, reads its rows once, codes their keys, and puts those of one key, with the
-//! places of the rows, in order. Then it reads each row at its place, in that order, and writes it by the parts of a
-//! repair, which also code its keys again, build the trees and give the new files their names. `InOrder` and
+//! places of the rows, in order. Then it reads each row at its place, in that order, those that stand close together
+//! by one read (`nearby`), and writes it by the parts of a repair, which also code its keys again, build the trees and give the new files their names. `InOrder` and
 //! `Sorting` have what it leaves.
 //! The rest are laws over the definitions.
 //!
@@ -33,6 +33,7 @@ mod counting;
 mod fault;
 mod key_parts;
 mod laws;
+mod nearby;
 mod new_order;
 mod numbers;
 mod prefixes;

@@ -1,7 +1,7 @@
 //! The rows of a table in the order of a key, written into its working data file.
 //!
 //! The keys of all rows, with the places of the rows, are put in order. Then each row is read from its place, in
-//! that order, and written behind the one before. No row is kept.
+//! that order, and written behind the one before: rows that stand close together by one read. No row is kept.
 ghost use Rattle.std.specs.Prelude.{◌≡◌, ◌≤◌, [], List, ℕ, Some, length, IfOk, OnOk, IfErr, IsTrue};
 ghost use Rattle.std.specs.Prelude as std;
 ghost use Rattle.myi_base.specs.Holding.{IfTold, Told};
@@ -13,11 +13,13 @@ ghost use Rattle.myi_data.specs.Keys.{IsKeyNumber};
 ghost use Rattle.myi_repair.specs.Names.{names_of, AreApart, KeepsBoth};
 ghost use Rattle.myi_repair.specs.Opening as repair;
 ghost use Rattle.myi_repair.specs.Sized.{AreSizedPairs};
+ghost use Rattle.myi_window.specs.Excerpt.{nothing};
 ghost use Rattle.myi_order.specs.Faults.{CutsOff};
 ghost use Rattle.myi_order.specs.NewOrder.{HasPut, PutsAll, IsOrder, GathersInOrder};
 ghost use Rattle.myi_order.specs.Outcome.{EndsIn, EndsCutOff};
 
 use crate::fault::OrderFault;
+use crate::nearby::Nearby;
 use crate::row_at::RowAt;
 use crate::rows_read::read_file;
 use myi_defs::Defs;
@@ -62,16 +64,17 @@ impl NewTable {
         })
     }
 
-    // Reads the row at a place of the data file of that name, and spells it.
+    // Reads the row at a place of the data file of that name, of which a part is held, and spells it.
     fn read<F: Files>(
         &mut self,
         files: &mut F,
         name: &str,
-        opened: &OpenedTable,
+        near: &Nearby,
+        defs: &Defs,
         at: u64,
     ) -> Result<(), OrderFault>
-        requires { AreDefs opened.now.defs }
-        ensures read { OnOk result (ReadsThere opened.now.defs name.now opened.now.length at
+        requires { AreDefs defs.now }
+        ensures read { OnOk result (ReadsThere defs.now name.now near.now at
             (F.holds files.old) self.new.next) }
         ensures rows { OnOk result (self.new.rows ≡ self.old.rows) }
         ensures keys { OnOk result (self.new.keys ≡ self.old.keys) }
@@ -79,8 +82,7 @@ impl NewTable {
         ensures holds { F.holds files.new ≡ F.holds files.old }
         ensures cause { HasCause OrderFault.File (F.faults files.old) (F.faults files.new) result }
     {
-        let defs = &opened.defs;
-        self.row.read(files, name, defs, opened.length, at)?;
+        self.row.read(files, name, near, defs, at)?;
         let Some(found) = view(defs, &self.row.bytes) else {
             return Err(OrderFault::Memory);
         };
@@ -160,11 +162,14 @@ fn put_all<F: Files>(
     table: &TableFiles,
     opened: &OpenedTable,
     order: &PairList,
+    near: &mut Nearby,
     new: &mut NewTable,
 ) -> Result<(), OrderFault>
     requires writable { IsTrue F.writable }
     requires apart { AreApart (names_of table.now) }
     requires defs { AreDefs opened.now.defs }
+    requires end { near.old.end ≡ opened.now.length }
+    requires held { near.old.window ≡ nothing }
     requires none { HasPut opened.now.defs [] new.old }
     requires empty { IfTold (F.holds files.old) (λ m. m (names_of table.now).new_rows ≡ Some []) }
     ensures put { OnOk result (PutsAll (names_of table.now) opened.now order.now new.new
@@ -172,9 +177,13 @@ fn put_all<F: Files>(
     ensures ends { EndsIn (names_of table.now).new_rows (F.holds files.old) (F.holds files.new)
         (F.faults files.old) (F.faults files.new) result }
 {
+    let rows = table.rows.as_str();
+    let new_rows = table.new_rows.as_str();
+    let defs = &opened.defs;
     for i in 0..order.len() {
-        new.read(files, table.rows.as_str(), opened, order.row(i))?;
-        new.put(files, table.new_rows.as_str(), &opened.defs)?;
+        near.look_ahead(files, rows, defs, order, i)?;
+        new.read(files, rows, near, defs, order.row(i))?;
+        new.put(files, new_rows, defs)?;
     }
     Ok(())
 }
@@ -196,8 +205,9 @@ fn put_anew<F: Files>(
         (F.faults files.old) (F.faults files.new) result }
 {
     files.cut(table.new_rows.as_str(), 0)?;
+    let mut near = Nearby::new(alloc, opened.length)?;
     let mut new = NewTable::new(alloc, &opened.defs)?;
-    put_all(files, table, opened, order, &mut new)?;
+    put_all(files, table, opened, order, &mut near, &mut new)?;
     Ok(new)
 }
 

@@ -13,8 +13,9 @@ ghost use Rattle.myi_order.specs.Faults.{CutsOff};
 ghost use Rattle.myi_order.specs.RowLinks.{IsHeaderAt, IsBlockThere, more_at, first_link, next_link, left_of, noted, GoesOn, Remains};
 
 use crate::fault::OrderFault;
+use crate::nearby::{Nearby, append_near, header_near};
 use myi_defs::{Defs, RowFormat};
-use myi_frames::{FrameKind, Header, LEAST_SIZE, header_at};
+use myi_frames::{FrameKind, Header};
 use myi_io::Files;
 use std::alloc::Global;
 
@@ -72,71 +73,6 @@ fn next_link(block: &Header, left: usize) -> Option<Link>
     }
 }
 
-/// The header of the block at a place of a file that ends at `end`.
-fn read_header<F: Files>(files: &mut F, name: &str, at: u64, end: u64) -> Result<Header, OrderFault>
-    ensures place { IfOk result (IsHeaderAt at end) }
-    ensures told { IfOk result (λ h. IfTold (F.holds files.old) (λ m.
-        length (bytes_of name.now m) ≡ end → IsBlockThere (bytes_of name.now m) at h)) }
-    ensures cut { IfErr result CutsOff }
-    ensures holds { F.holds files.new ≡ F.holds files.old }
-    ensures cause { HasCause OrderFault.File (F.faults files.old) (F.faults files.new) result }
-{
-    let mut bytes = [0u8; LEAST_SIZE];
-    let count = files.read_at(name, at, &mut bytes)?;
-    if count < LEAST_SIZE {
-        return Err(OrderFault::Memory);
-    }
-    match header_at(&bytes, at, end) {
-        Some(block) => Ok(block),
-        None => Err(OrderFault::Memory),
-    }
-}
-
-/// Fills a buffer behind its first bytes from a place of a file on, and answers how many bytes it gave.
-fn fill<F: Files>(
-    files: &mut F,
-    name: &str,
-    at: u64,
-    into: &mut [u8],
-    start: usize,
-) -> Result<usize, OrderFault>
-    requires { start ≤ length into.old }
-    ensures told { IfOk result (λ count. IfTold (F.holds files.old) (λ m.
-        start + count ≡ length into.old
-        → into.new ≡ take start into.old ++ take count (drop at (bytes_of name.now m)))) }
-    ensures cut { IfErr result CutsOff }
-    ensures holds { F.holds files.new ≡ F.holds files.old }
-    ensures cause { HasCause OrderFault.File (F.faults files.old) (F.faults files.new) result }
-{
-    let count = files.read_at(name, at, &mut into[start..])?;
-    Ok(count)
-}
-
-/// Appends so many bytes from a place of a file on to a buffer.
-fn append<F: Files>(
-    files: &mut F,
-    name: &str,
-    at: u64,
-    count: usize,
-    row: &mut Vec<u8>,
-) -> Result<(), OrderFault>
-    requires few { length row.old.items + count < 2 ^ 32 }
-    ensures grown { OnOk result (length row.new.items ≡ length row.old.items + count) }
-    ensures told { OnOk result (IfTold (F.holds files.old) (λ m.
-        row.new.items ≡ row.old.items ++ take count (drop at (bytes_of name.now m)))) }
-    ensures cut { IfErr result CutsOff }
-    ensures holds { F.holds files.new ≡ F.holds files.old }
-    ensures cause { HasCause OrderFault.File (F.faults files.old) (F.faults files.new) result }
-{
-    let start = row.len();
-    row.resize(start + count, 0)?;
-    let given = fill(files, name, at, row, start)?;
-    if given != count {
-        return Err(OrderFault::Memory);
-    }
-    Ok(())
-}
-
 /// The bytes of a row, and the places and sizes of its blocks.
 #[derive(Drop)]
 pub(crate) struct RowAt {
@@ -155,6 +91,7 @@ impl RowAt {
     ghost use Rattle.myi_order.specs.Faults.{CutsOff};
     ghost use Rattle.myi_order.specs.RowLinks.{left_of, noted, GoesOn, Remains};
     ghost use Rattle.myi_order.specs.AtPlaces.{IsInSlot, Stands, Holds};
+    ghost use Rattle.myi_order.specs.Nearby.{Knows};
 
     /// No row yet.
     pub(crate) fn new(alloc: Global) -> RowAt {
@@ -169,6 +106,7 @@ impl RowAt {
         &mut self,
         files: &mut F,
         name: &str,
+        near: &Nearby,
         block: &Header,
     ) -> Result<(), OrderFault>
         requires place { block.now.head.at + block.now.start < 2 ^ 64 }
@@ -176,7 +114,7 @@ impl RowAt {
         ensures grown { OnOk result
             (length self.new.bytes.items ≡ length self.old.bytes.items + block.now.data_len) }
         ensures told { OnOk result (IfTold (F.holds files.old) (λ m.
-            (b : Block) → Heads (bytes_of name.now m) block.now b
+            Knows near.now name.now m → (b : Block) → Heads (bytes_of name.now m) block.now b
             → self.new.bytes.items ≡ self.old.bytes.items ++ b.bytes)) }
         ensures seen { OnOk result
             (self.new.blocks.items ≡ self.old.blocks.items ++ noted block.now) }
@@ -185,7 +123,7 @@ impl RowAt {
         ensures cause { HasCause OrderFault.File (F.faults files.old) (F.faults files.new) result }
     {
         let at = block.head.at + block.start as u64;
-        append(files, name, at, block.data_len, &mut self.bytes)?;
+        append_near(files, name, near, at, block.data_len, &mut self.bytes)?;
         self.blocks.push((block.head.at, block.head.size))?;
         Ok(())
     }
@@ -195,11 +133,11 @@ impl RowAt {
         &mut self,
         files: &mut F,
         name: &str,
+        near: &Nearby,
         at: u64,
-        end: u64,
     ) -> Result<Link, OrderFault>
         ensures told { IfOk result (λ link. IfTold (F.holds files.old) (λ m.
-            length (bytes_of name.now m) ≡ end
+            Knows near.now name.now m
             → (bs : List Block) → IsChain (block_of (bytes_of name.now m)) at [] bs
             → GoesOn (block_of (bytes_of name.now m)) bs link self.new.bytes.items
             self.new.blocks.items)) }
@@ -210,11 +148,11 @@ impl RowAt {
     {
         self.bytes.clear();
         self.blocks.clear();
-        let block = read_header(files, name, at, end)?;
+        let block = header_near(files, name, near, at)?;
         let Some(link) = first_link(&block) else {
             return Err(OrderFault::Memory);
         };
-        self.take_block(files, name, &block)?;
+        self.take_block(files, name, near, &block)?;
         Ok(link)
     }
 
@@ -223,13 +161,13 @@ impl RowAt {
         &mut self,
         files: &mut F,
         name: &str,
+        near: &Nearby,
         at: u64,
         left: usize,
-        end: u64,
     ) -> Result<Link, OrderFault>
         requires few { length self.old.bytes.items + left < 2 ^ 32 }
         ensures told { IfOk result (λ link. IfTold (F.holds files.old) (λ m.
-            length (bytes_of name.now m) ≡ end → (bs : List Block)
+            Knows near.now name.now m → (bs : List Block)
             → Remains (block_of (bytes_of name.now m)) bs at left self.old.bytes.items
             self.old.blocks.items
             → GoesOn (block_of (bytes_of name.now m)) bs link self.new.bytes.items
@@ -240,11 +178,11 @@ impl RowAt {
         ensures holds { F.holds files.new ≡ F.holds files.old }
         ensures cause { HasCause OrderFault.File (F.faults files.old) (F.faults files.new) result }
     {
-        let block = read_header(files, name, at, end)?;
+        let block = header_near(files, name, near, at)?;
         let Some(link) = next_link(&block, left) else {
             return Err(OrderFault::Memory);
         };
-        self.take_block(files, name, &block)?;
+        self.take_block(files, name, near, &block)?;
         Ok(link)
     }
 
@@ -253,11 +191,11 @@ impl RowAt {
         &mut self,
         files: &mut F,
         name: &str,
+        near: &Nearby,
         at: u64,
-        end: u64,
     ) -> Result<(), OrderFault>
         ensures told { OnOk result (IfTold (F.holds files.old) (λ m.
-            length (bytes_of name.now m) ≡ end
+            Knows near.now name.now m
             → (bs : List Block) → IsChain (block_of (bytes_of name.now m)) at [] bs
             → (self.new.bytes.items ≡ row_bytes bs) × (self.new.blocks.items ≡ placed bs))) }
         ensures few { OnOk result (length self.new.bytes.items < 2 ^ 32) }
@@ -265,9 +203,9 @@ impl RowAt {
         ensures holds { F.holds files.new ≡ F.holds files.old }
         ensures cause { HasCause OrderFault.File (F.faults files.old) (F.faults files.new) result }
     {
-        let mut link = self.read_first(files, name, at, end)?;
+        let mut link = self.read_first(files, name, near, at)?;
         while let Link::More { at: place, left } = link {
-            link = self.read_next(files, name, place, left, end)?;
+            link = self.read_next(files, name, near, place, left)?;
         }
         Ok(())
     }
@@ -277,11 +215,12 @@ impl RowAt {
         &mut self,
         files: &mut F,
         name: &str,
+        near: &Nearby,
         at: u64,
         size: u32,
     ) -> Result<(), OrderFault>
         ensures told { OnOk result (IfTold (F.holds files.old) (λ m.
-            self.new.bytes.items ≡ take size (drop at (bytes_of name.now m)))) }
+            Knows near.now name.now m → self.new.bytes.items ≡ take size (drop at (bytes_of name.now m)))) }
         ensures long { OnOk result (length self.new.bytes.items ≡ size) }
         ensures seen { OnOk result (self.new.blocks.items ≡ (at, size) ∷ []) }
         ensures cut { IfErr result CutsOff }
@@ -290,22 +229,22 @@ impl RowAt {
     {
         self.bytes.clear();
         self.blocks.clear();
-        append(files, name, at, size as usize, &mut self.bytes)?;
+        append_near(files, name, near, at, size as usize, &mut self.bytes)?;
         self.blocks.push((at, size))?;
         Ok(())
     }
 
-    /// Reads the row at a place of the data file of a table with these definitions, which ends at `end`.
+    /// Reads the row at a place of the data file of a table with these definitions, of which a part is held.
     pub(crate) fn read<F: Files>(
         &mut self,
         files: &mut F,
         name: &str,
+        near: &Nearby,
         defs: &Defs,
-        end: u64,
         at: u64,
     ) -> Result<(), OrderFault>
         ensures told { OnOk result (IfTold (F.holds files.old) (λ m.
-            length (bytes_of name.now m) ≡ end → (r : Row) → r.at ≡ at
+            Knows near.now name.now m → (r : Row) → r.at ≡ at
             → Stands defs.now (bytes_of name.now m) r → Holds self.new r)) }
         ensures few { OnOk result (length self.new.bytes.items < 2 ^ 32) }
         ensures cut { IfErr result CutsOff }
@@ -313,8 +252,8 @@ impl RowAt {
         ensures cause { HasCause OrderFault.File (F.faults files.old) (F.faults files.new) result }
     {
         match defs.format {
-            RowFormat::Static => self.read_slot(files, name, at, defs.slot_length),
-            RowFormat::Dynamic => self.read_chain(files, name, at, end),
+            RowFormat::Static => self.read_slot(files, name, near, at, defs.slot_length),
+            RowFormat::Dynamic => self.read_chain(files, name, near, at),
         }
     }
 }

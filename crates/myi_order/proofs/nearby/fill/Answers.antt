@@ -2,7 +2,7 @@ use Rattle.std.proofs.Common.{◌≡◌, ◌-◌, ℕ, List, [], length, drop, a
 use Rattle.std.proofs.lemmas.List.{drop_all, length-drop}
 use Rattle.myi_base.specs.Holding.{bytes_of}
 use Rattle.myi_order.proofs.PlaceLaws.{filled-behind}
-use Rattle.myi_order.proofs.row_at.fill.Goals as goal
+use Rattle.myi_order.proofs.nearby.fill.Goals as goal
 
 pub returns-clause-told : goal.returns-clause-told
 returns-clause-told g c m held long =
