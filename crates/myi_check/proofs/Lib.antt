@@ -5,7 +5,6 @@ pub mod KeptLemmas
 pub mod MetLemmas
 pub mod RowsLemmas
 pub mod UnmetLemmas
-pub mod SearchLemmas
 pub mod WalkLemmas
 pub mod LinkLemmas
 pub mod StoredLemmas

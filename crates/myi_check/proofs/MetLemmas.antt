@@ -158,8 +158,8 @@ row_taken d t r blocks old mid new pairs noted are is has =
       lists = ap (λ (ls : List (List Pair)). length ls) noted.keys ∙ pairs.lists ∙ has.lists;
       records = noted.records ∙ pairs.records ∙ ap (λ n. n + 1) has.records ∙ sym number;
       split = noted.split ∙ ap (λ n. n + length blocks) (pairs.split ∙ has.split) ∙ sym count;
-      places = subst (λ (rs : List Row). ArePlacesOf rs new.places.items) (sym (rows_with is r))
-          (subst (ArePlacesOf (rows_of is ++ r ∷ [])) (sym noted.places) (places_next (rows_of is) r old.places.items mid.places.items has.places pairs.places));
+      places = subst (λ (rs : List Row). ArePlacesOf rs new.places) (sym (rows_with is r))
+          (subst (ArePlacesOf (rows_of is ++ r ∷ [])) (sym noted.places) (places_next (rows_of is) r old.places mid.places has.places pairs.places));
       row_bytes = noted.row_bytes ∙ ap (λ n. n + sum_by (λ (b : ℕ × ℕ). b.1) blocks) (pairs.row_bytes ∙ has.row_bytes) ∙ ap (λ n. total (ranges_of (rows_of is)) + n) (total_at blocks)
           ∙ sym (ap total all ∙ total-append (ranges_of (rows_of is)) (ranges_at blocks));
       held = held_row t is r (ranges_at blocks) mid.held new.held are (subst (SameBytes (held_of t is)) (sym pairs.held) has.held) noted.held;
@@ -205,7 +205,7 @@ free_taken d t at size old new noted near is has =
       lists = ap (λ (ls : List (List Pair)). length ls) stay.keys ∙ has.lists;
       records = stay.records ∙ has.records ∙ ap (λ (rs : List Row). length rs) (sym (rows_past is (at, at + size)));
       split = stay.split ∙ has.split ∙ ap (λ rs. length (ranges_of rs)) (sym (rows_past is (at, at + size)));
-      places = subst (λ (rs : List Row). ArePlacesOf rs new.places.items) (sym (rows_past is (at, at + size))) (subst (ArePlacesOf (rows_of is)) (sym stay.places) has.places);
+      places = subst (λ (rs : List Row). ArePlacesOf rs new.places) (sym (rows_past is (at, at + size))) (subst (ArePlacesOf (rows_of is)) (sym stay.places) has.places);
       row_bytes = stay.row_bytes ∙ has.row_bytes ∙ ap (λ rs. total (ranges_of rs)) (sym (rows_past is (at, at + size)));
       held = held_free t is at size old new noted has.held;
       frees = frees_more t is at size old new noted near has.frees;
@@ -215,12 +215,12 @@ none_held : (t : Bool) (h : List Range) → h ≡ [] → SameBytes (held_of t []
 none_held true h none = same_of [] h (sym none)
 none_held false h none = same_of [] h (sym none)
 
-none_free : (t : Bool) (met : Met) → met.frees.items ≡ [] → met.deleted.items ≡ [] → met.empty ≡ 0 → HasFrees t [] met
+none_free : (t : Bool) (met : Met) → met.frees.items ≡ [] → met.deleted ≡ [] → met.empty ≡ 0 → HasFrees t [] met
 none_free true met frees deleted empty = record { places = deleted; empty = empty }
 none_free false met frees deleted empty = record { ranges = ap ranges_at frees; near = subst (AllByRecursion EndsNear) (sym frees) tt }
 
 -- nothing was met
-pub none_met : (d : Defs) (t : Bool) (met : Met) → met.keys ≡ replicate (length d.keys) [] → met.places.items ≡ [] → met.records ≡ 0 → met.split ≡ 0 → met.held ≡ [] → met.frees.items ≡ [] → met.deleted.items ≡ [] → met.empty ≡ 0 → met.row_bytes ≡ 0 → HasMet d t [] met
+pub none_met : (d : Defs) (t : Bool) (met : Met) → met.keys ≡ replicate (length d.keys) [] → met.places ≡ [] → met.records ≡ 0 → met.split ≡ 0 → met.held ≡ [] → met.frees.items ≡ [] → met.deleted ≡ [] → met.empty ≡ 0 → met.row_bytes ≡ 0 → HasMet d t [] met
 none_met d t met keys places records split held frees deleted empty bytes = record {
   keys = λ on. keys ∙ no_pairs d;
   lists = ap (λ (ls : List (List Pair)). length ls) keys ∙ length-replicate {A = List Pair} (length d.keys) [];

@@ -1,8 +1,8 @@
 -- A row that is read where a pair points to is a readable row of its file.
 use Rattle.std.proofs.Common.{◌≡◌, ℕ, zero, suc, ◌+◌, ◌*◌, ◌/◌, ◌<◌, ◌≤◌, Bool, true, false, eqb, not, cond, List, [], ◌∷◌, ◌++◌, length, take, drop, map, Option, Some, None, refl, sym, ap, subst, ◌∙◌, arith, inl, inr, ◌⊎◌}
-use Rattle.std.specs.Prelude.{◌&&◌, slice_index, is_some, unwrap_or, option_and_then}
+use Rattle.std.specs.Prelude.{◌&&◌, slice_index, is_some, unwrap_or, option_and_then, IfSome}
 use Rattle.std.specs.List.{AllByRecursion, Contains, flat_map}
-use Rattle.std.proofs.lemmas.List.{drop-drop}
+use Rattle.std.proofs.lemmas.List.{drop-drop, get_or_default}
 use Rattle.std.proofs.lemmas.List.Elements.{Contains-append_left, Contains-append_right}
 use Rattle.std.proofs.lemmas.Nat.{le-div, div-mul-add}
 use Rattle.myi_defs.specs.declared.types.RowFormat.{RowFormat}
@@ -171,6 +171,11 @@ items_stand d x (chains.row r ∷ is) all = (all.0, items_stand d x is all.1)
 rows_dynamic : (d : Defs) (x : List ℕ) → d.format ≡ Dynamic → AllByRecursion (IsRowOf (block_of x) (packs d)) (readable d false x)
 unfolding readable items_in items_at chains.items_in
 rows_dynamic d x e = subst (λ (f : RowFormat). AllByRecursion (IsRowOf (block_of x) (packs d)) (rows_of (items_by f d false x))) (sym e) (items_stand d x (rest false (block_of x) (length x) (packs d) 0 []) (rest_fine (block_of x) (length x) (blocks_read x) false (packs d) 0 []).0)
+
+-- an index where a place stands
+pub among_by : (places : List ℕ) (at : ℕ) (o : Option ℕ) → IfSome o (λ i. i < length places) → IfSome o (λ i. slice_index places i ≡ at) → is_some o ≡ true → Contains places at
+among_by places at None inside found is = absurd cc
+among_by places at (Some i) inside found is = (i, inside, get_or_default places i at 0 inside ∙ found)
 
 -- the bytes are those of the blocks that a row at a place has
 abbrev pub IsRowFrom : List ℕ → ℕ → List ℕ → Type 0

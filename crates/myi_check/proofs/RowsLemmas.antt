@@ -29,7 +29,8 @@ use Rattle.myi_pair.specs.Findings.{deleted_places, rows_bad}
 use Rattle.myi_check.specs.declared.met.Met.{Met}
 use Rattle.myi_check.specs.declared.rows.RowsFound.{RowsFound}
 use Rattle.myi_check.specs.HeldBytes.{SameBytes, EndsNear, AreJoined, front_of, gap_behind, is_free}
-use Rattle.myi_check.specs.Rows.{IsAscending, ArePointed, ArePlacesOf, HasRows}
+use Rattle.myi_placelist.specs.Places.{IsRising}
+use Rattle.myi_check.specs.Rows.{ArePointed, ArePlacesOf, HasRows}
 use Rattle.myi_check.specs.Met.{HasBlocks, HasMet}
 use Rattle.myi_check.proofs.HeldLemmas.{same_then, same_append, same_of}
 use Rattle.myi_check.proofs.GapLemmas.{gap_same, gap_front}
@@ -58,7 +59,7 @@ above : (p low : ℕ) (rs : List Range) → p < low → RangesRise low rs → Al
 above p low [] lt h = tt
 above p low (a ∷ rs) lt h = (omega (arith, h.0), above p a.1 rs (omega (arith, h.0, h.1)) h.2)
 
-places_ascend : (low : ℕ) (rs : List Range) → RangesRise low rs → IsAscending (map (λ (a : Range). a.0) rs)
+places_ascend : (low : ℕ) (rs : List Range) → RangesRise low rs → IsRising (map (λ (a : Range). a.0) rs)
 places_ascend low [] h = tt
 places_ascend low (a ∷ rs) h = (above a.0 a.1 rs h.1 h.2, places_ascend a.1 rs h.2)
 
@@ -220,7 +221,7 @@ gap_found d x met h joined last kept held are first second third order = gap_by 
 
 -- ---- all together
 
-deleted_ascend : (d : Defs) (x : List ℕ) → RangesRise 0 (frees_of (items_in d false x)) → IsAscending (deleted_places d x)
+deleted_ascend : (d : Defs) (x : List ℕ) → RangesRise 0 (frees_of (items_in d false x)) → IsRising (deleted_places d x)
 unfolding deleted
 deleted_ascend d x rise = places_ascend 0 _ (rise_kept (λ a. is_apart a (ranges_of (readable d false x))) 0 (frees_of (items_in d false x)) rise)
 
@@ -264,19 +265,19 @@ deleted_pointed d x s static =
 
 pub rows_found : (d : Defs) (x : List ℕ) (met : Met) (h joined last : List Range) (kept : List (ℕ × ℕ)) (r : RowsFound) → RangesRise 0 (frees_of (items_in d false x)) → HasMet d false (items_in d false x) met
     → SameBytes met.held h → kept ≡ filter (is_free h) met.frees.items → SameBytes (h ++ ranges_at kept) joined → SameBytes joined last → AreJoined 0 last
-    → r.keys ≡ met.keys → r.places.items ≡ met.places.items → r.records ≡ met.records → r.split ≡ met.split → r.deleted.items ≡ map (λ b. b.0) kept → r.empty ≡ sum_by (λ b. b.1) kept → r.gap ≡ gap_behind (cond (is_addressable d (length x)) (front_of last) 0) (length x) → IsSound d → HasRows d met.with_keys x r
+    → r.keys ≡ met.keys → r.places ≡ met.places → r.records ≡ met.records → r.split ≡ met.split → r.deleted ≡ map (λ b. b.0) kept → r.empty ≡ sum_by (λ b. b.1) kept → r.gap ≡ gap_behind (cond (is_addressable d (length x)) (front_of last) 0) (length x) → IsSound d → HasRows d met.with_keys x r
 unfolding readable
 rows_found d x met h joined last kept r rise has first is second third order keys where_rows records split places empty gap s =
     let is_of = items_in d false x in
     let are = deleted_found d x met h kept rise has.held has.frees first is in
-    let at : r.deleted.items ≡ deleted_places d x = places ∙ places_of kept ∙ ap (map (λ (a : Range). a.0)) are in
+    let at : r.deleted ≡ deleted_places d x = places ∙ places_of kept ∙ ap (map (λ (a : Range). a.0)) are in
     record {
       keys = λ on. keys ∙ has.keys on;
       records = records ∙ has.records;
       split = split ∙ has.split;
       places = subst (ArePlacesOf (readable d false x)) (sym where_rows) has.places;
       deleted = at;
-      ascends = subst IsAscending (sym at) (deleted_ascend d x rise);
+      ascends = subst IsRising (sym at) (deleted_ascend d x rise);
       pointed = subst (ArePointed d (length x)) (sym at) (deleted_pointed d x s);
       empty = empty ∙ total_at kept ∙ ap total are;
       gap = gap ∙ gap_found d x met h joined last kept has.held are first second third order;
@@ -284,14 +285,14 @@ rows_found d x met h joined last kept r rise has first is second third order key
 
 -- the same where rows and deleted blocks were noted together, and hold as many bytes as they have one by one
 pub together_found : (d : Defs) (x : List ℕ) (met : Met) (last : List Range) (r : RowsFound) → RangesRise 0 (frees_of (items_in d false x)) → HasMet d true (items_in d false x) met → SameBytes met.held last → AreJoined 0 last → total last ≡ met.row_bytes + met.empty
-    → r.keys ≡ met.keys → r.places.items ≡ met.places.items → r.records ≡ met.records → r.split ≡ met.split → r.deleted.items ≡ met.deleted.items → r.empty ≡ met.empty → r.gap ≡ gap_behind (cond (is_addressable d (length x)) (front_of last) 0) (length x) → IsSound d → HasRows d met.with_keys x r
+    → r.keys ≡ met.keys → r.places ≡ met.places → r.records ≡ met.records → r.split ≡ met.split → r.deleted ≡ met.deleted → r.empty ≡ met.empty → r.gap ≡ gap_behind (cond (is_addressable d (length x)) (front_of last) 0) (length x) → IsSound d → HasRows d met.with_keys x r
 unfolding readable
 together_found d x met last r rise has first order bytes keys where_rows records split places empty gap s =
     let is_of = items_in d false x in
     let rows = ranges_of (rows_of is_of) in
     let count : total last ≡ total rows + total (frees_of is_of) = bytes ∙ ap (λ n. n + met.empty) has.row_bytes ∙ ap (λ n. total rows + n) has.frees.empty in
     let are : deleted d x ≡ frees_of is_of = all_deleted d x (apart_by_bytes rows (frees_of is_of) last (table_solid d x s) (rise_solid 0 (frees_of is_of) rise) (same_then _ _ _ has.held first) order count) in
-    let at : r.deleted.items ≡ deleted_places d x = places ∙ has.frees.places ∙ ap (map (λ (a : Range). a.0)) (sym are) in
+    let at : r.deleted ≡ deleted_places d x = places ∙ has.frees.places ∙ ap (map (λ (a : Range). a.0)) (sym are) in
     let all : SameBytes (ranges_of (readable d false x) ++ deleted d x) last =
     same_then _ _ _ (same_of _ _ (ap (λ rs. ranges_of (readable d false x) ++ rs) are)) (same_then _ _ _ has.held first) in
     record {
@@ -300,7 +301,7 @@ together_found d x met last r rise has first order bytes keys where_rows records
       split = split ∙ has.split;
       places = subst (ArePlacesOf (readable d false x)) (sym where_rows) has.places;
       deleted = at;
-      ascends = subst IsAscending (sym at) (deleted_ascend d x rise);
+      ascends = subst IsRising (sym at) (deleted_ascend d x rise);
       pointed = subst (ArePointed d (length x)) (sym at) (deleted_pointed d x s);
       empty = empty ∙ has.frees.empty ∙ ap total (sym are);
       gap = gap ∙ gap_by d x last all order;

@@ -85,7 +85,7 @@ keys_are d rows x true r mark has none = (has refl).findings ∙ keys_marked d r
 keys_are d rows x false r mark has none = none refl ∙ keys_foreign d rows x (sym mark)
 
 pub shown_are : (d : Defs) (rows x : List ℕ) (size : ℕ) (with_keys : Bool) (r : RowsFound) (k : KeysFound) (shown : Shown) → size ≡ length x → size < 2 ^ 64 → HasRows d with_keys rows r → HasKeys d x (map (placed_row d) (readable d false rows)) k
-    → shown.records ≡ r.records → shown.del ≡ length r.deleted.items → shown.split ≡ r.split → shown.key_file_length ≡ size → shown.data_file_length ≡ length rows → shown.empty ≡ r.empty → shown.key_empty ≡ room_left d size k.page_bytes
+    → shown.records ≡ r.records → shown.del ≡ length r.deleted → shown.split ≡ r.split → shown.key_file_length ≡ size → shown.data_file_length ≡ length rows → shown.empty ≡ r.empty → shown.key_empty ≡ room_left d size k.page_bytes
     → AreShown d rows x shown
 shown_are d rows x size with_keys r k shown long short has keys records del split index whole empty room = record {
   records = records ∙ has.records;

@@ -9,7 +9,8 @@ use Rattle.std.proofs.lemmas.List.{drop_all, append-nil, take_all}
 use Rattle.myi_pair.specs.FirstBad.{without, least_of, least}
 use Rattle.myi_pair.specs.Findings.{told}
 use Rattle.myi_defs.specs.declared.types.Defs.{Defs}
-use Rattle.myi_check.specs.Rows.{IsAscending, ArePointed}
+use Rattle.myi_placelist.specs.Places.{IsRising}
+use Rattle.myi_check.specs.Rows.{ArePointed}
 use Rattle.myi_check.specs.ListMet.{unmet}
 
 -- all of these places, with a weaker fact
@@ -54,7 +55,7 @@ pub out_none : (p : ℕ) (ps : List ℕ) (flags : List Bool) → AllByRecursion 
 out_none p ps flags absent = without_none p (unmet ps flags) (unmet_all (λ q. q ≢ p) ps flags absent)
 
 -- one that was met before
-pub out_met : (p : ℕ) (ps : List ℕ) (flags : List Bool) (i : ℕ) → IsAscending ps → i < length ps → get_or ps i 0 ≡ p → get_or flags i false ≡ true → without p (unmet ps flags) ≡ None
+pub out_met : (p : ℕ) (ps : List ℕ) (flags : List Bool) (i : ℕ) → IsRising ps → i < length ps → get_or ps i 0 ≡ p → get_or flags i false ≡ true → without p (unmet ps flags) ≡ None
 out_met p [] flags i up lt at met = absurd (omega (arith, lt))
 out_met p (q ∷ ps) [] i up lt at met = refl
 out_met p (q ∷ ps) (true ∷ flags) zero up lt at met = out_none p ps flags (all_weaker (λ r. q < r) (λ r. r ≢ p) (λ r far same. absurd (omega (arith, far, same, at))) ps up.0)
@@ -65,7 +66,7 @@ out_met p (q ∷ ps) (false ∷ flags) (suc i) up lt at met =
     past p q (unmet ps flags) None (λ same. absurd (omega (arith, far, same))) (out_met p ps flags i up.1 (omega (arith, lt)) at met)
 
 -- one that is left
-pub out_left : (p : ℕ) (ps : List ℕ) (flags : List Bool) (i : ℕ) → IsAscending ps → length flags ≡ length ps → i < length ps → get_or ps i 0 ≡ p → get_or flags i false ≡ false → without p (unmet ps flags) ≡ Some (unmet ps (slice_set flags i true))
+pub out_left : (p : ℕ) (ps : List ℕ) (flags : List Bool) (i : ℕ) → IsRising ps → length flags ≡ length ps → i < length ps → get_or ps i 0 ≡ p → get_or flags i false ≡ false → without p (unmet ps flags) ≡ Some (unmet ps (slice_set flags i true))
 out_left p [] flags i up long lt at left = absurd (omega (arith, lt))
 out_left p (q ∷ ps) [] i up long lt at left = absurd (omega (arith, long))
 out_left p (q ∷ ps) (true ∷ flags) zero up long lt at left = absurd cc
@@ -83,7 +84,7 @@ least_first p (q ∷ ps) all =
     let low : min p q ≡ p = omega (arith, all.0) in
     ap (λ r. least_of r ps) low ∙ least_first p ps all.1
 
-pub least_at : (ps : List ℕ) (flags : List Bool) (i : ℕ) → IsAscending ps → length flags ≡ length ps → i < length ps → ((k : ℕ) → k < i → get_or flags k false ≡ true) → get_or flags i false ≡ false → least (unmet ps flags) ≡ Some (get_or ps i 0)
+pub least_at : (ps : List ℕ) (flags : List Bool) (i : ℕ) → IsRising ps → length flags ≡ length ps → i < length ps → ((k : ℕ) → k < i → get_or flags k false ≡ true) → get_or flags i false ≡ false → least (unmet ps flags) ≡ Some (get_or ps i 0)
 least_at [] flags i up long lt before left = absurd (omega (arith, lt))
 least_at (p ∷ ps) [] i up long lt before left = absurd (omega (arith, long))
 least_at (p ∷ ps) (true ∷ flags) zero up long lt before left = absurd cc

@@ -25,7 +25,7 @@ held_of false items = ranges_of (rows_of items)
 
 -- the deleted blocks among these items are noted by their places and by how many bytes all have
 pub record HasPlaces (items : List Item) (met : Met) : Type 0 where
-  pub places : met.deleted.items ≡ map (λ (a : Range). a.0) (frees_of items)
+  pub places : met.deleted ≡ map (λ (a : Range). a.0) (frees_of items)
   pub empty : met.empty ≡ total (frees_of items)
 
 -- the deleted blocks among these items are noted by their places and sizes
@@ -43,7 +43,7 @@ pub record HasMet (d : Defs) (together : Bool) (items : List Item) (met : Met) :
   pub lists : length met.keys ≡ length d.keys
   pub records : met.records ≡ length (rows_of items)
   pub split : met.split ≡ length (ranges_of (rows_of items))
-  pub places : ArePlacesOf (rows_of items) met.places.items
+  pub places : ArePlacesOf (rows_of items) met.places
   pub row_bytes : met.row_bytes ≡ total (ranges_of (rows_of items))
   pub held : SameBytes (held_of together items) met.held
   pub frees : HasFrees together items met
@@ -55,7 +55,7 @@ Takes d together item old new = (items : List Item) → HasMet d together items 
 -- what is noted of deleted blocks stays
 pub record KeepsFrees (old new : Met) : Type 0 where
   pub frees : new.frees.items ≡ old.frees.items
-  pub deleted : new.deleted.items ≡ old.deleted.items
+  pub deleted : new.deleted ≡ old.deleted
   pub empty : new.empty ≡ old.empty
 
 -- what is noted of rows stays, but for their bytes
@@ -65,12 +65,12 @@ pub record KeepsRows (old new : Met) : Type 0 where
   pub row_bytes : new.row_bytes ≡ old.row_bytes
   pub keys : new.keys ≡ old.keys
   pub records : new.records ≡ old.records
-  pub places : new.places.items ≡ old.places.items
+  pub places : new.places ≡ old.places
   pub split : new.split ≡ old.split
 
 -- the place of a row was noted, or is not
 abbrev pub NotesPlace : ℕ → Met → Met → Type 0
-NotesPlace at old new = (new.places.items ≡ old.places.items) ⊎ (new.places.items ≡ old.places.items ++ at ∷ [])
+NotesPlace at old new = (new.places ≡ old.places) ⊎ (new.places ≡ old.places ++ at ∷ [])
 
 -- the pairs of a row of these bytes were noted, where they are noted
 pub record NotesKeys (d : Defs) (at : ℕ) (bytes : List ℕ) (old new : Met) : Type 0 where
@@ -80,7 +80,7 @@ pub record NotesKeys (d : Defs) (at : ℕ) (bytes : List ℕ) (old new : Met) : 
   pub keys : old.with_keys ≡ true → (values : Values) × (row_of d bytes ≡ Some values) × (new.keys ≡ with_pairs (pointer d at) (row_keys d values) old.keys)
   pub lists : length new.keys ≡ length old.keys
   pub records : new.records ≡ old.records
-  pub places : new.places.items ≡ old.places.items
+  pub places : new.places ≡ old.places
   pub split : new.split ≡ old.split
   pub held : new.held ≡ old.held
   pub frees : KeepsFrees old new
@@ -107,14 +107,14 @@ pub record NotesBlocks (blocks : List (ℕ × ℕ)) (old new : Met) : Type 0 whe
   pub together : new.together ≡ old.together
   pub keys : new.keys ≡ old.keys
   pub records : new.records ≡ old.records
-  pub places : new.places.items ≡ old.places.items
+  pub places : new.places ≡ old.places
   pub frees : KeepsFrees old new
 
 -- a deleted block was noted by its place, and its bytes
 pub record NotesPlaced (at size : ℕ) (old new : Met) : Type 0 where
   pub rows : KeepsRows old new
   pub held : SameBytes (old.held ++ (at, at + size) ∷ []) new.held
-  pub deleted : new.deleted.items ≡ old.deleted.items ++ at ∷ []
+  pub deleted : new.deleted ≡ old.deleted ++ at ∷ []
   pub empty : new.empty ≡ old.empty + size
 
 -- a deleted block was noted by its place and its size

@@ -1,5 +1,5 @@
 -- What a scan of a data file finds: of the readable rows and the deleted blocks what a check compares.
-use Rattle.std.specs.Prelude.{◌≡◌, ◌+◌, ◌<◌, ℕ, Bool, true, false, List, [], ◌∷◌, length, map}
+use Rattle.std.specs.Prelude.{◌≡◌, ◌+◌, ◌<◌, ℕ, Bool, true, false, List, length, map}
 use Rattle.std.specs.List.{AllByRecursion, Contains}
 use Rattle.myi_defs.specs.declared.types.RowFormat.TheVariants.{Static}
 use Rattle.myi_defs.specs.declared.types.Defs.{Defs}
@@ -13,13 +13,9 @@ use Rattle.myi_pair.specs.KeyList.{PlacedRow, pairs_of}
 use Rattle.myi_pair.specs.Trees.{total}
 use Rattle.myi_pair.specs.Clean.{placed_row}
 use Rattle.myi_pair.specs.Findings.{deleted_places, rows_bad}
+use Rattle.myi_placelist.specs.Places.{IsRising}
 use Rattle.myi_check.specs.declared.rows.RowsFound.{RowsFound}
 use Rattle.myi_check.specs.declared.rows.ScannedFile.{ScannedFile}
-
--- each place is below all behind it
-abbrev pub IsAscending : List ℕ → Type 0
-IsAscending [] = Unit {0}
-IsAscending (p ∷ ps) = AllByRecursion (λ q. p < q) ps × IsAscending ps
 
 -- in a static table a row pointer stands behind the first byte at each of these places of a file of so many bytes
 abbrev pub ArePointed : Defs → ℕ → List ℕ → Type 0
@@ -54,9 +50,9 @@ pub record HasRows (d : Defs) (with_keys : Bool) (rows : List ℕ) (r : RowsFoun
   pub keys : with_keys ≡ true → r.keys ≡ pair_lists d (readable d false rows)
   pub records : r.records ≡ length (readable d false rows)
   pub split : r.split ≡ length (ranges_of (readable d false rows))
-  pub places : ArePlacesOf (readable d false rows) r.places.items
-  pub deleted : r.deleted.items ≡ deleted_places d rows
-  pub ascends : IsAscending r.deleted.items
-  pub pointed : ArePointed d (length rows) r.deleted.items
+  pub places : ArePlacesOf (readable d false rows) r.places
+  pub deleted : r.deleted ≡ deleted_places d rows
+  pub ascends : IsRising r.deleted
+  pub pointed : ArePointed d (length rows) r.deleted
   pub empty : r.empty ≡ total (table.deleted d rows)
   pub gap : r.gap ≡ rows_bad d rows

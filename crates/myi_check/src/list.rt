@@ -15,7 +15,8 @@ ghost use Rattle.myi_opening.specs.Opening.{IsCutOff};
 ghost use Rattle.myi_pair.specs.Clean.{slot_named, next_by, next_deleted};
 ghost use Rattle.myi_pair.specs.FirstBad.{without, least, list_bad};
 ghost use Rattle.myi_pair.specs.Findings.{same_link, names_by, names_before, told};
-ghost use Rattle.myi_check.specs.Rows.{IsAscending, ArePointed};
+ghost use Rattle.myi_placelist.specs.Places.{IsRising};
+ghost use Rattle.myi_check.specs.Rows.{ArePointed};
 ghost use Rattle.myi_check.specs.ListMet.{unmet, IsLinkAt};
 
 use myi_base::number_at;
@@ -23,6 +24,7 @@ use myi_defs::{Defs, RowFormat};
 use myi_frames::{LEAST_SIZE, head_at};
 use myi_io::{FileErr, Files};
 use myi_opening::TableFault;
+use myi_placelist::PlaceList;
 use std::alloc::{AllocError, Global};
 
 /// What a deleted block says of the list.
@@ -50,12 +52,12 @@ pub(crate) fn check_list<F: Files>(
     rows: &str,
     defs: &Defs,
     end: u64,
-    deleted: &[u64],
+    deleted: &PlaceList,
     head: Option<u64>,
 ) -> Result<Option<u64>, TableFault>
     requires sound { IsSound defs.now }
     ensures found { IfOk result (λ bad. IfTold (F.holds files.old) (λ m. (d : List ℕ)
-        → bytes_of rows.now m ≡ d → length d ≡ end → IsAscending deleted.now
+        → bytes_of rows.now m ≡ d → length d ≡ end → IsRising deleted.now
         → ArePointed defs.now end deleted.now
         → bad ≡ option_map told (list_bad (next_deleted defs.now d) (names_before defs.now d)
         (length deleted.now) deleted.now None head))) }
@@ -115,49 +117,35 @@ fn widened(place: Option<u64>) -> Option<u128>
     }
 }
 
-// The index of a place among places that are in order.
-fn index_of(places: &[u64], place: u128) -> Option<usize>
-    ensures inside { IfSome result (λ i. i < length places.now) }
-    ensures found { IfSome result (λ i. HoldsAt (λ p. p ≡ place) places.now i) }
-    ensures none { result ≡ None → IsAscending places.now
-        → AllByRecursion (λ p. p ≢ place) places.now }
-{
-    let index = places.partition_point(|p| (*p as u128) < place);
-    if index < places.len() && places[index] as u128 == place {
-        return Some(index);
-    }
-    None
-}
-
 // Takes a place out of those that are left, where it is among them.
-fn take_out(places: &[u64], met: &mut [bool], place: u128) -> Option<u64>
+fn take_out(places: &PlaceList, met: &mut [bool], place: u128) -> Option<u64>
     requires { length met.old ≡ length places.now }
-    ensures left { IsAscending places.now → without place (unmet places.now met.old)
+    ensures left { IsRising places.now → without place (unmet places.now met.old)
         ≡ option_map (λ p. unmet places.now met.new) result }
     ensures same { IfSome result (λ p. p ≡ place) }
     ensures among { IfSome result (λ p. (i : ℕ)
         × (i < length places.now) × HoldsAt (λ q. q ≡ p) places.now i) }
     ensures long { length met.new ≡ length met.old }
 {
-    let Some(index) = index_of(places, place) else {
+    let Some(index) = places.index_of(place) else {
         return None;
     };
     if met[index] {
         return None;
     }
     met[index] = true;
-    Some(places[index])
+    Some(places.at(index))
 }
 
 // The lowest place that is left.
-fn least_left(places: &[u64], met: &[bool]) -> Option<u64>
+fn least_left(places: &PlaceList, met: &[bool]) -> Option<u64>
     requires { length met.now ≡ length places.now }
-    ensures { IsAscending places.now
+    ensures { IsRising places.now
         → result ≡ option_map told (least (unmet places.now met.now)) }
 {
     for index in 0..places.len() {
         if !met[index] {
-            return Some(places[index]);
+            return Some(places.at(index));
         }
     }
     None

@@ -19,6 +19,7 @@ use myi_defs::{Defs, RowFormat};
 use myi_io::Files;
 use myi_opening::TableFault;
 use myi_pack::view_packed;
+use myi_placelist::PlaceList;
 use myi_rowkeys::RowKeys;
 use std::alloc::{AllocError, Global};
 
@@ -41,7 +42,7 @@ pub(crate) struct Met {
     /// These pairs, a list for each key of the table. The lists are empty where none is noted.
     pub(crate) keys: RowKeys,
     /// Of a dynamic table the places of the rows, in order, where their pairs are not noted.
-    pub(crate) places: Vec<u64>,
+    pub(crate) places: PlaceList,
     pub(crate) records: u64,
     /// How many blocks the rows have.
     pub(crate) split: u64,
@@ -52,7 +53,7 @@ pub(crate) struct Met {
     /// The deleted blocks, each by its place and its size, where they are not noted together with rows.
     pub(crate) frees: Vec<(u64, u32)>,
     /// Their places, in order, where they are.
-    pub(crate) deleted: Vec<u64>,
+    pub(crate) deleted: PlaceList,
     /// How many bytes these have.
     pub(crate) empty: u64,
 }
@@ -81,13 +82,13 @@ impl Met {
             with_keys: noting.with_keys,
             together: noting.together,
             keys: RowKeys::new(alloc, defs.keys.as_slice().len())?,
-            places: Vec::new(alloc),
+            places: PlaceList::new(alloc),
             records: 0,
             split: 0,
             row_bytes: 0,
             held: HeldBytes::new(alloc),
             frees: Vec::new(alloc),
-            deleted: Vec::new(alloc),
+            deleted: PlaceList::new(alloc),
             empty: 0,
         })
     }

@@ -22,6 +22,7 @@ use myi_io::Files;
 use myi_keys::KeyVal;
 use myi_opening::TableFault;
 use myi_pack::{FieldPlaces, RowView, view};
+use myi_placelist::PlaceList;
 use std::alloc::{AllocError, Global};
 use std::mem;
 
@@ -187,10 +188,10 @@ fn has_slot<F: Files>(
 }
 
 // True only where the place is among these. They are in order, so that it is found.
-fn is_among(places: &[u64], at: u64) -> bool
+fn is_among(places: &PlaceList, at: u64) -> bool
     ensures { result ≡ true → Contains places.now at }
 {
-    places.binary_search(&at).is_ok()
+    places.index_of(at as u128).is_some()
 }
 
 // True only where the pair is that of a row of a dynamic table.

@@ -28,6 +28,7 @@ use myi_data::DataScan;
 use myi_defs::Defs;
 use myi_io::Files;
 use myi_opening::TableFault;
+use myi_placelist::PlaceList;
 use myi_rowkeys::RowKeys;
 use std::alloc::{AllocError, Global};
 
@@ -38,12 +39,12 @@ pub(crate) struct RowsFound {
     /// are empty where they were not wanted.
     pub(crate) keys: RowKeys,
     /// The places of the rows of a dynamic table, in order, where the pairs were not wanted.
-    pub(crate) places: Vec<u64>,
+    pub(crate) places: PlaceList,
     pub(crate) records: u64,
     /// How many blocks the rows have.
     pub(crate) split: u64,
     /// The places of the deleted blocks, in order.
-    pub(crate) deleted: Vec<u64>,
+    pub(crate) deleted: PlaceList,
     /// How many bytes deleted blocks have.
     pub(crate) empty: u64,
     /// The lowest byte that belongs to no row and to no deleted block.
@@ -59,7 +60,7 @@ pub(crate) struct ScannedFile<'a> {
     /// How many readable rows it has.
     pub(crate) records: u64,
     /// The places of these rows, in order, if they are dynamic.
-    pub(crate) places: &'a [u64],
+    pub(crate) places: &'a PlaceList,
 }
 
 /// Goes through a data file of that length, and notes the pairs of its rows where they are wanted.
@@ -275,10 +276,10 @@ fn is_apart(block: (u64, u32), held: &HeldBytes) -> bool
 }
 
 // The places of blocks.
-fn places(alloc: Global, blocks: &[(u64, u32)]) -> Result<Vec<u64>, AllocError>
-    ensures { IfOk result (λ places. places.items ≡ map (λ b. b.0) blocks.now) }
+fn places(alloc: Global, blocks: &[(u64, u32)]) -> Result<PlaceList, AllocError>
+    ensures { IfOk result (λ places. places ≡ map (λ b. b.0) blocks.now) }
 {
-    let mut places = Vec::with_capacity(alloc, blocks.len())?;
+    let mut places = PlaceList::new(alloc);
     for index in 0..blocks.len() {
         places.push(blocks[index].0)?;
     }

@@ -5,7 +5,8 @@ use Rattle.myi_opening.proofs.CallerLemmas.{table_index, table_rows, table_read}
 use Rattle.myi_header.specs.declared.state.State.{State}
 use Rattle.myi_data.specs.Readable.{readable}
 use Rattle.myi_check.specs.Checking.{findings_by}
-use Rattle.myi_check.specs.Rows.{IsAscending, ArePointed, ArePlacesOf}
+use Rattle.myi_placelist.specs.Places.{IsRising}
+use Rattle.myi_check.specs.Rows.{ArePointed, ArePlacesOf}
 use Rattle.myi_check.proofs.SectionLemmas.{all_sections, list_found, item_found, keys_are, shown_are, same_size}
 use Rattle.myi_check.proofs.OrderLaws.{all_in_order}
 use Rattle.myi_check.proofs.checking.check_sections.Goals as goal
@@ -44,14 +45,13 @@ returns-clause-findings g c m held =
     let found = c.in_ok-found.ensures.found m held h.data_file rows_there in
     let held2 = c.in_ok-found.ensures.holds ∙ held in
     let held3 = c.in_ok-listed.ensures.holds ∙ held2 in
-    let points = subst (ArePointed d c.args.opened.now.length) (sym c.deref.ensures.value) (subst (λ n. ArePointed d n c.in_ok-found.found.deleted.items) (sym h.long) found.pointed) in
-    let up = subst IsAscending (sym c.deref.ensures.value) found.ascends in
-    let listed = c.in_ok-listed.ensures.found m held2 h.data_file (ap (λ o. unwrap_or o []) rows_there) (sym h.long) up points in
+    let points = subst (λ n. ArePointed d n c.in_ok-found.found.deleted) (sym h.long) found.pointed in
+    let listed = c.in_ok-listed.ensures.found m held2 h.data_file (ap (λ o. unwrap_or o []) rows_there) (sym h.long) found.ascends points in
     let size = same_size (m index) h.index_file c.args.size there (c.requires.long m held) in
-    let keys = λ (marked : c.in_ok-header.header.marked ≡ true). c.in_ok-keys.ensures.found m held3 h.index_file h.data_file there rows_there (ap (λ (s : State). s.roots) state) (record { long = h.long; records = found.records; places = subst (ArePlacesOf (readable d false h.data_file)) (sym c.deref-2.ensures.value) found.places }) marked in
+    let keys = λ (marked : c.in_ok-header.header.marked ≡ true). c.in_ok-keys.ensures.found m held3 h.index_file h.data_file there rows_there (ap (λ (s : State). s.roots) state) (record { long = h.long; records = found.records; places = found.places }) marked in
     ap findings_by h.is ∙ ap Ok (sym (all_sections d h.data_file h.index_file c.header_item-item.result c.in_ok-listed.listed c.in_ok-found.found.gap c.in_ok-keys.keys.findings.items c.in_ok-all_findings.field-0.items
-    (item_found d h.data_file h.index_file c.in_ok-header.header _ c.header_item-item.result state mark (λ marked. shown_are d h.data_file h.index_file c.args.size false c.in_ok-found.found c.in_ok-keys.keys _ size c.ranges.size.fits found (keys marked) refl (c.len.ensures ∙ c.in_ok-found.found.deleted.ok.0) refl refl h.long refl c.room_left.ensures) c.header_item-item.ensures)
-    (list_found d h.data_file h.index_file c.deref.result.now c.in_ok-header.header.state.dellink c.in_ok-listed.listed (c.deref.ensures.value ∙ found.deleted) (ap (λ (s : State). s.dellink) state) listed)
+    (item_found d h.data_file h.index_file c.in_ok-header.header _ c.header_item-item.result state mark (λ marked. shown_are d h.data_file h.index_file c.args.size false c.in_ok-found.found c.in_ok-keys.keys _ size c.ranges.size.fits found (keys marked) refl c.len.ensures refl refl h.long refl c.room_left.ensures) c.header_item-item.ensures)
+    (list_found d h.data_file h.index_file c.in_ok-found.found.deleted c.in_ok-header.header.state.dellink c.in_ok-listed.listed found.deleted (ap (λ (s : State). s.dellink) state) listed)
     (keys_are d h.data_file h.index_file c.in_ok-header.header.marked c.in_ok-keys.keys mark keys c.in_ok-keys.ensures.foreign)
     found.gap c.in_ok-all_findings.ensures))
 

@@ -1,4 +1,4 @@
-use Rattle.std.proofs.Common.{◌≡◌, ◌∙◌, ℕ, suc, ◌-◌, Bool, true, false, List, Some, length, refl, sym, ap, arith}
+use Rattle.std.proofs.Common.{◌≡◌, ◌∙◌, ℕ, suc, ◌-◌, Bool, true, false, List, Some, length, replicate, refl, sym, ap, arith}
 use Rattle.std.proofs.lemmas.List.{length-replicate}
 use Rattle.std.specs.Option.{option_map}
 use Rattle.myi_pair.specs.Clean.{next_deleted}
@@ -13,8 +13,8 @@ pub loop-step-init : goal.loop-step-init
 loop-step-init g c = record {
   holds = refl;
   faults = omega arith;
-  long = ap length c.in_ok-met.ensures ∙ length-replicate (length c.args.deleted.now) false;
-  ahead = λ n count m held d is size up points. begun (next_deleted c.args.defs.now d) (names_before c.args.defs.now d) n c.args.deleted.now c.in_ok-met.met.items c.widened-at.result c.args.head (omega (arith, count)) c.in_ok-met.ensures c.widened-at.ensures;
+  long = ap length c.in_ok-met.ensures ∙ length-replicate c.len.result false ∙ c.len.ensures;
+  ahead = λ n count m held d is size up points. begun (next_deleted c.args.defs.now d) (names_before c.args.defs.now d) n c.args.deleted.now c.in_ok-met.met.items c.widened-at.result c.args.head (omega (arith, count)) (c.in_ok-met.ensures ∙ ap (λ (k : ℕ). replicate k false) c.len.ensures) c.widened-at.ensures;
 }
 
 pub loop-step-preserved : goal.loop-step-preserved
@@ -44,7 +44,7 @@ returns-in_default-clause-found g c m held d is size up points =
     let met = c.loop-step.met.items in
     let n : ℕ = length deleted - c.loop-step._step in
     c.least_left.ensures up ∙ ap (λ (flags : List Bool). option_map told (least (unmet deleted flags))) c.deref.ensures.value
-    ∙ ap (option_map told) (ended_at (next_deleted c.args.defs.now d) (names_before c.args.defs.now d) n (unmet deleted met) c.loop-step.before c.loop-step.at _ c.in_default.is (inv.ahead n (omega (arith, c.loop-step-test.true)) m held d is size up points))
+    ∙ ap (option_map told) (ended_at (next_deleted c.args.defs.now d) (names_before c.args.defs.now d) n (unmet deleted met) c.loop-step.before c.loop-step.at _ c.in_default.is (inv.ahead n (omega (arith, c.loop-step-test.true, c.len-step-end.ensures)) m held d is size up points))
 
 pub returns-in_default-take_out-clause-found : goal.returns-in_default-take_out-clause-found
 returns-in_default-take_out-clause-found g c m held d is size up points =
@@ -54,7 +54,7 @@ returns-in_default-take_out-clause-found g c m held d is size up points =
     let n : ℕ = length deleted - c.loop-step._step in
     let out = ap (λ (flags : List Bool). without c.in-Some.place (unmet deleted flags)) (sym c.deref_mut.ensures.value) ∙ c.in_default-take_out.ensures.left up in
     ap (λ (p : ℕ). Some p) c.told.ensures
-    ∙ ap (option_map told) (stopped_at (next_deleted c.args.defs.now d) (names_before c.args.defs.now d) n (unmet deleted met) c.loop-step.before c.loop-step.at _ c.in-Some.place c.in-Some.is out (inv.ahead n (omega (arith, c.loop-step-test.true)) m held d is size up points))
+    ∙ ap (option_map told) (stopped_at (next_deleted c.args.defs.now d) (names_before c.args.defs.now d) n (unmet deleted met) c.loop-step.before c.loop-step.at _ c.in-Some.place c.in-Some.is out (inv.ahead n (omega (arith, c.loop-step-test.true, c.len-step-end.ensures)) m held d is size up points))
 
 pub returns-then-not-link-clause-found : goal.returns-then-not-link-clause-found
 returns-then-not-link-clause-found g c m held d is size up points =
@@ -67,7 +67,7 @@ returns-then-not-link-clause-found g c m held d is size up points =
     let named = not_named c.in_ok-link.link.named _ said.named c.if-not-link.true in
     let here = ap (λ (p : ℕ). names_before c.args.defs.now d p c.loop-step.before) (sym c.in-Some-take_out.ensures.same) ∙ named in
     ap (λ (p : ℕ). Some p) c.told-then-not-link.ensures
-    ∙ ap (option_map told) (broken_at (next_deleted c.args.defs.now d) (names_before c.args.defs.now d) n (unmet deleted met) _ c.loop-step.before c.loop-step.at _ c.in-Some.place c.in-Some.is out here (inv.ahead n (omega (arith, c.loop-step-test.true)) m held d is size up points))
+    ∙ ap (option_map told) (broken_at (next_deleted c.args.defs.now d) (names_before c.args.defs.now d) n (unmet deleted met) _ c.loop-step.before c.loop-step.at _ c.in-Some.place c.in-Some.is out here (inv.ahead n (omega (arith, c.loop-step-test.true, c.len-step-end.ensures)) m held d is size up points))
 
 pub returns-in-None-clause-found : goal.returns-in-None-clause-found
 returns-in-None-clause-found g c m held d is size up points =
@@ -75,7 +75,7 @@ returns-in-None-clause-found g c m held d is size up points =
     let deleted = c.args.deleted.now in
     let met = c.loop-step.met.items in
     c.least_left-in-None.ensures up ∙ ap (λ (flags : List Bool). option_map told (least (unmet deleted flags))) c.deref-in-None.ensures.value
-    ∙ ap (option_map told) (ended_at (next_deleted c.args.defs.now d) (names_before c.args.defs.now d) 0 (unmet deleted met) c.loop-step.before c.loop-step.at _ c.in-None.is (inv.ahead 0 (omega (arith, c.loop-step-test.false, c.loop-step.auto._step-end)) m held d is size up points))
+    ∙ ap (option_map told) (ended_at (next_deleted c.args.defs.now d) (names_before c.args.defs.now d) 0 (unmet deleted met) c.loop-step.before c.loop-step.at _ c.in-None.is (inv.ahead 0 (omega (arith, c.loop-step-test.false, c.loop-step.auto._step-end, c.len-step-end.ensures)) m held d is size up points))
 
 pub returns-clause-found : goal.returns-clause-found
 returns-clause-found g c m held d is size up points =
@@ -83,4 +83,4 @@ returns-clause-found g c m held d is size up points =
     let deleted = c.args.deleted.now in
     let met = c.loop-step.met.items in
     ap (λ (p : ℕ). Some p) c.told-in-Some-at.ensures
-    ∙ ap (option_map told) (spent_at (next_deleted c.args.defs.now d) (names_before c.args.defs.now d) 0 (unmet deleted met) c.loop-step.before c.loop-step.at _ c.in-Some-at.place refl c.in-Some-at.is (inv.ahead 0 (omega (arith, c.loop-step-test.false, c.loop-step.auto._step-end)) m held d is size up points))
+    ∙ ap (option_map told) (spent_at (next_deleted c.args.defs.now d) (names_before c.args.defs.now d) 0 (unmet deleted met) c.loop-step.before c.loop-step.at _ c.in-Some-at.place refl c.in-Some-at.is (inv.ahead 0 (omega (arith, c.loop-step-test.false, c.loop-step.auto._step-end, c.len-step-end.ensures)) m held d is size up points))

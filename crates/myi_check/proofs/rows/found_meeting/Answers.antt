@@ -23,7 +23,7 @@ returns-clause-found c x long has =
     c.in_ok-put_in_order.ensures.same c.keep_apart.ensures
     (subst (λ bs. SameBytes (h ++ ranges_at bs) c.add_blocks.new.self) c.deref.ensures.value c.in_ok-add_blocks.ensures)
     c.in_ok-put_in_order-2.ensures.same c.in_ok-put_in_order-2.ensures.order
-    refl refl refl refl (c.in_ok-places.ensures ∙ ap (map (λ (b : ℕ × ℕ). b.0)) c.deref-2.ensures.value) (c.in_ok-bytes_in.ensures ∙ ap (sum_by (λ (b : ℕ × ℕ). b.1)) c.deref-3.ensures.value)
+    refl c.row_places.view_is refl refl (c.in_ok-places.ensures ∙ ap (map (λ (b : ℕ × ℕ). b.0)) c.deref-2.ensures.value) (c.in_ok-bytes_in.ensures ∙ ap (sum_by (λ (b : ℕ × ℕ). b.1)) c.deref-3.ensures.value)
     (c.gap.ensures ∙ ap (λ n. gap_behind (cond (is_addressable d n) (front_of last) 0) n) long)
     c.requires.sound
 

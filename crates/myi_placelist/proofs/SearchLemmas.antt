@@ -1,0 +1,55 @@
+-- A binary search for a place among places that rise.
+use Rattle.std.proofs.Common.{◌≡◌, ◌≢◌, ◌⊎◌, inl, inr, ℕ, zero, suc, ◌+◌, ◌<◌, ◌≤◌, List, [], ◌∷◌, length, get_or, subst, arith}
+use Rattle.std.specs.List.{AllByRecursion}
+use Rattle.std.proofs.lemmas.Bool.{cases_lt}
+use Rattle.myi_placelist.specs.Places.{IsRising, IsCountBelow}
+
+reach : (p : ℕ) (ps : List ℕ) (j : ℕ) → AllByRecursion (λ q. p < q) ps → j < length ps → p < get_or ps j 0
+reach p [] j all lt = absurd (omega (arith, lt))
+reach p (q ∷ ps) zero all lt = all.0
+reach p (q ∷ ps) (suc j) all lt = reach p ps j all.1 (omega (arith, lt))
+
+rising_at : (ps : List ℕ) (i j : ℕ) → IsRising ps → i < j → j < length ps → get_or ps i 0 < get_or ps j 0
+rising_at [] i j up lt inside = absurd (omega (arith, inside))
+rising_at (p ∷ ps) i zero up lt inside = absurd (omega (arith, lt))
+rising_at (p ∷ ps) zero (suc j) up lt inside = reach p ps j up.0 (omega (arith, inside))
+rising_at (p ∷ ps) (suc i) (suc j) up lt inside = rising_at ps i j up.1 (omega (arith, lt)) (omega (arith, inside))
+
+-- where the place in the middle is lower, so are those before it
+pub below_more : (x : ℕ) (ps : List ℕ) (m : ℕ) → m < length ps → get_or ps m 0 < x → IsRising ps → (k : ℕ) → k < m + 1 → get_or ps k 0 < x
+below_more x ps m inside less up k lt = by (cases_lt k m)
+  where
+    by : (k < m) ⊎ (m ≤ k) → get_or ps k 0 < x
+    by (inl near) = omega (arith, rising_at ps k m up near inside, less)
+    by (inr at) = let same : m ≡ k = omega (arith, at, lt) in subst (λ (n : ℕ). get_or ps n 0 < x) same less
+
+-- where it is not, those behind it are not
+pub above_more : (x : ℕ) (ps : List ℕ) (m : ℕ) → x ≤ get_or ps m 0 → IsRising ps → (k : ℕ) → m ≤ k → k < length ps → x ≤ get_or ps k 0
+above_more x ps m more up k le inside = by (cases_lt m k)
+  where
+    by : (m < k) ⊎ (k ≤ m) → x ≤ get_or ps k 0
+    by (inl far) = omega (arith, rising_at ps m k up far inside, more)
+    by (inr at) = let same : m ≡ k = omega (arith, at, le) in subst (λ (n : ℕ). x ≤ get_or ps n 0) same more
+
+-- the last place is below, so all are
+pub all_below : (x : ℕ) (ps : List ℕ) (m : ℕ) → m + 1 ≡ length ps → get_or ps m 0 < x → IsRising ps → IsCountBelow x ps (length ps)
+all_below x ps m last less up = record {
+  below = λ k lt. below_more x ps m (omega (arith, last)) less up k (omega (arith, last, lt));
+  above = λ k le lt. absurd (omega (arith, le, lt));
+}
+
+none_at : (x : ℕ) (ps : List ℕ) → ((k : ℕ) → k < length ps → get_or ps k 0 ≢ x) → AllByRecursion (λ q. q ≢ x) ps
+none_at x [] far = tt
+none_at x (p ∷ ps) far = (far 0 (omega arith), none_at x ps (λ k lt. far (suc k) (omega (arith, lt))))
+
+-- all places are below, or the first that is not below is another one
+pub none_left : (x : ℕ) (ps : List ℕ) (m : ℕ) → m ≡ length ps → IsCountBelow x ps m → AllByRecursion (λ q. q ≢ x) ps
+none_left x ps m all is = none_at x ps (λ k lt same. absurd (omega (arith, is.below k (omega (arith, lt, all)), same)))
+
+pub none_here : (x : ℕ) (ps : List ℕ) (m : ℕ) → m < length ps → get_or ps m 0 ≢ x → IsRising ps → IsCountBelow x ps m → AllByRecursion (λ q. q ≢ x) ps
+none_here x ps m inside other up is = none_at x ps (λ k lt. by k lt (cases_lt k m) (cases_lt m k))
+  where
+    by : (k : ℕ) → k < length ps → (k < m) ⊎ (m ≤ k) → (m < k) ⊎ (k ≤ m) → get_or ps k 0 ≢ x
+    by k lt (inl near) far = λ same. absurd (omega (arith, is.below k near, same))
+    by k lt (inr le) (inl far) = λ same. absurd (omega (arith, is.above m (omega arith) inside, rising_at ps m k up far lt, same))
+    by k lt (inr le) (inr ge) = let here : m ≡ k = omega (arith, le, ge) in subst (λ (n : ℕ). get_or ps n 0 ≢ x) here other
