@@ -6,7 +6,11 @@ use case_lines::{Fault, Words, key_of_code, place, push_word};
 use myi_btree::{Place, TreeFault};
 use myi_keylist::Pair;
 use myi_keys::KeyVal;
+use myi_search::TreeCursor;
 use std::alloc::Global;
+
+/// A cursor is asked no more often for the next pair.
+const MOST_PAIRS: usize = 10_000;
 
 // The pair that a word says, and None for `-`.
 fn pair_or_none(words: &Words, word: &str) -> Result<Option<Pair>, Fault> {
@@ -104,11 +108,76 @@ fn next(words: &Words, args: &[&str]) -> Result<String, Fault> {
     Ok(out)
 }
 
+// Goes on with a cursor, once all is written.
+fn advance(
+    alloc: Global,
+    index: &mut Index,
+    place: &Place,
+    cursor: &mut TreeCursor,
+) -> Result<bool, TreeFault>
+    requires { IsPlaced place.now }
+{
+    let Index { files, cache, .. } = index;
+    cache.flush(files)?;
+    cursor.advance(alloc, place, files, cache)
+}
+
+// Appends the pair that a cursor stands behind.
+fn push_pair(out: &mut String, cursor: &TreeCursor) -> Result<(), Fault> {
+    if let Some((code, row)) = cursor.pair() {
+        push_word(out, code)?;
+        write!(out, ":{row} ")?;
+    }
+    Ok(())
+}
+
+// Appends each pair that a cursor comes to.
+fn push_pairs(
+    out: &mut String,
+    index: &mut Index,
+    place: &Place,
+    cursor: &mut TreeCursor,
+) -> Result<(), Fault>
+    requires { IsPlaced place.now }
+{
+    for _turn in 0..MOST_PAIRS {
+        match advance(*out.allocator(), index, place, cursor) {
+            Ok(true) => push_pair(out, cursor)?,
+            Ok(false) => return Ok(out.push_str("end")?),
+            Err(fault) => return push_fault(out, fault),
+        }
+    }
+    Err(Fault::Unread)
+}
+
+/// `pairs LENGTH POINTER ROOT AFTER BYTES`: the pairs of that tree above `CODE:ROW`, or all, one after the other by a
+/// cursor, and how many pages the cache was asked for.
+fn pairs(words: &Words, args: &[&str]) -> Result<String, Fault> {
+    let [block_length, rec_ref, root, after, bytes] = args else {
+        return Err(Fault::Unread);
+    };
+    let alloc = words.alloc();
+    let place = Place {
+        root: place(*root)?,
+        ..unrooted(*block_length, *rec_ref)?
+    };
+    let mut cursor = match pair_or_none(words, *after)? {
+        Some(pair) => TreeCursor::behind(alloc, &pair)?,
+        None => TreeCursor::new(alloc),
+    };
+    let mut index = index_of(alloc, words.bytes(*bytes)?, Vec::new(alloc))?;
+    let mut out = String::new(alloc);
+    push_pairs(&mut out, &mut index, &place, &mut cursor)?;
+    push_asked(&mut out, &index)?;
+    Ok(out)
+}
+
 /// The answer to a call of this module, and None where the name is no such call.
 pub fn answer(words: &Words, name: &str, args: &[&str]) -> Option<Result<String, Fault>> {
     match name {
         "find" => Some(find(words, args)),
         "next" => Some(next(words, args)),
+        "pairs" => Some(pairs(words, args)),
         _ => None,
     }
 }
