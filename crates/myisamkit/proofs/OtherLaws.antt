@@ -93,7 +93,7 @@ cut_keeps o now told before after name m n q apart cut = by_mode o.mode cut
     by_mode Check cut = by_check (goes_on o name m) cut
     by_mode Describe cut = ap (λ (h : Holding). h q) cut
     by_mode Analyze (inl none) = none.others q apart.index apart.new_index
-    by_mode Analyze (inr done) = ap (λ (h : Holding). h q) done.files ∙ analyzed_keeps o name (analyzing.table_in name m) m q apart
+    by_mode Analyze (inr done) = ap (λ (h : Holding). h q) done.1.files ∙ analyzed_keeps o name (analyzing.table_in name m) m q apart
     by_mode (Sort key) cut = cut.others q apart.rows apart.index apart.new_rows apart.new_index
 
 fail_keeps : (o : Options) (now : ℕ) (name : List ℕ) (m n : Holding) (q : List ℕ) → IsApart q (names_for name) → FailsInTurn o now name m n → n q ≡ m q

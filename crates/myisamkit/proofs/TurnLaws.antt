@@ -191,9 +191,9 @@ stores_none o told before after name old new both others cleared = record {
 }
 
 -- memory was wanting behind an analysis
-pub done_behind : (o : Options) (told before after : ℕ) (name : List ℕ) (old new : Option Holding) → Told old new (AnalyzeDone o name) → Told old new (AnalyzeCutOff o told before after name)
-done_behind o told before after name old new done = record {
-  told = λ m is. let n = done.told m is in (n.0, n.1, inr n.2);
+pub done_behind : (o : Options) (told before after : ℕ) (name : List ℕ) (old new : Option Holding) → told ≡ 0 → Told old new (AnalyzeDone o name) → Told old new (AnalyzeCutOff o told before after name)
+done_behind o told before after name old new none done = record {
+  told = λ m is. let n = done.told m is in (n.0, n.1, inr (none, n.2));
   untold = done.untold;
 }
 

@@ -227,9 +227,10 @@ pub record StoresNone (told before after : ℕ) (name : List ℕ) (m n : Holding
   pub others : analyzing.OthersStay name m n
   pub cleared : RoseAtMost told before after → analyzing_faults.Clears (new_index_file name) m n
 
--- an analysis was cut off: no numbers were stored, or it was done, and memory for its lines was wanting
+-- an analysis was cut off: no numbers were stored, or it was done, and memory for its lines was wanting, which tells of no fault
+-- of a file
 abbrev pub AnalyzeCutOff : Options → ℕ → ℕ → ℕ → List ℕ → Holding → Holding → Type 0
-AnalyzeCutOff o told before after name m n = StoresNone told before after name m n ⊎ AnalyzeDone o name m n
+AnalyzeCutOff o told before after name m n = StoresNone told before after name m n ⊎ ((told ≡ 0) × AnalyzeDone o name m n)
 
 -- what a stop leaves of the turn of a table that is analyzed
 abbrev pub AnalyzeStops : Options → ℕ → ℕ → List ℕ → Stop → Holding → Holding → Type 0

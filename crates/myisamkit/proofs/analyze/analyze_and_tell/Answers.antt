@@ -1,13 +1,13 @@
-use Rattle.std.proofs.Common.{Result, Ok, Err, subst}
+use Rattle.std.proofs.Common.{sym, ap, subst}
 use Rattle.std.specs.Prelude.{IfErr}
-use Rattle.std.proofs.lemmas.Result.{IfErr-weaker}
+use Rattle.std.proofs.lemmas.Result.{IfErr-weaker, err_from_is_err_and}
+use Rattle.myi_base.specs.Holding.{Told}
 use Rattle.myi_repair.specs.Faults as repair
+use Rattle.myisamkit.specs.Stops.{status_of_stop}
+use Rattle.myisamkit.specs.Statuses.{faults_told}
+use Rattle.myisamkit.specs.Turns.{AnalyzeCutOff}
 use Rattle.myisamkit.proofs.TurnLaws.{analyze_done, stores_none, done_behind}
 use Rattle.myisamkit.proofs.analyze.analyze_and_tell.Goals as goal
-
-if_any : {A E : Type 0} (r : Result A E) (P : E → Type 0) → ((e : E) → P e) → IfErr r P
-if_any (Ok x) P all = tt
-if_any (Err e) P all = all e
 
 pub returns-in_ok-text-in-Ok-clause-done : goal.returns-in_ok-text-in-Ok-clause-done
 returns-in_ok-text-in-Ok-clause-done g c = analyze_done _ _ _ _ _ c.in-Ok.ensures.analyzed c.in-Ok.ensures.others
@@ -18,4 +18,10 @@ returns-in-Err-clause-off g c =
 
 pub returns-in_err-text-in-Ok-clause-off : goal.returns-in_err-text-in-Ok-clause-off
 returns-in_err-text-in-Ok-clause-off g c =
-    if_any c.from_residual.result _ (λ stop. done_behind _ _ _ _ _ _ _ (analyze_done _ _ _ _ _ c.in-Ok.ensures.analyzed c.in-Ok.ensures.others))
+    let e = err_from_is_err_and c.from_residual.result c.from_residual.ensures.1 in
+    let old = g.F.Files.holds c.args.files.now in
+    let new = g.F.Files.holds c.analyze.new.files in
+    let before = g.F.Files.faults c.args.files.now in
+    let after = g.F.Files.faults c.analyze.new.files in
+    subst (λ r. IfErr r (λ stop. Told old new (AnalyzeCutOff c.args.options.now (faults_told (status_of_stop stop)) before after c.args.name.now))) (sym e.1)
+    (done_behind _ _ _ _ _ _ _ (ap (λ stop. faults_told (status_of_stop stop)) e.2) (analyze_done _ _ _ _ _ c.in-Ok.ensures.analyzed c.in-Ok.ensures.others))
