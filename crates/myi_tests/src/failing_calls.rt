@@ -1,4 +1,4 @@
-//! Each file call of a repair failing in turn.
+//! Each file call of a repair, of an analysis and of sorting failing in turn.
 use myi_deftext::parse_text;
 use myi_io::Files;
 use myi_memfiles::{MemFiles, MemSink};
@@ -10,7 +10,7 @@ use std::thread::Threads;
 
 const MOMENT: u64 = 1_700_000_000;
 
-/// More file calls than a repair of these tables makes.
+/// More file calls than a run on one of these tables makes.
 const MOST_CALLS: u64 = 100;
 
 /// The creating text of a table and its data file.
@@ -19,8 +19,9 @@ struct Table {
     rows: &'static [u8],
 }
 
-// Without keys; with two unique keys, of which the second row repeats one; a dynamic table with a chain.
-const TABLES: [Table; 3] = [
+// Without keys; with two unique keys, of which the second row repeats one; not in the order of its key; a dynamic table with
+// a chain, which is not in that order either.
+const TABLES: [Table; 4] = [
     Table {
         text: b"rows static\nfield normal 1\nfield normal 4\nfield normal 3\n",
         rows: b"\xFF\x01\0\0\0abc\0\xFF\xFF\xFF\xFF\xFF\xFFc\xFF\x02\0\0\0def\xAA\xBB\xCC",
@@ -30,10 +31,49 @@ const TABLES: [Table; 3] = [
         rows: b"\xFF\x01\0\0\0\x0A\0\0\0\xFF\x01\0\0\0\x14\0\0\0\xFF\x02\0\0\0\x14\0\0\0",
     },
     Table {
+        text: b"rows static\nfield normal 1\nfield normal 4\nfield normal 3\nkey plain\nseg long_int 1 4 0 0 0\n",
+        rows: b"\xFF\x03\0\0\0abc\xFF\x01\0\0\0def\xFF\x02\0\0\0ghi\xFF\x01\0\0\0jkl",
+    },
+    Table {
         text: b"rows dynamic\nfield normal 1\nfield normal 4\nfield varchar 101\nkey plain\nseg vartext 5 100 8 1 0\n",
         rows: b"\x05\0\x18\0\x07\0\0\0\0\0\0\0\x28\xFE\x01\0\0\0\x12a\x03\0\x09\x07\xFE\x02\0\0\0\x03abc\0\0\0\0\0\0\0\x07\0\x11bcdefghijklmnopqr",
     },
 ];
+
+/// A run on a table, of which each call fails in turn.
+struct Work {
+    mode: &'static str,
+    /// A run that leaves the same files, where no call fails.
+    same_as: &'static str,
+    /// What is run then, one after the other, to get these files in spite of a failure. The last is the run itself.
+    again: &'static [&'static str],
+}
+
+const REPAIRS: [Work; 2] = [
+    Work {
+        mode: "--recover",
+        same_as: "--recover",
+        again: &["--recover"],
+    },
+    Work {
+        mode: "--parallel-recover",
+        same_as: "--recover",
+        again: &["--parallel-recover"],
+    },
+];
+
+const ANALYSIS: Work = Work {
+    mode: "--analyze",
+    same_as: "--analyze",
+    again: &["--analyze"],
+};
+
+// Sorting that is cut off may leave the new data file beside the old index file, which is to be repaired.
+const SORTING: Work = Work {
+    mode: "--sort-records=1",
+    same_as: "--sort-records=1",
+    again: &["--recover", "--sort-records=1"],
+};
 
 /// The two files of a table.
 #[derive(Clone, Copy)]
@@ -72,8 +112,8 @@ fn files(alloc: Global, pair: &Pair, fail: &[u64]) -> Result<MemFiles, AllocErro
     MemFiles::new(alloc, given, Vec::from_slice(alloc, fail)?)
 }
 
-// Repairs the table in this mode; the status, and whether something was printed.
-fn repair<R: Threads + Sync>(
+// Runs on the table in this mode; the status, and whether something was printed.
+fn run<R: Threads + Sync>(
     rt: &R,
     alloc: Global,
     mode: &str,
@@ -101,17 +141,17 @@ fn has_no_working_files(files: &MemFiles) -> bool {
     files.get("a.TMD").is_none() && files.get("a.TMI").is_none()
 }
 
-// A repair whose call of this number fails, if there is such a call: whether there is.
+// A run whose call of this number fails, if there is such a call: whether there is.
 fn fails_well<R: Abort + Threads + Sync>(
     rt: &R,
     alloc: Global,
-    mode: &str,
+    work: &Work,
     old: &Pair,
     new: &Pair,
     call: u64,
 ) -> Result<bool, Fail> {
     let mut files = files(alloc, old, &[call])?;
-    let (status, printed) = repair(rt, alloc, mode, &mut files)?;
+    let (status, printed) = run(rt, alloc, work.mode, &mut files)?;
     if files.fault_count() == 0 {
         assert_eq!(rt; status, Status::Ok);
         let found = pair_of(&files);
@@ -123,8 +163,10 @@ fn fails_well<R: Abort + Threads + Sync>(
     assert_eq!(rt; files.fault_count(), 1, "at {call}");
     assert!(rt; is_old_or_new(&files, old, new), "at {call}");
     assert!(rt; has_no_working_files(&files), "at {call}");
-    let (again, _) = repair(rt, alloc, mode, &mut files)?;
-    assert_eq!(rt; again, Status::Ok, "after {call}");
+    for mode in work.again {
+        let (again, _) = run(rt, alloc, mode, &mut files)?;
+        assert_eq!(rt; again, Status::Ok, "after {call}");
+    }
     let found = pair_of(&files);
     assert!(rt;
         found.data == new.data && found.index == new.index,
@@ -133,25 +175,19 @@ fn fails_well<R: Abort + Threads + Sync>(
     Ok(true)
 }
 
-// A repair of this table in this mode, each of its calls failing in turn. What it leaves where none fails are the
-// files of the other mode.
+// A run on these files, each of its calls failing in turn.
 fn each_call_fails_well<R: Abort + Threads + Sync>(
     rt: &R,
     alloc: Global,
-    mode: &str,
-    table: &Table,
+    work: &Work,
+    old: &Pair,
 ) -> Result<(), Fail> {
-    let index = index(alloc, table.text)?;
-    let old = Pair {
-        index: &index,
-        data: table.rows,
-    };
-    let mut undisturbed = files(alloc, &old, &[])?;
-    let (status, printed) = repair(rt, alloc, "--recover", &mut undisturbed)?;
+    let mut undisturbed = files(alloc, old, &[])?;
+    let (status, printed) = run(rt, alloc, work.same_as, &mut undisturbed)?;
     assert!(rt; status == Status::Ok && printed && has_no_working_files(&undisturbed));
     let new = pair_of(&undisturbed);
     for call in 1..=MOST_CALLS {
-        if !fails_well(rt, alloc, mode, &old, &new, call)? {
+        if !fails_well(rt, alloc, work, old, &new, call)? {
             return Ok(());
         }
     }
@@ -161,9 +197,37 @@ fn each_call_fails_well<R: Abort + Threads + Sync>(
 
 #[test]
 fn a_call_that_fails_leaves_old_files_or_new_ones(rt: HostRuntime) -> Result<(), Fail> {
+    let alloc = rt.alloc();
     for table in &TABLES {
-        for mode in ["--recover", "--parallel-recover"] {
-            each_call_fails_well(&rt, rt.alloc(), mode, table)?;
+        let index = index(alloc, table.text)?;
+        let old = Pair {
+            index: &index,
+            data: table.rows,
+        };
+        for work in &REPAIRS {
+            each_call_fails_well(&rt, alloc, work, &old)?;
+        }
+    }
+    Ok(())
+}
+
+// The same of tables that were repaired before. The first has no key by which it could be sorted.
+#[test]
+fn so_does_one_of_an_analysis_or_of_sorting(rt: HostRuntime) -> Result<(), Fail> {
+    let alloc = rt.alloc();
+    for (number, table) in TABLES.iter().enumerate() {
+        let index = index(alloc, table.text)?;
+        let given = Pair {
+            index: &index,
+            data: table.rows,
+        };
+        let mut repaired = files(alloc, &given, &[])?;
+        let (status, _) = run(&rt, alloc, "--recover", &mut repaired)?;
+        assert_eq!(rt; status, Status::Ok);
+        let old = pair_of(&repaired);
+        each_call_fails_well(&rt, alloc, &ANALYSIS, &old)?;
+        if 0 < number {
+            each_call_fails_well(&rt, alloc, &SORTING, &old)?;
         }
     }
     Ok(())
