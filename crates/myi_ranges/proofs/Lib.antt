@@ -3,4 +3,5 @@ pub mod LeftLemmas
 pub mod RowLemmas
 pub mod TreeLemmas
 pub mod MatchLemmas
+pub mod CostLemmas
 pub mod AnswerLemmas

@@ -1,8 +1,8 @@
--- A reading of the rows whose key lies between bounds: how far it came, which pairs of the key's tree are still to come, and what
--- is asked of the two files of the table.
-use Rattle.std.specs.Prelude.{◌≡◌, ◌*◌, ℕ, suc, Bool, true, false, ◌&&◌, min, List, [], ◌∷◌, filter, Option, Some, None}
+-- A reading of the rows whose key lies between bounds: how far it came, which pairs of the key's tree are still to come, what is
+-- asked of the two files of the table, and how often these are asked.
+use Rattle.std.specs.Prelude.{◌≡◌, ◌+◌, ◌*◌, ◌^◌, ◌≤◌, ℕ, suc, Bool, true, false, ◌&&◌, min, List, [], ◌∷◌, filter, length, Option, Some, None}
 use Rattle.std.specs.Ordering.{is_lt}
-use Rattle.myi_base.specs.Holding.{Holding, Told, OthersStay}
+use Rattle.myi_base.specs.Holding.{Holding, Told, OthersStay, blocks}
 use Rattle.myi_defs.specs.declared.types.RowFormat.{RowFormat}
 use Rattle.myi_defs.specs.declared.types.RowFormat.TheVariants.{Static, Dynamic}
 use Rattle.myi_defs.specs.declared.types.Defs.{Defs}
@@ -13,9 +13,11 @@ use Rattle.myi_keylist.specs.PairOrder.{pair_cmp}
 use Rattle.myi_keycache.specs.Kept.{AllWritten}
 use Rattle.myi_keycache.specs.Caching.{pages_of}
 use Rattle.myi_btree.specs.declared.fault.TreeFault.TheVariants as tree
+use Rattle.myi_search.specs.Cursor.{CursorAt, StandsIn}
 use Rattle.myi_slots.specs.SlotFile.{SlotFile, IsFileOf}
 use Rattle.myi_slots.specs.declared.fault.DataFault.TheVariants as read
 use Rattle.myi_state.specs.State.{StoredRow, TableState, row_at}
+use Rattle.myi_blocks.specs.RowReading.{read_cost}
 use Rattle.myi_keytrees.specs.Trees.{Trees}
 use Rattle.myi_keytrees.specs.Standing.{list_of, Stand, StillStand}
 use Rattle.myi_tablestate.specs.Keyed.{IsTable}
@@ -29,11 +31,16 @@ use Rattle.myi_ranges.specs.declared.ranges.RangeRows.{RangeRows}
 
 -- ---- what is to come
 
+-- a pair stands behind another one; where none is given, each pair does
+abbrev pub comes_behind : Option Pair → Pair → Bool
+comes_behind None p = true
+comes_behind (Some q) p = is_lt (pair_cmp q p)
+
 -- a pair stands behind the place that a reading came to
 abbrev pub is_left : Reached → Pair → Bool
 is_left Start p = true
 is_left (Key low) p = reaches (Some low) p.key
-is_left (Behind q) p = is_lt (pair_cmp q p)
+is_left (Behind c) p = comes_behind c.last p
 is_left End p = false
 
 -- where a reading with this lower bound begins
@@ -45,10 +52,21 @@ begin_at (Some low) = Key low
 abbrev pub left_of : Reached → List Pair → List Pair
 left_of at pairs = filter (is_left at) pairs
 
--- the first pair that is left, behind which the others are; or none is left
-abbrev pub IsNext : Reached → List Pair → Option Pair → Type 0
-IsNext at pairs None = left_of at pairs ≡ []
-IsNext at pairs (Some p) = left_of at pairs ≡ p ∷ left_of (Behind p) pairs
+-- the pair is the first that is left, and the others are those behind it
+abbrev pub IsNext : Reached → List Pair → Pair → Type 0
+IsNext at pairs p = left_of at pairs ≡ p ∷ filter (comes_behind (Some p)) pairs
+
+-- what a reading has read ahead are the next pairs of the list
+abbrev pub ReadsAhead : Reached → List Pair → Type 0
+ReadsAhead Start pairs = Unit {0}
+ReadsAhead (Key low) pairs = Unit {0}
+ReadsAhead (Behind c) pairs = StandsIn pairs c
+ReadsAhead End pairs = Unit {0}
+
+-- the cursor stands in the list, behind the first pair that is left; or none is left
+abbrev pub ComesTo : Reached → List Pair → Option CursorAt → Type 0
+ComesTo at pairs None = left_of at pairs ≡ []
+ComesTo at pairs (Some c) = (p : Pair) × (c.last ≡ Some p) × IsNext at pairs p × StandsIn pairs c
 
 -- a pair is to come: it is left, and its key is not above the bound
 abbrev pub comes : RangeRows → Pair → Bool
@@ -66,14 +84,16 @@ Answers d s old new (Some (at, values)) = (r : StoredRow) × (row_at at s.rows �
 
 -- ---- the files
 
--- the data file stands for a table, and the tree of the key, counted from 0, for its pairs
-pub record HasTable (d : Defs) (key : ℕ) (trees : Trees) (f : SlotFile) (s : TableState) (m : Holding) : Type 0 where
+-- The data file stands for a table, and the tree of the key, counted from 0, for its pairs; what the reading has read ahead are the
+-- next of these, as it is where nothing was read or the table is as it was then.
+pub record HasTable (d : Defs) (r : RangeRows) (trees : Trees) (f : SlotFile) (s : TableState) (m : Holding) : Type 0 where
   pub table : IsTable d s
   pub file : IsFileOf f s m
   pub own : ℕ → ℕ
   pub lists : List (List Pair)
   pub stand : Stand trees m own lists
-  pub pairs : list_of lists key ≡ listed d (suc key) s.rows
+  pub pairs : list_of lists r.key ≡ listed d (suc r.key) s.rows
+  pub ahead : ReadsAhead r.reached (listed d (suc r.key) s.rows)
 
 -- Trees were searched: they stand as before, each where it did, and of files that of the index alone may hold something else, what
 -- was not written yet.
@@ -103,3 +123,39 @@ position_by_end Dynamic size end pointer = pointer
 
 abbrev pub position_within : Defs → ℕ → ℕ → ℕ
 position_within d end pointer = position_by_end d.format d.slot_length end pointer
+
+-- ---- how often the files are asked
+
+-- how many searches of the tree the next pair takes at most, by the pairs that were read ahead
+abbrev pub searches_behind : List Pair → ℕ
+searches_behind [] = 1
+searches_behind (p ∷ ahead) = 0
+
+-- and by the place that a reading came to: from a key on one for the key, and one where no pair has it
+abbrev pub searches : Reached → ℕ
+searches Start = 1
+searches (Key low) = 2
+searches (Behind c) = searches_behind c.ahead
+searches End = 0
+
+-- a count rose by no more than so many searches of a tree of so many pairs may count for, each for a number of levels that it can
+-- have, and one; and by so many more
+pub record RoseBySearches (times pairs more before after : ℕ) : Type 0 where
+  pub levels : ℕ
+  pub fit : 2 ^ levels ≤ pairs + 1
+  pub few : after ≤ before + times * (levels + 1) + more
+
+-- how many reads a row may count for: its slot, or its blocks
+abbrev pub row_cost_by : RowFormat → ℕ → StoredRow → ℕ
+row_cost_by Static size r = blocks size
+row_cost_by Dynamic size r = read_cost r.blocks
+
+-- and none where no row is answered
+abbrev pub row_cost : Defs → Option StoredRow → ℕ
+row_cost d None = 0
+row_cost d (Some r) = row_cost_by d.format d.slot_length r
+
+-- the files were read no more often than the searches of the tree and the row that is answered may count for
+abbrev pub ReadInFew : Defs → TableState → RangeRows → Option (ℕ × Values) → ℕ → ℕ → Type 0
+ReadInFew d s old None before after = RoseBySearches (searches old.reached) (length (listed d (suc old.key) s.rows)) 0 before after
+ReadInFew d s old (Some (at, values)) before after = RoseBySearches (searches old.reached) (length (listed d (suc old.key) s.rows)) (row_cost d (row_at at s.rows)) before after
