@@ -5,3 +5,9 @@ pub mod RowLemmas
 pub mod FaultLemmas
 pub mod AnswerLemmas
 pub mod LawLemmas
+pub mod HeaderLemmas
+pub mod OpenLemmas
+pub mod CloseLemmas
+pub mod StillLemmas
+pub mod CallerLemmas
+pub mod PlaceLemmas

@@ -2,6 +2,8 @@
 
 -- the object, when it stands for a table, and what its calls do
 pub mod KeyedRows
+-- the object when it is opened on the two files of a table, and the files when they are closed
+pub mod Files
 -- how the refusals of the calls on the two files are told
 pub mod Faults
 -- What serves private contracts.

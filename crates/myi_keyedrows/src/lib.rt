@@ -8,6 +8,8 @@
 //! - `insert` puts a row where the first deleted slot or block is, or behind the end; `insert_at_end` behind the end always;
 //!   `update` gives a row other values; `delete` takes one away.
 //!
+//! - The laws say how the object and the two files stand for one table: when it is opened on them and when they are closed.
+//!
 //! ```
 //! let mut table = KeyedRows { rows, trees };
 //! let at = table.insert(alloc, &mut files, &defs, &row)?;
@@ -18,6 +20,8 @@
 
 mod fault;
 mod keyed_rows;
+mod laws;
 
 pub use fault::KeyedFault;
 pub use keyed_rows::KeyedRows;
+pub use laws::{calls_keep_files, closed_files_stand, opened_files_stand};
