@@ -1,0 +1,39 @@
+//! How the answers of calls on tables are written.
+use case_lines::Fault;
+use myi_table::{ChangeFault, LoadFault};
+
+fn push_fault(out: &mut String, fault: ChangeFault) -> Result<(), Fault> {
+    match fault {
+        ChangeFault::Broken(_) => Ok(out.push_str("broken")?),
+        ChangeFault::NoRow { at } => Ok(write!(out, "no row {at}")?),
+        ChangeFault::Duplicate { key, at } => Ok(write!(out, "duplicate {key} {at}")?),
+        ChangeFault::Full => Ok(out.push_str("full")?),
+        ChangeFault::Damaged { at } => Ok(write!(out, "damaged {at}")?),
+        ChangeFault::File => Ok(out.push_str("failed")?),
+        ChangeFault::Memory => Err(Fault::Memory),
+    }
+}
+
+pub fn push_load_fault(out: &mut String, fault: LoadFault) -> Result<(), Fault> {
+    match fault {
+        LoadFault::Absent(_) => Ok(out.push_str("absent")?),
+        LoadFault::Def(_) => Ok(out.push_str("refused")?),
+        LoadFault::Foreign => Ok(out.push_str("foreign")?),
+        LoadFault::File => Ok(out.push_str("failed")?),
+        LoadFault::Memory => Err(Fault::Memory),
+    }
+}
+
+pub fn push_place(out: &mut String, answer: Result<u64, ChangeFault>) -> Result<(), Fault> {
+    match answer {
+        Ok(at) => Ok(write!(out, "{at}")?),
+        Err(fault) => push_fault(out, fault),
+    }
+}
+
+pub fn push_done(out: &mut String, answer: Result<(), ChangeFault>) -> Result<(), Fault> {
+    match answer {
+        Ok(()) => Ok(out.push_str("ok")?),
+        Err(fault) => push_fault(out, fault),
+    }
+}

@@ -1,0 +1,16 @@
+-- What a reader of the contracts must believe.
+
+-- a table that is loaded: when it stands for a state, and what a change does
+pub mod Table
+-- when a table is loaded, and why it is refused
+pub mod Loading
+-- what its files are when it is closed
+pub mod Closing
+-- how refusals are told, and which break a table
+pub mod Faults
+-- counters together with others
+pub mod Counting
+-- What serves private contracts.
+
+-- what holds of each loaded table
+pub mod Tied

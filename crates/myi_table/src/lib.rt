@@ -1,0 +1,29 @@
+//! A table that is loaded, changed and closed.
+//!
+//! `Table` is the rows of a table and the trees of its keys (`myi_keyedrows`) with the header of its index file. Its two
+//! files are `NAME.MYD` and `NAME.MYI`. While it is loaded it stands for a state of a table (`myi_tablestate`), and each
+//! change is a step of it; what was put stands in the files once it is closed, and they are a clean pair then.
+//!
+//! - `load` opens the two files, and reads no row and no page.
+//! - `insert`, `insert_at_end`, `update`, `delete` change it. A change that is cut off by a failed file call or for want
+//!   of memory breaks the table: each later one answers `Broken`, with the cause, until the table is loaded again.
+//! - `flush` writes what was put, `close` also the header.
+//! - `defs`, `name`, `length`, `place`, `setup`, `holes`, `broken`, `counters` tell what it is; `add_counters` adds what was
+//!   counted elsewhere.
+//!
+//! ```
+//! let mut table = Table::load(alloc, &mut files, "t", setup)?;
+//! let at = table.insert(&mut files, &row)?;
+//! table.update(&mut files, at, &other)?;
+//! table.close(&mut files)?;
+//! ```
+#![tactic(auto)]
+
+mod changes;
+mod closing;
+mod fault;
+mod loading;
+mod table;
+
+pub use fault::{Cause, ChangeFault, LoadFault};
+pub use table::Table;
