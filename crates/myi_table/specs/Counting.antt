@@ -10,3 +10,7 @@ sum_of one other = record {
   write_requests = raised other.write_requests one.write_requests;
   writes = raised other.writes one.writes;
 }
+
+-- nothing was counted
+abbrev pub no_counts : Counters
+no_counts = record { read_requests = 0; reads = 0; write_requests = 0; writes = 0 }

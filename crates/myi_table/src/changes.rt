@@ -59,6 +59,8 @@ impl Table {
             (F.holds files.old) (F.holds files.new)) }
         ensures broken { self.new.broken
             ≡ broken_after result (F.faults files.new) self.old.broken }
+        ensures changed { OnOk result (self.new.changed ≡ true) }
+        ensures unmarked { OnErr result (self.new.changed ≡ self.old.changed) }
         ensures kept { IsKept (F.holds files.new) self.new }
         ensures same { IsSame self.old self.new }
         ensures others { ChangesItsOwn (F.holds files.old) (F.holds files.new) self.old }
@@ -93,6 +95,8 @@ impl Table {
             (F.holds files.old) (F.holds files.new)) }
         ensures broken { self.new.broken
             ≡ broken_after result (F.faults files.new) self.old.broken }
+        ensures changed { OnOk result (self.new.changed ≡ true) }
+        ensures unmarked { OnErr result (self.new.changed ≡ self.old.changed) }
         ensures kept { IsKept (F.holds files.new) self.new }
         ensures same { IsSame self.old self.new }
         ensures others { ChangesItsOwn (F.holds files.old) (F.holds files.new) self.old }
@@ -125,6 +129,8 @@ impl Table {
             (F.holds files.old) (F.holds files.new)) }
         ensures broken { self.new.broken
             ≡ broken_after result (F.faults files.new) self.old.broken }
+        ensures changed { OnOk result (self.new.changed ≡ true) }
+        ensures unmarked { OnErr result (self.new.changed ≡ self.old.changed) }
         ensures kept { IsKept (F.holds files.new) self.new }
         ensures same { IsSame self.old self.new }
         ensures others { ChangesItsOwn (F.holds files.old) (F.holds files.new) self.old }
@@ -158,6 +164,8 @@ impl Table {
             (F.holds files.old) (F.holds files.new)) }
         ensures broken { self.new.broken
             ≡ broken_after result (F.faults files.new) self.old.broken }
+        ensures changed { OnOk result (self.new.changed ≡ true) }
+        ensures unmarked { OnErr result (self.new.changed ≡ self.old.changed) }
         ensures kept { IsKept (F.holds files.new) self.new }
         ensures same { IsSame self.old self.new }
         ensures others { ChangesItsOwn (F.holds files.old) (F.holds files.new) self.old }

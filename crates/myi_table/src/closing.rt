@@ -27,7 +27,8 @@ fn checked(place: Option<u64>) -> Result<Option<u64>, ChangeFault>
 }
 
 impl Table {
-    ghost use Rattle.std.specs.Prelude.{None, map, All, OnOk, IsTrue, if◌then◌else◌};
+    ghost use Rattle.myi_table.specs.declared.fault.Cause.{Cause};
+    ghost use Rattle.std.specs.Prelude.{None, Some, map, All, OnOk, IsTrue, if◌then◌else◌};
     ghost use Rattle.std.specs.List.{AllByRecursion};
     ghost use Rattle.myi_base.specs.Holding.{IfTold};
     ghost use Rattle.myi_base.specs.Causes.{HasCause};
@@ -49,6 +50,7 @@ impl Table {
         ensures still { StillHolds (F.holds files.old) (F.holds files.new) self.old self.new }
         ensures same { IsSame self.old self.new }
         ensures whole { self.new.broken ≡ None }
+        ensures changed { self.new.changed ≡ self.old.changed }
         ensures cut { IfErr result CutsOff }
         ensures others { ChangesItsOwn (F.holds files.old) (F.holds files.new) self.old }
         ensures counted { CountsOn self.old.rows.trees.cache self.new.rows.trees.cache }
@@ -66,6 +68,8 @@ impl Table {
         ensures closed { OnOk result (IfHolds (F.holds files.old) self (λ m s.
             IfTold (F.holds files.new) (IsClosed self s))) }
         ensures whole { OnOk result (self.broken ≡ None) }
+        ensures first { IfErr result (λ f. (by : Cause) → self.broken ≡ Some by
+            → (f ≡ ChangeFault.Broken by) × (F.holds files.new ≡ F.holds files.old)) }
         ensures refused { IfErr result (λ f.
             IfHolds (F.holds files.old) self (λ m s. CutsOff f)) }
         ensures others { ChangesItsOwn (F.holds files.old) (F.holds files.new) self }

@@ -13,6 +13,7 @@ ghost use Rattle.myi_slots.specs.SlotFile.{counts_in};
 ghost use Rattle.myi_rowtrees.specs.Places.{places_of};
 ghost use Rattle.myi_keyedrows.specs.Files.{used_end};
 ghost use Rattle.myi_table.specs.declared.fault.LoadFault.TheVariants as fault;
+ghost use Rattle.myi_table.specs.Counting.{no_counts};
 ghost use Rattle.myi_table.specs.Loading.{IsLoaded, IsRefused, IsCutOff};
 
 use crate::fault::LoadFault;
@@ -71,6 +72,7 @@ impl Table {
         ensures setup { IfOk result (λ t. t.setup ≡ setup) }
         ensures whole { IfOk result (λ t. t.broken ≡ None) }
         ensures unchanged { IfOk result (λ t. t.changed ≡ false) }
+        ensures added { IfOk result (λ t. t.added ≡ no_counts) }
         ensures holds { F.holds files.new ≡ F.holds files.old }
         ensures cause { HasCause fault.File (F.faults files.old) (F.faults files.new) result }
     {
