@@ -1,5 +1,5 @@
 -- What the two files of a table are when it is closed.
-use Rattle.std.proofs.Common.{◌≡◌, ℕ, zero, suc, ◌+◌, ◌^◌, ◌<◌, List, [], ◌∷◌, ◌++◌, length, take, map, All, HoldsAt, IfErr, Option, Some, Result, Ok, Err, refl, sym, ap, subst, ◌∙◌, arith}
+use Rattle.std.proofs.Common.{◌≡◌, ℕ, Bool, true, zero, suc, ◌+◌, ◌^◌, ◌<◌, List, [], ◌∷◌, ◌++◌, length, take, drop, replicate, ◌-◌, map, All, HoldsAt, IfErr, Option, Some, Result, Ok, Err, refl, sym, ap, subst, ◌∙◌, arith}
 use Rattle.std.proofs.lemmas.Option.{same_Some}
 use Rattle.std.specs.Prelude.{unwrap_or}
 use Rattle.std.specs.List.{AllByRecursion}
@@ -7,29 +7,33 @@ use Rattle.myi_base.specs.Holding.{Holding, bytes_of, overwritten, Told, IfTold,
 use Rattle.myi_defs.specs.declared.types.Defs.{Defs}
 use Rattle.myi_defs.specs.Sound.{IsSound}
 use Rattle.myi_defs.specs.ReadDefs.{AreDefs}
+use Rattle.myi_defs.specs.Elsewhere.{AgreeOutsideState}
 use Rattle.myi_header.specs.declared.state.State.{State}
-use Rattle.myi_header.specs.StateOf.{IsPlace}
+use Rattle.myi_header.specs.Layout.{first_page_of}
+use Rattle.myi_header.specs.StateOf.{IsPlace, state_of, has_mark}
 use Rattle.myi_keycache.specs.Kept.{AllWritten}
 use Rattle.myi_keycache.specs.Caching.{pages_of}
 use Rattle.myi_btree.specs.declared.place.Place.{Place}
+use Rattle.myi_btree.specs.declared.place.Room.{Room}
 use Rattle.myi_search.specs.Counting.{CountsOn}
 use Rattle.myi_insertion.specs.Rooms.{IsWhole}
 use Rattle.myi_state.specs.State.{TableState}
-use Rattle.myi_slots.specs.SlotFile.{counts_in}
+use Rattle.myi_slots.specs.SlotFile.{SlotFile, counts_in}
+use Rattle.myi_state.specs.declared.counts.Counts.{Counts}
 use Rattle.myi_keytrees.specs.Trees.{Trees, kinds}
 use Rattle.myi_keytrees.specs.Standing.{StillStand}
 use Rattle.myi_keytrees.specs.InFile.{bytes_of_free}
 use Rattle.myi_tablestate.specs.Standing.{StandForTable}
 use Rattle.myi_opening.specs.Names.{rows_file, index_file}
 use Rattle.myi_keyedrows.specs.declared.keyed_rows.KeyedRows.{KeyedRows}
-use Rattle.myi_keyedrows.specs.KeyedRows.{defs_of, IsFit}
+use Rattle.myi_keyedrows.specs.KeyedRows.{defs_of, IsFit, IsLeft}
 use Rattle.myi_keyedrows.specs.Files.{AreOfKeys, HoldFiles, IsHeaderOf, closed_index, defs_with}
 use Rattle.myi_keyedrows.proofs.CallerLemmas.{look_stands}
 use Rattle.myi_table.specs.declared.fault.ChangeFault.{ChangeFault}
 use Rattle.myi_table.specs.Faults.{CutsOff}
 use Rattle.myi_table.specs.Table.{OpenTable, defs_in, HoldState, StillHolds, IfHolds, IsSame}
-use Rattle.myi_table.specs.Closing.{IsClosed}
-use Rattle.myi_table.specs.Tied.{IsTied, HasState, HasPlaces}
+use Rattle.myi_table.specs.Closing.{closing_state, HasState, IsClosed}
+use Rattle.myi_table.specs.Tied.{IsTied, HasPlaces}
 use Rattle.myi_table.proofs.ChangeLemmas.{with_rows, still_rows, tied_again}
 
 -- ---- pages that were written
@@ -115,9 +119,46 @@ abbrev pub FilesClosed : Type 0
 FilesClosed = (k : KeyedRows) (lost : ℕ) (own : ℕ → ℕ) (s : TableState) (m : Holding) (h : List ℕ) → AreDefs (defs_of k) → AreOfKeys k → HoldFiles k lost own s m → AllWritten (pages_of k.trees.cache) → IsHeaderOf k lost h
     → StandForTable (defs_with (defs_of k) (closed_index k h m)) s (bytes_of k.rows.file.name m) (closed_index k h m)
 
-pub is_closed : FilesClosed → (t now : OpenTable) (s : TableState) (m n p : Holding) (h : List ℕ) (defs : Defs) (index : List ℕ) → IsTied now defs index → now.name ≡ t.name → defs_in now ≡ defs_in t → HoldState now s m → AllWritten (pages_of now.rows.trees.cache)
+-- ---- the header
+
+all_taken : (h more : List ℕ) → take (length h) (h ++ more) ≡ h
+all_taken [] more = refl
+all_taken (x ∷ h) more = ap (λ (xs : List ℕ). x ∷ xs) (all_taken h more)
+
+over_taken : (h z : List ℕ) → take (length h) (overwritten 0 h z) ≡ h
+over_taken h z =
+    let none : 0 - length z ≡ 0 = omega arith in
+    ap (λ (n : ℕ). take (length h) ((take 0 z ++ replicate n 0) ++ h ++ drop (0 + length h) z)) none ∙ all_taken h (drop (0 + length h) z)
+
+-- the state of closing rests on the header that was read, the numbers, the trees and what is lost
+abbrev state_from : OpenTable → State → ℕ → Bool → Counts → List Place → Room → State
+state_from t header lost changed counts places room = closing_state (record t {
+  header = header;
+  lost = lost;
+  changed = changed;
+  rows = record { rows = record t.rows.rows { file = record t.rows.rows.file { counts = counts } }; trees = record t.rows.trees { places = places; room = room } };
+})
+
+same_closing : (t now : OpenTable) → IsSame t now → now.changed ≡ t.changed → IsLeft t.rows now.rows → closing_state now ≡ closing_state t
+same_closing t now same changed left =
+    ap (λ (x : State). state_from t x now.lost now.changed now.rows.rows.file.counts now.rows.trees.places now.rows.trees.room) same.header
+    ∙ ap (λ (x : ℕ). state_from t t.header x now.changed now.rows.rows.file.counts now.rows.trees.places now.rows.trees.room) same.lost
+    ∙ ap (λ (x : Bool). state_from t t.header t.lost x now.rows.rows.file.counts now.rows.trees.places now.rows.trees.room) changed
+    ∙ ap (λ (x : SlotFile). state_from t t.header t.lost t.changed x.counts now.rows.trees.places now.rows.trees.room) left.file
+    ∙ ap (λ (x : List Place). state_from t t.header t.lost t.changed t.rows.rows.file.counts x now.rows.trees.room) left.places
+    ∙ ap (λ (x : Room). state_from t t.header t.lost t.changed t.rows.rows.file.counts t.rows.trees.places x) left.room
+
+same_state : (t now : OpenTable) (h : List ℕ) → IsSame t now → now.changed ≡ t.changed → IsLeft t.rows now.rows → HasState now h → HasState t h
+same_state t now h same changed left has = record {
+  long = has.long ∙ ap first_page_of same.defs;
+  mark = subst (λ (d : Defs). has_mark d h ≡ true) same.defs has.mark;
+  elsewhere = subst (λ (d : Defs). AgreeOutsideState d.raw h) same.defs has.elsewhere;
+  state = ap (λ (d : Defs). state_of d h) (sym same.defs) ∙ has.state ∙ same_closing t now same changed left;
+}
+
+pub is_closed : FilesClosed → (t now : OpenTable) (s : TableState) (m n p : Holding) (h : List ℕ) (defs : Defs) (index : List ℕ) → IsTied now defs index → now.name ≡ t.name → defs_in now ≡ defs_in t → HasState t h → HoldState now s m → AllWritten (pages_of now.rows.trees.cache)
     → IsHeaderOf now.rows now.lost h → Cuts index now.rows.trees.room.end m n → Writes index 0 h n p → IsClosed t s p
-is_closed law t now s m n p h defs index tied name same hold written header cut write =
+is_closed law t now s m n p h defs index tied name same has hold written header cut write =
     let k = now.rows in
     let file = k.trees.cache.name in
     let e : index ≡ file = tied.index ∙ sym tied.index_named in
@@ -132,20 +173,21 @@ is_closed law t now s m n p h defs index tied name same hold written header cut 
     record {
       index = y;
       there = ap p (ap index_file (sym name) ∙ sym tied.index_named) ∙ there;
+      header = subst (λ (x : List ℕ). HasState t x) (sym (ap (λ (n : ℕ). take n y) (sym has.long) ∙ over_taken h _)) has;
       stand = subst (λ (b : List ℕ). StandForTable (defs_with (defs_in t) y) s b y) bytes (subst (λ (d : Defs). StandForTable (defs_with d y) s (bytes_of k.rows.file.name m) y) same stand);
     }
 
 -- the files after the pages, the cut and the header were written
-pub closed_here : FilesClosed → (told mid low end : Option Holding) (t now : OpenTable) (defs : Defs) (index h : List ℕ) (n : ℕ) → IsTied now defs index → IsSame t now → StillHolds told mid t now → AllWritten (pages_of now.rows.trees.cache) → HasState now h
+pub closed_here : FilesClosed → (told mid low end : Option Holding) (t now : OpenTable) (defs : Defs) (index h : List ℕ) (n : ℕ) → IsTied now defs index → IsSame t now → now.changed ≡ t.changed → IsLeft t.rows now.rows → StillHolds told mid t now → AllWritten (pages_of now.rows.trees.cache) → HasState now h
     → n ≡ now.rows.trees.room.end → n < 2 ^ 64 → Told mid low (Cuts index n) → Told low end (Writes index 0 h) → IfHolds told t (λ m s. IfTold end (IsClosed t s))
-closed_here law told mid low end t now defs index h n tied same still written has is few cut write = λ m held s hold p ended.
+closed_here law told mid low end t now defs index h n tied same changed left still written has is few cut write = λ m held s hold p ended.
     let k = still m held s hold in
     let c = cut.told k.0 k.1 in
     let w = write.told c.0 c.1 in
     let small : now.rows.trees.room.end < 2 ^ 64 = subst (λ (j : ℕ). j < 2 ^ 64) is few in
     let header = is_header now h has (few_lost now s k.0 k.2 small) in
     let cuts : Cuts index now.rows.trees.room.end k.0 c.0 = subst (λ (j : ℕ). Cuts index j k.0 c.0) is c.2 in
-    subst (λ (q : Holding). IsClosed t s q) (same_Some w.0 p (sym w.1 ∙ ended)) (is_closed law t now s k.0 c.0 w.0 h defs index tied same.name same.defs k.2 written header cuts w.2)
+    subst (λ (q : Holding). IsClosed t s q) (same_Some w.0 p (sym w.1 ∙ ended)) (is_closed law t now s k.0 c.0 w.0 h defs index tied same.name same.defs (same_state t now h same changed left has) k.2 written header cuts w.2)
 
 abbrev pub FilesHavePlaces : Type 0
 FilesHavePlaces = (k : KeyedRows) (lost : ℕ) (own : ℕ → ℕ) (s : TableState) (m : Holding) → IsSound (defs_of k) → HoldFiles k lost own s m → AllWritten (pages_of k.trees.cache) → k.trees.room.end < 2 ^ 64

@@ -1,7 +1,10 @@
 -- Closing a table: the state that its header gets, and what the two files are then.
-use Rattle.std.specs.Prelude.{◌≡◌, ◌+◌, ◌-◌, ◌^◌, min, ℕ, List, map, if◌then◌else◌, bit_or, Some}
+use Rattle.std.specs.Prelude.{◌≡◌, ◌+◌, ◌-◌, ◌^◌, min, ℕ, true, List, length, take, map, if◌then◌else◌, bit_or, Some}
 use Rattle.myi_base.specs.Holding.{Holding, bytes_of}
+use Rattle.myi_defs.specs.Elsewhere.{AgreeOutsideState}
 use Rattle.myi_header.specs.declared.state.State.{State}
+use Rattle.myi_header.specs.Layout.{first_page_of}
+use Rattle.myi_header.specs.StateOf.{state_of, has_mark}
 use Rattle.myi_btree.specs.declared.place.Place.{Place}
 use Rattle.myi_state.specs.State.{TableState}
 use Rattle.myi_tablestate.specs.Standing.{StandForTable}
@@ -35,8 +38,16 @@ closing_state t = record t.header {
   roots = map (λ (p : Place). p.root) t.rows.trees.places;
 }
 
--- the two files stand for a state, by the definitions of the table with another header
+-- the bytes are a header with the mark and the state that the table is closed with
+pub record HasState (t : OpenTable) (h : List ℕ) : Type 0 where
+  pub long : length h ≡ first_page_of (defs_in t)
+  pub mark : has_mark (defs_in t) h ≡ true
+  pub elsewhere : AgreeOutsideState (defs_in t).raw h
+  pub state : state_of (defs_in t) h ≡ closing_state t
+
+-- the two files stand for a state, by the definitions of the table with another header, which the index file begins with
 pub record IsClosed (t : OpenTable) (s : TableState) (m : Holding) : Type 0 where
   pub index : List ℕ
   pub there : m (index_file t.name) ≡ Some index
+  pub header : HasState t (take (first_page_of (defs_in t)) index)
   pub stand : StandForTable (defs_with (defs_in t) index) s (bytes_of (rows_file t.name) m) index

@@ -1,18 +1,15 @@
 -- What holds of each loaded table, whatever files tell: its rows and trees are those of its definitions and of its two files. And what
 -- its header is made of when it is closed.
-use Rattle.std.specs.Prelude.{◌≡◌, ◌≤◌, ℕ, true, List, length, map}
+use Rattle.std.specs.Prelude.{◌≡◌, ◌≤◌, ℕ, List, length, map}
 use Rattle.std.specs.List.{AllByRecursion}
 use Rattle.myi_defs.specs.declared.types.Defs.{Defs}
 use Rattle.myi_defs.specs.ReadDefs.{AreDefs}
-use Rattle.myi_defs.specs.Elsewhere.{AgreeOutsideState}
-use Rattle.myi_header.specs.Layout.{first_page_of}
-use Rattle.myi_header.specs.StateOf.{IsPlace, rest_length, state_of, has_mark}
+use Rattle.myi_header.specs.StateOf.{IsPlace, rest_length}
 use Rattle.myi_btree.specs.declared.place.Place.{Place}
 use Rattle.myi_opening.specs.Names.{rows_file, index_file}
 use Rattle.myi_keyedrows.specs.KeyedRows.{IsFit}
 use Rattle.myi_keyedrows.specs.Files.{AreOfKeys}
 use Rattle.myi_table.specs.Table.{OpenTable, defs_in}
-use Rattle.myi_table.specs.Closing.{closing_state}
 
 -- the definitions are those of the header that was read, and the index file is known by this name
 pub record IsTied (t : OpenTable) (read : Defs) (file : List ℕ) : Type 0 where
@@ -26,13 +23,6 @@ pub record IsTied (t : OpenTable) (read : Defs) (file : List ℕ) : Type 0 where
   pub rest : length t.header.rest ≡ rest_length read
   pub setup : t.rows.trees.cache.setup ≡ t.setup
   pub fewer : t.added.reads ≤ t.added.read_requests
-
--- the bytes are a header with the mark and the state that the table is closed with
-pub record HasState (t : OpenTable) (h : List ℕ) : Type 0 where
-  pub long : length h ≡ first_page_of (defs_in t)
-  pub mark : has_mark (defs_in t) h ≡ true
-  pub elsewhere : AgreeOutsideState (defs_in t).raw h
-  pub state : state_of (defs_in t) h ≡ closing_state t
 
 -- no root and no first deleted block is the place that stands for none
 pub record HasPlaces (t : OpenTable) : Type 0 where

@@ -36,10 +36,11 @@ impl Table {
     ghost use Rattle.myi_keycache.specs.Caching.{pages_of};
     ghost use Rattle.myi_btree.specs.declared.place.Place.{Place};
     ghost use Rattle.myi_search.specs.Counting.{CountsOn};
+    ghost use Rattle.myi_keyedrows.specs.KeyedRows.{IsLeft};
     ghost use Rattle.myi_table.specs.Faults.{CutsOff};
     ghost use Rattle.myi_table.specs.Table.{IsKept, IfHolds, StillHolds, IsSame, ChangesItsOwn};
-    ghost use Rattle.myi_table.specs.Closing.{changed_bits, closing_state, IsClosed};
-    ghost use Rattle.myi_table.specs.Tied.{HasState, HasPlaces};
+    ghost use Rattle.myi_table.specs.Closing.{changed_bits, closing_state, HasState, IsClosed};
+    ghost use Rattle.myi_table.specs.Tied.{HasPlaces};
 
     /// Writes all pages that were put. The table stands for the same state afterwards, also after a refusal, and is
     /// not broken by it.
@@ -51,6 +52,7 @@ impl Table {
         ensures same { IsSame self.old self.new }
         ensures whole { self.new.broken ≡ None }
         ensures changed { self.new.changed ≡ self.old.changed }
+        ensures left { IsLeft self.old.rows self.new.rows }
         ensures cut { IfErr result CutsOff }
         ensures others { ChangesItsOwn (F.holds files.old) (F.holds files.new) self.old }
         ensures counted { CountsOn self.old.rows.trees.cache self.new.rows.trees.cache }

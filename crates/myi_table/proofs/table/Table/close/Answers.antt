@@ -1,13 +1,15 @@
-use Rattle.std.proofs.Common.{◌<◌, ◌^◌, ℕ, List, sym, subst, arith}
+use Rattle.std.proofs.Common.{◌≡◌, ◌<◌, ◌^◌, ℕ, List, sym, subst, arith}
 use Rattle.std.proofs.lemmas.Result.{err_from_is_err_and}
 use Rattle.std.specs.Prelude.{string_bytes}
 use Rattle.myi_base.specs.Holding.{Told, Cuts, Writes}
 use Rattle.myi_keycache.specs.Kept.{AllWritten}
 use Rattle.myi_keycache.specs.Caching.{pages_of}
+use Rattle.myi_keyedrows.specs.KeyedRows.{IsLeft}
 use Rattle.myi_table.specs.declared.fault.ChangeFault.{ChangeFault}
 use Rattle.myi_table.specs.Table.{OpenTable, IsSame, StillHolds}
 use Rattle.myi_table.specs.Faults.{CutsOff}
-use Rattle.myi_table.specs.Tied.{HasState, HasPlaces}
+use Rattle.myi_table.specs.Tied.{HasPlaces}
+use Rattle.myi_table.specs.Closing.{HasState}
 use Rattle.myi_table.proofs.CloseLemmas.{closed_here, header_refused, if_err_is}
 use Rattle.myi_table.proofs.table.Table.close.Goals as goal
 
@@ -34,6 +36,8 @@ returns-clause-closed g c =
     let now : OpenTable = record { name = string_bytes i.name; setup = i.setup; header = i.header; lost = i.lost; rows = i.rows; changed = i.changed; broken = i.broken; added = i.added } in
     closed_here c.closed_files_stand.ensures.stand told mid low end c.args.self now i.defs (string_bytes i.index) c.in_ok-header.header.items c.end-end.result c.table.invariant
     (subst (λ (u : OpenTable). IsSame c.args.self u) (sym c.table.view_is) c.flush.ensures.same)
+    (subst (λ (u : OpenTable). u.changed ≡ c.args.self.changed) (sym c.table.view_is) c.flush.ensures.changed)
+    (subst (λ (u : OpenTable). IsLeft c.args.self.rows u.rows) (sym c.table.view_is) c.flush.ensures.left)
     (subst (λ (u : OpenTable). StillHolds told mid c.args.self u) (sym c.table.view_is) c.flush.ensures.still)
     (subst (λ (u : OpenTable). AllWritten (pages_of u.rows.trees.cache)) (sym c.table.view_is) c.in_ok-flush.ensures.written)
     (subst (λ (u : OpenTable). HasState u c.in_ok-header.header.items) (sym c.table.view_is) c.in_ok-header.ensures.header)
