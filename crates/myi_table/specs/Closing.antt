@@ -4,6 +4,7 @@ use Rattle.myi_base.specs.Holding.{Holding, bytes_of}
 use Rattle.myi_defs.specs.Elsewhere.{AgreeOutsideState}
 use Rattle.myi_header.specs.declared.state.State.{State}
 use Rattle.myi_header.specs.Layout.{first_page_of}
+use Rattle.myi_header.specs.Analysis.{not_analyzed, not_sorted_pages}
 use Rattle.myi_header.specs.StateOf.{state_of, has_mark}
 use Rattle.myi_btree.specs.declared.place.Place.{Place}
 use Rattle.myi_state.specs.State.{TableState}
@@ -13,10 +14,17 @@ use Rattle.myi_keytrees.specs.InFile.{bytes_of_free}
 use Rattle.myi_keyedrows.specs.Files.{defs_with}
 use Rattle.myi_table.specs.Table.{OpenTable, defs_in}
 
--- the bits that say of a table that it was changed, is not analyzed and its pages are not sorted (MySQL Internals Manual, "The
--- .MYI file")
+-- the bits that say of a table that it was changed and that the pages of its keys are not packed as tightly as they could be
+-- (MySQL Internals Manual, "The .MYI file")
+abbrev pub was_changed : ℕ
+was_changed = 1
+
+abbrev pub not_optimized_keys : ℕ
+not_optimized_keys = 16
+
+-- the bits of a table behind a change: these two, not analyzed, and pages not sorted
 abbrev pub changed_bits : ℕ → ℕ
-changed_bits bits = bit_or bits 57
+changed_bits bits = bit_or bits (was_changed + not_analyzed + not_optimized_keys + not_sorted_pages)
 
 -- a number of eight bytes, or the greatest there is
 abbrev pub kept_in_eight : ℕ → ℕ

@@ -6,12 +6,18 @@ ghost use Rattle.myi_table.specs.declared.fault.ChangeFault.TheVariants.{File};
 use crate::fault::ChangeFault;
 use crate::table::Table;
 use myi_base::Sequence;
-use myi_header::{State, print_state};
+use myi_header::{NOT_ANALYZED, NOT_SORTED_PAGES, State, print_state};
 use myi_io::Files;
 use myi_keyedrows::closed_files_stand;
 
-/// What a change sets of the bits that say what was done: changed, not analyzed, pages not sorted.
-const CHANGED: u8 = 57;
+/// The changed bit that says that the table was changed.
+const WAS_CHANGED: u8 = 1;
+
+/// The changed bit that says that the pages of its keys are not packed as tightly as they could be.
+const NOT_OPTIMIZED_KEYS: u8 = 16;
+
+/// The changed bits that a change sets.
+const CHANGED: u8 = WAS_CHANGED | NOT_ANALYZED | NOT_OPTIMIZED_KEYS | NOT_SORTED_PAGES;
 
 // A place that a pointer of eight bytes can have; the greatest number stands for none.
 fn checked(place: Option<u64>) -> Result<Option<u64>, ChangeFault>
