@@ -24,7 +24,7 @@ assoc true b c = refl
 assoc false b c = refl
 
 -- a range that is apart from two that touch is apart from both as one
-touch : (a b c x y : ℕ) → a < b → b < c → x < y → ((nat_le y a || nat_le b x) && ((nat_le y b || nat_le c x) && true)) ≡ (nat_le y a || nat_le c x)
+pub touch : (a b c x y : ℕ) → a < b → b < c → x < y → ((nat_le y a || nat_le b x) && ((nat_le y b || nat_le c x) && true)) ≡ (nat_le y a || nat_le c x)
 touch a b c x y some more byte = by_start (cases_lt x b)
   where
     right : (t : Bool) → (t && true) ≡ t

@@ -16,6 +16,7 @@ pub mod MapLemmas
 pub mod NearLemmas
 pub mod JoinedLemmas
 pub mod JoinsLemmas
+pub mod ListedLemmas
 pub mod SourceLemmas
 pub mod FollowLemmas
 pub mod JoinLemmas

@@ -78,7 +78,7 @@ apart_by_last at end low (r ∷ rs) h = by_order (apart_by_last at end r.1 rs h.
         let none = before-none end r.0 (r ∷ rs) (omega arith, h.1, h.2) le in
         apart-above at end r.0 (r ∷ rs) (omega arith, h.1, h.2) le ∙ sym (ap (is_behind at) none)
 
-end-above : (at low : ℕ) (rs : List Range) → AreInOrder low rs → at < low → end_of at rs ≡ 0
+pub end-above : (at low : ℕ) (rs : List Range) → AreInOrder low rs → at < low → end_of at rs ≡ 0
 end-above at low [] h le = refl
 end-above at low (r ∷ rs) h le =
     let f : (r.0 == at) ≡ false = grind (arith, nat_tests, h.0) in

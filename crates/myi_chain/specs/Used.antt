@@ -1,7 +1,8 @@
 -- The used ranges as a scan keeps them: in order, so that the last one that begins before a place answers
 -- for them all.
-use Rattle.std.specs.Prelude.{◌≡◌, ◌+◌, ◌<◌, ◌≤◌, ◌^◌, ◌==◌, ℕ, zero, suc, Bool, true, nat_lt, nat_le, if◌then◌else◌, List, [], ◌∷◌, ◌++◌, filter, Option, Some, None}
+use Rattle.std.specs.Prelude.{◌≡◌, ◌+◌, ◌<◌, ◌≤◌, ◌^◌, ◌==◌, ℕ, zero, suc, Bool, true, nat_lt, nat_le, if◌then◌else◌, List, [], ◌∷◌, ◌++◌, length, filter, Option, Some, None}
 use Rattle.std.specs.Ordering.{nat_cmp}
+use Rattle.std.specs.List.{zip}
 use Rattle.std.specs.Map.{remove_entry}
 use Rattle.std.specs.BTreeMap.{is_at}
 use Rattle.myi_base.specs.Ranges.{Range, is_apart}
@@ -79,3 +80,16 @@ NeedsMemory old (b ∷ bs) = old ≡ joined b.0 → bs ≡ [] → ⊥
 pub record AreBeside (front : ℕ) (others : List Range) : Type 0 where
   pub order : AreInOrder 0 others
   pub start : front ≡ 0 → end_of 0 others ≡ 0
+
+-- ---- ranges in two lists of places
+
+-- the ranges that begin at these places and end at those, where the last of them may end at one more
+abbrev pub listed : List ℕ → List ℕ → ℕ → List Range
+listed froms tos last = zip froms (tos ++ last ∷ [])
+
+-- each place where a range begins has one where it ends, and the ranges are in order behind the file's start, none behind the last
+pub record AreListed (froms tos : List ℕ) (last : ℕ) : Type 0 where
+  pub fewer : length tos ≤ length froms
+  pub enough : length froms ≤ length tos + 1
+  pub order : AreInOrder 1 (listed froms tos last)
+  pub reach : reach 0 (listed froms tos last) ≤ last

@@ -57,7 +57,7 @@ pub(crate) fn last_far(far: &BTreeMap<u64, u64>, end: u64) -> Option<(u64, u64)>
     }
 }
 
-fn is_behind(at: u64, last: Option<(u64, u64)>) -> bool
+pub(crate) fn is_behind(at: u64, last: Option<(u64, u64)>) -> bool
     ensures { result ≡ is_behind at last }
 {
     match last {
@@ -66,12 +66,20 @@ fn is_behind(at: u64, last: Option<(u64, u64)>) -> bool
     }
 }
 
-fn end_from(at: u64, last: Option<(u64, u64)>) -> u64
+pub(crate) fn end_from(at: u64, last: Option<(u64, u64)>) -> u64
     ensures { result ≡ end_from at last }
 {
     match last {
         Some((from, to)) if from == at => to,
         _ => 0,
+    }
+}
+
+/// Whether the last range of a map that begins before a place ends there.
+pub(crate) fn ends_at_far(far: &BTreeMap<u64, u64>, at: u64) -> bool {
+    match last_far(far, at) {
+        Some((_, to)) => to == at,
+        None => false,
     }
 }
 

@@ -1,41 +1,28 @@
-use Rattle.std.proofs.Common.{◌+◌, ◌++◌, ◌∷◌, ℕ, refl, sym, ap, subst, arith}
-use Rattle.std.specs.List.{AllByRecursion}
+use Rattle.std.proofs.Common.{◌≡◌, ◌++◌, ◌∷◌, [], ◌∙◌, ℕ, List, sym, ap, subst}
+use Rattle.myi_base.specs.Ranges.{Range}
 use Rattle.myi_chain.specs.Chain.{AreApart, ranges_at}
-use Rattle.myi_chain.specs.Used.{IsRange, joined, AddsBlocks}
-use Rattle.myi_chain.proofs.JoinsLemmas.{blocks_added}
+use Rattle.myi_chain.specs.Used.{AddsBlocks}
+use Rattle.myi_chain.proofs.MapLemmas.{far_apart}
+use Rattle.myi_chain.proofs.ListedLemmas.{adds_one, adds_beside, on_ok, is_none}
 use Rattle.myi_chain.proofs.used.Used.add.Goals as goal
 
-pub add_blocks-requires-clause-apart : goal.add_blocks-requires-clause-apart
-add_blocks-requires-clause-apart c =
-    let u = c.self.inside in
-    subst (AreApart (joined u.front ++ u.others.entries)) (ap ranges_at c.in-Some.ensures.cases.0) (subst (λ v. AreApart v (ranges_at c.args.blocks.now)) (sym c.self.view_is) c.requires.apart)
-
-pub add_blocks-requires-clause-first : goal.add_blocks-requires-clause-first
-add_blocks-requires-clause-first c =
-    let some = subst (λ bs. AllByRecursion IsRange (ranges_at bs)) c.in-Some.ensures.cases.0 c.requires.some in
-    some.0.0
-
-pub add_blocks-requires-clause-some : goal.add_blocks-requires-clause-some
-add_blocks-requires-clause-some c =
-    let some = subst (λ bs. AllByRecursion IsRange (ranges_at bs)) c.in-Some.ensures.cases.0 c.requires.some in
-    some.1
-
-pub join_up-self-inside-requires-clause-some : goal.join_up-self-inside-requires-clause-some
-join_up-self-inside-requires-clause-some c =
-    let some = subst (λ bs. AllByRecursion IsRange (ranges_at bs)) c.in-Some.ensures.cases.0 c.requires.some in
-    some.1
-
-pub join_up-self-inside-requires-clause-place : goal.join_up-self-inside-requires-clause-place
-join_up-self-inside-requires-clause-place c =
+pub returns-then-not-ends_at-clause-ok : goal.returns-then-not-ends_at-clause-ok
+returns-then-not-ends_at-clause-ok c =
+    let s = c.self.inside in
     let first : ℕ × ℕ = c.in-Some.first.now in
-    let some = subst (λ bs. AllByRecursion IsRange (ranges_at bs)) c.in-Some.ensures.cases.0 c.requires.some in
-    omega (arith, some.0.0)
+    let alone : c.in-Some.more.now ≡ [] = is_none c.in-Some.more.now c.is_empty.result c.is_empty.ensures c.if-is_empty.true in
+    let one : c.args.blocks.now ≡ first ∷ [] = c.in-Some.ensures.cases.0 ∙ ap (λ (bs : List (ℕ × ℕ)). first ∷ bs) alone in
+    let new : List Range = c.add.new.self ++ s.beside in
+    on_ok c.add.result (λ same.
+    subst (λ (bs : List (ℕ × ℕ)). AddsBlocks c.args.self.now bs new) (sym one) (subst (λ (old : List Range). AddsBlocks old (first ∷ []) new) c.self.view_is (adds_one s.listed s.beside c.add.new.self first c.is_before.ensures.start (c.ends_at.ensures.front c.if-not-ends_at.true) same))) c.add.ensures.ok
+
+pub add-requires-2-clause-apart : goal.add-requires-2-clause-apart
+add-requires-2-clause-apart c =
+    let s = c.self.inside in
+    far_apart s.listed s.beside (ranges_at c.args.blocks.now) (subst (λ (old : List Range). AreApart old (ranges_at c.args.blocks.now)) (sym c.self.view_is) c.requires.apart)
 
 pub returns-clause-ok : goal.returns-clause-ok
 returns-clause-ok c =
-    let u = c.self.inside in
-    let first : ℕ × ℕ = c.in-Some.first.now in
-    let added = c.in_ok-front.ensures in
-    let up = c.join_up-self-inside.ensures in
-    let adds = blocks_added u.front c.join_up-self-inside.result u.others.entries c.add_blocks.new.far.entries c.join_up-self-inside.new.far.entries first c.in-Some.more.now (first.0 + first.1) refl c.self.invariant.start _ added.same added.plain up.same up.none in
-    subst (λ bs. AddsBlocks c.args.self.now bs (joined c.join_up-self-inside.result ++ c.join_up-self-inside.new.far.entries)) (sym c.in-Some.ensures.cases.0) (subst (λ old. AddsBlocks old (first ∷ c.in-Some.more.now) (joined c.join_up-self-inside.result ++ c.join_up-self-inside.new.far.entries)) c.self.view_is adds)
+    let s = c.self.inside in
+    on_ok c.add-2.result (λ adds.
+    subst (λ (old : List Range). AddsBlocks old c.args.blocks.now (s.listed ++ c.add-2.new.self)) c.self.view_is (adds_beside s.listed s.beside c.add-2.new.self c.args.blocks.now c.is_before.ensures.start adds)) c.add-2.ensures.ok
