@@ -18,13 +18,8 @@ use Rattle.myi_insertion.specs.Rooms.{Takes, Gives}
 use Rattle.myi_insertion.specs.CachedChanges.{CanChange, IsOld, Exchanges, Changes}
 use Rattle.myi_insertion.proofs.FrameLaws.{same_walk}
 use Rattle.myi_insertion.proofs.CoverLaws.{ranges_apart, in_cover, in_covers, only_one, no_one, first_one, two_pages, two_ranges, before_end}
-use Rattle.myi_insertion.proofs.SettleLaws.{cover-append}
+use Rattle.myi_insertion.proofs.SettleLaws.{cover-append, all_of}
 use Rattle.myi_insertion.proofs.RoomLaws.{stock_taken, stock_given}
-
-all_of : {A : Type 0} (P : A → Type 0) (xs : List A) (x : A) → AllByRecursion P xs → Contains xs x → P x
-all_of P [] x all (k, lt, is) = absurd (omega arith)
-all_of P (y ∷ xs) x all (zero, lt, is) = subst P is all.0
-all_of P (y ∷ xs) x all (suc k, lt, is) = all_of P xs x all.1 (k, omega arith, is)
 
 pub all_from : {A : Type 0} (P : A → Type 0) (xs : List A) → ((x : A) → Contains xs x → P x) → AllByRecursion P xs
 all_from P [] f = tt

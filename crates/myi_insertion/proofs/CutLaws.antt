@@ -24,7 +24,7 @@ some_fit place node ps m n f some le =
 abbrev pub Fit : Place → Bool → List Entry → ℕ → ℕ → Type 0
 Fit place node es room m = (count : ℕ) → 0 < count → count ≤ length es → (count ≤ m) ↔ (used_length place.rec_ref node (take count es) ≤ room)
 
-beyond : (place : Place) (node : Bool) (ps : List Pair) (room m n : ℕ) → Fit place node (entries_of ps) room m → 0 < n → n ≤ length ps → m < n → room < used_length place.rec_ref node (entries_of (take n ps))
+pub beyond : (place : Place) (node : Bool) (ps : List Pair) (room m n : ℕ) → Fit place node (entries_of ps) room m → 0 < n → n ≤ length ps → m < n → room < used_length place.rec_ref node (entries_of (take n ps))
 beyond place node ps room m n fit some le more = elim (cases_lt room (used_length place.rec_ref node (entries_of (take n ps)))) [
   | inl lt ↦ lt
   | inr small ↦ absurd (

@@ -20,3 +20,5 @@ pub mod RemovalLaws
 pub mod DamageLaws
 pub mod SameNode
 pub mod FilledLaws
+pub mod HalfLaws
+pub mod KeptLaws

@@ -69,7 +69,7 @@ child_written place old told next new i ps gps cs gcs ips ics sp ss r0 r1 pos fi
     let block : ℕ = place.block_length in
     let child : ℕ = get_or cs i 0 in
     let can2 : CanChange place old m (at ∷ ((o.a ++ child ∷ o.below) ++ o.c)) r0 = subst (λ (t : List ℕ). CanChange place old m (at ∷ t) r0) o.pages_are can in
-    let s = fills m held h o.y o.below o.middle (can_part place old m (at ∷ o.a) (child ∷ o.below) o.c r0 can2) in
+    let s = (fills m held h o.y o.below o.middle (can_part place old m (at ∷ o.a) (child ∷ o.below) o.c r0 can2)).settles in
     let b2 : List ℕ = s.stands.pages in
     let clear : (x : ℕ) → cover block o.a x + cover block (child ∷ o.below) x + cover block o.c x + stock r0 x ≤ 1 = λ x.
     let k = can2.clear x in omega (arith, cover-append block (o.a ++ child ∷ o.below) o.c x, cover-append block o.a (child ∷ o.below) x) in
@@ -104,7 +104,7 @@ joint_written place old told told1 told2 mid two i left beside ps gps cs gcs ips
     let order = j.order place mid g.now r0 at still.current in
     let can2 = can_still place mid g.now (at ∷ pages) r0 mid g.now (at ∷ ((j.a ++ child ∷ q) ++ j.c)) r0 pos still order in
     let can3 : CanChange place mid g.now (((at ∷ (j.a ++ child ∷ [])) ++ q) ++ j.c) r0 = subst (λ (t : List ℕ). CanChange place mid g.now t r0) (sym (apart_is at child j.a q j.c)) can2 in
-    let s = fills g.now g.held h j.y j.below j.middle (can_part place mid g.now (at ∷ (j.a ++ child ∷ [])) q j.c r0 can3) in
+    let s = (fills g.now g.held h j.y j.below j.middle (can_part place mid g.now (at ∷ (j.a ++ child ∷ [])) q j.c r0 can3)).settles in
     let b2 : List ℕ = s.stands.pages in
     let part = change_part place mid g.now (at ∷ (j.a ++ child ∷ [])) q j.c r0 two s.now b2 r1 s.stands.changes in
     let part2 : Changes place mid g.now (at ∷ ((j.a ++ child ∷ q) ++ j.c)) r0 two s.now (((at ∷ (j.a ++ child ∷ [])) ++ b2) ++ j.c) r1 = subst (λ (t : List ℕ). Changes place mid g.now t r0 two s.now (((at ∷ (j.a ++ child ∷ [])) ++ b2) ++ j.c) r1) (apart_is at child j.a q j.c) part in
@@ -463,7 +463,7 @@ root_given place cache told r0 r1 at ps cs root gives none leaf node = λ m held
 pub root_written : (place : Place) (cache : Caching) (told told1 told2 : Option Holding) (mid new : Caching) (r0 r1 r2 : Room) (at root : ℕ) (ps : List Pair) (cs sp : List ℕ) (ss : List Pair) → 0 < place.block_length → Fills place cache told r0 at ps cs told1 mid r1 sp ss → Raises place mid told1 r1 sp ss told2 new r2 root
     → Plants place cache told r0 at ps cs told2 new r2 (Some root)
 root_written place cache told told1 told2 mid new r0 r1 r2 at root ps cs sp ss pos fills raises = λ m held h xs below stand can.
-    let s = fills m held h xs below stand can in
+    let s = (fills m held h xs below stand can).settles in
     let still = can_still place cache m (at ∷ below) r0 mid s.now s.stands.pages r1 pos can s.stands.changes in
     let r = raises s.now s.held h xs s.stands.pages s.stands.strip still in
     record {

@@ -1,5 +1,5 @@
 -- Putting a pair below a child that was not cut: the page above it stands as it stood.
-use Rattle.std.proofs.Common.{◌≡◌, ℕ, suc, ◌+◌, ◌<◌, ◌≤◌, Option, Some, List, [], ◌∷◌, ◌++◌, length, get_or, take, drop, refl, sym, ap, subst, ◌∙◌, arith}
+use Rattle.std.proofs.Common.{◌≡◌, ◌⊎◌, ℕ, suc, ◌+◌, ◌<◌, ◌≤◌, Option, Some, List, [], ◌∷◌, ◌++◌, length, get_or, take, drop, refl, sym, ap, subst, ◌∙◌, arith, inl, inr}
 use Rattle.std.specs.List.Sorted.{IsStrictlySortedBy}
 use Rattle.std.proofs.lemmas.List.{append-nil}
 use Rattle.myi_base.specs.Holding.{Holding}
@@ -15,13 +15,14 @@ use Rattle.myi_insertion.specs.Covers.{within, cover, stock}
 use Rattle.myi_insertion.specs.Ordered.{AreBefore, BeginsBehind}
 use Rattle.myi_insertion.specs.CachedChanges.{CanChange, Changes}
 use Rattle.myi_insertion.specs.Written.{IsStripOf}
-use Rattle.myi_insertion.specs.Steps.{Settles}
-use Rattle.myi_insertion.proofs.SettleLaws.{cover-append, page_walks}
+use Rattle.myi_insertion.specs.Steps.{PutsIn}
+use Rattle.myi_insertion.proofs.SettleLaws.{cover-append, page_walks, was_first}
+use Rattle.myi_insertion.proofs.KeptLaws.{still_loses, below_kept}
 use Rattle.myi_insertion.proofs.CachedLaws.{change_part, change_trades, can_still}
 use Rattle.myi_insertion.proofs.InsertLaws.{two, three, child_at, child_sorted, child_changed}
 use Rattle.myi_insertion.proofs.SplitLaws.{nil_of}
 use Rattle.myi_insertion.proofs.DamageLaws.{branching}
-use Rattle.myi_insertion.proofs.PuttingLaws.{Gets, Inserts, in_root, node_only, walk_stays, settles_then, child_can}
+use Rattle.myi_insertion.proofs.PuttingLaws.{Gets, Inserts, in_root, node_only, walk_stays, puts_get, child_can, child_takes, beside_still}
 
 one_strip : (read : Places) (h at : ℕ) (w : Walked) (xs : List Pair) → walk_of read h at ≡ Some w → content w ≡ xs → IsStrip read h (at ∷ []) [] xs w.pages
 one_strip read h at w xs e is = record { walks = w ∷ []; are = rw e refl; content_is = append-nil (content w) ∙ is; pages_are = append-nil w.pages; count = refl }
@@ -29,13 +30,14 @@ one_strip read h at w xs e is = record { walks = w ∷ []; are = rw e refl; cont
 in_same : (place : Place) (p : Pair) (told1 told2 : Option Holding) (mid two_cache : Caching) (n : Holding) (at i h : ℕ) (w : Walked) (ps : List Pair) (cs sp1 : List ℕ) (ss1 : List Pair) (r0 r1 : Room)
     → 0 < place.block_length → told1 ≡ Some n → walk_of (node_lent place mid n) (suc h) at ≡ Some w → CanChange place mid n w.pages r0 → IsStrictlySortedBy pair_cmp (content w) → node_lent place mid n at ≡ Some (node_with ps cs)
     → Branches ps cs → i < length cs → i ≤ length ps → AreBefore p (take i ps) → BeginsBehind p (drop i ps) → Inserts place p mid told1 r0 (get_or cs i 0) told2 two_cache r1 sp1 ss1 → sp1 ≡ get_or cs i 0 ∷ [] → ss1 ≡ []
-    → Settles place mid n w.pages r0 told2 two_cache r1 (suc h) (put_pair p (content w)) (at ∷ []) []
+    → PutsIn place mid n w.pages r0 told2 two_cache r1 at (suc h) (put_pair p (content w)) (at ∷ []) []
 in_same place p told1 told2 mid next n at i h w ps cs sp1 ss1 r0 r1 pos held e can sorted there br lt le bef aft inserts one none =
     let block : ℕ = place.block_length in
     let child : ℕ = get_or cs i 0 in
     let read = node_lent place mid n in
     let c = child_at read h at w ps cs i child e there br le refl in
-    let s = inserts n held h c.v c.walk (child_can place mid n h at w ps cs i child r0 c can) (child_sorted read h at w ps cs i child c sorted) in
+    let f = inserts n held h c.v c.walk (child_can place mid n h at w ps cs i child r0 c can) (child_sorted read h at w ps cs i child c sorted) in
+    let s = f.settles in
     let b2 : List ℕ = s.stands.pages in
     let xs : List Pair = put_pair p (content w) in
     let after = node_lent place next s.now in
@@ -56,10 +58,18 @@ in_same place p told1 told2 mid next n at i h w ps cs sp1 ss1 r0 r1 pos held e c
     let stand : StandFor after (suc h) ps cs xs pages =
     subst (λ (t : List ℕ). StandFor after (suc h) ps t xs pages) cs_are (subst (λ (t : List Pair). StandFor after (suc h) t ((take i cs ++ sp1) ++ drop (suc i) cs) xs pages) ps_are d.stand) in
     let v = page_walks after (suc h) at ps cs xs pages stand here in
+    let beside = beside_still block read after h at w ps cs i child r0 r1 b2 c can.clear trades in
+    let below = below_kept place xs (put_pair p (content c.v)) read after at child w.pages c.v.pages c.part.a c.part.b b2 c.part.c sp1 whole c.pages_are (in_root read h child c.v c.walk) (λ most all. child_takes place most read h at w ps cs i child p c sorted bef aft all) beside.0 beside.1 f.kept in
     record {
-      now = s.now;
-      held = s.held;
-      stands = record { pages = at ∷ pages; strip = subst (λ (t : List ℕ). IsStrip after (suc h) (at ∷ []) [] xs t) v.3 (one_strip after (suc h) at v.0 xs v.1 v.2); changes = changes };
+      settles = record {
+        now = s.now;
+        held = s.held;
+        stands = record { pages = at ∷ pages; strip = subst (λ (t : List ℕ). IsStrip after (suc h) (at ∷ []) [] xs t) v.3 (one_strip after (suc h) at v.0 xs v.1 v.2); changes = changes };
+      };
+      kept = λ q over. elim (was_first q at pages over) [
+        | inl is ↦ inr (record { is = is; alone = refl; more = still_loses place read after at (trades.spares at off) })
+        | inr under ↦ inl (below q under)
+      ];
     }
 
 pub into_same : (place : Place) (p : Pair) (old : Caching) (told told1 told2 : Option Holding) (mid next : Caching) (at i : ℕ) (ps : List Pair) (cs sp1 sp : List ℕ) (ss1 ss : List Pair) (r0 r1 : Room)
@@ -76,6 +86,6 @@ into_same place p old told told1 told2 mid next at i ps cs sp1 sp ss1 ss r0 r1 p
     let others : first.0 ≡ [] = nil_of first.0 (omega (arith, one, ap length first.1)) in
     let alone : sp1 ≡ get_or cs i 0 ∷ [] = first.1 ∙ ap (λ (t : List ℕ). get_or cs i 0 ∷ t) others in
     let s = in_same place p told1 told2 mid next g.now at i k.0 w ps cs sp1 ss1 r0 r1 pos g.held walk still sorted g.is br (omega (arith, branching ps cs br some, le)) le bef aft inserts alone empty in
-    let made = settles_then place old m w.pages r0 mid g.now w.pages r0 told2 next r1 (suc k.0) (put_pair p (content w)) (at ∷ []) [] g.changes s in
-    let there = subst (λ (n : ℕ). Settles place old m w.pages r0 told2 next r1 n (put_pair p (content w)) (at ∷ []) []) (sym k.1) made in
-    subst (λ (t : List Pair). Settles place old m w.pages r0 told2 next r1 h (put_pair p (content w)) sp t) (sym none) (subst (λ (t : List ℕ). Settles place old m w.pages r0 told2 next r1 h (put_pair p (content w)) t []) (sym is) there)
+    let made = puts_get place old m w.pages r0 mid g.now told2 next r1 at (suc k.0) (put_pair p (content w)) (at ∷ []) [] g.stays.lent g.changes s in
+    let there = subst (λ (n : ℕ). PutsIn place old m w.pages r0 told2 next r1 at n (put_pair p (content w)) (at ∷ []) []) (sym k.1) made in
+    subst (λ (t : List Pair). PutsIn place old m w.pages r0 told2 next r1 at h (put_pair p (content w)) sp t) (sym none) (subst (λ (t : List ℕ). PutsIn place old m w.pages r0 told2 next r1 at h (put_pair p (content w)) t []) (sym is) there)

@@ -1,6 +1,7 @@
 -- Writing pairs on pages.
-use Rattle.std.proofs.Common.{◌≡◌, ℕ, zero, suc, ◌+◌, ◌<◌, ◌≤◌, true, false, not, eqb, cond, ltb, Some, None, List, [], ◌∷◌, ◌++◌, length, map, take, drop, refl, sym, ap, subst, ◌∙◌, append_assoc, arith, inl, inr}
-use Rattle.std.specs.List.{AllByRecursion}
+use Rattle.std.proofs.Common.{◌≡◌, ◌⊎◌, ℕ, zero, suc, ◌+◌, ◌<◌, ◌≤◌, true, false, not, eqb, cond, ltb, Some, None, List, [], ◌∷◌, ◌++◌, length, map, take, drop, refl, sym, ap, subst, ◌∙◌, append_assoc, arith, inl, inr}
+use Rattle.std.specs.List.{AllByRecursion, Contains}
+use Rattle.std.proofs.lemmas.List.Elements.{Contains-append_left, Contains-append_right, Contains-append_cases}
 use Rattle.std.proofs.lemmas.Option.{same_Some, cond_some}
 use Rattle.std.proofs.lemmas.Bool.{ltb-true, ne_eqb, lt-ltb}
 use Rattle.std.proofs.lemmas.List.{map-append, append-nil, length-append, length-take, length-drop, take-append-drop}
@@ -12,6 +13,7 @@ use Rattle.myi_insertion.specs.Strips.{contents, all_pages, weave, IsStrip, IsLe
 use Rattle.myi_insertion.specs.Covers.{within, cover, stock, AreClear, StillStands, Spares, Grows}
 use Rattle.myi_insertion.specs.Settling.{IsPartly}
 use Rattle.myi_insertion.proofs.FrameLaws.{same_walk, same_each}
+use Rattle.myi_insertion.proofs.CoverLaws.{no_one}
 use Rattle.myi_insertion.proofs.StripLaws.{each_append, each_parts, each_length, length-contents, all_pages-append, left_more, left_last}
 
 pub cover-append : (block : ℕ) (us vs : List ℕ) (x : ℕ) → cover block (us ++ vs) x ≡ cover block us x + cover block vs x
@@ -25,6 +27,11 @@ spares_still block old new touched (p ∷ ps) k h =
 
 pub spares_then : (block : ℕ) (old mid new : Places) (more less : ℕ → ℕ) → Spares block old mid more → Spares block mid new less → ((x : ℕ) → less x ≤ more x) → Spares block old new more
 spares_then block old mid new more less k m h = λ p off node e. m p (λ x. let a = off x in let b = h x in omega arith) node (k p off node e)
+
+pub all_of : {A : Type 0} (P : A → Type 0) (xs : List A) (x : A) → AllByRecursion P xs → Contains xs x → P x
+all_of P [] x all (k, lt, is) = absurd (omega arith)
+all_of P (y ∷ xs) x all (zero, lt, is) = subst P is all.0
+all_of P (y ∷ xs) x all (suc k, lt, is) = all_of P xs x all.1 (k, omega arith, is)
 
 -- ---- frames
 
@@ -175,7 +182,24 @@ stand_join read (suc h) a s r cs ds x y p q l m = has_join read h cs ds a s r x 
 
 -- ---- the loop
 
-pub part_first : (block : ℕ) (read : Places) (h : ℕ) (xs : List Pair) (pages : List ℕ) (room : Room) (at : ℕ) (pairs : List Pair) (children : List ℕ) → StandFor read h pairs children xs pages → (r : IsPartly block read read h xs (at ∷ pages) room room at [] [] pairs children) × (r.done_pages ++ at ∷ r.rest_pages ≡ at ∷ pages)
+-- what was written before a page and what is still to be written stand as they stood, and the pages before it and behind it were these
+pub record Passed (now new : Places) (done rest : List ℕ) (at : ℕ) (next left : List ℕ) : Type 0 where
+  pub done_still : (p : ℕ) → Contains done p → StillStands now new p
+  pub rest_still : (p : ℕ) → Contains rest p → StillStands now new p
+  pub from : (p : ℕ) → Contains next p → Contains done p ⊎ ((p ≡ at) ⊎ Contains rest p)
+  pub to : (p : ℕ) → Contains left p → Contains rest p
+
+pub was_first : (p q : ℕ) (ps : List ℕ) → Contains (q ∷ ps) p → (p ≡ q) ⊎ Contains ps p
+was_first p q ps (zero, lt, is) = inl (sym is)
+was_first p q ps (suc k, lt, is) = inr (k, omega arith, is)
+
+passed_from : (done own front ws : List ℕ) (at : ℕ) → ws ≡ at ∷ front → ((p : ℕ) → Contains front p → Contains own p) → (p : ℕ) → Contains (done ++ ws) p → Contains done p ⊎ ((p ≡ at) ⊎ Contains own p)
+passed_from done own front ws at is among p here = elim (Contains-append_cases done ws p here) [
+  | inl a ↦ inl a
+  | inr b ↦ elim (was_first p at front (subst (λ (t : List ℕ). Contains t p) is b)) [ inl e ↦ inr (inl e) | inr c ↦ inr (inr (among p c)) ]
+]
+
+pub part_first : (block : ℕ) (read : Places) (h : ℕ) (xs : List Pair) (pages : List ℕ) (room : Room) (at : ℕ) (pairs : List Pair) (children : List ℕ) → StandFor read h pairs children xs pages → (r : IsPartly block read read h xs (at ∷ pages) room room at [] [] pairs children) × (r.done_pages ++ at ∷ r.rest_pages ≡ at ∷ pages) × (r.done_pages ≡ []) × (r.rest_pages ≡ pages)
 part_first block read h xs pages room at pairs children m = (
   record {
     done = [];
@@ -189,12 +213,14 @@ part_first block read h xs pages room at pairs children m = (
     spares = λ p off node e. e;
   },
   refl,
+  refl,
+  refl,
 )
 
 pub part_next : (block : ℕ) (old now new : Places) (h : ℕ) (xs : List Pair) (olds : List ℕ) (before after next : Room) (at q : ℕ) (places : List ℕ) (separators front : List Pair) (s : Pair) (rest : List Pair) (children cs ds : List ℕ)
     → AreClear block olds before → (part : IsPartly block old now h xs olds before after at places separators (front ++ s ∷ rest) children) → cs ≡ take (suc (length front)) children → ds ≡ drop (suc (length front)) children
     → new at ≡ Some (node_with front cs) → Spares block now new (λ x. within at block x) → ((x : ℕ) → within q block x + stock next x ≡ stock after x)
-    → (r : IsPartly block old new h xs olds before next q (places ++ at ∷ []) (separators ++ s ∷ []) rest ds) × (r.done_pages ++ r.rest_pages ≡ part.done_pages ++ at ∷ part.rest_pages)
+    → (r : IsPartly block old new h xs olds before next q (places ++ at ∷ []) (separators ++ s ∷ []) rest ds) × (r.done_pages ++ r.rest_pages ≡ part.done_pages ++ at ∷ part.rest_pages) × Passed now new part.done_pages part.rest_pages at r.done_pages r.rest_pages
 part_next block old now new h xs olds before after next at q places separators front s rest children cs ds apart part c d there others taken =
     let two = stand_split now h front s rest children cs ds part.rest part.rest_pages part.stand c d in
     let room_at : (x : ℕ) → cover block part.done_pages x + (within at block x + (cover block two.p x + cover block two.q x)) + stock after x ≤ 1 = λ x.
@@ -217,12 +243,21 @@ part_next block old now new h xs olds before after next at q places separators f
         spares = spares_then block old now new _ (λ x. within at block x) part.spares others (λ x. let b = part.balance x in omega arith);
       },
       append_assoc part.done_pages w.0.pages two.q ∙ ap (λ (t : List ℕ). part.done_pages ++ (t ++ two.q)) w.3 ∙ ap (λ (t : List ℕ). part.done_pages ++ at ∷ t) (sym two.pages_are),
+      record {
+        done_still = λ p here. all_of (StillStands now new) part.done_pages p agree_left here;
+        rest_still = λ p here. elim (Contains-append_cases two.p two.q p (subst (λ (t : List ℕ). Contains t p) two.pages_are here)) [
+          | inl a ↦ all_of (StillStands now new) two.p p agree_front a
+          | inr b ↦ all_of (StillStands now new) two.q p agree_back b
+        ];
+        from = passed_from part.done_pages part.rest_pages two.p w.0.pages at w.3 (λ p here. subst (λ (t : List ℕ). Contains t p) (sym two.pages_are) (Contains-append_left two.p two.q p here));
+        to = λ p here. subst (λ (t : List ℕ). Contains t p) (sym two.pages_are) (Contains-append_right two.p two.q p here);
+      },
     )
 
 pub part_last : (block : ℕ) (old now new : Places) (h : ℕ) (xs : List Pair) (olds : List ℕ) (before after : Room) (at : ℕ) (places : List ℕ) (separators pairs : List Pair) (children : List ℕ) (sp : List ℕ) (ss : List Pair)
     → AreClear block olds before → (part : IsPartly block old now h xs olds before after at places separators pairs children)
     → new at ≡ Some (node_with pairs children) → Spares block now new (λ x. within at block x) → sp ≡ places ++ at ∷ [] → ss ≡ separators
-    → (r : Grows block old new h xs olds before after sp ss) × (r.pages ≡ part.done_pages ++ at ∷ part.rest_pages)
+    → (r : Grows block old new h xs olds before after sp ss) × (r.pages ≡ part.done_pages ++ at ∷ part.rest_pages) × Passed now new part.done_pages part.rest_pages at r.pages []
 part_last block old now new h xs olds before after at places separators pairs children sp ss apart part there others ps_is ss_is =
     let room_at : (x : ℕ) → cover block part.done_pages x + (within at block x + cover block part.rest_pages x) + stock after x ≤ 1 = λ x.
     let a = apart x in let b = part.balance x in omega arith in
@@ -240,6 +275,12 @@ part_last block old now new h xs olds before after at places separators pairs ch
         };
       },
       ap (λ (t : List ℕ). part.done_pages ++ t) w.3,
+      record {
+        done_still = λ p here. all_of (StillStands now new) part.done_pages p agree_left here;
+        rest_still = λ p here. all_of (StillStands now new) part.rest_pages p agree_rest here;
+        from = passed_from part.done_pages part.rest_pages part.rest_pages w.0.pages at w.3 (λ p here. here);
+        to = λ p here. absurd (no_one p here);
+      },
     )
 
 pub branches_step : (front : List Pair) (s : Pair) (rest : List Pair) (children ds : List ℕ) → Branches (front ++ s ∷ rest) children → ds ≡ drop (suc (length front)) children

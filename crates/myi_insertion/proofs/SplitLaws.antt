@@ -1,5 +1,5 @@
 -- Where a list of pairs is cut for two pages.
-use Rattle.std.proofs.Common.{◌≡◌, ◌⊎◌, ℕ, suc, ◌+◌, ◌-◌, ◌^◌, ◌<◌, ◌≤◌, Bool, true, not, eqb, Option, Some, List, [], ◌∷◌, ◌++◌, length, get_or, take, drop, append-nil, refl, sym, ap, subst, ◌∙◌, arith, inl, inr}
+use Rattle.std.proofs.Common.{◌≡◌, ◌⊎◌, ℕ, suc, ◌+◌, ◌-◌, ◌^◌, ◌<◌, ◌≤◌, Bool, true, not, eqb, ltb, Option, Some, List, [], ◌∷◌, ◌++◌, length, get_or, take, drop, append-nil, refl, sym, ap, subst, ◌∙◌, arith, inl, inr}
 use Rattle.std.specs.Prelude.{IfSome, IfNone, None}
 use Rattle.std.specs.List.{AllByRecursion}
 use Rattle.std.proofs.Math.Seq.{drop-cons}
@@ -15,7 +15,7 @@ use Rattle.myi_btree.specs.Building.{IsWritten}
 use Rattle.myi_insertion.specs.Strips.{Branches}
 use Rattle.myi_insertion.specs.Written.{CanWrite, IsCut, IsStripOf, AreSides}
 use Rattle.myi_insertion.proofs.RoomLaws.{all_both}
-use Rattle.myi_insertion.proofs.WriteLaws.{can_be_written, front_written, rest_written, all_take, all_drop}
+use Rattle.myi_insertion.proofs.WriteLaws.{can_be_written, node_flag, front_written, rest_written, all_take, all_drop}
 
 pub if_some : {A : Type 0} (o : Option A) (x : A) (P : A → Type 0) → o ≡ Some x → IfSome o P → P x
 if_some {A = A} o x P e h = subst (λ (o : Option A). IfSome o P) e h
@@ -31,6 +31,7 @@ pub record Halved (place : Place) (node : Bool) (left : List Pair) (children fir
   pub page : IsWritten place (node_with (take n left) first)
   pub can : CanWrite place.rec_ref (drop (suc n) left) others
   pub flag : node ≡ not (eqb (length others) 0)
+  pub front_flag : node ≡ ltb 0 (length first)
   pub first_is : first ≡ take (suc n) children
   pub others_is : others ≡ drop (suc n) children
 
@@ -47,6 +48,7 @@ halved place node left children first others n placed can flag cut f o =
       page = subst (λ (cs : List ℕ). IsWritten place (node_with (take n left) cs)) (sym f2) (can_be_written place node (take n left) (take (suc n) children) placed front (flag ∙ flags.0) cut.2);
       can = subst (λ (cs : List ℕ). CanWrite place.rec_ref (drop (suc n) left) cs) (sym o2) rest;
       flag = flag ∙ flags.1 ∙ ap (λ (cs : List ℕ). not (eqb (length cs) 0)) (sym o2);
+      front_flag = flag ∙ flags.0 ∙ sym (node_flag [] (take (suc n) children)) ∙ ap (λ (cs : List ℕ). ltb 0 (length cs)) (sym f2);
       first_is = f2;
       others_is = o2;
     }

@@ -12,6 +12,8 @@ pub mod CachedChanges
 pub mod CachedTree
 -- taking a pair out of a list and a tree
 pub mod Removal
+-- how well pages are filled
+pub mod Filled
 -- where a change meets damage
 pub mod Damage
 -- what serves private contracts
@@ -22,6 +24,8 @@ pub mod Ordered
 pub mod Settling
 -- what can be written on pages
 pub mod Written
+-- what a cut leaves, and which pages are written
+pub mod Halves
 -- the steps of a change
 pub mod Steps
 -- trees of which a page is not written

@@ -2,7 +2,7 @@
 //!
 //! `insert_at` goes down one path of pages to the leaf that the pair goes into, and writes that leaf; where it
 //! is cut, the page above it is written too, and so on up; `raise` puts pages above a root that became several.
-ghost use Rattle.std.specs.Prelude.{◌≡◌, ◌+◌, ◌^◌, ◌<◌, ◌≤◌, ℕ, List, Some, length, IfOk, IfErr, OnOk, IsTrue};
+ghost use Rattle.std.specs.Prelude.{◌≡◌, ◌+◌, ◌^◌, ◌<◌, ◌≤◌, ◌∷◌, [], ℕ, List, Some, length, IfOk, IfErr, OnOk, IsTrue};
 ghost use Rattle.std.specs.List.Sorted.{IsStrictlySortedBy};
 ghost use Rattle.myi_base.specs.Holding.{IfTold, Told, OthersStay};
 ghost use Rattle.myi_base.specs.Causes.{HasCause};
@@ -19,7 +19,8 @@ ghost use Rattle.myi_insertion.specs.Written.{IsStripOf};
 ghost use Rattle.myi_keylist.specs.declared.pair.Pair.{Pair};
 ghost use Rattle.myi_insertion.specs.Strips.{IsStrip};
 ghost use Rattle.myi_insertion.specs.CachedTree.{IsTree, Inserted};
-ghost use Rattle.myi_insertion.specs.Steps.{Settles, Rooted};
+ghost use Rattle.myi_insertion.specs.Filled.{KeepsFilled};
+ghost use Rattle.myi_insertion.specs.Steps.{PutsIn, Grafts, Rooted};
 ghost use Rattle.myi_insertion.specs.Damage.{IsInFile, LacksPage, goes_behind, IsMissing};
 
 use crate::load::load;
@@ -30,6 +31,7 @@ use myi_btree::{Place, Room, TreeFault};
 use myi_io::Files;
 use myi_keycache::KeyCache;
 use myi_keylist::{Pair, PairList};
+use myi_keypage::entries_fit;
 use std::alloc::Global;
 
 /// The most levels that a tree has: one with more levels has more pairs than there are places for pages.
@@ -59,8 +61,9 @@ pub(crate) fn insert_at<F: Files>(
         → walk_of (node_lent task.now.setup.place cache.old m) height at ≡ Some w
         → CanChange task.now.setup.place cache.old m w.pages room.old
         → IsStrictlySortedBy pair_cmp (content w)
-        → Settles task.now.setup.place cache.old m w.pages room.old (F.holds files.new) cache.new
-        room.new height (put_pair task.now.pair.now (content w)) strip.places.items strip.separators)) }
+        → PutsIn task.now.setup.place cache.old m w.pages room.old (F.holds files.new) cache.new
+        room.new at height (put_pair task.now.pair.now (content w)) strip.places.items
+        strip.separators)) }
     ensures never { IfErr result (DamagedAt (λ p. IfTold (F.holds files.old) (λ m. (height : ℕ)
         (w : Walked) → walk_of (node_lent task.now.setup.place cache.old m) height at ≡ Some w
         → CanChange task.now.setup.place cache.old m w.pages room.old
@@ -77,6 +80,7 @@ pub(crate) fn insert_at<F: Files>(
     ensures cause { HasCause File (F.faults files.old) (F.faults files.new) result }
     ensures reads { F.reads files.old ≤ F.reads files.new }
 {
+    entries_fit();
     let setup = task.setup;
     let page = load(setup, files, cache, at)?;
     let code = task.pair.key.code();
@@ -116,7 +120,7 @@ fn put_in<F: Files>(
         → IsTree task.now.setup.place cache.old m task.now.setup.place.root xs pages
         → CanChange task.now.setup.place cache.old m pages room.old
         → IsStrictlySortedBy pair_cmp xs
-        → (height : ℕ) × Settles task.now.setup.place cache.old m pages room.old
+        → (height : ℕ) × Grafts task.now.setup.place cache.old m pages room.old
         (F.holds files.new) cache.new room.new height (put_pair task.now.pair.now xs)
         strip.places.items strip.separators)) }
     ensures never { IfErr result (DamagedAt (λ p. IfTold (F.holds files.old) (λ m. (xs : List Pair)
@@ -172,6 +176,7 @@ pub(crate) fn raise<F: Files>(
         xs pages → CanChange setup.place cache.old m pages room.old
         → Rooted setup.place cache.old m pages room.old (F.holds files.new) cache.new room.new
         xs root)) }
+    ensures alone { IfOk result (λ root. (at : ℕ) → strip.places.items ≡ at ∷ [] → root ≡ at) }
     ensures faults { IfErr result IsFileOrMemory }
     ensures whole { IsWhole room.new }
     ensures others { Told (F.holds files.old) (F.holds files.new) (OthersStay cache.old.name) }
@@ -213,6 +218,15 @@ pub fn insert<F: Files>(
         → CanChange place.old cache.old m pages room.old → IsStrictlySortedBy pair_cmp xs
         → Inserted place.old cache.old m pages room.old (F.holds files.new) cache.new room.new
         place.new.root (put_pair pair.now xs))) }
+
+    // A page below the root is filled at least to the half, less two of the longest entries, or it is one that
+    // was there and loses nothing.
+    ensures filled { OnOk result (IfTold (F.holds files.old) (λ m. (xs : List Pair)
+        (pages : List ℕ) → IsTree place.old cache.old m place.old.root xs pages
+        → CanChange place.old cache.old m pages room.old → IsStrictlySortedBy pair_cmp xs
+        → KeepsFilled place.old cache.old m pages (F.holds files.new) cache.new place.new.root
+        (put_pair pair.now xs))) }
+
     ensures never { IfErr result (DamagedAt (λ p. IfTold (F.holds files.old) (λ m. (xs : List Pair)
         (pages : List ℕ) → IsTree place.old cache.old m place.old.root xs pages
         → CanChange place.old cache.old m pages room.old → IsStrictlySortedBy pair_cmp xs

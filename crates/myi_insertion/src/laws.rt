@@ -22,6 +22,7 @@ ghost use Rattle.myi_btree.specs.CachedTrees.{node_lent, NoneMeets};
 ghost use Rattle.myi_insertion.specs.Rooms.{Takes, Gives};
 ghost use Rattle.myi_insertion.specs.CachedChanges.{CanChange, Exchanges, Changes};
 ghost use Rattle.myi_insertion.specs.CachedTree.{IsTree};
+ghost use Rattle.myi_insertion.specs.Filled.{KeepsFilled, TakeAtMost, IsFilled, below_root};
 ghost use Rattle.myi_search.specs.Trees.{HasTree};
 
 use myi_btree::{pages_are_nodes, trees_are_shallow};
@@ -242,3 +243,15 @@ pub fn trees_stay_shallow()
     trees_are_shallow();
     pages_are_nodes();
 }
+
+/// Where the pages below a root were filled to the half, less two of the longest entries, putting a pair in leaves
+/// them so. So it is of each tree that was made by putting pairs in, in whatever order: one without a root has no
+/// such page.
+pub fn pages_stay_filled()
+    ensures { (place : Place) (old : Caching) (m : Holding) (olds : List ℕ) (told : Option Holding)
+        (new : Caching) (root : Option ℕ) (xs : List Pair) (most : ℕ)
+        (tree : KeepsFilled place old m olds told new root xs) → TakeAtMost place most xs
+        → ((at : ℕ) → Contains (below_root olds) at → IsFilled place most (node_lent place old m) at)
+        → (at : ℕ) → Contains (below_root tree.pages) at
+        → IsFilled place most (node_lent place new tree.now) at }
+{}

@@ -20,8 +20,9 @@ ghost use Rattle.myi_search.specs.Counting.{CountsOn};
 ghost use Rattle.myi_insertion.specs.Strips.{StandFor};
 ghost use Rattle.myi_insertion.specs.Rooms.{IsWhole};
 ghost use Rattle.myi_insertion.specs.CachedChanges.{CanChange};
-ghost use Rattle.myi_insertion.specs.Written.{CanWrite, IsCut, IsWellFilled, IsStripOf, chunk_node};
-ghost use Rattle.myi_insertion.specs.Steps.{Wrote, Settles};
+ghost use Rattle.myi_insertion.specs.Written.{CanWrite, IsCut, IsWellFilled, IsStripOf, chunk_node, page_node};
+ghost use Rattle.myi_insertion.specs.Halves.{UseHalf};
+ghost use Rattle.myi_insertion.specs.Steps.{Wrote, Lays};
 
 use crate::page::PageData;
 use crate::room::take_page;
@@ -29,7 +30,7 @@ use myi_btree::{Place, Room, TreeFault, laid_pages_are_written};
 use myi_io::Files;
 use myi_keycache::KeyCache;
 use myi_keylist::PairList;
-use myi_keypage::{Part, fitting_of, write_page_of};
+use myi_keypage::{Part, entries_fit, fitting_of, write_page_of};
 use std::alloc::{AllocError, Global};
 
 /// Trees side by side: the places of their pages, and the pairs between them.
@@ -73,8 +74,13 @@ fn cut(place: Place, node: bool, pairs: &PairList, start: usize) -> Result<Optio
         (IsCut place node (drop start pairs.now))) }
     ensures filled { IfOk result (λ count. IfSome count
         (IsWellFilled place node (drop start pairs.now))) }
+    ensures front { IfOk result (λ count. IfSome count (λ n. UseHalf place node
+        (drop start pairs.now) (take n (drop start pairs.now)))) }
+    ensures back { IfOk result (λ count. IfSome count (λ n. UseHalf place node
+        (drop start pairs.now) (drop (suc n) (drop start pairs.now)))) }
     ensures memory { IfErr result (λ fault. fault ≡ Memory) }
 {
+    entries_fit();
     let left = pairs.len() - start;
     let part = Part {
         list: pairs,
@@ -215,8 +221,8 @@ pub(crate) fn settle<F: Files>(
         → StandFor (node_lent setup.place cache.old m) height page.now.pairs
         page.now.children.items xs below
         → CanChange setup.place cache.old m (at ∷ below) room.old
-        → Settles setup.place cache.old m (at ∷ below) room.old (F.holds files.new) cache.new
-        room.new height xs strip.places.items strip.separators)) }
+        → Lays setup.place cache.old m at below room.old (F.holds files.new) cache.new
+        room.new (page_node page.now) height xs strip.places.items strip.separators)) }
     ensures shape { IfOk result (λ strip. IsStripOf setup.place.rec_ref at strip.places.items
         strip.separators) }
     ensures whole { IsWhole room.new }

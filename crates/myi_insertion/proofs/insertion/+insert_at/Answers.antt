@@ -45,7 +45,7 @@ returns-then-is_empty-clause-stands g t c =
     let cs : List ℕ = c.in_ok-page.page.children.items in
     let i : ℕ = c.place_of-i.result in
     let none : cs ≡ [] = nil_of cs (sym c.in_ok-page.page.children.ok.0 ∙ eqb-true _ _ (sym c.is_empty.ensures ∙ c.if-is_empty.true)) in
-    into_leaf place p c.args.cache.now (g.F.Files.holds c.args.files.now) (g.F.Files.holds c.load.new.files) (g.F.Files.holds c.settle.new.files) c.load.new.cache c.settle.new.cache c.args.at i ps c.in_ok-grown.grown.pairs cs c.in_ok-grown.grown.children.items c.in_ok-strip.strip.places.items c.in_ok-strip.strip.separators c.args.room.now c.settle.new.room
+    into_leaf c.entries_fit.ensures.part place p c.args.cache.now (g.F.Files.holds c.args.files.now) (g.F.Files.holds c.load.new.files) (g.F.Files.holds c.settle.new.files) c.load.new.cache c.settle.new.cache c.args.at i ps c.in_ok-grown.grown.pairs cs c.in_ok-grown.grown.children.items c.in_ok-strip.strip.places.items c.in_ok-strip.strip.separators c.args.room.now c.settle.new.room
     (let l = c.requires.placed.least in omega arith)
     (λ m held pages room can here. got place c.args.cache.now m pages room (g.F.Files.holds c.args.files.now) (g.F.Files.holds c.load.new.files) c.load.new.cache c.args.at (page_node c.in_ok-page.page) c.requires.placed held c.in_ok-page.ensures.node c.load.ensures.stays c.load.ensures.added c.load.ensures.others c.load.ensures.name can here)
     c.in_ok-page.ensures.written.branches none (subst (λ (q : Pair). AreBefore q (take i ps)) same c.place_of-i.ensures.before) (subst (λ (q : Pair). BeginsBehind q (drop i ps)) same c.place_of-i.ensures.behind)
@@ -67,7 +67,7 @@ returns-clause-stands g t c =
     let cs : List ℕ = c.in_ok-page.page.children.items in
     let i : ℕ = c.place_of-i.result in
     let some : 0 < length cs = let ne = eqb-false _ _ (sym c.is_empty.ensures ∙ c.if-is_empty.false) in omega (arith, ne, c.in_ok-page.page.children.ok.0) in
-    into_node place p c.args.cache.now (g.F.Files.holds c.args.files.now) (g.F.Files.holds c.load.new.files) (g.F.Files.holds c.insert_at.new.files) (g.F.Files.holds c.settle-2.new.files) c.load.new.cache c.insert_at.new.cache c.settle-2.new.cache c.args.at i ps c.in_ok-grown-2.grown.pairs cs c.in_ok-grown-2.grown.children.items c.in_ok-strip-2.strip.places.items c.in_ok-made.made.places.items c.in_ok-strip-2.strip.separators c.in_ok-made.made.separators c.args.room.now c.insert_at.new.room c.settle-2.new.room
+    into_node c.entries_fit.ensures.part place p c.args.cache.now (g.F.Files.holds c.args.files.now) (g.F.Files.holds c.load.new.files) (g.F.Files.holds c.insert_at.new.files) (g.F.Files.holds c.settle-2.new.files) c.load.new.cache c.insert_at.new.cache c.settle-2.new.cache c.args.at i ps c.in_ok-grown-2.grown.pairs cs c.in_ok-grown-2.grown.children.items c.in_ok-strip-2.strip.places.items c.in_ok-made.made.places.items c.in_ok-strip-2.strip.separators c.in_ok-made.made.separators c.args.room.now c.insert_at.new.room c.settle-2.new.room
     (let l = c.requires.placed.least in omega arith)
     (λ m held pages room can here. got place c.args.cache.now m pages room (g.F.Files.holds c.args.files.now) (g.F.Files.holds c.load.new.files) c.load.new.cache c.args.at (page_node c.in_ok-page.page) c.requires.placed held c.in_ok-page.ensures.node c.load.ensures.stays c.load.ensures.added c.load.ensures.others c.load.ensures.name can here)
     c.in_ok-page.ensures.written.branches some c.place_of-i.ensures.inside (subst (λ (q : Pair). AreBefore q (take i ps)) same c.place_of-i.ensures.before) (subst (λ (q : Pair). BeginsBehind q (drop i ps)) same c.place_of-i.ensures.behind)

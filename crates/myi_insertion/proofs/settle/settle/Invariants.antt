@@ -1,4 +1,4 @@
-use Rattle.std.proofs.Common.{◌≡◌, ℕ, ◌-◌, ◌<◌, ◌≤◌, Some, List, ◌∷◌, length, drop, not, eqb}
+use Rattle.std.proofs.Common.{◌≡◌, ◌⊎◌, ℕ, ◌-◌, ◌<◌, ◌≤◌, Some, List, [], ◌∷◌, length, drop, not, eqb}
 use Rattle.myi_base.specs.Holding.{Holding, Told, OthersStay}
 use Rattle.myi_keypage.specs.Page.{IsPlace}
 use Rattle.myi_keylist.specs.declared.pair.Pair.{Pair}
@@ -8,6 +8,7 @@ use Rattle.myi_insertion.specs.Strips.{StandFor}
 use Rattle.myi_insertion.specs.Rooms.{IsWhole}
 use Rattle.myi_insertion.specs.CachedChanges.{CanChange}
 use Rattle.myi_insertion.specs.Written.{CanWrite, AreSides}
+use Rattle.myi_insertion.specs.Halves.{UseHalf}
 use Rattle.myi_insertion.specs.Steps.{Settling}
 use Rattle.myi_insertion.proofs.settle.settle.Given as goal
 
@@ -20,6 +21,7 @@ invariant-rest g l = record {
   whole : IsWhole l.room;
   at_is : IsPlace l.at;
   buffer : length l.buffer.items ≡ l.fn.setup.place.block_length;
+  filled : ((l.strip.places.items ≡ []) × (l.start ≡ 0) × (l.children ≡ l.page.children.items)) ⊎ UseHalf l.fn.setup.place l.node l.page.pairs (drop l.start l.page.pairs);
   sides : AreSides l.fn.setup.place.rec_ref l.fn.at l.at l.strip.places.items l.strip.separators;
   told : (m : Holding) → g.F.Files.holds l.fn.files ≡ Some m → (height : ℕ) (xs : List Pair) (below : List ℕ)
       → StandFor (node_lent l.fn.setup.place l.fn.cache m) height l.page.pairs l.page.children.items xs below → CanChange l.fn.setup.place l.fn.cache m (l.fn.at ∷ below) l.fn.room
