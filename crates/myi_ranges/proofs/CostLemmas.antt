@@ -18,6 +18,11 @@ use Rattle.myi_ranges.proofs.RowLemmas.{RowsStand}
 more_room : (a b c x more : ℕ) → b ≤ a + x + 0 → c ≤ b + more → c ≤ a + x + more
 more_room a b c x more one two = omega (arith, one, two)
 
+-- behind a pair one search is needed at most
+pub one_behind : (ahead : List Pair) → searches_behind ahead ≤ 1
+one_behind [] = omega arith
+one_behind (p ∷ ahead) = omega arith
+
 pub still : (times pairs at : ℕ) → RoseBySearches times pairs 0 at at
 still times pairs at = record { levels = 0; fit = omega arith; few = omega arith }
 

@@ -10,6 +10,7 @@ ghost use Rattle.myi_keylist.specs.PairOrder.{pair_with};
 ghost use Rattle.myi_slots.specs.declared.fault.DataFault.TheVariants as read;
 ghost use Rattle.myi_btree.specs.declared.fault.TreeFault.TheVariants as tree;
 ghost use Rattle.myi_btree.specs.Faults.{DamagedAt};
+ghost use Rattle.myi_search.specs.Counting.{CountsOn};
 ghost use Rattle.myi_search.specs.Cursor.{StandsIn};
 ghost use Rattle.myi_state.specs.State.{StoredRow, TableState};
 ghost use Rattle.myi_keytrees.specs.Standing.{list_of, IfStand, CanSearch};
@@ -75,6 +76,7 @@ fn go_on<F: Files>(
         StandsIn (list_of lists key) after → ComesTo (Behind after) (list_of lists key) next)) }
     ensures some { IfOk result (λ next. IfSome next (λ c. is_some c.last ≡ true)) }
     ensures searched { Searched (F.holds files.old) (F.holds files.new) trees.old trees.new }
+    ensures counted { CountsOn trees.old.cache trees.new.cache }
     ensures never { IfErr result (DamagedAt (λ at.
         IfStand (F.holds files.old) trees.old (λ m own lists. ⊥))) }
     ensures few { IfStand (F.holds files.old) trees.old (λ m own lists.
@@ -104,6 +106,7 @@ fn first_from<F: Files>(
         ComesTo (Key low) (list_of lists key) first)) }
     ensures some { IfOk result (λ first. IfSome first (λ c. is_some c.last ≡ true)) }
     ensures searched { Searched (F.holds files.old) (F.holds files.new) trees.old trees.new }
+    ensures counted { CountsOn trees.old.cache trees.new.cache }
     ensures never { IfErr result (DamagedAt (λ at.
         IfStand (F.holds files.old) trees.old (λ m own lists. ⊥))) }
     ensures few { IfStand (F.holds files.old) trees.old (λ m own lists.
@@ -217,6 +220,7 @@ impl RangeRows {
         ensures some { IfOk result (λ next. IfSome next (λ c. is_some c.last ≡ true)) }
         ensures end { self.new ≡ record self.old { reached = End } }
         ensures searched { Searched (F.holds files.old) (F.holds files.new) trees.old trees.new }
+        ensures counted { CountsOn trees.old.cache trees.new.cache }
         ensures never { IfErr result (DamagedAt (λ at.
             IfStand (F.holds files.old) trees.old (λ m own lists. ⊥))) }
         ensures few { IfStand (F.holds files.old) trees.old (λ m own lists.
@@ -272,7 +276,9 @@ impl RangeRows {
         ensures cursor { self.new ≡ record self.old { reached = self.new.reached } }
         ensures ended { IfOk result (λ row. row ≡ None → self.new.reached ≡ End) }
         ensures end { OnErr result (self.new.reached ≡ End) }
+        ensures onward { IfOk result (λ row. IfSome row (λ found. searches self.new.reached ≤ 1)) }
         ensures searched { Searched (F.holds files.old) (F.holds files.new) trees.old trees.new }
+        ensures counted { CountsOn trees.old.cache trees.new.cache }
         ensures rows { rows.new ≡ rows.old }
         ensures few { IfOk result (λ row. IfTold (F.holds files.old) (λ m. (s : TableState)
             → HasTable defs.now self.old trees.old rows.old.file s m

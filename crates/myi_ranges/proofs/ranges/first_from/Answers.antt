@@ -2,6 +2,7 @@ use Rattle.std.proofs.Common.{ℕ, Option, length, sym, subst, ◌∙◌}
 use Rattle.std.proofs.lemmas.Result.{err_from_is_err_and}
 use Rattle.myi_search.specs.Cursor.{CursorAt}
 use Rattle.myi_search.specs.Least.{IsLeastRow}
+use Rattle.myi_search.proofs.CallerLemmas.{counts_on}
 use Rattle.myi_keytrees.specs.Standing.{list_of, IfStand}
 use Rattle.myi_ranges.specs.declared.ranges.Reached.TheVariants.{Behind}
 use Rattle.myi_ranges.specs.Ranges.{searches, RoseBySearches}
@@ -119,3 +120,9 @@ returns-in_err-before-in-None-clause-few g c = λ m held own lists s. rose_one_o
 
 pub returns-in_err-before-in-None-clause-asked : goal.returns-in_err-before-in-None-clause-asked
 returns-in_err-before-in-None-clause-asked g c = λ m held own lists s. rose_one_of_two (length (list_of lists c.args.key)) c.args.trees.now.cache.counters.read_requests c.find.new.self.cache.counters.read_requests (c.find.ensures.asked m held own lists s)
+
+pub returns-in_err-first-in-None-clause-counted : goal.returns-in_err-first-in-None-clause-counted
+returns-in_err-first-in-None-clause-counted g c = counts_on c.args.trees.now.cache c.find.new.self.cache c.go_on.new.trees.cache c.find.ensures.counted c.go_on.ensures.counted
+
+pub returns-in_ok-first-in-None-clause-counted : goal.returns-in_ok-first-in-None-clause-counted
+returns-in_ok-first-in-None-clause-counted g c = counts_on c.args.trees.now.cache c.find.new.self.cache c.go_on.new.trees.cache c.find.ensures.counted c.go_on.ensures.counted

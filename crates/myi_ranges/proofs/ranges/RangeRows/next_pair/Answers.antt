@@ -1,5 +1,6 @@
 use Rattle.std.proofs.Common.{◌≡◌, [], length, subst}
 use Rattle.myi_search.specs.Cursor.{CursorAt}
+use Rattle.myi_search.proofs.CallerLemmas.{counts_none}
 use Rattle.myi_keytrees.specs.Standing.{list_of}
 use Rattle.myi_ranges.specs.declared.ranges.Reached.{Reached}
 use Rattle.myi_ranges.specs.declared.ranges.Reached.TheVariants.{Behind}
@@ -87,3 +88,9 @@ returns-in-End-clause-few g c = λ m held own lists s. still (searches c.args.se
 
 pub returns-in-End-clause-asked : goal.returns-in-End-clause-asked
 returns-in-End-clause-asked g c = λ m held own lists s. still (searches c.args.self.now.reached) (length (list_of lists c.args.self.now.key)) c.args.trees.now.cache.counters.read_requests
+
+pub returns-in_err-start-in-Start-clause-counted : goal.returns-in_err-start-in-Start-clause-counted
+returns-in_err-start-in-Start-clause-counted g c = counts_none c.args.trees.now.cache
+
+pub returns-in-End-clause-counted : goal.returns-in-End-clause-counted
+returns-in-End-clause-counted g c = counts_none c.args.trees.now.cache

@@ -12,6 +12,7 @@ use Rattle.myi_ranges.specs.declared.ranges.RangeRows.{RangeRows}
 use Rattle.myi_ranges.specs.declared.ranges.Reached.TheVariants.{Behind}
 use Rattle.myi_ranges.specs.Ranges.{NeverDamaged, HasTable, position_within}
 use Rattle.myi_ranges.proofs.AnswerLemmas.{Comes, there_after, long_after, answer_none, answer_past, answer_row, table_again, ahead_end, ahead_behind, few_none, few_row, never_index, if_err}
+use Rattle.myi_ranges.proofs.CostLemmas.{one_behind}
 use Rattle.myi_ranges.proofs.ranges.RangeRows.next_row.Goals as goal
 
 pub returns-in_err-cursor-clause-never : goal.returns-in_err-cursor-clause-never
@@ -83,3 +84,6 @@ returns-clause-again g c =
     subst (λ (o : Option Holding). Told (g.F.Files.holds c.args.files.now) o (λ m n. (s : TableState) → HasTable c.args.defs.now c.args.self.now c.args.trees.now c.args.rows.now.file s m → HasTable c.args.defs.now new c.next_pair.new.trees c.args.rows.now.file s n)) (sym c.row_at.ensures.holds)
     (table_again (g.F.Files.holds c.args.files.now) (g.F.Files.holds c.next_pair.new.files) c.args.defs.now c.args.self.now new c.args.trees.now c.next_pair.new.trees c.args.rows.now.file c.requires.names c.next_pair.ensures.searched (ap (λ (r : RangeRows). r.key) c.next_pair.ensures.end)
     (ahead_behind (g.F.Files.holds c.args.files.now) c.args.defs.now c.args.self.now c.args.trees.now c.args.rows.now.file c.in-Some.cursor (subst (λ (o : Option CursorAt). Comes (g.F.Files.holds c.args.files.now) c.args.trees.now c.args.self.now o) c.in-Some.is c.in_ok-cursor.ensures.next)))
+
+pub returns-clause-onward : goal.returns-clause-onward
+returns-clause-onward g c = one_behind c.in-Some.cursor.ahead
