@@ -4,7 +4,7 @@ ghost use Rattle.std.specs.List.{flat_map};
 ghost use Rattle.myi_base.specs.Output.{AppendsPart};
 ghost use Rattle.myi_rowtext.specs.RowText.{digit, byte_text, value_text, values_text};
 
-use myi_pack::{RowView, value_into};
+use myi_pack::{Row, RowView, value_into};
 use std::alloc::{AllocError, Global};
 
 /// Buffers for a number's text and for one value.
@@ -45,6 +45,20 @@ impl RowTexts {
         write!(self.number, "{at}")?;
         out.extend_from_slice(self.number.as_bytes())?;
         push_values(out, &mut self.value, row)
+    }
+
+    /// Appends the text of a row at a place, where the row is held and not lent.
+    pub fn push_row(&mut self, out: &mut Vec<u8>, at: u64, row: &Row) -> Result<(), AllocError>
+        ensures { OnOk result (out.new.items ≡ out.old.items ++ row_text at row.now) }
+    {
+        self.number.clear();
+        write!(self.number, "{at}")?;
+        out.extend_from_slice(self.number.as_bytes())?;
+        for value in row.as_slice() {
+            out.push(b' ')?;
+            push_value(out, value.as_slice())?;
+        }
+        Ok(())
     }
 }
 

@@ -1,0 +1,6 @@
+pub mod CallerLemmas
+mod LineLemmas
+mod GrammarLemmas
+mod ReplayLemmas
+mod NumberLemmas
+mod ForcedLemmas

@@ -1,0 +1,75 @@
+-- What a statement answers, and the line that is printed of it; of a read there is a line for each of its rows behind it. The
+-- words are this project's own.
+use Rattle.std.specs.Prelude.{ℕ, List, [], ◌∷◌, ◌++◌, length, codes, decimal, Result, Ok, Err}
+use Rattle.std.specs.List.{flat_map}
+use Rattle.myi_keycache.specs.declared.setup.Counters.{Counters}
+use Rattle.myi_rowtext.specs.RowText.{row_text}
+use Rattle.myi_pair.specs.KeyList.{PlacedRow}
+use Rattle.myi_tablestate.specs.Keyed.{KeyedRefusal, lacks, duplicate, too_long}
+
+-- an insert, update or delete was made at a position, or is refused; a session that holds READ or READ LOCAL may not write;
+-- a lock was taken or given up, or a session ended; a read found rows, after so many changes; what the key cache counted
+pub data Answer : Type 0 where
+  made : ℕ → Answer
+  refused : KeyedRefusal → Answer
+  locked_for_read : Answer
+  done : Answer
+  rows : List PlacedRow → ℕ → Answer
+  counted : Counters → Answer
+
+abbrev pub by_reply : Result ℕ KeyedRefusal → Answer
+by_reply (Ok at) = made at
+by_reply (Err r) = refused r
+
+-- an answer, and the number of the line that it answers
+pub record Said : Type 0 where
+  pub line : ℕ
+  pub answer : Answer
+
+abbrev pub said_on : ℕ → Answer → Said
+said_on n a = record { line = n; answer = a }
+
+-- ---- what is printed
+
+-- text behind a line's number, and the line's end
+abbrev pub numbered : ℕ → List ℕ → List ℕ
+numbered n text = decimal n ++ (text ++ 10 ∷ [])
+
+abbrev pub refusal_text : KeyedRefusal → List ℕ
+refusal_text (lacks at) = codes " no row " ++ decimal at
+refusal_text (duplicate key at) = codes " duplicate key " ++ (decimal key ++ (codes " at " ++ decimal at))
+refusal_text too_long = codes " full"
+
+-- the pages that were asked for, and those that were read of them
+abbrev pub gets_text : ℕ → ℕ → List ℕ
+gets_text requests reads = codes " requests " ++ (decimal requests ++ (codes " reads " ++ decimal reads))
+
+-- the pages that were put, and those that were written of them
+abbrev pub puts_text : ℕ → ℕ → List ℕ
+puts_text requests writes = codes " write_requests " ++ (decimal requests ++ (codes " writes " ++ decimal writes))
+
+abbrev pub counters_text : Counters → List ℕ
+counters_text c = gets_text c.read_requests c.reads ++ puts_text c.write_requests c.writes
+
+-- the first line of a read that found so many rows after so many changes
+abbrev pub count_text : ℕ → ℕ → List ℕ
+count_text count number = codes " rows " ++ (decimal count ++ (codes " at " ++ decimal number))
+
+-- the line of a row
+abbrev pub row_line : PlacedRow → List ℕ
+row_line r = codes "  " ++ (row_text r.0 r.1 ++ 10 ∷ [])
+
+abbrev pub row_lines : List PlacedRow → List ℕ
+row_lines found = flat_map row_line found
+
+-- the lines of an answer to line n
+abbrev pub answer_text : ℕ → Answer → List ℕ
+answer_text n (made at) = numbered n (codes " ok " ++ decimal at)
+answer_text n (refused r) = numbered n (refusal_text r)
+answer_text n locked_for_read = numbered n (codes " locked for read")
+answer_text n done = numbered n (codes " ok")
+answer_text n (rows found number) = numbered n (count_text (length found) number) ++ row_lines found
+answer_text n (counted c) = numbered n (counters_text c)
+
+abbrev pub said_text : Said → List ℕ
+said_text s = answer_text s.line s.answer

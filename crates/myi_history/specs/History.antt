@@ -1,0 +1,123 @@
+-- The rounds of a script on a table, and its history: the changes that the table accepts, round by round. In a round at most one
+-- session changes the table, so the history depends on nothing else than how the script begins.
+use Rattle.std.specs.Prelude.{ℕ, zero, suc, ◌+◌, Bool, ◌&&◌, ◌||◌, not, is_some, List, [], ◌∷◌, ◌++◌, length, Option, Some, None, if◌then◌else◌}
+use Rattle.std.specs.List.{flat_map}
+use Rattle.myi_defs.specs.declared.types.Defs.{Defs}
+use Rattle.myi_dellist.specs.Standing.{first_or}
+use Rattle.myi_state.specs.State.{TableState}
+use Rattle.myi_state.specs.Changes.{Change, insert, insert_at_end, delete, update}
+use Rattle.myi_tablestate.specs.Keyed.{keyed_step, if_made}
+use Rattle.myi_locks.specs.declared.steps.Step.{Step}
+use Rattle.myi_locks.specs.declared.steps.Round.{Round}
+use Rattle.myi_locks.specs.Steps.{writes_rows}
+use Rattle.myi_locks.specs.Sessions.{holds_read, holds_local}
+use Rattle.myi_locks.specs.Rounds.{LockState, next_round, has_steps}
+use Rattle.myi_locks.specs.Done.{steps_of, advanced, held, is_together}
+use Rattle.myi_locks.specs.Script.{opening}
+use Rattle.myi_locks.specs.Laws.{steps_left}
+use Rattle.myi_script.specs.declared.types.Act.{Act}
+use Rattle.myi_script.specs.declared.types.Act.TheVariants as act
+use Rattle.myi_script.specs.declared.types.Line.{Line}
+use Rattle.myi_history.specs.Lines.{act_of, script_steps}
+
+-- how a script begins: the definitions of its table, its lines, the state of the table, and the setting of concurrent inserts
+pub record Opening : Type 0 where
+  pub defs : Defs
+  pub lines : List Line
+  pub base : TableState
+  pub setting : ℕ
+
+-- a slot or block of the table is deleted
+abbrev pub has_hole : TableState → Bool
+has_hole s = is_some (first_or s.space.holes None)
+
+-- ---- what is asked of the table
+
+-- what a statement asks; an insert of a round of kind Together is one at the end
+abbrev pub change_of : Bool → Option Act → Option Change
+change_of together (Some (act.Insert row)) = Some (if together then insert_at_end row else insert row)
+change_of together (Some (act.Update at row)) = Some (update at row)
+change_of together (Some (act.Delete at)) = Some (delete at)
+change_of together (Some other) = None
+change_of together None = None
+
+-- the session holds READ or READ LOCAL
+abbrev pub reads_only : LockState → ℕ → Bool
+reads_only r n = holds_read (held r n) || holds_local (held r n)
+
+-- what a step asks; a session that holds READ or READ LOCAL asks nothing
+abbrev pub asks : List Line → LockState → Bool → Step → Option Change
+asks ls r together x =
+    if writes_rows x.kind && not (reads_only r x.session) then change_of together (act_of ls x.line) else None
+
+-- ---- what it accepts
+
+abbrev pub accepted_of : Defs → TableState → Option Change → List Change
+accepted_of d s None = []
+accepted_of d s (Some c) = if_made c [] (keyed_step d s c).reply
+
+abbrev pub stepped_by : Defs → TableState → Option Change → TableState
+stepped_by d s None = s
+stepped_by d s (Some c) = (keyed_step d s c).state
+
+-- the changes that are accepted of steps, one after the other
+abbrev pub changes : Defs → (Step → Option Change) → TableState → List Step → List Change
+changes d asked s [] = []
+changes d asked s (x ∷ xs) = accepted_of d s (asked x) ++ changes d asked (stepped_by d s (asked x)) xs
+
+-- the table behind them
+abbrev pub state_after : Defs → (Step → Option Change) → TableState → List Step → TableState
+state_after d asked s [] = s
+state_after d asked s (x ∷ xs) = state_after d asked (stepped_by d s (asked x)) xs
+
+-- ---- rounds
+
+-- a round: the locks and the table before it, and how many changes were accepted before it
+pub record Played : Type 0 where
+  pub locks : LockState
+  pub state : TableState
+  pub before : ℕ
+  pub round : Round
+
+-- what its steps ask
+abbrev pub asked_in : List Line → Played → Step → Option Change
+asked_in ls p = asks ls p.locks (is_together p.round)
+
+abbrev pub changes_in : Opening → Played → List Change
+changes_in o p = changes o.defs (asked_in o.lines p) p.state (steps_of p.round)
+
+-- the round that comes next
+abbrev pub next_played : LockState → TableState → ℕ → Played
+next_played r s n = record { locks = r; state = s; before = n; round = next_round r (has_hole s) }
+
+-- the table behind a round
+abbrev pub state_behind : Opening → Played → TableState
+state_behind o p = state_after o.defs (asked_in o.lines p) p.state (steps_of p.round)
+
+-- how many changes were accepted up to its end
+abbrev pub number_behind : Opening → Played → ℕ
+number_behind o p = p.before + length (changes_in o p)
+
+-- the rounds from these locks and this table on; there are no more than steps
+abbrev pub rounds : Opening → ℕ → LockState → TableState → ℕ → List Played
+rounds o zero r s n = []
+rounds o (suc fuel) r s n =
+    if has_steps r
+    then (let p : Played = next_played r s n in
+    p ∷ rounds o fuel (advanced r p.round) (state_behind o p) (number_behind o p))
+    else []
+
+-- the locks before the first round
+abbrev pub first_locks : Opening → LockState
+first_locks o = opening o.setting (script_steps o.lines)
+
+-- the rounds of a script
+unfoldable pub rounds_of : Opening → List Played
+rounds_of o = rounds o (steps_left (first_locks o).sessions) (first_locks o) o.base 0
+
+abbrev pub history_in : Opening → List Played → List Change
+history_in o ps = flat_map (changes_in o) ps
+
+-- the history of a script
+abbrev pub history : Opening → List Change
+history o = history_in o (rounds_of o)

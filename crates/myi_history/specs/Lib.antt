@@ -1,0 +1,16 @@
+-- What a reader of the contracts must believe.
+
+-- the steps of a script's lines, and what the lines of a script that may run meet
+pub mod Lines
+-- the rows that a read finds
+pub mod Reads
+-- what a statement answers, and the line that is printed of it
+pub mod Answers
+-- the rounds of a script on a table, and the changes that the table accepts
+pub mod History
+-- what a script prints, by the numbers that its reads are given
+pub mod Text
+-- which numbers its reads may be given
+pub mod Bounds
+-- the numbers of a run on one thread
+pub mod OneThread

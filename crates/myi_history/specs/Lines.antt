@@ -1,0 +1,71 @@
+-- The steps of a script's lines, and what the lines of a script that may run meet.
+use Rattle.std.specs.Prelude.{◌≡◌, ℕ, ◌+◌, ◌≤◌, true, ◌==◌, List, [], ◌∷◌, map, Option, option_map}
+use Rattle.std.specs.List.{AllByRecursion, flat_map, find}
+use Rattle.myi_defs.specs.declared.types.Defs.{Defs}
+use Rattle.myi_pack.specs.Spelling.{fits}
+use Rattle.myi_locks.specs.declared.steps.StepKind.{StepKind}
+use Rattle.myi_locks.specs.declared.steps.StepKind.TheVariants as kind
+use Rattle.myi_locks.specs.declared.steps.Step.{Step}
+use Rattle.myi_script.specs.declared.types.Act.{Act}
+use Rattle.myi_script.specs.declared.types.Act.TheVariants as act
+use Rattle.myi_script.specs.declared.types.Line.{Line}
+use Rattle.myi_script.specs.Script.{is_end}
+
+-- ---- steps
+
+-- the kind of a statement's step, and of one that takes a lock that of the second
+abbrev pub kind_of : Act → StepKind
+kind_of (act.Insert row) = kind.Insert
+kind_of (act.Update at row) = kind.Change
+kind_of (act.Delete at) = kind.Change
+kind_of act.Scan = kind.Rows
+kind_of (act.Over range) = kind.Rows
+kind_of (act.Lock lock) = kind.Take lock
+kind_of act.Unlock = kind.Unlock
+kind_of act.Stats = kind.Stats
+kind_of act.End = kind.End
+
+-- the kinds of its steps: before a lock is taken, the session's lock is given up
+abbrev pub kinds : Act → List StepKind
+kinds (act.Lock lock) = kind.Release ∷ kind_of (act.Lock lock) ∷ []
+kinds a = kind_of a ∷ []
+
+-- steps of these kinds, of a session and a line
+abbrev pub steps_with : ℕ → ℕ → List StepKind → List Step
+steps_with session line ks = map (λ k. record { session = session; line = line; kind = k }) ks
+
+abbrev pub steps_of_line : Line → List Step
+steps_of_line l = steps_with l.session l.line (kinds l.act)
+
+-- the steps of a script
+abbrev pub script_steps : List Line → List Step
+script_steps ls = flat_map steps_of_line ls
+
+-- the statement of a line, by the line's number
+abbrev pub act_of : List Line → ℕ → Option Act
+act_of ls n = option_map (λ (l : Line). l.act) (find (λ (l : Line). l.line == n) ls)
+
+-- ---- lines of a script that may run
+
+-- the lines' numbers rise, and the first is at least this one
+abbrev pub LinesGrow : ℕ → List Line → Type 0
+LinesGrow low [] = Unit {0}
+LinesGrow low (l ∷ ls) = (low ≤ l.line) × LinesGrow (l.line + 1) ls
+
+-- nothing of a session follows its end
+abbrev pub NothingFollows : List Line → Type 0
+NothingFollows [] = Unit {0}
+NothingFollows (l ∷ ls) =
+    (is_end l.act ≡ true → AllByRecursion (λ m. m.session ≡ l.session → ⊥) ls) × NothingFollows ls
+
+-- a row that a statement brings has the form that the definitions ask for
+abbrev pub BringsRow : Defs → Act → Type 0
+BringsRow d (act.Insert row) = fits d row ≡ true
+BringsRow d (act.Update at row) = fits d row ≡ true
+BringsRow d a = Unit {0}
+
+-- lines of a script on a table with these definitions that may run: they count from 1
+pub record MayRun (d : Defs) (ls : List Line) : Type 0 where
+  pub grow : LinesGrow 1 ls
+  pub ends : NothingFollows ls
+  pub rows : AllByRecursion (λ (l : Line). BringsRow d l.act) ls

@@ -1,0 +1,43 @@
+-- The numbers of a run on one thread, where the reads of a round go before its inserts.
+use Rattle.std.specs.Prelude.{◌≡◌, ℕ, false, ◌⊎◌, List, [], ◌∷◌, ◌++◌, length, if◌then◌else◌}
+use Rattle.std.specs.List.{AllByRecursion}
+use Rattle.myi_keycache.specs.declared.setup.Counters.{Counters}
+use Rattle.myi_state.specs.Changes.{replay}
+use Rattle.myi_locks.specs.declared.steps.Step.{Step}
+use Rattle.myi_locks.specs.Steps.{is_read}
+use Rattle.myi_locks.specs.Rounds.{next_round}
+use Rattle.myi_locks.specs.Done.{steps_of}
+use Rattle.myi_history.specs.History.{Opening, Played, reads_only, has_hole, changes_in, history_in}
+use Rattle.myi_history.specs.Text.{Numbers, no_numbers}
+use Rattle.myi_history.specs.Bounds.{Seen, number_at, taken_by}
+
+-- the number of a read
+abbrev pub number_now : Played → List Seen → Step → ℕ
+number_now p taken x = if reads_only p.locks x.session then number_at x.session taken else p.before
+
+abbrev pub numbers_now : Played → List Seen → List Step → List ℕ
+numbers_now p taken [] = []
+numbers_now p taken (x ∷ xs) =
+    if is_read x.kind then number_now p taken x ∷ numbers_now p taken xs else numbers_now p taken xs
+
+-- the numbers of a round
+abbrev pub round_numbers : Played → List Seen → Counters → Numbers
+round_numbers p taken c = record { reads = numbers_now p taken (steps_of p.round); counters = c }
+
+-- those of rounds, where each `stats` counts nothing
+abbrev pub in_turn : List Seen → List Played → List Numbers
+in_turn taken [] = []
+in_turn taken (p ∷ ps) =
+    round_numbers p taken no_numbers.counters ∷ in_turn (taken_by p.before p.round ++ taken) ps
+
+-- ---- what the laws say
+
+-- The table before a round is the replay of the history so far, and the round is found with that table's holes.
+pub record IsPlayed (o : Opening) (front : List Played) (p : Played) : Type 0 where
+  pub state : p.state ≡ replay o.defs o.base (history_in o front)
+  pub before : p.before ≡ length (history_in o front)
+  pub round : p.round ≡ next_round p.locks (has_hole (replay o.defs o.base (history_in o front)))
+
+-- in this round no change is accepted, or nothing is read
+abbrev pub IsForced : Opening → Played → Type 0
+IsForced o p = (changes_in o p ≡ []) ⊎ AllByRecursion (λ x. is_read x.kind ≡ false) (steps_of p.round)

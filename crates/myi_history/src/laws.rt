@@ -1,0 +1,57 @@
+//! Laws over histories and texts of scripts. Each is the contract of a function that does nothing, so that it is proved with
+//! the crate and stands for the crates above.
+ghost use Rattle.std.specs.Prelude.{◌≡◌, ◌++◌, [], ◌∷◌, ◌≤◌, ℕ, Bool, List, map, length, Some, Err};
+ghost use Rattle.myi_defs.specs.declared.types.Defs.{Defs};
+ghost use Rattle.myi_state.specs.State.{TableState};
+ghost use Rattle.myi_state.specs.Changes.{Change, replay};
+ghost use Rattle.myi_tablestate.specs.Keyed.{KeyedRefusal, keyed_step};
+ghost use Rattle.myi_locks.specs.Script as locks;
+ghost use Rattle.myi_script.specs.declared.types.Line.{Line};
+ghost use Rattle.myi_script.specs.Script.{IsScript};
+ghost use Rattle.myi_history.specs.Lines.{MayRun, script_steps};
+ghost use Rattle.myi_history.specs.History.{Opening, Played, rounds_of, history, history_in, changes_in, state_behind, first_locks, accepted_of, stepped_by};
+ghost use Rattle.myi_history.specs.Text.{Numbers};
+ghost use Rattle.myi_history.specs.Bounds.{AreWithin};
+ghost use Rattle.myi_history.specs.OneThread.{IsPlayed, in_turn};
+
+/// The lines of a text in the grammar are those of a script that may run, and the steps of such lines are what `Locks::new`
+/// asks for.
+pub fn scripts_may_run()
+    ensures lines { (merge : Bool) (d : Defs) (text : List ℕ) (ls : List Line)
+        → IsScript merge d text ls → MayRun d ls }
+    ensures steps { (d : Defs) (ls : List Line) → MayRun d ls → locks.IsScript (script_steps ls) }
+{}
+
+/// Changes replayed one after the other are replayed from where the ones before lead to.
+pub fn histories_are_replayed()
+    ensures append { (d : Defs) (s : TableState) (cs ds : List Change)
+        → replay d s (cs ++ ds) ≡ replay d (replay d s cs) ds }
+    ensures round { (o : Opening) (p : Played)
+        → replay o.defs p.state (changes_in o p) ≡ state_behind o p }
+{}
+
+/// A change that is refused is no change of a history, and changes no state.
+pub fn refused_changes_leave()
+    ensures history { (d : Defs) (s : TableState) (c : Change) (r : KeyedRefusal)
+        → (keyed_step d s c).reply ≡ Err r → accepted_of d s (Some c) ≡ [] }
+    ensures state { (d : Defs) (s : TableState) (c : Change) (r : KeyedRefusal)
+        → (keyed_step d s c).reply ≡ Err r → stepped_by d s (Some c) ≡ s }
+{}
+
+/// The table before each round is the replay of the history so far, which has as many changes as were accepted before, and
+/// the round is found with that table's holes.
+pub fn rounds_follow_the_history()
+    ensures { (o : Opening) (front back : List Played) (p : Played)
+        → rounds_of o ≡ front ++ p ∷ back → IsPlayed o front p }
+{}
+
+/// The numbers of a run on one thread, whose reads go before the inserts of their round, are within their bounds.
+pub fn numbers_can_be_given()
+    ensures { (o : Opening) → AreWithin o (in_turn [] (rounds_of o)) }
+{}
+
+/// With one session the bounds leave one number for each read.
+pub fn numbers_are_forced_alone()
+    ensures { (o : Opening) (c e : List Numbers) → length (first_locks o).sessions ≤ 1
+        → AreWithin o c → AreWithin o e → map (λ n. n.reads) c ≡ map (λ n. n.reads) e }
+{}

@@ -1,0 +1,30 @@
+//! What scripts of sessions do to a table, and what they print: definitions and their laws, and the lines of answers.
+//!
+//! Several sessions run a script on one table under its table locks, in rounds (`myi_locks`). An `Opening` is how a
+//! script begins: the definitions of the table, the lines of the script, the state of the table, and the setting of
+//! concurrent inserts. From it alone follow the rounds and the changes that the table accepts, the history. A
+//! read prints the rows of the table after the first so many changes of the history, and how many they were; within its
+//! bounds that number is free, since sessions run side by side. So the text of a script is a function of its opening and of
+//! the numbers of its reads.
+//!
+//! - `specs/Lines`: the steps of a script's lines.
+//! - `specs/Reads`: the rows that a read finds.
+//! - `specs/Answers`: what a statement answers, and the line that is printed of it.
+//! - `specs/History`: rounds and history.
+//! - `specs/Text`: the text of a script (`shell_text`).
+//! - `specs/Bounds`: which numbers its reads may be given (`AreWithin`).
+//!
+//! `script_steps` makes the steps of a script for `Locks::new`, and `AnswerTexts` appends the lines of answers. The laws
+//! are the contracts of the functions in `laws`.
+#![tactic(auto)]
+
+mod answers;
+mod laws;
+mod lines;
+
+pub use answers::AnswerTexts;
+pub use laws::{
+    histories_are_replayed, numbers_are_forced_alone, numbers_can_be_given, refused_changes_leave,
+    rounds_follow_the_history, scripts_may_run,
+};
+pub use lines::script_steps;
