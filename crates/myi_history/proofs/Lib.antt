@@ -4,3 +4,4 @@ mod GrammarLemmas
 mod ReplayLemmas
 mod NumberLemmas
 mod ForcedLemmas
+mod ReadLemmas

@@ -2,8 +2,11 @@
 //! the crate and stands for the crates above.
 ghost use Rattle.std.specs.Prelude.{◌≡◌, ◌++◌, [], ◌∷◌, ◌≤◌, ℕ, Bool, List, map, length, Some, Err};
 ghost use Rattle.myi_defs.specs.declared.types.Defs.{Defs};
-ghost use Rattle.myi_state.specs.State.{TableState};
+ghost use Rattle.myi_state.specs.State.{StoredRow, TableState};
 ghost use Rattle.myi_state.specs.Changes.{Change, replay};
+ghost use Rattle.myi_state.specs.Sound.{IsState};
+ghost use Rattle.myi_tablestate.specs.Matching.{Bounds, AreMatching};
+ghost use Rattle.myi_history.specs.Reads.{rows_between};
 ghost use Rattle.myi_tablestate.specs.Keyed.{KeyedRefusal, keyed_step};
 ghost use Rattle.myi_locks.specs.Script as locks;
 ghost use Rattle.myi_script.specs.declared.types.Line.{Line};
@@ -20,6 +23,15 @@ pub fn scripts_may_run()
     ensures lines { (merge : Bool) (d : Defs) (text : List ℕ) (ls : List Line)
         → IsScript merge d text ls → MayRun d ls }
     ensures steps { (d : Defs) (ls : List Line) → MayRun d ls → locks.IsScript (script_steps ls) }
+{}
+
+/// What a range finds are the rows of the table whose key lies between its bounds, in order of key and position, and no other
+/// list of them is in that order.
+pub fn ranges_find_matching_rows()
+    ensures matching { (d : Defs) (k : ℕ) (bounds : Bounds) (rows : List StoredRow)
+        → AreMatching d k bounds rows (rows_between d k bounds rows) }
+    ensures once { (d : Defs) (s : TableState) (k : ℕ) (bounds : Bounds) (found : List StoredRow)
+        → IsState d s → AreMatching d k bounds s.rows found → found ≡ rows_between d k bounds s.rows }
 {}
 
 /// Changes replayed one after the other are replayed from where the ones before lead to.
