@@ -1,0 +1,148 @@
+//! Statements that change a table.
+ghost use Rattle.std.specs.Prelude.{◌≡◌, ◌++◌, true, None, IfOk, IfErr, OnOk, IsTrue, Result};
+ghost use Rattle.myi_base.specs.Causes.{HasCause};
+ghost use Rattle.myi_pack.specs.Spelling.{fits};
+ghost use Rattle.myi_search.specs.Counting.{CountsOn};
+ghost use Rattle.myi_state.specs.Changes as change;
+ghost use Rattle.myi_table.specs.Table.{defs_in, IsKept, IsSame, ChangesItsOwn};
+ghost use Rattle.myi_history.specs.Answers.{answer_text, by_reply};
+ghost use Rattle.myi_shell.specs.declared.fault.ShellFault.TheVariants.{File};
+ghost use Rattle.myi_shell.specs.Changing as spec;
+ghost use Rattle.myi_shell.specs.Changing.{insert_of, reply_of, Steps, NeverDamaged};
+
+use crate::fault::ShellFault;
+use myi_history::AnswerTexts;
+use myi_io::Files;
+use myi_pack::Row;
+use myi_table::{ChangeFault, Table};
+use myi_tablestate::keyed_refusals_come_in_order;
+use std::alloc::AllocError;
+
+/// What a change of a table answers: its position, or why it is refused.
+#[derive(Clone, Copy, Debug, PartialEq, Eq)]
+pub enum Reply {
+    Made { at: u64 },
+    /// No row stands at that position.
+    NoRow { at: u64 },
+    /// The row at that position has the complete key in the unique key of that number, from 1.
+    Duplicate { key: u64, at: u64 },
+    /// Row pointers would not reach the whole data file.
+    Full,
+}
+
+// A change that was made, or its refusal, as a reply, and what cuts it off as a fault.
+fn replied(made: Result<u64, ChangeFault>) -> Result<Reply, ShellFault>
+    ensures { result ≡ spec.replied made }
+{
+    match made {
+        Ok(at) => Ok(Reply::Made { at }),
+        Err(ChangeFault::NoRow { at }) => Ok(Reply::NoRow { at }),
+        Err(ChangeFault::Duplicate { key, at }) => Ok(Reply::Duplicate { key, at }),
+        Err(ChangeFault::Full) => Ok(Reply::Full),
+        Err(ChangeFault::Damaged { at }) => Err(ShellFault::Damaged { at }),
+        Err(ChangeFault::File) => Err(ShellFault::File),
+        // A table that is not broken is not refused so.
+        Err(ChangeFault::Memory) | Err(ChangeFault::Broken(_)) => Err(ShellFault::Memory),
+    }
+}
+
+// A change at a position.
+fn at_place(at: u64, made: Result<(), ChangeFault>) -> Result<u64, ChangeFault>
+    ensures { result ≡ spec.at_place at made }
+{
+    match made {
+        Ok(()) => Ok(at),
+        Err(fault) => Err(fault),
+    }
+}
+
+/// Inserts a row; one of a round of kind Together goes to the end.
+pub fn insert<F: Files>(
+    table: &mut Table,
+    files: &mut F,
+    together: bool,
+    row: &Row,
+) -> Result<Reply, ShellFault>
+    requires writable { IsTrue F.writable }
+    requires fits { fits (defs_in table.old) row.now ≡ true }
+    requires kept { IsKept (F.holds files.old) table.old }
+    requires whole { table.old.broken ≡ None }
+    ensures stepped { IfOk result (Steps (insert_of together row.now) (F.holds files.old)
+        (F.holds files.new) table.old table.new) }
+    ensures refused { IfErr result (NeverDamaged (F.holds files.old) table.old) }
+    ensures whole { OnOk result (table.new.broken ≡ None) }
+    ensures kept { IsKept (F.holds files.new) table.new }
+    ensures same { IsSame table.old table.new }
+    ensures others { ChangesItsOwn (F.holds files.old) (F.holds files.new) table.old }
+    ensures counted { CountsOn table.old.rows.trees.cache table.new.rows.trees.cache }
+    ensures cause { HasCause File (F.faults files.old) (F.faults files.new) result }
+{
+    keyed_refusals_come_in_order();
+    if together {
+        replied(table.insert_at_end(files, row))
+    } else {
+        replied(table.insert(files, row))
+    }
+}
+
+/// Deletes the row at a position.
+pub fn delete<F: Files>(table: &mut Table, files: &mut F, at: u64) -> Result<Reply, ShellFault>
+    requires writable { IsTrue F.writable }
+    requires kept { IsKept (F.holds files.old) table.old }
+    requires whole { table.old.broken ≡ None }
+    ensures stepped { IfOk result (Steps (change.delete at) (F.holds files.old)
+        (F.holds files.new) table.old table.new) }
+    ensures refused { IfErr result (NeverDamaged (F.holds files.old) table.old) }
+    ensures whole { OnOk result (table.new.broken ≡ None) }
+    ensures kept { IsKept (F.holds files.new) table.new }
+    ensures same { IsSame table.old table.new }
+    ensures others { ChangesItsOwn (F.holds files.old) (F.holds files.new) table.old }
+    ensures counted { CountsOn table.old.rows.trees.cache table.new.rows.trees.cache }
+    ensures cause { HasCause File (F.faults files.old) (F.faults files.new) result }
+{
+    keyed_refusals_come_in_order();
+    replied(at_place(at, table.delete(files, at)))
+}
+
+/// Gives the row at a position other values.
+pub fn update<F: Files>(
+    table: &mut Table,
+    files: &mut F,
+    at: u64,
+    row: &Row,
+) -> Result<Reply, ShellFault>
+    requires writable { IsTrue F.writable }
+    requires fits { fits (defs_in table.old) row.now ≡ true }
+    requires kept { IsKept (F.holds files.old) table.old }
+    requires whole { table.old.broken ≡ None }
+    ensures stepped { IfOk result (Steps (change.update at row.now) (F.holds files.old)
+        (F.holds files.new) table.old table.new) }
+    ensures refused { IfErr result (NeverDamaged (F.holds files.old) table.old) }
+    ensures whole { OnOk result (table.new.broken ≡ None) }
+    ensures kept { IsKept (F.holds files.new) table.new }
+    ensures same { IsSame table.old table.new }
+    ensures others { ChangesItsOwn (F.holds files.old) (F.holds files.new) table.old }
+    ensures counted { CountsOn table.old.rows.trees.cache table.new.rows.trees.cache }
+    ensures cause { HasCause File (F.faults files.old) (F.faults files.new) result }
+{
+    keyed_refusals_come_in_order();
+    replied(at_place(at, table.update(files, at, row)))
+}
+
+/// Appends the line of a reply.
+pub fn push_reply(
+    texts: &mut AnswerTexts,
+    out: &mut Vec<u8>,
+    line: u32,
+    reply: Reply,
+) -> Result<(), AllocError>
+    ensures { OnOk result (out.new.items
+        ≡ out.old.items ++ answer_text line (by_reply (reply_of reply))) }
+{
+    match reply {
+        Reply::Made { at } => texts.push_made(out, line, at),
+        Reply::NoRow { at } => texts.push_no_row(out, line, at),
+        Reply::Duplicate { key, at } => texts.push_duplicate(out, line, key, at),
+        Reply::Full => texts.push_full(out, line),
+    }
+}
