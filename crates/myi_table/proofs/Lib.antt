@@ -1,3 +1,5 @@
 pub mod ChangeLemmas
 pub mod LoadLemmas
 pub mod CloseLemmas
+pub mod EmptyLemmas
+pub mod FoldLemmas

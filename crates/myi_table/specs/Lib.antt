@@ -2,8 +2,12 @@
 
 -- a table that is loaded: when it stands for a state, and what a change does
 pub mod Table
+-- what the files of an empty table are when it is made
+pub mod Creating
 -- when a table is loaded, and why it is refused
 pub mod Loading
+-- rows that are put behind its end one after the other
+pub mod Folding
 -- what its files are when it is closed
 pub mod Closing
 -- how refusals are told, and which break a table

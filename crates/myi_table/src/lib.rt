@@ -4,6 +4,7 @@
 //! files are `NAME.MYD` and `NAME.MYI`. While it is loaded it stands for a state of a table (`myi_tablestate`), and each
 //! change is a step of it; what was put stands in the files once it is closed, and they are a clean pair then.
 //!
+//! - `create` makes the two files of an empty table.
 //! - `load` opens the two files, and reads no row and no page.
 //! - `insert`, `insert_at_end`, `update`, `delete` change it. A change that is cut off by a failed file call or for want
 //!   of memory breaks the table: each later one answers `Broken`, with the cause, until the table is loaded again.
@@ -21,7 +22,9 @@
 
 mod changes;
 mod closing;
+mod creating;
 mod fault;
+mod folding;
 mod loading;
 mod table;
 

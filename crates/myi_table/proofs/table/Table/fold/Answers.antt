@@ -1,0 +1,38 @@
+use Rattle.std.proofs.Common.{◌≡◌, sym, subst, ◌∙◌, arith}
+use Rattle.std.specs.Prelude.{IfErr}
+use Rattle.std.proofs.lemmas.Result.{err_from_is_err_and}
+use Rattle.myi_search.proofs.CallerLemmas.{counts_on}
+use Rattle.myi_table.specs.declared.fault.ChangeFault.{ChangeFault}
+use Rattle.myi_table.specs.Faults.{CutsOff}
+use Rattle.myi_table.specs.Table.{IfHolds}
+use Rattle.myi_table.proofs.FoldLemmas.{folds_more, folds_all, folds_cut, same_then, others_then}
+use Rattle.myi_table.proofs.table.Table.fold.Goals as goal
+
+pub returns-in_err-insert_at_end-clause-cut : goal.returns-in_err-insert_at_end-clause-cut
+returns-in_err-insert_at_end-clause-cut g c =
+    let e = err_from_is_err_and c.from_residual-in_err-insert_at_end.result c.from_residual-in_err-insert_at_end.ensures.1 in
+    let k = c.loop-i.invariant in
+    subst (λ r. IfErr r (λ f. IfHolds (g.F.Files.holds c.args.files.now) c.args.self.now (λ m s. CutsOff f))) (sym e.1)
+    (subst (λ (f : ChangeFault). IfHolds (g.F.Files.holds c.args.files.now) c.args.self.now (λ m s. CutsOff f)) (sym e.2)
+    (folds_cut c.keyed_refusals_come_in_order.ensures.accepted c.args.rows.now c.loop-i.i c.index-rows-i.result (g.F.Files.holds c.args.files.now) (g.F.Files.holds c.loop-i.files) c.args.self.now c.loop-i.self c.in_err-insert_at_end.field-0.0
+    c.loop-i-test.true (sym c.index-rows-i.is) k.same.defs c.requires.can k.folds c.in_err-insert_at_end.ensures.refused))
+
+pub loop-i-preserved : goal.loop-i-preserved
+loop-i-preserved g c =
+    let k = c.loop-i.invariant in
+    let n = c.in_ok-insert_at_end.ensures in
+    record {
+      folds = folds_more c.args.rows.now c.loop-i.i c.index-rows-i.result (g.F.Files.holds c.args.files.now) (g.F.Files.holds c.loop-i.files) (g.F.Files.holds c.insert_at_end.new.files) c.args.self.now c.loop-i.self c.insert_at_end.new.self c.in_ok-insert_at_end.field-0
+          c.loop-i-test.true (sym c.index-rows-i.is) k.same.defs k.folds n.made;
+      kept = n.kept;
+      same = same_then c.args.self.now c.loop-i.self c.insert_at_end.new.self k.same n.same;
+      whole = n.broken ∙ k.whole;
+      was = k.was;
+      others = others_then (g.F.Files.holds c.args.files.now) (g.F.Files.holds c.loop-i.files) (g.F.Files.holds c.insert_at_end.new.files) c.args.self.now.name c.loop-i.self.name k.same.name k.others n.others;
+      counted = counts_on c.args.self.now.rows.trees.cache c.loop-i.self.rows.trees.cache c.insert_at_end.new.self.rows.trees.cache k.counted n.counted;
+      changed = λ some. n.changed;
+      faults = let one = k.faults in let two = n.cause.later in omega (arith, one, two);
+    }
+
+pub returns-clause-folded : goal.returns-clause-folded
+returns-clause-folded g c = folds_all c.args.rows.now c.loop-i.i (g.F.Files.holds c.args.files.now) (g.F.Files.holds c.loop-i.files) c.args.self.now c.loop-i.self c.loop-i-test.false c.loop-i.invariant.folds
