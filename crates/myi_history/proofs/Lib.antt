@@ -5,3 +5,5 @@ mod ReplayLemmas
 mod NumberLemmas
 mod ForcedLemmas
 mod ReadLemmas
+mod AppendLemmas
+mod WorkedScripts

@@ -12,5 +12,7 @@ pub mod History
 pub mod Text
 -- which numbers its reads may be given
 pub mod Bounds
+-- inserts at the end, and the rows that stand before them
+pub mod Appending
 -- the numbers of a run on one thread
 pub mod OneThread

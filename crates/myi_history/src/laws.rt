@@ -2,6 +2,8 @@
 //! the crate and stands for the crates above.
 ghost use Rattle.std.specs.Prelude.{◌≡◌, ◌++◌, [], ◌∷◌, ◌≤◌, ℕ, Bool, List, map, length, Some, Err};
 ghost use Rattle.myi_defs.specs.declared.types.Defs.{Defs};
+ghost use Rattle.myi_defs.specs.Sound.{IsSound};
+ghost use Rattle.myi_history.specs.Appending.{AreAppends, rows_before};
 ghost use Rattle.myi_state.specs.State.{StoredRow, TableState};
 ghost use Rattle.myi_state.specs.Changes.{Change, replay};
 ghost use Rattle.myi_state.specs.Sound.{IsState};
@@ -40,6 +42,13 @@ pub fn histories_are_replayed()
         → replay d s (cs ++ ds) ≡ replay d (replay d s cs) ds }
     ensures round { (o : Opening) (p : Played)
         → replay o.defs p.state (changes_in o p) ≡ state_behind o p }
+{}
+
+/// Rows that are inserted at the end stand behind the end that was: those before it are the rows of the table as it was then. So a
+/// session that took READ or READ LOCAL finds its rows below the length of the data file that it took the lock at.
+pub fn appended_rows_stand_behind()
+    ensures { (d : Defs) (s : TableState) (cs : List Change) → IsSound d → IsState d s
+        → AreAppends d cs → rows_before s.space.end (replay d s cs).rows ≡ s.rows }
 {}
 
 /// A change that is refused is no change of a history, and changes no state.
