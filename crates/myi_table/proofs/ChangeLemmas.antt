@@ -82,7 +82,7 @@ none_some : (m : Holding) (o : Option Holding) → o ≡ None → o ≡ Some m �
 none_some m o none some = absurd (let e : ◌≡◌ {A = Option Holding} None (Some m) = sym none ∙ some in cc)
 
 -- files that tell after a call told before
-told_before : (told next : Option Holding) → (told ≡ None → next ≡ None) → (n : Holding) → next ≡ Some n → (m : Holding) × (told ≡ Some m)
+pub told_before : (told next : Option Holding) → (told ≡ None → next ≡ None) → (n : Holding) → next ≡ Some n → (m : Holding) × (told ≡ Some m)
 told_before None next untold n held = absurd (none_some n next (untold refl) held)
 told_before (Some m) next untold n held = (m, refl)
 

@@ -3,3 +3,5 @@ pub mod LoadLemmas
 pub mod CloseLemmas
 pub mod EmptyLemmas
 pub mod FoldLemmas
+pub mod RangeLemmas
+pub mod ScanLemmas

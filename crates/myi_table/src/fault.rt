@@ -1,10 +1,13 @@
-//! Why a table is not loaded, why it is not changed or closed, and why it takes no more changes.
+//! Why a table is not loaded, why it is not changed, closed or read, and why it takes no more changes.
 use myi_btree::TreeFault;
+use myi_chain::ScanFault;
 use myi_defs::DefFault;
 use myi_header::StateFault;
 use myi_io::FileErr;
 use myi_keyedrows::KeyedFault;
 use myi_opening::{TableFault, TableFile};
+use myi_ranges::RangeFault;
+use myi_slots::DataFault;
 use std::alloc::{AllocError, AllocFailed};
 use thiserror::Error;
 
@@ -57,6 +60,22 @@ pub enum ChangeFault {
     Damaged { at: u64 },
     /// A file call failed. The files' count of faults rose.
     #[error("a file of the table cannot be read or written")]
+    File,
+    #[error("out of memory")]
+    Memory,
+}
+
+/// Why a row of a table was not read. The table is as before, and is not broken by it.
+#[derive(Clone, Copy, Debug, PartialEq, Eq, Error)]
+pub enum ReadFault {
+    /// A change was cut off before, for this cause. Nothing is read.
+    #[error("the table is broken")]
+    Broken(Cause),
+    /// What stands at this place of a file is not what the table needs there.
+    #[error("the table is damaged at {at}")]
+    Damaged { at: u64 },
+    /// A file call failed. The files' count of faults rose.
+    #[error("a file of the table cannot be read")]
     File,
     #[error("out of memory")]
     Memory,
@@ -171,6 +190,63 @@ impl From<StateFault> for LoadFault {
             StateFault::Short => LoadFault::Def(DefFault::Short),
             StateFault::Foreign => LoadFault::Foreign,
             StateFault::Memory => LoadFault::Memory,
+        }
+    }
+}
+
+impl From<AllocError> for ReadFault {
+    ghost use Rattle.std.specs.Prelude.{◌≡◌};
+    ghost use Rattle.myi_table.specs.declared.fault.ReadFault.TheVariants.{Memory};
+
+    ghost from_gives = { λ _ f. f ≡ Memory };
+
+    fn from(_: AllocError) -> Self {
+        ReadFault::Memory
+    }
+}
+
+impl<T: Drop> From<AllocFailed<T>> for ReadFault {
+    ghost use Rattle.std.specs.Prelude.{◌≡◌};
+    ghost use Rattle.myi_table.specs.declared.fault.ReadFault.TheVariants.{Memory};
+
+    ghost from_gives = { λ _ f. f ≡ Memory };
+
+    fn from(_: AllocFailed<T>) -> Self {
+        ReadFault::Memory
+    }
+}
+
+impl From<RangeFault> for ReadFault {
+    ghost use Rattle.std.specs.Prelude.{◌≡◌};
+    ghost use Rattle.myi_table.specs.Faults.{of_range};
+
+    ghost from_gives = { λ e f. f ≡ of_range e };
+
+    fn from(fault: RangeFault) -> Self {
+        match fault {
+            RangeFault::Index(TreeFault::Damaged { at }) => ReadFault::Damaged { at },
+            RangeFault::Index(TreeFault::File) => ReadFault::File,
+            RangeFault::Index(TreeFault::Memory) => ReadFault::Memory,
+            RangeFault::Data(DataFault::Damaged { at }) => ReadFault::Damaged { at },
+            RangeFault::Data(DataFault::File) => ReadFault::File,
+            RangeFault::Data(DataFault::Memory) => ReadFault::Memory,
+            // A reading is refused neither for want of a row nor of room.
+            RangeFault::Data(DataFault::NoRow { at }) => ReadFault::Damaged { at },
+            RangeFault::Data(DataFault::Full) => ReadFault::Memory,
+        }
+    }
+}
+
+impl From<ScanFault> for ReadFault {
+    ghost use Rattle.std.specs.Prelude.{◌≡◌};
+    ghost use Rattle.myi_table.specs.Faults.{of_scan};
+
+    ghost from_gives = { λ e f. f ≡ of_scan e };
+
+    fn from(fault: ScanFault) -> Self {
+        match fault {
+            ScanFault::File => ReadFault::File,
+            ScanFault::Memory => ReadFault::Memory,
         }
     }
 }

@@ -26,7 +26,10 @@ mod creating;
 mod fault;
 mod folding;
 mod loading;
+mod ranges;
+mod scans;
 mod table;
 
-pub use fault::{Cause, ChangeFault, LoadFault};
+pub use fault::{Cause, ChangeFault, LoadFault, ReadFault};
+pub use ranges::Range;
 pub use table::Table;
