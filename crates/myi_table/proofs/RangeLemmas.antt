@@ -1,4 +1,4 @@
--- Reading the rows between bounds: one row more, and all of them.
+-- Reading the rows between bounds: one row more.
 use Rattle.std.proofs.Common.{◌≡◌, ◌≢◌, ℕ, zero, suc, ◌+◌, ◌*◌, ◌<◌, ◌≤◌, Bool, true, false, Option, Some, None, Result, Ok, Err, List, [], ◌∷◌, ◌++◌, length, map, slice_index_or, refl, sym, ap, subst, ◌∙◌, arith, inr, append_assoc}
 use Rattle.std.specs.Prelude.{nat_lt, sum_by, IsTrue, IfErr}
 use Rattle.std.specs.List.{AllByRecursion}
@@ -39,7 +39,7 @@ use Rattle.myi_table.specs.declared.fault.ReadFault.{ReadFault}
 use Rattle.myi_table.specs.declared.fault.ReadFault.TheVariants as reading
 use Rattle.myi_table.specs.Faults.{of_range, NeverDamaged, IsBrokenFor}
 use Rattle.myi_table.specs.Table.{OpenTable, defs_in, HoldState, IsKept, IfHolds, StillHolds}
-use Rattle.myi_table.specs.Reading.{HasKey, IsAhead, begun, bounds_of, cost_of, AnswersRange}
+use Rattle.myi_table.specs.Reading.{HasKey, IsAhead}
 use Rattle.myi_table.proofs.ChangeLemmas.{told_before}
 use Rattle.myi_table.proofs.CloseLemmas.{with_trees}
 

@@ -79,3 +79,13 @@ first_row d h old new found view bytes tested answer shows read = λ m told.
 
 pub no_row : (h : Option Holding) (old new : TableScan) → AfterTable Rows h old (Ok None) new → IfTold h (λ m. IsFirst (rows_to_come old m) (rows_to_come new m) None)
 no_row h old new answer = λ m told. ap (map (placed_row old.test)) (answer.0.told m told).0
+
+-- ---- all rows
+
+-- one more
+pub row_more : (rows all now next : List (ℕ × Values)) (row : ℕ × Values) → rows ++ now ≡ all → now ≡ row ∷ next → (rows ++ row ∷ []) ++ next ≡ all
+row_more rows all now next row so_far is = append_assoc rows (row ∷ []) next ∙ ap (λ (q : List (ℕ × Values)). rows ++ q) (sym is) ∙ so_far
+
+-- and then all
+pub row_all : (rows all now : List (ℕ × Values)) → rows ++ now ≡ all → now ≡ [] → rows ≡ all
+row_all rows all now so_far none = sym (append-nil rows) ∙ ap (λ (q : List (ℕ × Values)). rows ++ q) (sym none) ∙ so_far

@@ -10,7 +10,7 @@ pub mod Loading
 pub mod Folding
 -- what its files are when it is closed
 pub mod Closing
--- reading its rows: which are to come, and how often files are asked
+-- reading its rows: which are to come
 pub mod Reading
 -- how refusals are told, and which break a table
 pub mod Faults

@@ -12,17 +12,18 @@ use myi_state::standing_files_are_read;
 use std::alloc::AllocError;
 
 impl Table {
-    ghost use Rattle.std.specs.Prelude.{◌≡◌, ◌≢◌, false, None, IfOk, IfErr, OnOk};
+    ghost use Rattle.std.specs.Prelude.{◌≡◌, ◌≢◌, false, map, None, IfOk, IfErr, OnOk};
     ghost use Rattle.myi_base.specs.Holding.{Holding, IfTold};
     ghost use Rattle.myi_base.specs.Causes.{HasCause};
     ghost use Rattle.myi_chain.specs.ScanModel.{fresh_scan, IsSameScan};
     ghost use Rattle.myi_data.specs.Scanning.{IsAsKnown};
     ghost use Rattle.myi_state.specs.State.{TableState};
+    ghost use Rattle.myi_tablestate.specs.Listed.{placed};
     ghost use Rattle.myi_opening.specs.Names.{rows_file};
     ghost use Rattle.myi_table.specs.declared.fault.Cause.{Cause};
     ghost use Rattle.myi_table.specs.declared.fault.ReadFault.TheVariants.{File};
     ghost use Rattle.myi_table.specs.Faults.{ScanIsRefused};
-    ghost use Rattle.myi_table.specs.Table.{defs_in, HoldState};
+    ghost use Rattle.myi_table.specs.Table.{defs_in, HoldState, IsKept, IfHolds};
     ghost use Rattle.myi_table.specs.Reading.{rows_to_come, IsFirst, BeginsWithAll, GoesOn};
 
     // Refuses to read a table that a change was cut off from.
@@ -95,5 +96,23 @@ impl Table {
         let view = view_packed(&self.defs, piece.bytes());
         let row = unpack(self.alloc, &view)?;
         Ok(Some((at, row)))
+    }
+
+    /// All rows with their positions, in order of these. The data file is read once.
+    pub fn scan<F: Files>(&self, files: &mut F) -> Result<Vec<(u64, Row)>, ReadFault>
+        requires kept { IsKept (F.holds files.old) self.now }
+        ensures rows { IfOk result (λ rows. IfHolds (F.holds files.old) self.now (λ m s.
+            rows.items ≡ map placed s.rows)) }
+        ensures whole { OnOk result (self.now.broken ≡ None) }
+        ensures refused { IfErr result (ScanIsRefused self.now.broken) }
+        ensures holds { F.holds files.new ≡ F.holds files.old }
+        ensures cause { HasCause File (F.faults files.old) (F.faults files.new) result }
+    {
+        let mut scan = self.begin_scan()?;
+        let mut rows = Vec::new(self.alloc);
+        while let Some(row) = self.next_in_scan(files, &mut scan)? {
+            rows.push(row)?;
+        }
+        Ok(rows)
     }
 }
