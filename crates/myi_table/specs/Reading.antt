@@ -10,6 +10,8 @@ use Rattle.myi_ranges.specs.declared.ranges.RangeRows.{RangeRows}
 use Rattle.myi_ranges.specs.declared.ranges.Reached.TheVariants.{End}
 use Rattle.myi_ranges.specs.Ranges.{begin_at, ReadsAhead}
 use Rattle.myi_table.specs.declared.ranges.Range.{Range}
+use Rattle.myi_table.specs.declared.fault.ReadFault.{ReadFault}
+use Rattle.myi_table.specs.declared.fault.ReadFault.TheVariants as fault
 use Rattle.myi_table.specs.Table.{OpenTable, defs_in}
 
 -- ---- all rows
@@ -50,6 +52,20 @@ IsSameReading old new = new ≡ record old { reached = new.reached }
 -- nothing is to come any more
 abbrev pub IsAtEnd : RangeRows → Type 0
 IsAtEnd r = r.reached ≡ End
+
+-- after a refusal nothing is to come any more, but of a broken table: there the reading is as before
+abbrev pub StopsAt : ReadFault → RangeRows → RangeRows → Type 0
+StopsAt (fault.Broken cause) old new = new ≡ old
+StopsAt (fault.Damaged at) old new = IsAtEnd new
+StopsAt fault.File old new = IsAtEnd new
+StopsAt fault.Memory old new = IsAtEnd new
+
+-- the fault is that of a broken table, and this holds
+abbrev pub IfBroken : ReadFault → Type 0 → Type 0
+IfBroken (fault.Broken cause) P = P
+IfBroken (fault.Damaged at) P = Unit {0}
+IfBroken fault.File P = Unit {0}
+IfBroken fault.Memory P = Unit {0}
 
 -- a reading of these rows, which has read nothing
 abbrev pub begun : Range → RangeRows

@@ -35,6 +35,8 @@ impl Table {
         ensures broken { self.new.broken
             ≡ broken_after result (F.faults files.new) self.old.broken }
         ensures changed { OnOk result (0 < length rows.now → self.new.changed ≡ true) }
+        ensures none { OnOk result (length rows.now ≡ 0 → self.new ≡ self.old) }
+        ensures marked { self.old.changed ≡ true → self.new.changed ≡ true }
         ensures kept { IsKept (F.holds files.new) self.new }
         ensures same { IsSame self.old self.new }
         ensures others { ChangesItsOwn (F.holds files.old) (F.holds files.new) self.old }

@@ -43,24 +43,24 @@ impl Range {
 }
 
 impl Table {
-    ghost use Rattle.std.specs.Prelude.{◌≡◌, List, None, IfOk, IfErr, OnOk, OnErr, IsTrue};
+    ghost use Rattle.std.specs.Prelude.{◌≡◌, ◌≤◌, List, None, IfOk, IfErr, IfSome, OnOk, OnErr, IsTrue};
     ghost use Rattle.myi_base.specs.Holding.{Told, OthersStay};
     ghost use Rattle.myi_base.specs.Causes.{HasCause};
     ghost use Rattle.myi_search.specs.Counting.{CountsOn};
     ghost use Rattle.myi_defs.specs.declared.types.Defs.{Defs};
     ghost use Rattle.myi_state.specs.State.{StoredRow, TableState};
-    ghost use Rattle.myi_ranges.specs.Ranges.{Answers, ReadInFew, coming};
+    ghost use Rattle.myi_ranges.specs.Ranges.{Answers, ReadInFew, coming, searches};
     ghost use Rattle.myi_keyedrows.specs.KeyedRows.{IsLeft};
     ghost use Rattle.myi_opening.specs.Names.{index_file};
     ghost use Rattle.myi_table.specs.declared.fault.ReadFault.TheVariants.{File};
     ghost use Rattle.myi_table.specs.Faults.{NeverDamaged, IsBrokenFor};
     ghost use Rattle.myi_table.specs.Table.{OpenTable, defs_in, IsKept, IfHolds, StillHolds, IsSame};
-    ghost use Rattle.myi_table.specs.Reading.{HasKey, IsAhead, IsSameReading, IsAtEnd};
+    ghost use Rattle.myi_table.specs.Reading.{HasKey, IsAhead, IsSameReading, IsAtEnd, StopsAt, IfBroken};
 
     /// The next row of a reading and its position, and None where none is to come. What the reading has read ahead
-    /// are the next pairs of the table (`ahead`), as where it has read nothing or the table was not changed since; `forget_ahead`
-    /// comes between a change and the next row. The table is not changed. After a refusal, but where the table is broken, the reading is at
-    /// its end.
+    /// are the next pairs of the table (`ahead`): it has read nothing yet, or the table was not changed since. `forget_ahead`
+    /// comes between a change and the next row. The table is not changed. After a refusal the reading is at its
+    /// end, but of a broken table, of which nothing is read.
     pub fn next_in_range<F: Files>(
         &mut self,
         files: &mut F,
@@ -76,6 +76,11 @@ impl Table {
             IsAhead self.new rows.new s) }
         ensures reading { IsSameReading rows.old rows.new }
         ensures ended { IfOk result (λ row. row ≡ None → IsAtEnd rows.new) }
+        ensures onward { IfOk result (λ row. IfSome row (λ found.
+            searches rows.new.reached ≤ 1)) }
+        ensures stops { IfErr result (λ f. StopsAt f rows.old rows.new) }
+        ensures unread { IfErr result (λ f. IfBroken f ((self.new ≡ self.old)
+            × (F.holds files.new ≡ F.holds files.old))) }
         ensures few { IfOk result (λ row. IfHolds (F.holds files.old) self.old (λ m s.
             ReadInFew (defs_in self.old) s rows.old row (F.reads files.old) (F.reads files.new))) }
         ensures whole { OnOk result (self.old.broken ≡ None) }

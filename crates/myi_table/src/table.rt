@@ -77,6 +77,7 @@ impl Model for Table {
 impl Table {
     ghost use Rattle.std.specs.Prelude.{◌≡◌, ◌≤◌, ◌<◌, is_some, length, HoldsAt};
     ghost use Rattle.myi_btree.specs.declared.place.Place.{Place};
+    ghost use Rattle.myi_defs.specs.ReadDefs.{AreDefs};
     ghost use Rattle.myi_defs.specs.Sound.{IsSound};
     ghost use Rattle.myi_keycache.specs.Counts.{raised};
     ghost use Rattle.myi_table.specs.Table.{defs_in};
@@ -93,6 +94,7 @@ impl Table {
     pub fn defs(&self) -> &Defs
         ensures defs { result.now ≡ defs_in self.now }
         ensures sound { IsSound result.now }
+        ensures itself { AreDefs result.now }
     {
         definitions_are_sound();
         &self.defs

@@ -1,5 +1,6 @@
 //! The two files of the tables that the tests begin with, over files in memory of which nothing is told.
 ghost use Rattle.std.specs.Prelude.{◌≡◌, true, IfOk};
+ghost use Rattle.myi_defs.specs.ReadDefs.{AreDefs};
 ghost use Rattle.myi_defs.specs.Sound.{IsSound};
 ghost use Rattle.myi_pack.specs.Spelling.{fits};
 
@@ -30,9 +31,9 @@ pub const DATA: &str = "t.MYD";
 
 pub const INDEX: &str = "t.MYI";
 
-/// A key cache of two pages, so that pages are written before the end.
+/// A key cache of one page, so that a page of one key leaves it for one of another.
 pub const SETUP: CacheSetup = CacheSetup {
-    blocks: 2,
+    blocks: 1,
     division: 100,
     age: 300,
 };
@@ -40,6 +41,8 @@ pub const SETUP: CacheSetup = CacheSetup {
 /// A table: its creating text, and values of rows of it, the keys of which differ.
 pub struct Form {
     pub text: &'static [u8],
+    /// How many keys it has.
+    pub keys: usize,
     /// A row is these values, each with a byte or more; the number of the row is put into the second one.
     pub values: &'static [&'static [u8]],
 }
@@ -48,14 +51,17 @@ pub struct Form {
 pub const FORMS: [Form; 3] = [
     Form {
         text: b"rows static\nfield normal 1\nfield normal 4\nfield normal 3\nkey unique\nseg long_int 1 4 0 0 0\nkey plain\nseg text 5 3 8 0 0\n",
+        keys: 2,
         values: &[b"\xFF", b"\x01\0\0\0", b"abc"],
     },
     Form {
         text: b"rows static\nfield normal 1\nfield normal 4\nfield normal 3\n",
+        keys: 0,
         values: &[b"\xFF", b"\x01\0\0\0", b"abc"],
     },
     Form {
         text: b"rows dynamic\nfield normal 1\nfield normal 4\nfield varchar 101\nkey unique\nseg long_int 1 4 0 0 0\nkey plain\nseg vartext 5 100 8 0 0\n",
+        keys: 2,
         values: &[b"\xFE", b"\x01\0\0\0", b"abcdefghijklmnopqrstuvwxyz"],
     },
 ];
@@ -116,15 +122,23 @@ pub fn row(alloc: Global, defs: &Defs, form: &Form, number: u8) -> Result<Row, F
     }
 }
 
-/// An empty table of this form.
-pub fn empty_pair(alloc: Global, form: &Form) -> Result<Pair, Fail> {
+/// The definitions of a table of this form.
+pub fn definitions(alloc: Global, form: &Form) -> Result<Defs, Fail>
+    ensures { IfOk result AreDefs }
+{
     match parse_text(alloc, form.text) {
-        Ok(defs) => Ok(Pair {
-            index: Vec::from_slice(alloc, defs.raw.as_slice())?,
-            data: Vec::new(alloc),
-        }),
+        Ok(defs) => Ok(defs),
         Err(fault) => Err(Fail::new(fault)),
     }
+}
+
+/// An empty table of this form.
+pub fn empty_pair(alloc: Global, form: &Form) -> Result<Pair, Fail> {
+    let defs = definitions(alloc, form)?;
+    Ok(Pair {
+        index: Vec::from_slice(alloc, defs.raw.as_slice())?,
+        data: Vec::new(alloc),
+    })
 }
 
 /// How many rows a table has; another one is deleted.
@@ -161,7 +175,7 @@ pub fn filled(alloc: Global, form: &Form) -> Result<Rows, Fail> {
     Ok(Rows { pair, first })
 }
 
-/// A repair of these files leaves a table in which a check finds nothing, with most of its rows.
+/// A repair of these files leaves a table in which a check finds nothing, with all rows but one that the call was about.
 pub fn can_be_repaired<R: Abort, C: Copy + Debug>(
     rt: &R,
     alloc: Global,
@@ -169,7 +183,10 @@ pub fn can_be_repaired<R: Abort, C: Copy + Debug>(
     called: C,
 ) -> Result<(), Fail> {
     let report = recover(alloc, files, NAME, false, MOMENT)?;
-    assert!(rt; report.kept >= 3, "{report:?} after {called:?}");
+    assert!(rt;
+        report.kept >= ROWS as u64 - 1,
+        "{report:?} after {called:?}"
+    );
     let found = check(alloc, files, NAME)?;
     assert!(rt; found.is_empty(), "after {called:?}");
     Ok(())

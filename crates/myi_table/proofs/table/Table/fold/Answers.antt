@@ -31,6 +31,8 @@ loop-i-preserved g c =
       others = others_then (g.F.Files.holds c.args.files.now) (g.F.Files.holds c.loop-i.files) (g.F.Files.holds c.insert_at_end.new.files) c.args.self.now.name c.loop-i.self.name k.same.name k.others n.others;
       counted = counts_on c.args.self.now.rows.trees.cache c.loop-i.self.rows.trees.cache c.insert_at_end.new.self.rows.trees.cache k.counted n.counted;
       changed = λ some. n.changed;
+      none = λ zero. absurd (omega (arith, zero));
+      marked = λ was. n.changed;
       faults = let one = k.faults in let two = n.cause.later in omega (arith, one, two);
     }
 

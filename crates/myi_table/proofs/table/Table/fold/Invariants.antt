@@ -15,5 +15,7 @@ invariant-loop-i g l = record {
   others : ChangesItsOwn (g.F.Files.holds l.fn.files) (g.F.Files.holds l.files) l.fn.self;
   counted : CountsOn l.fn.self.rows.trees.cache l.self.rows.trees.cache;
   changed : 0 < l.i → l.self.changed ≡ true;
+  none : l.i ≡ 0 → l.self ≡ l.fn.self;
+  marked : l.fn.self.changed ≡ true → l.self.changed ≡ true;
   faults : g.F.Files.faults l.fn.files ≤ g.F.Files.faults l.files;
 }

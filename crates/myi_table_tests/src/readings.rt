@@ -1,0 +1,80 @@
+//! Rows that are put into a table made anew are read again, by a scan and in the order of a key.
+use crate::pairs::{DATA, FORMS, Form, NAME, SETUP, definitions, row};
+use case_lines::Untold;
+use myi_check::check;
+use myi_memfiles::MemFiles;
+use myi_pack::Row;
+use myi_table::{Range, Table};
+use std::alloc::Global;
+use std::process::Abort;
+use std::test::Fail;
+
+// The number that was put into a row's second value.
+fn number_of(row: &Row) -> Option<u8> {
+    let value = row.as_slice().get(1)?;
+    let byte = value.as_slice().first()?;
+    Some(*byte)
+}
+
+// The numbers of all rows of a table, in the order of their positions.
+fn scanned(alloc: Global, files: &mut Untold, table: &Table) -> Result<Vec<u8>, Fail> {
+    let mut numbers = Vec::new(alloc);
+    for (_, row) in table.scan(files)?.iter() {
+        numbers.push(number_of(row).unwrap_or(0))?;
+    }
+    Ok(numbers)
+}
+
+// The numbers of all rows of a table, in the order of the first key.
+fn in_order(alloc: Global, files: &mut Untold, table: &mut Table) -> Result<Vec<u8>, Fail> {
+    let mut numbers = Vec::new(alloc);
+    if table.defs().keys.as_slice().is_empty() {
+        return Ok(numbers);
+    }
+    let all = Range {
+        key: 0,
+        from: None,
+        to: None,
+    };
+    let mut rows = all.begin(alloc)?;
+    for _ in 0..9 {
+        let Some((_, row)) = table.next_in_range(files, &mut rows)? else {
+            return Ok(numbers);
+        };
+        numbers.push(number_of(&row).unwrap_or(0))?;
+    }
+    Err(Fail::new("more rows than were put in"))
+}
+
+// Rows of a table that is made, filled and loaded again are those that were put in.
+fn are_read_again<R: Abort>(rt: &R, alloc: Global, form: &Form) -> Result<(), Fail> {
+    let defs = definitions(alloc, form)?;
+    let files = MemFiles::new(alloc, Vec::new(alloc), Vec::new(alloc))?;
+    let mut files = Untold { files };
+    Table::create(alloc, &mut files, NAME, &defs)?;
+    assert!(rt; files.files.get(DATA) == Some(&[]));
+    let mut table = Table::load(alloc, &mut files, NAME, SETUP)?;
+    for number in [3, 5, 1, 4] {
+        let row = row(alloc, table.defs(), form, number)?;
+        table.insert(&mut files, &row)?;
+    }
+    let behind = [row(alloc, table.defs(), form, 2)?];
+    table.fold(&mut files, &behind)?;
+    table.close(&mut files)?;
+    let mut table = Table::load(alloc, &mut files, NAME, SETUP)?;
+    assert!(rt; scanned(alloc, &mut files, &table)?.as_slice() == [3, 5, 1, 4, 2].as_slice());
+    let sorted = in_order(alloc, &mut files, &mut table)?;
+    assert!(rt; form.keys == 0 || sorted.as_slice() == [1, 2, 3, 4, 5].as_slice());
+    let found = check(alloc, &mut files, NAME)?;
+    assert!(rt; found.is_empty());
+    Ok(())
+}
+
+#[test]
+fn rows_of_a_table_made_anew_are_read_again(rt: HostRuntime) -> Result<(), Fail> {
+    let alloc = rt.alloc();
+    for form in &FORMS {
+        are_read_again(&rt, alloc, form)?;
+    }
+    Ok(())
+}
