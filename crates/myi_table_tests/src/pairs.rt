@@ -43,7 +43,7 @@ pub struct Form {
     pub text: &'static [u8],
     /// How many keys it has.
     pub keys: usize,
-    /// A row is these values, each with a byte or more; the number of the row is put into the second one.
+    /// A row is these values, but for the second one, which is its number in four bytes.
     pub values: &'static [&'static [u8]],
 }
 
@@ -106,7 +106,8 @@ pub fn row(alloc: Global, defs: &Defs, form: &Form, number: u8) -> Result<Row, F
     for (i, value) in form.values.iter().enumerate() {
         let mut bytes = Vec::from_slice(alloc, *value)?;
         if i == 1 {
-            bytes[0] = number;
+            bytes.clear();
+            bytes.extend_from_slice(&[number, 0, 0, 0])?;
         }
         if number % 3 == 0 && bytes.len() > 20 {
             bytes.extend_from_slice(*value)?;
