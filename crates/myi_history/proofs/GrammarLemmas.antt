@@ -1,25 +1,27 @@
 -- The lines that a text in the grammar says are those of a script that may run.
-use Rattle.std.proofs.Common.{◌≡◌, ℕ, ◌+◌, ◌≤◌, ◌==◌, ◌||◌, List, [], ◌∷◌, ◌++◌, Bool, true, false, cond, refl, sym, ◌∙◌, arith, subst, inl, inr}
+use Rattle.std.proofs.Common.{◌≡◌, ℕ, suc, ◌+◌, ◌≤◌, ◌==◌, ◌||◌, List, [], ◌∷◌, ◌++◌, length, Option, Some, None, Bool, true, false, cond, refl, ap, sym, ◌∙◌, arith, subst, inl, inr}
 use Rattle.std.specs.Prelude.{MatchBool}
 use Rattle.std.specs.List.{AllByRecursion}
 use Rattle.std.proofs.lemmas.Bool.Decides.{eqb_tells}
 use Rattle.std.proofs.lemmas.List.Folds.{list_any-append}
 use Rattle.std.specs.Str.{IsUtf8}
 use Rattle.myi_defs.specs.declared.types.Defs.{Defs}
+use Rattle.myi_defs.specs.declared.types.Segment.{Segment}
 use Rattle.myi_deftext.specs.Text.{lines}
+use Rattle.myi_keys.specs.declared.values.KeySeg.{KeySeg}
 use Rattle.myi_script.specs.declared.types.Act.{Act}
 use Rattle.myi_script.specs.declared.types.Act.TheVariants as act
 use Rattle.myi_script.specs.declared.types.Line.{Line}
-use Rattle.myi_script.specs.Grammar.{IsLine, Says}
+use Rattle.myi_script.specs.Grammar.{IsLine, Says, AreParts, IsBound, segments_of}
 use Rattle.myi_script.specs.Script.{does_nothing, has_ended, is_end, ended_by, AreLines, IsScript}
-use Rattle.myi_history.specs.Lines.{LinesGrow, NothingFollows, BringsRow, MayRun}
+use Rattle.myi_history.specs.Lines.{LinesGrow, NothingFollows, BringsRow, HasAllSegments, ReadsRange, IsSession, MayRun}
 
 -- the lines of sessions other than those that have ended
 abbrev pub NoneHasEnded : List ℕ → List Line → Type 0
 NoneHasEnded ended ls = AllByRecursion (λ (l : Line). has_ended l.session ended ≡ false) ls
 
 abbrev pub Runs : Defs → List ℕ → ℕ → List Line → Type 0
-Runs d ended n ls = LinesGrow n ls × NothingFollows ls × AllByRecursion (λ (l : Line). BringsRow d l.act) ls × NoneHasEnded ended ls
+Runs d ended n ls = LinesGrow n ls × NothingFollows ls × AllByRecursion (λ (l : Line). BringsRow d l.act) ls × NoneHasEnded ended ls × AllByRecursion (λ (l : Line). IsSession l.session) ls × AllByRecursion (λ (l : Line). ReadsRange d l.act) ls
 
 abbrev pub Spoken : Bool → Defs → List ℕ → ℕ → List ℕ → List (List ℕ) → List Line → Type 0
 Spoken merge d ended n l ls said =
@@ -40,6 +42,30 @@ brings merge d text (act.Lock k) h = tt
 brings merge d text act.Unlock h = tt
 brings merge d text act.Stats h = tt
 brings merge d text act.End h = tt
+
+-- a bound has a part for each segment
+each_part : (mark : ℕ) (ss : List Segment) (text : List ℕ) (key : List KeySeg) → AreParts mark ss text key → length key ≡ length ss
+each_part mark [] text key h = ap length h.1
+each_part mark (s ∷ ss) text key h = ap length h.5 ∙ ap suc (each_part 44 ss h.1 h.3 h.7)
+
+all_segments : (d : Defs) (k : ℕ) (text : List ℕ) (bound : Option (List KeySeg)) → IsBound (segments_of d k) text bound → HasAllSegments d k bound
+all_segments d k text None h = tt
+all_segments d k text (Some key) h = each_part 32 (segments_of d k) text key h
+
+reads : (merge : Bool) (d : Defs) (text : List ℕ) (a : Act) → Says merge d text a → ReadsRange d a
+reads merge d text (act.Insert row) h = tt
+reads merge d text (act.Update at row) h = tt
+reads merge d text (act.Delete at) h = tt
+reads merge d text act.Scan h = tt
+reads merge d text (act.Over r) h = record {
+  key = (let k = h.4.least_is in omega arith, h.4.most_is);
+  from = all_segments d r.key h.1 r.from h.5;
+  to = all_segments d r.key h.2 r.to h.6;
+}
+reads merge d text (act.Lock k) h = tt
+reads merge d text act.Unlock h = tt
+reads merge d text act.Stats h = tt
+reads merge d text act.End h = tt
 
 -- one session more has ended
 both : (a b : Bool) → (a || b) ≡ false → (a ≡ false) × (b ≡ false)
@@ -72,19 +98,19 @@ runs_with : (merge : Bool) (d : Defs) (ended : List ℕ) (n s : ℕ) (a : Act) (
     → Runs d (ended_by s a ended) (n + 1) others → Runs d ended n (record { session = s; line = n; act = a } ∷ others)
 runs_with merge d ended n s a l others line open_still h =
     let later = by_end s a ended others h.3 in
-    ((omega arith, h.0), (later.1, h.1), (brings merge d line.0 a line.4, h.2), (open_still, later.0))
+    ((omega arith, h.0), (later.1, h.1), (brings merge d line.0 a line.4, h.2), (open_still, later.0), ((line.1, line.2), h.4), (reads merge d line.0 a line.4, h.5))
 
 runs_from : (merge : Bool) (d : Defs) (ended : List ℕ) (n : ℕ) (ls : List (List ℕ)) (said : List Line) → AreLines merge d ended n ls said → Runs d ended n said
-runs_from merge d ended n [] said h = let P : List Line → Type 0 = λ q. Runs d ended n q in subst P (sym h) (tt, tt, tt, tt)
+runs_from merge d ended n [] said h = let P : List Line → Type 0 = λ q. Runs d ended n q in subst P (sym h) (tt, tt, tt, tt, tt, tt)
 runs_from merge d ended n (l ∷ ls) said h = go (does_nothing l) h.1 (λ k. runs_from merge d ended (n + 1) ls said k) (λ e others k. runs_from merge d e (n + 1) ls others k)
   where
     go : (b : Bool) → MatchBool b (IsUtf8 l × AreLines merge d ended (n + 1) ls said) (Spoken merge d ended n l ls said)
         → (AreLines merge d ended (n + 1) ls said → Runs d ended (n + 1) said)
         → ((e : List ℕ) (others : List Line) → AreLines merge d e (n + 1) ls others → Runs d e (n + 1) others) → Runs d ended n said
-    go true k silent ih = let r = silent k.1 in (grow_low n (n + 1) said (omega arith) r.0, r.1, r.2, r.3)
+    go true k silent ih = let r = silent k.1 in (grow_low n (n + 1) said (omega arith) r.0, r.1, r.2, r.3, r.4, r.5)
     go false k silent ih =
         let P : List Line → Type 0 = λ q. Runs d ended n q in
         subst P (sym k.5) (runs_with merge d ended n k.0 k.1 l k.2 k.3 k.4 (ih (ended_by k.0 k.1 ended) k.2 k.6))
 
 pub lines_run : (merge : Bool) (d : Defs) (text : List ℕ) (ls : List Line) → IsScript merge d text ls → MayRun d ls
-lines_run merge d text ls h = let r = runs_from merge d [] 1 (lines text) ls h in record { grow = r.0; ends = r.1; rows = r.2 }
+lines_run merge d text ls h = let r = runs_from merge d [] 1 (lines text) ls h in record { grow = r.0; ends = r.1; sessions = r.4; rows = r.2; ranges = r.5 }

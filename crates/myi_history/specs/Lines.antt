@@ -1,7 +1,9 @@
 -- The steps of a script's lines, and what the lines of a script that may run meet.
-use Rattle.std.specs.Prelude.{◌≡◌, ℕ, ◌+◌, ◌≤◌, true, ◌==◌, List, [], ◌∷◌, map, Option, option_map}
+use Rattle.std.specs.Prelude.{◌≡◌, ℕ, ◌+◌, ◌≤◌, true, ◌==◌, List, [], ◌∷◌, map, length, Option, Some, None, option_map}
 use Rattle.std.specs.List.{AllByRecursion, flat_map, find}
 use Rattle.myi_defs.specs.declared.types.Defs.{Defs}
+use Rattle.myi_data.specs.Keys.{IsKeyNumber}
+use Rattle.myi_keys.specs.declared.values.KeySeg.{KeySeg}
 use Rattle.myi_pack.specs.Spelling.{fits}
 use Rattle.myi_locks.specs.declared.steps.StepKind.{StepKind}
 use Rattle.myi_locks.specs.declared.steps.StepKind.TheVariants as kind
@@ -9,6 +11,8 @@ use Rattle.myi_locks.specs.declared.steps.Step.{Step}
 use Rattle.myi_script.specs.declared.types.Act.{Act}
 use Rattle.myi_script.specs.declared.types.Act.TheVariants as act
 use Rattle.myi_script.specs.declared.types.Line.{Line}
+use Rattle.myi_script.specs.declared.types.Range.{Range}
+use Rattle.myi_script.specs.Grammar.{segments_of}
 use Rattle.myi_script.specs.Script.{is_end}
 
 -- ---- steps
@@ -64,8 +68,30 @@ BringsRow d (act.Insert row) = fits d row ≡ true
 BringsRow d (act.Update at row) = fits d row ≡ true
 BringsRow d a = Unit {0}
 
+-- a bound of a range has all segments of the key of that number
+abbrev pub HasAllSegments : Defs → ℕ → Option (List KeySeg) → Type 0
+HasAllSegments d k None = Unit {0}
+HasAllSegments d k (Some bound) = length bound ≡ length (segments_of d k)
+
+-- a range is one of a key of the table
+pub record IsRange (d : Defs) (range : Range) : Type 0 where
+  pub key : IsKeyNumber d range.key
+  pub from : HasAllSegments d range.key range.from
+  pub to : HasAllSegments d range.key range.to
+
+-- what a statement reads by a key is a range
+abbrev pub ReadsRange : Defs → Act → Type 0
+ReadsRange d (act.Over range) = IsRange d range
+ReadsRange d a = Unit {0}
+
+-- the sessions have the numbers 1 to 9
+abbrev pub IsSession : ℕ → Type 0
+IsSession n = (1 ≤ n) × (n ≤ 9)
+
 -- lines of a script on a table with these definitions that may run: they count from 1
 pub record MayRun (d : Defs) (ls : List Line) : Type 0 where
   pub grow : LinesGrow 1 ls
   pub ends : NothingFollows ls
+  pub sessions : AllByRecursion (λ (l : Line). IsSession l.session) ls
   pub rows : AllByRecursion (λ (l : Line). BringsRow d l.act) ls
+  pub ranges : AllByRecursion (λ (l : Line). ReadsRange d l.act) ls
