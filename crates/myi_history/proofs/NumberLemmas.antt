@@ -15,8 +15,8 @@ use Rattle.myi_locks.specs.Done.{steps_of, advanced}
 use Rattle.myi_locks.specs.Laws.{steps_left}
 use Rattle.myi_history.specs.History.{Opening, Played, asked_in, reads_only, accepted_of, stepped_by, changes, next_played, state_behind, number_behind, rounds, first_locks, rounds_of, has_hole}
 use Rattle.myi_history.specs.Text.{Numbers, no_numbers}
-use Rattle.myi_history.specs.Bounds.{Seen, Past, number_at, ReadFits, ReadsFit, IsBetween, noted, past_reads, own_numbers, own_in, taken_by, is_stats, CountersRise, RoundFits, past_behind, FitFrom, AreWithin, nothing_past}
-use Rattle.myi_history.specs.OneThread.{number_now, numbers_now, round_numbers, in_turn}
+use Rattle.myi_history.specs.Bounds.{Seen, Past, number_at, ReadFits, ReadsFit, IsBetween, noted, past_reads, own_numbers, own_in, taken_by, is_stats, past_behind, FitFrom, AreWithin, nothing_past}
+use Rattle.myi_history.specs.OneThread.{number_now, numbers_now, in_turn, HaveReadsInTurn, StatsRise}
 use Rattle.myi_history.proofs.ReplayLemmas.{later_rounds}
 
 abbrev pub none_counted : Counters
@@ -107,43 +107,73 @@ low_taken n k (Alone x) le = go (takes_read x.kind)
     go true = (le, tt)
     go false = tt
 
-pub record Quiet (n : ℕ) (past : Past) : Type 0 where
+-- the numbers before a round are at most the changes before it
+pub record AreLow (n : ℕ) (past : Past) : Type 0 where
   pub numbers : Low n past.numbers
   pub taken : Low n past.taken
-  pub counters : past.counters ≡ none_counted
 
-no_counters : (c : Counters) → c ≡ none_counted → CountersRise c none_counted
-no_counters c e = rw e (record { read_requests = omega arith; reads = omega arith; write_requests = omega arith; writes = omega arith; fewer = omega arith })
+-- the reads of the round have the numbers of a run on one thread
+abbrev pub InTurn : Played → Past → Numbers → Type 0
+InTurn p past ns = ns.reads ≡ numbers_now p past.taken (steps_of p.round)
 
-abbrev pub now_numbers : Played → Past → Numbers
-now_numbers p past = round_numbers p past.taken none_counted
+reads_fit : (o : Opening) (p : Played) (past : Past) (ns : Numbers) → InTurn p past ns → AreLow p.before past → ReadsFit p (number_behind o p) past (steps_of p.round) ns.reads
+reads_fit o p past ns same q =
+    let P : List ℕ → Type 0 = λ k. ReadsFit p (number_behind o p) past (steps_of p.round) k in
+    subst P (sym same) (fit_in_turn p (number_behind o p) past (steps_of p.round) (omega arith) q.numbers q.taken)
 
-round_fits : (o : Opening) (p : Played) (past : Past) → Quiet p.before past → RoundFits o past p (now_numbers p past)
-round_fits o p past q = (fit_in_turn p (number_behind o p) past (steps_of p.round) (omega arith) q.numbers q.taken, λ e. no_counters past.counters q.counters)
+low_behind : (o : Opening) (p : Played) (past : Past) (ns : Numbers) → InTurn p past ns → AreLow p.before past → AreLow (number_behind o p) (past_behind o past p ns)
+low_behind o p past ns same q =
+    let P : List ℕ → Type 0 = λ k. Low p.before (past_reads past (steps_of p.round) k).numbers in
+    record {
+      numbers = low_join (number_behind o p) (own_in o p) _ (low_changes o.defs (asked_in o.lines p) p.state p.before (steps_of p.round)) (low_more p.before (number_behind o p) _ (omega arith) (subst P (sym same) (low_reads p past (steps_of p.round) q.numbers q.taken)));
+      taken = low_join (number_behind o p) (taken_by p.before p.round) past.taken (low_taken p.before (number_behind o p) p.round (omega arith)) (low_more p.before (number_behind o p) past.taken (omega arith) q.taken);
+    }
 
-quiet_behind : (o : Opening) (p : Played) (past : Past) → Quiet p.before past → Quiet (number_behind o p) (past_behind o past p (now_numbers p past))
-quiet_behind o p past q = record {
-  numbers = low_join (number_behind o p) (own_in o p) _ (low_changes o.defs (asked_in o.lines p) p.state p.before (steps_of p.round)) (low_more p.before (number_behind o p) _ (omega arith) (low_reads p past (steps_of p.round) q.numbers q.taken));
-  taken = low_join (number_behind o p) (taken_by p.before p.round) past.taken (low_taken p.before (number_behind o p) p.round (omega arith)) (low_more p.before (number_behind o p) past.taken (omega arith) q.taken);
-  counters = counts (is_stats (steps_of p.round));
-}
+abbrev pub reads_of : List Numbers → List (List ℕ)
+reads_of c = map (λ (n : Numbers). n.reads) c
+
+none_mapped : (c : List Numbers) → reads_of c ≡ [] → c ≡ []
+none_mapped [] e = refl
+none_mapped (ns ∷ c) e = cc
+
+-- so it is with the later rounds, behind whatever fits before them
+abbrev pub LaterFit : Opening → ℕ → List Played → Type 0
+LaterFit o n ps = (past : Past) (c : List Numbers) → AreLow n past → reads_of c ≡ reads_of (in_turn past.taken ps) → StatsRise past.counters ps c → FitFrom o past ps c
+
+first_fits : (o : Opening) (p : Played) (ps : List Played) (past : Past) (c : List Numbers) → AreLow p.before past → reads_of c ≡ reads_of (in_turn past.taken (p ∷ ps)) → StatsRise past.counters (p ∷ ps) c
+    → LaterFit o (number_behind o p) ps → FitFrom o past (p ∷ ps) c
+first_fits o p ps past [] q same rise later = cc
+first_fits o p ps past (ns ∷ c) q same rise later =
+    let here : InTurn p past ns = let e = same in cc in
+    let rest : reads_of c ≡ reads_of (in_turn (taken_by p.before p.round ++ past.taken) ps) = let e = same in cc in
+    ((reads_fit o p past ns here q, rise.0), later (past_behind o past p ns) c (low_behind o p past ns here q) rest rise.1)
+
+within : (o : Opening) (fuel : ℕ) (r : LockState) (s : TableState) (n : ℕ) → LaterFit o n (rounds o fuel r s n)
+within o zero r s n past c q same rise = none_mapped c same
+within o (suc fuel) r s n past c q same rise =
+    go (has_steps r) (within o fuel (advanced r (next_round r (has_hole s))) (state_behind o (next_played r s n)) (number_behind o (next_played r s n))) past c q same rise
   where
-    counts : (b : Bool) → cond b none_counted past.counters ≡ none_counted
+    go : (b : Bool) → LaterFit o (number_behind o (next_played r s n)) (later_rounds o fuel r s n) → LaterFit o n (cond b (next_played r s n ∷ later_rounds o fuel r s n) [])
+    go true later past c q same rise = first_fits o (next_played r s n) (later_rounds o fuel r s n) past c q same rise later
+    go false later past c q same rise = none_mapped c same
+
+pub counted_fit : (o : Opening) (c : List Numbers) → HaveReadsInTurn o c → StatsRise none_counted (rounds_of o) c → AreWithin o c
+unfolding rounds_of
+counted_fit o c same rise = within o (steps_left (first_locks o).sessions) (first_locks o) o.base 0 nothing_past c (record { numbers = tt; taken = tt }) same rise
+
+-- ---- where nothing is counted
+
+zeros_rise : (taken : List Seen) (ps : List Played) → StatsRise none_counted ps (in_turn taken ps)
+zeros_rise taken [] = tt
+zeros_rise taken (p ∷ ps) = (
+  λ e. record { read_requests = omega arith; reads = omega arith; write_requests = omega arith; writes = omega arith; fewer = omega arith },
+  (let P : Counters → Type 0 = λ k. StatsRise k ps (in_turn (taken_by p.before p.round ++ taken) ps) in
+      subst P (sym (counts (is_stats (steps_of p.round)))) (zeros_rise (taken_by p.before p.round ++ taken) ps)),
+)
+  where
+    counts : (b : Bool) → cond b none_counted none_counted ≡ none_counted
     counts true = refl
-    counts false = q.counters
-
-pub within : (o : Opening) (fuel : ℕ) (r : LockState) (s : TableState) (n : ℕ) (past : Past) → Quiet n past → FitFrom o past (rounds o fuel r s n) (in_turn past.taken (rounds o fuel r s n))
-within o zero r s n past q = refl
-within o (suc fuel) r s n past q =
-    go (has_steps r) (within o fuel (advanced r (next_round r (has_hole s))) (state_behind o (next_played r s n)) (number_behind o (next_played r s n)) (past_behind o past (next_played r s n) (now_numbers (next_played r s n) past)) (quiet_behind o (next_played r s n) past q))
-  where
-    go : (b : Bool)
-        → FitFrom o (past_behind o past (next_played r s n) (now_numbers (next_played r s n) past)) (later_rounds o fuel r s n)
-        (in_turn (taken_by n (next_round r (has_hole s)) ++ past.taken) (later_rounds o fuel r s n))
-        → FitFrom o past (cond b (next_played r s n ∷ later_rounds o fuel r s n) []) (in_turn past.taken (cond b (next_played r s n ∷ later_rounds o fuel r s n) []))
-    go true h = (round_fits o (next_played r s n) past q, h)
-    go false h = refl
+    counts false = refl
 
 pub in_turn_fits : (o : Opening) → AreWithin o (in_turn [] (rounds_of o))
-unfolding rounds_of
-in_turn_fits o = within o (steps_left (first_locks o).sessions) (first_locks o) o.base 0 nothing_past (record { numbers = tt; taken = tt; counters = refl })
+in_turn_fits o = counted_fit o (in_turn [] (rounds_of o)) refl (zeros_rise [] (rounds_of o))

@@ -1,5 +1,5 @@
 -- The numbers of a run on one thread, where the reads of a round go before its inserts.
-use Rattle.std.specs.Prelude.{◌≡◌, ℕ, false, ◌⊎◌, List, [], ◌∷◌, ◌++◌, length, if◌then◌else◌}
+use Rattle.std.specs.Prelude.{◌≡◌, ℕ, true, false, ◌⊎◌, List, [], ◌∷◌, ◌++◌, map, length, if◌then◌else◌}
 use Rattle.std.specs.List.{AllByRecursion}
 use Rattle.myi_keycache.specs.declared.setup.Counters.{Counters}
 use Rattle.myi_state.specs.Changes.{replay}
@@ -7,9 +7,9 @@ use Rattle.myi_locks.specs.declared.steps.Step.{Step}
 use Rattle.myi_locks.specs.Steps.{is_read}
 use Rattle.myi_locks.specs.Rounds.{next_round}
 use Rattle.myi_locks.specs.Done.{steps_of}
-use Rattle.myi_history.specs.History.{Opening, Played, reads_only, has_hole, changes_in, history_in}
+use Rattle.myi_history.specs.History.{Opening, Played, reads_only, has_hole, changes_in, history_in, rounds_of}
 use Rattle.myi_history.specs.Text.{Numbers, no_numbers}
-use Rattle.myi_history.specs.Bounds.{Seen, number_at, taken_by}
+use Rattle.myi_history.specs.Bounds.{Seen, number_at, taken_by, is_stats, CountersRise}
 
 -- the number of a read
 abbrev pub number_now : Played → List Seen → Step → ℕ
@@ -29,6 +29,21 @@ abbrev pub in_turn : List Seen → List Played → List Numbers
 in_turn taken [] = []
 in_turn taken (p ∷ ps) =
     round_numbers p taken no_numbers.counters ∷ in_turn (taken_by p.before p.round ++ taken) ps
+
+-- the reads have the numbers of a run on one thread; what is counted is left open
+abbrev pub HaveReadsInTurn : Opening → List Numbers → Type 0
+HaveReadsInTurn o c = map (λ (n : Numbers). n.reads) c ≡ map (λ (n : Numbers). n.reads) (in_turn [] (rounds_of o))
+
+-- what a round counted, where its step is a `stats`, and else what was counted before it
+abbrev pub counted_by : Counters → Played → Numbers → Counters
+counted_by last p ns = if is_stats (steps_of p.round) then ns.counters else last
+
+-- from one `stats` to the next the counters never fall, and from what was counted last
+abbrev pub StatsRise : Counters → List Played → List Numbers → Type 0
+StatsRise last [] c = Unit {0}
+StatsRise last (p ∷ ps) [] = Unit {0}
+StatsRise last (p ∷ ps) (ns ∷ c) =
+    (is_stats (steps_of p.round) ≡ true → CountersRise last ns.counters) × StatsRise (counted_by last p ns) ps c
 
 -- ---- what the laws say
 

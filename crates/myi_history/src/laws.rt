@@ -15,9 +15,9 @@ ghost use Rattle.myi_script.specs.declared.types.Line.{Line};
 ghost use Rattle.myi_script.specs.Script.{IsScript};
 ghost use Rattle.myi_history.specs.Lines.{MayRun, script_steps};
 ghost use Rattle.myi_history.specs.History.{Opening, Played, rounds_of, history, history_in, changes_in, state_behind, first_locks, accepted_of, stepped_by};
-ghost use Rattle.myi_history.specs.Text.{Numbers};
+ghost use Rattle.myi_history.specs.Text.{Numbers, no_numbers};
 ghost use Rattle.myi_history.specs.Bounds.{AreWithin};
-ghost use Rattle.myi_history.specs.OneThread.{IsPlayed, in_turn};
+ghost use Rattle.myi_history.specs.OneThread.{IsPlayed, in_turn, HaveReadsInTurn, StatsRise};
 
 /// The lines of a text in the grammar are those of a script that may run, and the steps of such lines are what `Locks::new`
 /// asks for.
@@ -66,9 +66,13 @@ pub fn rounds_follow_the_history()
         → rounds_of o ≡ front ++ p ∷ back → IsPlayed o front p }
 {}
 
-/// The numbers of a run on one thread, whose reads go before the inserts of their round, are within their bounds.
+/// The numbers of a run on one thread, whose reads go before the inserts of their round, are within
+/// their bounds, with any counters that rise from one `stats` to the next; so they are where nothing
+/// is counted.
 pub fn numbers_can_be_given()
-    ensures { (o : Opening) → AreWithin o (in_turn [] (rounds_of o)) }
+    ensures counted { (o : Opening) (c : List Numbers) → HaveReadsInTurn o c
+        → StatsRise no_numbers.counters (rounds_of o) c → AreWithin o c }
+    ensures zeros { (o : Opening) → AreWithin o (in_turn [] (rounds_of o)) }
 {}
 
 /// With one session the bounds leave one number for each read.
