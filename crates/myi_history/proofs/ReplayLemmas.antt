@@ -1,5 +1,5 @@
--- The table of a round is the replay of the history so far.
-use Rattle.std.proofs.Common.{◌≡◌, ℕ, zero, suc, ◌+◌, List, [], ◌∷◌, ◌++◌, length, Option, Some, None, Err, Bool, true, false, cond, refl, ap, sym, ◌∙◌, arith, subst, length-append}
+-- The table of a round is the replay of the history so far, and the rounds go to the end.
+use Rattle.std.proofs.Common.{◌≡◌, ℕ, zero, suc, ◌+◌, ◌≤◌, List, [], ◌∷◌, ◌++◌, length, Option, Some, None, Err, Bool, true, false, cond, refl, ap, sym, ◌∙◌, arith, subst, length-append, append_assoc, append-nil}
 use Rattle.myi_defs.specs.declared.types.Defs.{Defs}
 use Rattle.myi_state.specs.State.{TableState}
 use Rattle.myi_state.specs.Changes.{Change, replay, accepted}
@@ -7,9 +7,12 @@ use Rattle.myi_tablestate.specs.Keyed.{KeyedRefusal, keyed_step, keyed_step_by, 
 use Rattle.myi_locks.specs.declared.steps.Step.{Step}
 use Rattle.myi_locks.specs.Rounds.{LockState, next_round, has_steps}
 use Rattle.myi_locks.specs.Done.{steps_of, advanced}
-use Rattle.myi_locks.specs.Laws.{steps_left}
-use Rattle.myi_history.specs.History.{Opening, Played, accepted_of, stepped_by, changes, state_after, changes_in, next_played, state_behind, number_behind, rounds, first_locks, rounds_of, history_in, has_hole, asked_in}
+use Rattle.myi_locks.specs.Laws.{steps_left, IsLawful}
+use Rattle.myi_locks.proofs.CallerLemmas.{kept, fewer, finished, opens, rounds_end}
+use Rattle.myi_history.specs.Lines.{script_steps, MayRun}
+use Rattle.myi_history.specs.History.{Opening, Played, accepted_of, stepped_by, changes, state_after, changes_in, next_played, state_behind, number_behind, rounds, first_locks, rounds_of, history_in, history, locks_behind, has_hole, asked_in}
 use Rattle.myi_history.specs.OneThread.{IsPlayed}
+use Rattle.myi_history.proofs.LineLemmas.{steps_run}
 
 pub replay_append : (d : Defs) (s : TableState) (cs ds : List Change) → replay d s (cs ++ ds) ≡ replay d (replay d s cs) ds
 replay_append d s [] ds = refl
@@ -50,38 +53,47 @@ replay_round o p = replay_changes o.defs (asked_in o.lines p) p.state (steps_of 
 
 -- ---- from a round on
 
-abbrev pub PlayedFrom : Opening → TableState → ℕ → List Played → Played → Type 0
-PlayedFrom o s n front p = (p.state ≡ replay o.defs s (history_in o front)) × (p.before ≡ n + length (history_in o front)) × (p.round ≡ next_round p.locks (has_hole p.state))
+-- what stands before a round, behind these rounds, where the first has these locks and this table
+pub record PlayedFrom (o : Opening) (r : LockState) (s : TableState) (n : ℕ) (front : List Played) (p : Played) : Type 0 where
+  pub locks : p.locks ≡ locks_behind r front
+  pub left : has_steps p.locks ≡ true
+  pub state : p.state ≡ replay o.defs s (history_in o front)
+  pub before : p.before ≡ n + length (history_in o front)
+  pub round : p.round ≡ next_round p.locks (has_hole p.state)
 
 abbrev pub later_rounds : Opening → ℕ → LockState → TableState → ℕ → List Played
 later_rounds o fuel r s n = rounds o fuel (advanced r (next_round r (has_hole s))) (state_behind o (next_played r s n)) (number_behind o (next_played r s n))
 
-found_first : (o : Opening) (r : LockState) (s : TableState) (n : ℕ) (p : Played) → next_played r s n ≡ p → PlayedFrom o s n [] p
-found_first o r s n p same = let P : Played → Type 0 = λ q. PlayedFrom o s n [] q in subst P same (refl, omega arith, refl)
+found_first : (o : Opening) (r : LockState) (s : TableState) (n : ℕ) (p : Played) → has_steps r ≡ true → next_played r s n ≡ p → PlayedFrom o r s n [] p
+found_first o r s n p left same =
+    let P : Played → Type 0 = λ q. PlayedFrom o r s n [] q in
+    subst P same (record { locks = refl; left = left; state = refl; before = omega arith; round = refl })
 
 found_later : (o : Opening) (r : LockState) (s : TableState) (n : ℕ) (q : Played) (front : List Played) (p : Played) → next_played r s n ≡ q
-    → PlayedFrom o (state_behind o (next_played r s n)) (number_behind o (next_played r s n)) front p → PlayedFrom o s n (q ∷ front) p
+    → PlayedFrom o (advanced r (next_round r (has_hole s))) (state_behind o (next_played r s n)) (number_behind o (next_played r s n)) front p → PlayedFrom o r s n (q ∷ front) p
 found_later o r s n q front p same h =
-    let P : Played → Type 0 = λ u. PlayedFrom o s n (u ∷ front) p in
-    subst P same (
-      h.0 ∙ sym (replay_append o.defs s (changes_in o (next_played r s n)) (history_in o front) ∙ ap (λ u. replay o.defs u (history_in o front)) (replay_round o (next_played r s n))),
-      (let a = h.1 in let l = length-append (changes_in o (next_played r s n)) (history_in o front) in omega arith),
-      h.2,
-    )
+    let P : Played → Type 0 = λ u. PlayedFrom o r s n (u ∷ front) p in
+    subst P same (record {
+      locks = h.locks;
+      left = h.left;
+      state = h.state ∙ sym (replay_append o.defs s (changes_in o (next_played r s n)) (history_in o front) ∙ ap (λ u. replay o.defs u (history_in o front)) (replay_round o (next_played r s n)));
+      before = (let a = h.before in let l = length-append (changes_in o (next_played r s n)) (history_in o front) in omega arith);
+      round = h.round;
+    })
 
-played_from : (o : Opening) (fuel : ℕ) (r : LockState) (s : TableState) (n : ℕ) (front back : List Played) (p : Played) → rounds o fuel r s n ≡ front ++ p ∷ back → PlayedFrom o s n front p
+played_from : (o : Opening) (fuel : ℕ) (r : LockState) (s : TableState) (n : ℕ) (front back : List Played) (p : Played) → rounds o fuel r s n ≡ front ++ p ∷ back → PlayedFrom o r s n front p
 played_from o zero r s n [] back p e = cc
 played_from o zero r s n (q ∷ front) back p e = cc
-played_from o (suc fuel) r s n [] back p e = go (has_steps r) e
+played_from o (suc fuel) r s n [] back p e = go (has_steps r) refl e
   where
-    go : (b : Bool) → cond b (next_played r s n ∷ later_rounds o fuel r s n) [] ≡ p ∷ back → PlayedFrom o s n [] p
-    go true h = found_first o r s n p (let k = h in cc)
-    go false h = cc
+    go : (b : Bool) → has_steps r ≡ b → cond b (next_played r s n ∷ later_rounds o fuel r s n) [] ≡ p ∷ back → PlayedFrom o r s n [] p
+    go true left h = found_first o r s n p left (let k = h in cc)
+    go false left h = cc
 played_from o (suc fuel) r s n (q ∷ front) back p e =
     go (has_steps r) e (λ h. played_from o fuel (advanced r (next_round r (has_hole s))) (state_behind o (next_played r s n)) (number_behind o (next_played r s n)) front back p h)
   where
     go : (b : Bool) → cond b (next_played r s n ∷ later_rounds o fuel r s n) [] ≡ q ∷ (front ++ p ∷ back)
-        → (later_rounds o fuel r s n ≡ front ++ p ∷ back → PlayedFrom o (state_behind o (next_played r s n)) (number_behind o (next_played r s n)) front p) → PlayedFrom o s n (q ∷ front) p
+        → (later_rounds o fuel r s n ≡ front ++ p ∷ back → PlayedFrom o (advanced r (next_round r (has_hole s))) (state_behind o (next_played r s n)) (number_behind o (next_played r s n)) front p) → PlayedFrom o r s n (q ∷ front) p
     go true h ih = found_later o r s n q front p (let k = h in cc) (ih (let k = h in cc))
     go false h ih = cc
 
@@ -89,4 +101,32 @@ pub is_played : (o : Opening) (front back : List Played) (p : Played) → rounds
 unfolding rounds_of
 is_played o front back p e =
     let h = played_from o (steps_left (first_locks o).sessions) (first_locks o) o.base 0 front back p e in
-    record { state = h.0; before = h.1 ∙ omega arith; round = h.2 ∙ ap (λ s. next_round p.locks (has_hole s)) h.0 }
+    record { locks = h.locks; left = h.left; state = h.state; before = h.before ∙ omega arith; round = h.round ∙ ap (λ s. next_round p.locks (has_hole s)) h.state }
+
+-- ---- to the end
+
+done_in : (o : Opening) (fuel : ℕ) (r : LockState) (s : TableState) (n : ℕ) → IsLawful r.sessions → steps_left r.sessions ≤ fuel → has_steps (locks_behind r (rounds o fuel r s n)) ≡ false
+done_in o zero r s n lawful few = finished r false (rounds_end r [] false lawful few)
+done_in o (suc fuel) r s n lawful few =
+    go (has_steps r) refl (λ less. done_in o fuel (advanced r (next_round r (has_hole s))) (state_behind o (next_played r s n)) (number_behind o (next_played r s n)) (kept r (has_hole s) lawful) less)
+  where
+    go : (b : Bool) → has_steps r ≡ b
+        → (steps_left (advanced r (next_round r (has_hole s))).sessions ≤ fuel → has_steps (locks_behind (advanced r (next_round r (has_hole s))) (later_rounds o fuel r s n)) ≡ false)
+        → has_steps (locks_behind r (cond b (next_played r s n ∷ later_rounds o fuel r s n) [])) ≡ false
+    go true left ih = ih (let l = fewer r (has_hole s) lawful left in omega arith)
+    go false left ih = left
+
+pub none_left : (o : Opening) → MayRun o.defs o.lines → has_steps (locks_behind (first_locks o) (rounds_of o)) ≡ false
+unfolding rounds_of
+none_left o run = done_in o (steps_left (first_locks o).sessions) (first_locks o) o.base 0 (opens o.setting (script_steps o.lines) (steps_run o.defs o.lines run)) (omega arith)
+
+history_more : (o : Opening) (ps qs : List Played) → history_in o (ps ++ qs) ≡ history_in o ps ++ history_in o qs
+history_more o [] qs = refl
+history_more o (p ∷ ps) qs = ap (λ cs. changes_in o p ++ cs) (history_more o ps qs) ∙ sym (append_assoc (changes_in o p) (history_in o ps) (history_in o qs))
+
+pub replay_all : (o : Opening) (front : List Played) (p : Played) → rounds_of o ≡ front ++ p ∷ [] → state_behind o p ≡ replay o.defs o.base (history o)
+replay_all o front p e =
+    sym (replay_round o p) ∙ ap (λ s. replay o.defs s (changes_in o p)) (is_played o front [] p e).state
+    ∙ sym (replay_append o.defs o.base (history_in o front) (changes_in o p))
+    ∙ ap (λ cs. replay o.defs o.base cs)
+    (ap (λ cs. history_in o front ++ cs) (sym (append-nil (changes_in o p))) ∙ sym (history_more o front (p ∷ [])) ∙ ap (λ ps. history_in o ps) (sym e))

@@ -1,6 +1,6 @@
 -- The rounds of a script on a table, and its history: the changes that the table accepts, round by round. In a round at most one
 -- session changes the table, so the history depends on nothing else than how the script begins.
-use Rattle.std.specs.Prelude.{ℕ, zero, suc, ◌+◌, Bool, ◌&&◌, ◌||◌, not, is_some, List, [], ◌∷◌, ◌++◌, length, Option, Some, None, if◌then◌else◌}
+use Rattle.std.specs.Prelude.{ℕ, zero, suc, ◌+◌, Bool, ◌&&◌, ◌||◌, not, is_some, List, [], ◌∷◌, ◌++◌, length, fold, Option, Some, None, if◌then◌else◌}
 use Rattle.std.specs.List.{flat_map}
 use Rattle.myi_defs.specs.declared.types.Defs.{Defs}
 use Rattle.myi_dellist.specs.Standing.{first_or}
@@ -121,3 +121,7 @@ history_in o ps = flat_map (changes_in o) ps
 -- the history of a script
 abbrev pub history : Opening → List Change
 history o = history_in o (rounds_of o)
+
+-- the locks behind rounds that are done one after the other
+abbrev pub locks_behind : LockState → List Played → LockState
+locks_behind r ps = fold (λ q p. advanced q p.round) r ps

@@ -5,9 +5,9 @@ use Rattle.myi_keycache.specs.declared.setup.Counters.{Counters}
 use Rattle.myi_state.specs.Changes.{replay}
 use Rattle.myi_locks.specs.declared.steps.Step.{Step}
 use Rattle.myi_locks.specs.Steps.{is_read}
-use Rattle.myi_locks.specs.Rounds.{next_round}
+use Rattle.myi_locks.specs.Rounds.{next_round, has_steps}
 use Rattle.myi_locks.specs.Done.{steps_of}
-use Rattle.myi_history.specs.History.{Opening, Played, reads_only, has_hole, changes_in, history_in, rounds_of}
+use Rattle.myi_history.specs.History.{Opening, Played, reads_only, has_hole, changes_in, history_in, first_locks, rounds_of, locks_behind}
 use Rattle.myi_history.specs.Text.{Numbers, no_numbers}
 use Rattle.myi_history.specs.Bounds.{Seen, number_at, taken_by, is_stats, CountersRise}
 
@@ -47,8 +47,11 @@ StatsRise last (p ∷ ps) (ns ∷ c) =
 
 -- ---- what the laws say
 
--- The table before a round is the replay of the history so far, and the round is found with that table's holes.
+-- The locks before a round are those behind the rounds before it, and a step is left; the table is the replay of the history so
+-- far; and the round is the next one of these locks with that table's holes.
 pub record IsPlayed (o : Opening) (front : List Played) (p : Played) : Type 0 where
+  pub locks : p.locks ≡ locks_behind (first_locks o) front
+  pub left : has_steps p.locks ≡ true
   pub state : p.state ≡ replay o.defs o.base (history_in o front)
   pub before : p.before ≡ length (history_in o front)
   pub round : p.round ≡ next_round p.locks (has_hole (replay o.defs o.base (history_in o front)))

@@ -1,6 +1,6 @@
 //! Laws over histories and texts of scripts. Each is the contract of a function that does nothing, so that it is proved with
 //! the crate and stands for the crates above.
-ghost use Rattle.std.specs.Prelude.{◌≡◌, ◌++◌, [], ◌∷◌, ◌≤◌, ℕ, Bool, List, map, length, Some, Err};
+ghost use Rattle.std.specs.Prelude.{◌≡◌, ◌++◌, [], ◌∷◌, ◌≤◌, ℕ, Bool, false, List, map, length, Some, Err};
 ghost use Rattle.myi_defs.specs.declared.types.Defs.{Defs};
 ghost use Rattle.myi_defs.specs.Sound.{IsSound};
 ghost use Rattle.myi_history.specs.Appending.{AreAppends, rows_before};
@@ -11,10 +11,11 @@ ghost use Rattle.myi_tablestate.specs.Matching.{Bounds, AreMatching};
 ghost use Rattle.myi_history.specs.Reads.{rows_between};
 ghost use Rattle.myi_tablestate.specs.Keyed.{KeyedRefusal, keyed_step};
 ghost use Rattle.myi_locks.specs.Script as locks;
+ghost use Rattle.myi_locks.specs.Rounds.{has_steps};
 ghost use Rattle.myi_script.specs.declared.types.Line.{Line};
 ghost use Rattle.myi_script.specs.Script.{IsScript};
 ghost use Rattle.myi_history.specs.Lines.{MayRun, script_steps};
-ghost use Rattle.myi_history.specs.History.{Opening, Played, rounds_of, history, history_in, changes_in, state_behind, first_locks, accepted_of, stepped_by};
+ghost use Rattle.myi_history.specs.History.{Opening, Played, rounds_of, history, changes_in, state_behind, first_locks, locks_behind, accepted_of, stepped_by};
 ghost use Rattle.myi_history.specs.Text.{Numbers, no_numbers};
 ghost use Rattle.myi_history.specs.Bounds.{AreWithin};
 ghost use Rattle.myi_history.specs.OneThread.{IsPlayed, in_turn, HaveReadsInTurn, StatsRise};
@@ -59,11 +60,21 @@ pub fn refused_changes_leave()
         → (keyed_step d s c).reply ≡ Err r → stepped_by d s (Some c) ≡ s }
 {}
 
-/// The table before each round is the replay of the history so far, which has as many changes as were accepted before, and
-/// the round is found with that table's holes.
+/// Before each round the locks are those behind the rounds before it, and a step is left; the table
+/// is the replay of the history so far, which has as many changes as were accepted before; and the
+/// round is the next one of these locks with that table's holes.
 pub fn rounds_follow_the_history()
     ensures { (o : Opening) (front back : List Played) (p : Played)
         → rounds_of o ≡ front ++ p ∷ back → IsPlayed o front p }
+{}
+
+/// The rounds go to the end of the script: where its lines may run, no step is left behind them. The
+/// table behind the last round is the replay of the history.
+pub fn rounds_are_whole()
+    ensures done { (o : Opening) → MayRun o.defs o.lines
+        → has_steps (locks_behind (first_locks o) (rounds_of o)) ≡ false }
+    ensures table { (o : Opening) (front : List Played) (p : Played)
+        → rounds_of o ≡ front ++ p ∷ [] → state_behind o p ≡ replay o.defs o.base (history o) }
 {}
 
 /// The numbers of a run on one thread, whose reads go before the inserts of their round, are within

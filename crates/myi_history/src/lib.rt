@@ -25,7 +25,7 @@ mod lines;
 pub use answers::AnswerTexts;
 pub use laws::{
     appended_rows_stand_behind, histories_are_replayed, numbers_are_forced_alone,
-    numbers_can_be_given, ranges_find_matching_rows, refused_changes_leave,
+    numbers_can_be_given, ranges_find_matching_rows, refused_changes_leave, rounds_are_whole,
     rounds_follow_the_history, scripts_may_run,
 };
 pub use lines::script_steps;
