@@ -1,4 +1,7 @@
 //! `AnswerTexts`: the buffers that serve for the lines of many answers.
+//!
+//! Where memory runs out, a line that is appended at once is not appended at all (`same`). Of the
+//! lines of rows (`push_found`, `push_row`) nothing is said then.
 ghost use Rattle.std.specs.Prelude.{◌≡◌, ◌++◌, decimal, string_bytes, OnOk};
 ghost use Rattle.myi_history.specs.Answers.{numbered, gets_text, puts_text, counters_text};
 
@@ -8,16 +11,23 @@ use myi_rowtext::RowTexts;
 use std::alloc::{AllocError, Global};
 
 /// Buffers for the words of a line and for the text of a row.
-#[derive(Drop)]
 pub struct AnswerTexts {
     words: String,
     rows: RowTexts,
 }
 
+impl Drop for AnswerTexts {
+    fn drop(self) {
+        let AnswerTexts { words: _, rows: _ } = self;
+    }
+}
+
 impl AnswerTexts {
-    ghost use Rattle.std.specs.Prelude.{◌≡◌, ◌++◌, OnOk};
+    ghost use Rattle.std.specs.Prelude.{◌≡◌, ◌++◌, OnOk, OnErr};
     ghost use Rattle.myi_tablestate.specs.Keyed.{lacks, duplicate, too_long};
-    ghost use Rattle.myi_history.specs.Answers.{answer_text, made, refused, locked_for_read, done, counted, rows, count_text, numbered, row_line, row_lines};
+    ghost use Rattle.myi_history.specs.Answers.{answer_text, made, refused, locked_for_read};
+    ghost use Rattle.myi_history.specs.Answers.{done, counted, rows, count_text, numbered};
+    ghost use Rattle.myi_history.specs.Answers.{row_line, row_lines};
 
     /// Empty buffers, for which no memory is taken.
     pub fn new(alloc: Global) -> AnswerTexts {
@@ -29,7 +39,8 @@ impl AnswerTexts {
 
     /// Appends the line of a change that was made at a position.
     pub fn push_made(&mut self, out: &mut Vec<u8>, line: u32, at: u64) -> Result<(), AllocError>
-        ensures { OnOk result (out.new.items ≡ out.old.items ++ answer_text line (made at)) }
+        ensures text { OnOk result (out.new.items ≡ out.old.items ++ answer_text line (made at)) }
+        ensures same { OnErr result (out.new.items ≡ out.old.items) }
     {
         self.words.clear();
         write!(self.words, "{line} ok {at}\n")?;
@@ -38,7 +49,8 @@ impl AnswerTexts {
 
     /// Appends the line of a lock that was taken or given up, or of a session that ended.
     pub fn push_done(&mut self, out: &mut Vec<u8>, line: u32) -> Result<(), AllocError>
-        ensures { OnOk result (out.new.items ≡ out.old.items ++ answer_text line done) }
+        ensures text { OnOk result (out.new.items ≡ out.old.items ++ answer_text line done) }
+        ensures same { OnErr result (out.new.items ≡ out.old.items) }
     {
         self.words.clear();
         write!(self.words, "{line} ok\n")?;
@@ -47,7 +59,9 @@ impl AnswerTexts {
 
     /// Appends the line of a change that is refused, since its session holds a read lock.
     pub fn push_locked(&mut self, out: &mut Vec<u8>, line: u32) -> Result<(), AllocError>
-        ensures { OnOk result (out.new.items ≡ out.old.items ++ answer_text line locked_for_read) }
+        ensures text { OnOk result (out.new.items
+            ≡ out.old.items ++ answer_text line locked_for_read) }
+        ensures same { OnErr result (out.new.items ≡ out.old.items) }
     {
         self.words.clear();
         write!(self.words, "{line} locked for read\n")?;
@@ -57,16 +71,17 @@ impl AnswerTexts {
 
     /// Appends the line of a change that is refused, since no row stands at its position.
     pub fn push_no_row(&mut self, out: &mut Vec<u8>, line: u32, at: u64) -> Result<(), AllocError>
-        ensures { OnOk result (out.new.items
+        ensures text { OnOk result (out.new.items
             ≡ out.old.items ++ answer_text line (refused (lacks at))) }
+        ensures same { OnErr result (out.new.items ≡ out.old.items) }
     {
         self.words.clear();
         write!(self.words, "{line} no row {at}\n")?;
         out.extend_from_slice(self.words.as_bytes())
     }
 
-    /// Appends the line of a change that is refused, since the row at a position has the complete key in the unique
-    /// key of that number.
+    /// Appends the line of a change that is refused, since the row at a position has the complete
+    /// key in the unique key of that number.
     pub fn push_duplicate(
         &mut self,
         out: &mut Vec<u8>,
@@ -74,18 +89,21 @@ impl AnswerTexts {
         key: u64,
         at: u64,
     ) -> Result<(), AllocError>
-        ensures { OnOk result (out.new.items
+        ensures text { OnOk result (out.new.items
             ≡ out.old.items ++ answer_text line (refused (duplicate key at))) }
+        ensures same { OnErr result (out.new.items ≡ out.old.items) }
     {
         self.words.clear();
         write!(self.words, "{line} duplicate key {key} at {at}\n")?;
         out.extend_from_slice(self.words.as_bytes())
     }
 
-    /// Appends the line of a change that is refused, since row pointers would not reach the whole file.
+    /// Appends the line of a change that is refused, since row pointers would not reach the whole
+    /// file.
     pub fn push_full(&mut self, out: &mut Vec<u8>, line: u32) -> Result<(), AllocError>
-        ensures { OnOk result (out.new.items
+        ensures text { OnOk result (out.new.items
             ≡ out.old.items ++ answer_text line (refused too_long)) }
+        ensures same { OnErr result (out.new.items ≡ out.old.items) }
     {
         self.words.clear();
         write!(self.words, "{line} full\n")?;
@@ -99,8 +117,9 @@ impl AnswerTexts {
         line: u32,
         counters: Counters,
     ) -> Result<(), AllocError>
-        ensures { OnOk result (out.new.items
+        ensures text { OnOk result (out.new.items
             ≡ out.old.items ++ answer_text line (counted counters)) }
+        ensures same { OnErr result (out.new.items ≡ out.old.items) }
     {
         self.words.clear();
         write_counters(&mut self.words, line, counters)?;
@@ -116,8 +135,9 @@ impl AnswerTexts {
         count: u64,
         number: u64,
     ) -> Result<(), AllocError>
-        ensures { OnOk result (out.new.items
+        ensures text { OnOk result (out.new.items
             ≡ out.old.items ++ numbered line (count_text count number)) }
+        ensures same { OnErr result (out.new.items ≡ out.old.items) }
     {
         self.words.clear();
         write!(self.words, "{line} rows {count} at {number}\n")?;

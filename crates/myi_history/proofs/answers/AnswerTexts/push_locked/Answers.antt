@@ -2,8 +2,8 @@ use Rattle.std.proofs.Common.{◌++◌, ◌∙◌, ap, codes}
 use Rattle.myi_history.specs.Answers.{numbered}
 use Rattle.myi_history.proofs.answers.AnswerTexts.push_locked.Goals as goal
 
-pub returns : goal.returns
-returns c =
+pub returns-clause-text : goal.returns-clause-text
+returns-clause-text c =
     c.in_ok-extend_from_slice.ensures.items
     ∙ ap (λ bs. c.args.out.now.items ++ bs)
     (c.as_bytes.ensures.value ∙ c.in_ok-write.ensures.bytes ∙ ap (λ bs. bs ++ numbered c.args.line (codes " locked for read")) c.clear.ensures.bytes)
