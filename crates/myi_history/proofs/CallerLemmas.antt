@@ -3,7 +3,19 @@
 -- scripts_may_run
 pub use Rattle.myi_history.proofs.LineLemmas.{steps_run}
 pub use Rattle.myi_history.proofs.GrammarLemmas.{lines_run}
+-- ranges_find_matching_rows
+pub use Rattle.myi_history.proofs.ReadLemmas.{are_matching, matching_once}
 -- histories_are_replayed
 pub use Rattle.myi_history.proofs.ReplayLemmas.{replay_append, replay_round}
+-- appended_rows_stand_behind
+pub use Rattle.myi_history.proofs.AppendLemmas.{appends_stand_behind}
+-- refused_changes_leave
+pub use Rattle.myi_history.proofs.ReplayLemmas.{not_made, stays}
 -- rounds_follow_the_history
 pub use Rattle.myi_history.proofs.ReplayLemmas.{is_played}
+-- rounds_are_whole
+pub use Rattle.myi_history.proofs.ReplayLemmas.{none_left, replay_all}
+-- numbers_can_be_given
+pub use Rattle.myi_history.proofs.NumberLemmas.{counted_fit, in_turn_fits}
+-- numbers_are_forced
+pub use Rattle.myi_history.proofs.ForcedLemmas.{forced_once, one_session}

@@ -16,7 +16,7 @@ use Rattle.myi_locks.proofs.CallerLemmas.{one_kind, still_one}
 use Rattle.myi_script.specs.declared.types.Line.{Line}
 use Rattle.myi_history.specs.History.{Opening, Played, asks, reads_only, changes, next_played, state_behind, number_behind, rounds, first_locks, rounds_of, has_hole}
 use Rattle.myi_history.specs.Text.{Numbers}
-use Rattle.myi_history.specs.Bounds.{Seen, Past, number_at, ReadFits, ReadsFit, IsBetween, noted, past_reads, own_in, past_behind, FitFrom, AreWithin, nothing_past}
+use Rattle.myi_history.specs.Bounds.{Seen, Past, number_at, ReadFits, ReadsFit, IsBetween, noted, past_reads, own_in, RoundFits, past_behind, FitFrom, AreWithin, nothing_past}
 use Rattle.myi_history.specs.OneThread.{IsForced}
 use Rattle.myi_history.proofs.ReplayLemmas.{later_rounds}
 
@@ -80,6 +80,9 @@ same_round o p past ns ms forced f g = elim forced [
   | inl none ↦ same_reads p (number_behind o p) past (steps_of p.round) ns ms (let n = ap length none in omega arith) f g
   | inr quiet ↦ no_reads p (number_behind o p) past (steps_of p.round) ns quiet f ∙ sym (no_reads p (number_behind o p) past (steps_of p.round) ms quiet g)
 ]
+
+pub forced_once : (o : Opening) (past : Past) (p : Played) (c e : Numbers) → IsForced o p → RoundFits o past p c → RoundFits o past p e → c.reads ≡ e.reads
+forced_once o past p c e forced f g = same_round o p past c.reads e.reads forced f.0 g.0
 
 pub forced : (o : Opening) (ps : List Played) (past : Past) (k : Counters) (c d : List Numbers) → AllByRecursion (IsForced o) ps → FitFrom o past ps c → FitFrom o (past_of past.numbers past.taken k) ps d → map (λ (n : Numbers). n.reads) c ≡ map (λ (n : Numbers). n.reads) d
 forced o [] past k c d h f g = ap (map (λ (n : Numbers). n.reads)) (f ∙ sym g)

@@ -96,7 +96,7 @@ abbrev pub is_stats_kind : StepKind → Bool
 is_stats_kind kind.Stats = true
 is_stats_kind other = false
 
--- the step of a `stats`, which goes alone
+-- these steps are that of a `stats`, which goes alone
 abbrev pub is_stats : List Step → Bool
 is_stats (x ∷ []) = is_stats_kind x.kind
 is_stats xs = false

@@ -8,11 +8,11 @@ pub mod Reads
 pub mod Answers
 -- the rounds of a script on a table, and the changes that the table accepts
 pub mod History
--- what a script prints, by the numbers that its reads are given
+-- what a script prints, by the numbers that its reads are given and what its `stats` count
 pub mod Text
 -- which numbers its reads may be given
 pub mod Bounds
 -- inserts at the end, and the rows that stand before them
 pub mod Appending
--- the numbers of a run on one thread
+-- the numbers of a run on one thread, and what the laws say of rounds
 pub mod OneThread

@@ -1,5 +1,5 @@
--- What a script prints, by the numbers that its reads are given. The lines of a round are printed behind it, in order of their
--- numbers.
+-- What a script prints, by the numbers that its reads are given and the counters that its `stats` print. The lines of a round are
+-- printed behind it, in order of their numbers.
 use Rattle.std.specs.Prelude.{ℕ, Bool, true, false, ◌==◌, nat_lt, List, [], ◌∷◌, ◌++◌, take, drop, fold, slice_index, Option, Some, None, if◌then◌else◌}
 use Rattle.std.specs.List.{flat_map}
 use Rattle.myi_keycache.specs.declared.setup.Counters.{Counters}

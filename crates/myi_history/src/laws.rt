@@ -1,5 +1,5 @@
-//! Laws over histories and texts of scripts. Each is the contract of a function that does nothing, so that it is proved with
-//! the crate and stands for the crates above.
+//! Laws over histories and texts of scripts. Each is the contract of a function that does nothing,
+//! so that it is proved with the crate and stands for the crates above.
 ghost use Rattle.std.specs.Prelude.{◌≡◌, ◌++◌, [], ◌∷◌, ◌≤◌, ℕ, Bool, false, List, map, length, Some, Err};
 ghost use Rattle.myi_defs.specs.declared.types.Defs.{Defs};
 ghost use Rattle.myi_defs.specs.Sound.{IsSound};
@@ -17,24 +17,25 @@ ghost use Rattle.myi_script.specs.Script.{IsScript};
 ghost use Rattle.myi_history.specs.Lines.{MayRun, script_steps};
 ghost use Rattle.myi_history.specs.History.{Opening, Played, rounds_of, history, changes_in, state_behind, first_locks, locks_behind, accepted_of, stepped_by};
 ghost use Rattle.myi_history.specs.Text.{Numbers, no_numbers};
-ghost use Rattle.myi_history.specs.Bounds.{AreWithin};
-ghost use Rattle.myi_history.specs.OneThread.{IsPlayed, in_turn, HaveReadsInTurn, StatsRise};
+ghost use Rattle.myi_history.specs.Bounds.{Past, RoundFits, AreWithin};
+ghost use Rattle.myi_history.specs.OneThread.{IsPlayed, IsForced, in_turn, HaveReadsInTurn, StatsRise};
 
-/// The lines of a text in the grammar are those of a script that may run, and the steps of such lines are what `Locks::new`
-/// asks for.
+/// The lines of a text in the grammar are those of a script that may run, and the steps of such
+/// lines are what `Locks::new` asks for.
 pub fn scripts_may_run()
     ensures lines { (merge : Bool) (d : Defs) (text : List ℕ) (ls : List Line)
         → IsScript merge d text ls → MayRun d ls }
     ensures steps { (d : Defs) (ls : List Line) → MayRun d ls → locks.IsScript (script_steps ls) }
 {}
 
-/// What a range finds are the rows of the table whose key lies between its bounds, in order of key and position, and no other
-/// list of them is in that order.
+/// What a range finds are the rows of the table whose key lies between its bounds, in order of key
+/// and position, and no other list of them is in that order.
 pub fn ranges_find_matching_rows()
     ensures matching { (d : Defs) (k : ℕ) (bounds : Bounds) (rows : List StoredRow)
         → AreMatching d k bounds rows (rows_between d k bounds rows) }
     ensures once { (d : Defs) (s : TableState) (k : ℕ) (bounds : Bounds) (found : List StoredRow)
-        → IsState d s → AreMatching d k bounds s.rows found → found ≡ rows_between d k bounds s.rows }
+        → IsState d s → AreMatching d k bounds s.rows found
+        → found ≡ rows_between d k bounds s.rows }
 {}
 
 /// Changes replayed one after the other are replayed from where the ones before lead to.
@@ -45,8 +46,9 @@ pub fn histories_are_replayed()
         → replay o.defs p.state (changes_in o p) ≡ state_behind o p }
 {}
 
-/// Rows that are inserted at the end stand behind the end that was: those before it are the rows of the table as it was then. So a
-/// session that took READ or READ LOCAL finds its rows below the length of the data file that it took the lock at.
+/// Rows that are inserted at the end stand behind the end that was: those before it are the rows of
+/// the table as it was then. So a session that took READ or READ LOCAL finds its rows below the
+/// length of the data file that it took the lock at.
 pub fn appended_rows_stand_behind()
     ensures { (d : Defs) (s : TableState) (cs : List Change) → IsSound d → IsState d s
         → AreAppends d cs → rows_before s.space.end (replay d s cs).rows ≡ s.rows }
@@ -68,8 +70,8 @@ pub fn rounds_follow_the_history()
         → rounds_of o ≡ front ++ p ∷ back → IsPlayed o front p }
 {}
 
-/// The rounds go to the end of the script: where its lines may run, no step is left behind them. The
-/// table behind the last round is the replay of the history.
+/// The rounds go to the end of the script: where its lines may run, no step is left behind them.
+/// The table behind the last round is the replay of the history.
 pub fn rounds_are_whole()
     ensures done { (o : Opening) → MayRun o.defs o.lines
         → has_steps (locks_behind (first_locks o) (rounds_of o)) ≡ false }
@@ -78,16 +80,19 @@ pub fn rounds_are_whole()
 {}
 
 /// The numbers of a run on one thread, whose reads go before the inserts of their round, are within
-/// their bounds, with any counters that rise from one `stats` to the next; so they are where nothing
-/// is counted.
+/// their bounds, with any counters that rise from one `stats` to the next; so they are where
+/// nothing is counted.
 pub fn numbers_can_be_given()
     ensures counted { (o : Opening) (c : List Numbers) → HaveReadsInTurn o c
         → StatsRise no_numbers.counters (rounds_of o) c → AreWithin o c }
     ensures zeros { (o : Opening) → AreWithin o (in_turn [] (rounds_of o)) }
 {}
 
-/// With one session the bounds leave one number for each read.
-pub fn numbers_are_forced_alone()
-    ensures { (o : Opening) (c e : List Numbers) → length (first_locks o).sessions ≤ 1
+/// In a round that accepts no change, or reads nothing, the bounds leave one number for each read
+/// (`round`). With one session so it is in all rounds (`alone`).
+pub fn numbers_are_forced()
+    ensures round { (o : Opening) (past : Past) (p : Played) (c e : Numbers) → IsForced o p
+        → RoundFits o past p c → RoundFits o past p e → c.reads ≡ e.reads }
+    ensures alone { (o : Opening) (c e : List Numbers) → length (first_locks o).sessions ≤ 1
         → AreWithin o c → AreWithin o e → map (λ n. n.reads) c ≡ map (λ n. n.reads) e }
 {}
