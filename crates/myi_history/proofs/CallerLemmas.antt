@@ -12,7 +12,7 @@ pub use Rattle.myi_history.proofs.AppendLemmas.{appends_stand_behind}
 -- refused_changes_leave
 pub use Rattle.myi_history.proofs.ReplayLemmas.{not_made, stays}
 -- rounds_follow_the_history
-pub use Rattle.myi_history.proofs.ReplayLemmas.{is_played}
+pub use Rattle.myi_history.proofs.ReplayLemmas.{follows_history}
 -- rounds_are_whole
 pub use Rattle.myi_history.proofs.ReplayLemmas.{none_left, replay_all}
 -- numbers_can_be_given

@@ -13,7 +13,7 @@ use Rattle.myi_script.specs.declared.types.Line.{Line}
 use Rattle.myi_locks.specs.Rounds.{next_round, case_at_once, case_write_held, case_write, case_write_waits, case_takes_read, case_together}
 use Rattle.myi_tablestate.specs.Keyed.{keyed_step, keyed_refusal}
 use Rattle.myi_defs.specs.Addressable.{is_addressable}
-use Rattle.myi_history.specs.Answers.{Said, Answer, made, rows, done, locked_for_read}
+use Rattle.myi_history.specs.Answers.{LineAnswer, Answer, made, rows, done, locked_for_read}
 use Rattle.myi_history.specs.History.{Opening, history, rounds_of}
 use Rattle.myi_history.specs.Text.{Numbers, script_said, no_numbers}
 use Rattle.myi_history.specs.OneThread.{in_turn}
@@ -56,7 +56,7 @@ never = refl
 abbrev pub n : List ℕ → Numbers
 n ns = record { reads = ns; counters = no_numbers.counters }
 
-abbrev pub says : Said → ℕ
+abbrev pub says : LineAnswer → ℕ
 says s = s.line
 
 two_lines : map says (script_said (begun 2) (n (1 ∷ []) ∷ n [] ∷ n (2 ∷ []) ∷ n [] ∷ n [] ∷ [])) ≡ 1 ∷ 2 ∷ 3 ∷ 4 ∷ 5 ∷ []
@@ -78,7 +78,7 @@ code_of done = 2000
 code_of locked_for_read = 3000
 code_of other = 9999
 
-abbrev pub shown : Said → List ℕ
+abbrev pub shown : LineAnswer → List ℕ
 shown s = s.line ∷ code_of s.answer ∷ []
 
 abbrev pub in_order : Opening → List (List ℕ)

@@ -22,12 +22,12 @@ by_reply (Ok at) = made at
 by_reply (Err r) = refused r
 
 -- an answer, and the number of the line that it answers
-pub record Said : Type 0 where
+pub record LineAnswer : Type 0 where
   pub line : ℕ
   pub answer : Answer
 
-abbrev pub said_on : ℕ → Answer → Said
-said_on n a = record { line = n; answer = a }
+abbrev pub answer_on : ℕ → Answer → LineAnswer
+answer_on n a = record { line = n; answer = a }
 
 -- ---- what is printed
 
@@ -71,5 +71,5 @@ answer_text n done = numbered n (codes " ok")
 answer_text n (rows found number) = numbered n (count_text (length found) number) ++ row_lines found
 answer_text n (counted c) = numbered n (counters_text c)
 
-abbrev pub said_text : Said → List ℕ
+abbrev pub said_text : LineAnswer → List ℕ
 said_text s = answer_text s.line s.answer

@@ -14,48 +14,48 @@ use Rattle.myi_locks.specs.declared.steps.Round.{Round}
 use Rattle.myi_locks.specs.declared.steps.Round.TheVariants.{Finished, Alone, Together}
 use Rattle.myi_locks.specs.Steps.{is_read, takes_read}
 use Rattle.myi_locks.specs.Done.{steps_of}
-use Rattle.myi_history.specs.History.{Opening, Played, asked_in, reads_only, accepted_of, stepped_by, number_behind, rounds_of}
+use Rattle.myi_history.specs.History.{Opening, ScriptRound, asked_in, reads_only, accepted_of, stepped_by, number_behind, rounds_of}
 use Rattle.myi_history.specs.Text.{Numbers, no_numbers}
 
 -- a session and a number
-abbrev pub Seen : Type 0
-Seen = ℕ × ℕ
+abbrev pub SessionNumber : Type 0
+SessionNumber = ℕ × ℕ
 
 -- what stands before a round: the numbers of the sessions' reads and own changes; the number of changes at each session's Take of
 -- READ or READ LOCAL, the last one first; and what was counted last
-pub record Past : Type 0 where
-  pub numbers : List Seen
-  pub taken : List Seen
+pub record PastNumbers : Type 0 where
+  pub numbers : List SessionNumber
+  pub taken : List SessionNumber
   pub counters : Counters
 
-abbrev pub nothing_past : Past
+abbrev pub nothing_past : PastNumbers
 nothing_past = record { numbers = []; taken = []; counters = no_numbers.counters }
 
 -- the first number of that session
-abbrev pub number_at : ℕ → List Seen → ℕ
+abbrev pub number_at : ℕ → List SessionNumber → ℕ
 number_at n [] = 0
 number_at n (t ∷ ts) = if t.0 == n then t.1 else number_at n ts
 
 -- ---- reads
 
 -- a number between the changes before a round and those behind it, and at least each number that the session has seen
-pub record IsBetween (before behind session : ℕ) (numbers : List Seen) (n : ℕ) : Type 0 where
+pub record IsBetween (before behind session : ℕ) (numbers : List SessionNumber) (n : ℕ) : Type 0 where
   pub low : before ≤ n
   pub high : n ≤ behind
   pub own : AllByRecursion (λ m. m.0 ≡ session → m.1 ≤ n) numbers
 
 -- a read's number, in a round up to whose end there are so many changes
-abbrev pub ReadFits : Played → ℕ → Past → Step → ℕ → Type 0
+abbrev pub ReadFits : ScriptRound → ℕ → PastNumbers → Step → ℕ → Type 0
 ReadFits p behind past x n =
     MatchBool (reads_only p.locks x.session) (n ≡ number_at x.session past.taken)
     (IsBetween p.before behind x.session past.numbers n)
 
-abbrev pub noted : Past → ℕ → ℕ → Past
+abbrev pub noted : PastNumbers → ℕ → ℕ → PastNumbers
 noted past session n =
     record { numbers = (session, n) ∷ past.numbers; taken = past.taken; counters = past.counters }
 
 -- the reads of a round, each with its number
-abbrev pub ReadsFit : Played → ℕ → Past → List Step → List ℕ → Type 0
+abbrev pub ReadsFit : ScriptRound → ℕ → PastNumbers → List Step → List ℕ → Type 0
 ReadsFit p behind past [] ns = ns ≡ []
 ReadsFit p behind past (x ∷ xs) ns =
     MatchBool (is_read x.kind)
@@ -63,7 +63,7 @@ ReadsFit p behind past (x ∷ xs) ns =
     (ReadsFit p behind past xs ns)
 
 -- what is past behind them
-abbrev pub past_reads : Past → List Step → List ℕ → Past
+abbrev pub past_reads : PastNumbers → List Step → List ℕ → PastNumbers
 past_reads past [] ns = past
 past_reads past (x ∷ xs) ns =
     if is_read x.kind then past_reads (noted past x.session (slice_index ns 0)) xs (drop 1 ns)
@@ -72,14 +72,14 @@ past_reads past (x ∷ xs) ns =
 -- ---- changes, locks and counters
 
 -- the numbers of the sessions' own changes, where n changes stand before these steps
-abbrev pub own_numbers : Defs → (Step → Option Change) → TableState → ℕ → List Step → List Seen
+abbrev pub own_numbers : Defs → (Step → Option Change) → TableState → ℕ → List Step → List SessionNumber
 own_numbers d asked s n [] = []
 own_numbers d asked s n (x ∷ xs) =
     map (λ c. (x.session, n + 1)) (accepted_of d s (asked x))
     ++ own_numbers d asked (stepped_by d s (asked x)) (n + length (accepted_of d s (asked x))) xs
 
 -- a Take of READ or READ LOCAL goes alone; it notes the number of changes that stand then
-abbrev pub taken_by : ℕ → Round → List Seen
+abbrev pub taken_by : ℕ → Round → List SessionNumber
 taken_by n (Alone x) = if takes_read x.kind then (x.session, n) ∷ [] else []
 taken_by n Finished = []
 taken_by n (Together inserter readers) = []
@@ -103,15 +103,15 @@ is_stats xs = false
 
 -- ---- rounds
 
-abbrev pub RoundFits : Opening → Past → Played → Numbers → Type 0
+abbrev pub RoundFits : Opening → PastNumbers → ScriptRound → Numbers → Type 0
 RoundFits o past p ns =
     ReadsFit p (number_behind o p) past (steps_of p.round) ns.reads
     × (is_stats (steps_of p.round) ≡ true → CountersRise past.counters ns.counters)
 
-abbrev pub own_in : Opening → Played → List Seen
+abbrev pub own_in : Opening → ScriptRound → List SessionNumber
 own_in o p = own_numbers o.defs (asked_in o.lines p) p.state p.before (steps_of p.round)
 
-abbrev pub past_behind : Opening → Past → Played → Numbers → Past
+abbrev pub past_behind : Opening → PastNumbers → ScriptRound → Numbers → PastNumbers
 past_behind o past p ns =
     record {
       numbers = own_in o p ++ (past_reads past (steps_of p.round) ns.reads).numbers;
@@ -120,7 +120,7 @@ past_behind o past p ns =
     }
 
 -- one entry for each round
-abbrev pub FitFrom : Opening → Past → List Played → List Numbers → Type 0
+abbrev pub FitFrom : Opening → PastNumbers → List ScriptRound → List Numbers → Type 0
 FitFrom o past [] c = c ≡ []
 FitFrom o past (p ∷ ps) [] = ⊥
 FitFrom o past (p ∷ ps) (ns ∷ c) = RoundFits o past p ns × FitFrom o (past_behind o past p ns) ps c

@@ -73,37 +73,37 @@ state_after d asked s (x ∷ xs) = state_after d asked (stepped_by d s (asked x)
 -- ---- rounds
 
 -- a round: the locks and the table before it, and how many changes were accepted before it
-pub record Played : Type 0 where
+pub record ScriptRound : Type 0 where
   pub locks : LockState
   pub state : TableState
   pub before : ℕ
   pub round : Round
 
 -- what its steps ask
-abbrev pub asked_in : List Line → Played → Step → Option Change
+abbrev pub asked_in : List Line → ScriptRound → Step → Option Change
 asked_in ls p = asks ls p.locks (is_together p.round)
 
-abbrev pub changes_in : Opening → Played → List Change
+abbrev pub changes_in : Opening → ScriptRound → List Change
 changes_in o p = changes o.defs (asked_in o.lines p) p.state (steps_of p.round)
 
 -- the round that comes next
-abbrev pub next_played : LockState → TableState → ℕ → Played
-next_played r s n = record { locks = r; state = s; before = n; round = next_round r (has_hole s) }
+abbrev pub round_from : LockState → TableState → ℕ → ScriptRound
+round_from r s n = record { locks = r; state = s; before = n; round = next_round r (has_hole s) }
 
 -- the table behind a round
-abbrev pub state_behind : Opening → Played → TableState
+abbrev pub state_behind : Opening → ScriptRound → TableState
 state_behind o p = state_after o.defs (asked_in o.lines p) p.state (steps_of p.round)
 
 -- how many changes were accepted up to its end
-abbrev pub number_behind : Opening → Played → ℕ
+abbrev pub number_behind : Opening → ScriptRound → ℕ
 number_behind o p = p.before + length (changes_in o p)
 
 -- the rounds from these locks and this table on; there are no more than steps
-abbrev pub rounds : Opening → ℕ → LockState → TableState → ℕ → List Played
+abbrev pub rounds : Opening → ℕ → LockState → TableState → ℕ → List ScriptRound
 rounds o zero r s n = []
 rounds o (suc fuel) r s n =
     if has_steps r
-    then (let p : Played = next_played r s n in
+    then (let p : ScriptRound = round_from r s n in
     p ∷ rounds o fuel (advanced r p.round) (state_behind o p) (number_behind o p))
     else []
 
@@ -112,10 +112,10 @@ abbrev pub first_locks : Opening → LockState
 first_locks o = opening o.setting (script_steps o.lines)
 
 -- the rounds of a script
-unfoldable pub rounds_of : Opening → List Played
+unfoldable pub rounds_of : Opening → List ScriptRound
 rounds_of o = rounds o (steps_left (first_locks o).sessions) (first_locks o) o.base 0
 
-abbrev pub history_in : Opening → List Played → List Change
+abbrev pub history_in : Opening → List ScriptRound → List Change
 history_in o ps = flat_map (changes_in o) ps
 
 -- the history of a script
@@ -123,5 +123,5 @@ abbrev pub history : Opening → List Change
 history o = history_in o (rounds_of o)
 
 -- the locks behind rounds that are done one after the other
-abbrev pub locks_behind : LockState → List Played → LockState
+abbrev pub locks_behind : LockState → List ScriptRound → LockState
 locks_behind r ps = fold (λ q p. advanced q p.round) r ps

@@ -7,25 +7,25 @@ use Rattle.myi_locks.specs.declared.steps.Step.{Step}
 use Rattle.myi_locks.specs.Steps.{is_read}
 use Rattle.myi_locks.specs.Rounds.{next_round, has_steps}
 use Rattle.myi_locks.specs.Done.{steps_of}
-use Rattle.myi_history.specs.History.{Opening, Played, reads_only, has_hole, changes_in, history_in, first_locks, rounds_of, locks_behind}
+use Rattle.myi_history.specs.History.{Opening, ScriptRound, reads_only, has_hole, changes_in, history_in, first_locks, rounds_of, locks_behind}
 use Rattle.myi_history.specs.Text.{Numbers, no_numbers}
-use Rattle.myi_history.specs.Bounds.{Seen, number_at, taken_by, is_stats, CountersRise}
+use Rattle.myi_history.specs.Bounds.{SessionNumber, number_at, taken_by, is_stats, CountersRise}
 
 -- the number of a read
-abbrev pub number_now : Played → List Seen → Step → ℕ
+abbrev pub number_now : ScriptRound → List SessionNumber → Step → ℕ
 number_now p taken x = if reads_only p.locks x.session then number_at x.session taken else p.before
 
-abbrev pub numbers_now : Played → List Seen → List Step → List ℕ
+abbrev pub numbers_now : ScriptRound → List SessionNumber → List Step → List ℕ
 numbers_now p taken [] = []
 numbers_now p taken (x ∷ xs) =
     if is_read x.kind then number_now p taken x ∷ numbers_now p taken xs else numbers_now p taken xs
 
 -- the numbers of a round
-abbrev pub round_numbers : Played → List Seen → Counters → Numbers
+abbrev pub round_numbers : ScriptRound → List SessionNumber → Counters → Numbers
 round_numbers p taken c = record { reads = numbers_now p taken (steps_of p.round); counters = c }
 
 -- those of rounds, where each `stats` counts nothing
-abbrev pub in_turn : List Seen → List Played → List Numbers
+abbrev pub in_turn : List SessionNumber → List ScriptRound → List Numbers
 in_turn taken [] = []
 in_turn taken (p ∷ ps) =
     round_numbers p taken no_numbers.counters ∷ in_turn (taken_by p.before p.round ++ taken) ps
@@ -35,11 +35,11 @@ abbrev pub HaveReadsInTurn : Opening → List Numbers → Type 0
 HaveReadsInTurn o c = map (λ (n : Numbers). n.reads) c ≡ map (λ (n : Numbers). n.reads) (in_turn [] (rounds_of o))
 
 -- what a round counted, where its step is a `stats`, and else what was counted before it
-abbrev pub counted_by : Counters → Played → Numbers → Counters
+abbrev pub counted_by : Counters → ScriptRound → Numbers → Counters
 counted_by last p ns = if is_stats (steps_of p.round) then ns.counters else last
 
 -- from one `stats` to the next the counters never fall, and from what was counted last
-abbrev pub StatsRise : Counters → List Played → List Numbers → Type 0
+abbrev pub StatsRise : Counters → List ScriptRound → List Numbers → Type 0
 StatsRise last [] c = Unit {0}
 StatsRise last (p ∷ ps) [] = Unit {0}
 StatsRise last (p ∷ ps) (ns ∷ c) =
@@ -49,7 +49,7 @@ StatsRise last (p ∷ ps) (ns ∷ c) =
 
 -- The locks before a round are those behind the rounds before it, and a step is left; the table is the replay of the history so
 -- far; and the round is the next one of these locks with that table's holes.
-pub record IsPlayed (o : Opening) (front : List Played) (p : Played) : Type 0 where
+pub record FollowsHistory (o : Opening) (front : List ScriptRound) (p : ScriptRound) : Type 0 where
   pub locks : p.locks ≡ locks_behind (first_locks o) front
   pub left : has_steps p.locks ≡ true
   pub state : p.state ≡ replay o.defs o.base (history_in o front)
@@ -57,5 +57,5 @@ pub record IsPlayed (o : Opening) (front : List Played) (p : Played) : Type 0 wh
   pub round : p.round ≡ next_round p.locks (has_hole (replay o.defs o.base (history_in o front)))
 
 -- in this round no change is accepted, or nothing is read
-abbrev pub IsForced : Opening → Played → Type 0
+abbrev pub IsForced : Opening → ScriptRound → Type 0
 IsForced o p = (changes_in o p ≡ []) ⊎ AllByRecursion (λ x. is_read x.kind ≡ false) (steps_of p.round)

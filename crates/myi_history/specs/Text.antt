@@ -14,8 +14,8 @@ use Rattle.myi_locks.specs.Done.{steps_of}
 use Rattle.myi_defs.specs.declared.types.Defs.{Defs}
 use Rattle.myi_history.specs.Lines.{act_of}
 use Rattle.myi_history.specs.Reads.{found}
-use Rattle.myi_history.specs.Answers.{Answer, locked_for_read, done, rows, counted, by_reply, Said, said_on, said_text}
-use Rattle.myi_history.specs.History.{Opening, Played, asked_in, reads_only, stepped_by, rounds_of, history}
+use Rattle.myi_history.specs.Answers.{Answer, locked_for_read, done, rows, counted, by_reply, LineAnswer, answer_on, said_text}
+use Rattle.myi_history.specs.History.{Opening, ScriptRound, asked_in, reads_only, stepped_by, rounds_of, history}
 
 -- what is free in the text of a round: a number for each of its reads, in the order of the steps, and what the key cache counted
 -- at a `stats`
@@ -34,63 +34,63 @@ abbrev pub rows_at : Opening → List Change → ℕ → ℕ → Answer
 rows_at o h line n = rows (found o.defs (state_at o h n) (act_of o.lines line)) n
 
 -- what the reads of a round say, by their numbers
-abbrev pub reads_said : Opening → List Change → List Step → List ℕ → List Said
+abbrev pub reads_said : Opening → List Change → List Step → List ℕ → List LineAnswer
 reads_said o h [] ns = []
 reads_said o h (x ∷ xs) ns =
     if is_read x.kind
-    then said_on x.line (rows_at o h x.line (slice_index ns 0)) ∷ reads_said o h xs (drop 1 ns)
+    then answer_on x.line (rows_at o h x.line (slice_index ns 0)) ∷ reads_said o h xs (drop 1 ns)
     else reads_said o h xs ns
 
 -- ---- other steps
 
-abbrev pub change_said : Defs → ℕ → TableState → Option Change → List Said
+abbrev pub change_said : Defs → ℕ → TableState → Option Change → List LineAnswer
 change_said d n s None = []
-change_said d n s (Some c) = said_on n (by_reply (keyed_step d s c).reply) ∷ []
+change_said d n s (Some c) = answer_on n (by_reply (keyed_step d s c).reply) ∷ []
 
 -- what a writing step of line n says; one of a session that holds READ or READ LOCAL is refused
-abbrev pub write_said : Defs → Bool → ℕ → TableState → Option Change → List Said
-write_said d true n s asked = said_on n locked_for_read ∷ []
+abbrev pub write_said : Defs → Bool → ℕ → TableState → Option Change → List LineAnswer
+write_said d true n s asked = answer_on n locked_for_read ∷ []
 write_said d false n s asked = change_said d n s asked
 
 -- a step of line n is done; one of no line says nothing
-abbrev pub done_said : ℕ → List Said
-done_said n = if n == 0 then [] else said_on n done ∷ []
+abbrev pub done_said : ℕ → List LineAnswer
+done_said n = if n == 0 then [] else answer_on n done ∷ []
 
 -- What a step of line n says other than a read, by what is counted, and what it says where it writes. The first step of a `lock`
 -- line says nothing.
-abbrev pub step_said : ℕ → Counters → List Said → StepKind → List Said
+abbrev pub step_said : ℕ → Counters → List LineAnswer → StepKind → List LineAnswer
 step_said n c written kind.Release = []
-step_said n c written (kind.Take lock) = said_on n done ∷ []
+step_said n c written (kind.Take lock) = answer_on n done ∷ []
 step_said n c written kind.Rows = []
 step_said n c written kind.Insert = written
 step_said n c written kind.Change = written
-step_said n c written kind.Unlock = said_on n done ∷ []
-step_said n c written kind.Stats = said_on n (counted c) ∷ []
+step_said n c written kind.Unlock = answer_on n done ∷ []
+step_said n c written kind.Stats = answer_on n (counted c) ∷ []
 step_said n c written kind.End = done_said n
 
 -- what a step of a round says where the table is in a state
-abbrev pub said_by : Opening → Played → TableState → Counters → Step → List Said
+abbrev pub said_by : Opening → ScriptRound → TableState → Counters → Step → List LineAnswer
 said_by o p s c x =
     step_said x.line c (write_said o.defs (reads_only p.locks x.session) x.line s (asked_in o.lines p x)) x.kind
 
 -- what steps of a round say one after the other
-abbrev pub others_said : Opening → Played → TableState → Counters → List Step → List Said
+abbrev pub others_said : Opening → ScriptRound → TableState → Counters → List Step → List LineAnswer
 others_said o p s c [] = []
 others_said o p s c (x ∷ xs) =
     said_by o p s c x ++ others_said o p (stepped_by o.defs s (asked_in o.lines p x)) c xs
 
 -- ---- rounds
 
-abbrev pub put_line : Said → List Said → List Said
+abbrev pub put_line : LineAnswer → List LineAnswer → List LineAnswer
 put_line a [] = a ∷ []
 put_line a (b ∷ bs) = if nat_lt b.line a.line then b ∷ put_line a bs else a ∷ b ∷ bs
 
 -- these, each put among the others by its line
-abbrev pub put_lines : List Said → List Said → List Said
+abbrev pub put_lines : List LineAnswer → List LineAnswer → List LineAnswer
 put_lines others xs = fold (λ bs a. put_line a bs) others xs
 
 -- what a round says
-abbrev pub round_said : Opening → List Change → Played → Numbers → List Said
+abbrev pub round_said : Opening → List Change → ScriptRound → Numbers → List LineAnswer
 round_said o h p ns =
     put_lines [] (reads_said o h (steps_of p.round) ns.reads
     ++ others_said o p p.state ns.counters (steps_of p.round))
@@ -103,12 +103,12 @@ first_numbers [] = no_numbers
 first_numbers (ns ∷ c) = ns
 
 -- what rounds say, where the history of the whole script is h
-abbrev pub said_in : Opening → List Change → List Played → List Numbers → List Said
+abbrev pub said_in : Opening → List Change → List ScriptRound → List Numbers → List LineAnswer
 said_in o h [] c = []
 said_in o h (p ∷ ps) c = round_said o h p (first_numbers c) ++ said_in o h ps (drop 1 c)
 
 -- what a script says
-abbrev pub script_said : Opening → List Numbers → List Said
+abbrev pub script_said : Opening → List Numbers → List LineAnswer
 script_said o c = said_in o (history o) (rounds_of o) c
 
 -- the text of a script: it depends on how the script begins and the free numbers alone

@@ -15,10 +15,10 @@ ghost use Rattle.myi_locks.specs.Rounds.{has_steps};
 ghost use Rattle.myi_script.specs.declared.types.Line.{Line};
 ghost use Rattle.myi_script.specs.Script.{IsScript};
 ghost use Rattle.myi_history.specs.Lines.{MayRun, script_steps};
-ghost use Rattle.myi_history.specs.History.{Opening, Played, rounds_of, history, changes_in, state_behind, first_locks, locks_behind, accepted_of, stepped_by};
+ghost use Rattle.myi_history.specs.History.{Opening, ScriptRound, rounds_of, history, changes_in, state_behind, first_locks, locks_behind, accepted_of, stepped_by};
 ghost use Rattle.myi_history.specs.Text.{Numbers, no_numbers};
-ghost use Rattle.myi_history.specs.Bounds.{Past, RoundFits, AreWithin};
-ghost use Rattle.myi_history.specs.OneThread.{IsPlayed, IsForced, in_turn, HaveReadsInTurn, StatsRise};
+ghost use Rattle.myi_history.specs.Bounds.{PastNumbers, RoundFits, AreWithin};
+ghost use Rattle.myi_history.specs.OneThread.{FollowsHistory, IsForced, in_turn, HaveReadsInTurn, StatsRise};
 
 /// The lines of a text in the grammar are those of a script that may run, and the steps of such
 /// lines are what `Locks::new` asks for.
@@ -42,7 +42,7 @@ pub fn ranges_find_matching_rows()
 pub fn histories_are_replayed()
     ensures append { (d : Defs) (s : TableState) (cs ds : List Change)
         → replay d s (cs ++ ds) ≡ replay d (replay d s cs) ds }
-    ensures round { (o : Opening) (p : Played)
+    ensures round { (o : Opening) (p : ScriptRound)
         → replay o.defs p.state (changes_in o p) ≡ state_behind o p }
 {}
 
@@ -66,8 +66,8 @@ pub fn refused_changes_leave()
 /// is the replay of the history so far, which has as many changes as were accepted before; and the
 /// round is the next one of these locks with that table's holes.
 pub fn rounds_follow_the_history()
-    ensures { (o : Opening) (front back : List Played) (p : Played)
-        → rounds_of o ≡ front ++ p ∷ back → IsPlayed o front p }
+    ensures { (o : Opening) (front back : List ScriptRound) (p : ScriptRound)
+        → rounds_of o ≡ front ++ p ∷ back → FollowsHistory o front p }
 {}
 
 /// The rounds go to the end of the script: where its lines may run, no step is left behind them.
@@ -75,7 +75,7 @@ pub fn rounds_follow_the_history()
 pub fn rounds_are_whole()
     ensures done { (o : Opening) → MayRun o.defs o.lines
         → has_steps (locks_behind (first_locks o) (rounds_of o)) ≡ false }
-    ensures table { (o : Opening) (front : List Played) (p : Played)
+    ensures table { (o : Opening) (front : List ScriptRound) (p : ScriptRound)
         → rounds_of o ≡ front ++ p ∷ [] → state_behind o p ≡ replay o.defs o.base (history o) }
 {}
 
@@ -91,7 +91,7 @@ pub fn numbers_can_be_given()
 /// In a round that accepts no change, or reads nothing, the bounds leave one number for each read
 /// (`round`). With one session so it is in all rounds (`alone`).
 pub fn numbers_are_forced()
-    ensures round { (o : Opening) (past : Past) (p : Played) (c e : Numbers) → IsForced o p
+    ensures round { (o : Opening) (past : PastNumbers) (p : ScriptRound) (c e : Numbers) → IsForced o p
         → RoundFits o past p c → RoundFits o past p e → c.reads ≡ e.reads }
     ensures alone { (o : Opening) (c e : List Numbers) → length (first_locks o).sessions ≤ 1
         → AreWithin o c → AreWithin o e → map (λ n. n.reads) c ≡ map (λ n. n.reads) e }

@@ -1,5 +1,5 @@
-use Rattle.myi_history.proofs.ReplayLemmas.{is_played}
+use Rattle.myi_history.proofs.ReplayLemmas.{follows_history}
 use Rattle.myi_history.proofs.laws.rounds_follow_the_history.Goals as goal
 
 pub returns : goal.returns
-returns c = is_played
+returns c = follows_history
