@@ -5,3 +5,4 @@ pub mod EmptyLemmas
 pub mod FoldLemmas
 pub mod RangeLemmas
 pub mod ScanLemmas
+pub mod AllLemmas

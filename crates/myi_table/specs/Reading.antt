@@ -1,14 +1,16 @@
--- Reading the rows of a table, one after the other: which are still to come.
-use Rattle.std.specs.Prelude.{◌≡◌, ◌<◌, ◌≤◌, ℕ, suc, List, [], ◌∷◌, length, map, Option, Some, None}
+-- Reading the rows of a table, one after the other: which are still to come, and how often the files are asked for them.
+use Rattle.std.specs.Prelude.{◌≡◌, ◌+◌, ◌<◌, ◌≤◌, ℕ, suc, List, [], ◌∷◌, length, map, sum_by, Option, Some, None}
 use Rattle.myi_base.specs.Holding.{Holding}
+use Rattle.myi_defs.specs.declared.types.Defs.{Defs}
 use Rattle.myi_pack.specs.Packed.{Values}
 use Rattle.myi_pair.specs.Clean.{placed_row}
 use Rattle.myi_data.specs.Scanning.{TableScan, rows_ahead, IsAsKnown}
-use Rattle.myi_state.specs.State.{TableState}
+use Rattle.myi_state.specs.State.{StoredRow, TableState}
 use Rattle.myi_tablestate.specs.Listed.{placed, listed}
+use Rattle.myi_tablestate.specs.Matching.{Bounds, AreMatching}
 use Rattle.myi_ranges.specs.declared.ranges.RangeRows.{RangeRows}
 use Rattle.myi_ranges.specs.declared.ranges.Reached.TheVariants.{End}
-use Rattle.myi_ranges.specs.Ranges.{begin_at, ReadsAhead}
+use Rattle.myi_ranges.specs.Ranges.{begin_at, ReadsAhead, RoseBySearches, row_cost_by}
 use Rattle.myi_table.specs.declared.ranges.Range.{Range}
 use Rattle.myi_table.specs.declared.fault.ReadFault.{ReadFault}
 use Rattle.myi_table.specs.declared.fault.ReadFault.TheVariants as fault
@@ -70,3 +72,19 @@ IfBroken fault.Memory P = Unit {0}
 -- a reading of these rows, which has read nothing
 abbrev pub begun : Range → RangeRows
 begun r = record { key = r.key; to = r.to; reached = begin_at r.from }
+
+-- the bounds of the rows that are asked for
+abbrev pub bounds_of : Range → Bounds
+bounds_of r = record { from = r.from; to = r.to }
+
+-- how many reads of the files these rows may count for
+abbrev pub cost_of : Defs → List StoredRow → ℕ
+cost_of d rows = sum_by (λ (r : StoredRow). row_cost_by d.format d.slot_length r) rows
+
+-- The answer is the rows of the table that match, in order of their keys and positions. The files were read no more often than these rows
+-- and two searches more than there are rows may count for.
+pub record AnswersRange (d : Defs) (s : TableState) (range : Range) (before after : ℕ) (answer : List (ℕ × Values)) : Type 0 where
+  pub found : List StoredRow
+  pub rows : answer ≡ map placed found
+  pub matching : AreMatching d (suc range.key) (bounds_of range) s.rows found
+  pub few : RoseBySearches (length found + 2) (length (listed d (suc range.key) s.rows)) (cost_of d found) before after

@@ -8,8 +8,9 @@
 //! - `load` opens the two files, and reads no row and no page.
 //! - `insert`, `insert_at_end`, `update`, `delete` change it. A change that is cut off by a failed file call or for want
 //!   of memory breaks the table: each later one answers `Broken`, with the cause, until the table is loaded again.
-//! - `scan` answers all rows; `begin_scan` and `next_in_scan` read them one after the other. `next_in_range` does so with
-//!   the rows of a `Range`, whose key lies between bounds; `forget_ahead` comes between a change and the next row.
+//! - `scan` answers all rows; `begin_scan` and `next_in_scan` read them one after the other. `range` answers the rows of
+//!   a `Range`, whose key lies between bounds; `next_in_range` reads them one after the other, and `forget_ahead` comes
+//!   between a change and the next row.
 //! - `flush` writes what was put, `close` also the header.
 //! - `defs`, `name`, `length`, `place`, `setup`, `holes`, `broken`, `counters` tell what it is; `add_counters` adds what was
 //!   counted elsewhere.

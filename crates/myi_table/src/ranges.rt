@@ -6,7 +6,7 @@ use crate::table::Table;
 use myi_io::Files;
 use myi_keys::KeyVal;
 use myi_pack::Row;
-use myi_ranges::RangeRows;
+use myi_ranges::{RangeRows, rows_that_come_match};
 use myi_state::standing_files_are_read;
 use std::alloc::{AllocError, Global};
 
@@ -43,19 +43,19 @@ impl Range {
 }
 
 impl Table {
-    ghost use Rattle.std.specs.Prelude.{◌≡◌, ◌≤◌, List, None, IfOk, IfErr, IfSome, OnOk, OnErr, IsTrue};
+    ghost use Rattle.std.specs.Prelude.{◌≡◌, ◌<◌, ◌≤◌, List, length, None, IfOk, IfErr, IfSome, OnOk, OnErr, IsTrue};
     ghost use Rattle.myi_base.specs.Holding.{Told, OthersStay};
     ghost use Rattle.myi_base.specs.Causes.{HasCause};
     ghost use Rattle.myi_search.specs.Counting.{CountsOn};
     ghost use Rattle.myi_defs.specs.declared.types.Defs.{Defs};
     ghost use Rattle.myi_state.specs.State.{StoredRow, TableState};
-    ghost use Rattle.myi_ranges.specs.Ranges.{Answers, ReadInFew, coming, searches};
+    ghost use Rattle.myi_ranges.specs.Ranges.{Answers, ReadInFew, searches, coming};
     ghost use Rattle.myi_keyedrows.specs.KeyedRows.{IsLeft};
     ghost use Rattle.myi_opening.specs.Names.{index_file};
     ghost use Rattle.myi_table.specs.declared.fault.ReadFault.TheVariants.{File};
     ghost use Rattle.myi_table.specs.Faults.{NeverDamaged, IsBrokenFor};
     ghost use Rattle.myi_table.specs.Table.{OpenTable, defs_in, IsKept, IfHolds, StillHolds, IsSame};
-    ghost use Rattle.myi_table.specs.Reading.{HasKey, IsAhead, IsSameReading, IsAtEnd, StopsAt, IfBroken};
+    ghost use Rattle.myi_table.specs.Reading.{HasKey, IsAhead, IsSameReading, IsAtEnd, StopsAt, IfBroken, AnswersRange};
 
     /// The next row of a reading and its position, and None where none is to come. What the reading has read ahead
     /// are the next pairs of the table (`ahead`): it has read nothing yet, or the table was not changed since. `forget_ahead`
@@ -76,8 +76,7 @@ impl Table {
             IsAhead self.new rows.new s) }
         ensures reading { IsSameReading rows.old rows.new }
         ensures ended { IfOk result (λ row. row ≡ None → IsAtEnd rows.new) }
-        ensures onward { IfOk result (λ row. IfSome row (λ found.
-            searches rows.new.reached ≤ 1)) }
+        ensures onward { IfOk result (λ row. IfSome row (λ found. searches rows.new.reached ≤ 1)) }
         ensures stops { IfErr result (λ f. StopsAt f rows.old rows.new) }
         ensures unread { IfErr result (λ f. IfBroken f ((self.new ≡ self.old)
             × (F.holds files.new ≡ F.holds files.old))) }
@@ -114,5 +113,42 @@ impl Table {
         ensures end { OnErr result (IsAtEnd rows.new) }
     {
         rows.forget(&self.rows.trees)
+    }
+
+    /// The rows that match with their positions, in order of the key and then of the positions. They are searched for
+    /// in the tree of the key and then read one by one.
+    pub fn range<F: Files>(
+        &mut self,
+        files: &mut F,
+        range: &Range,
+    ) -> Result<Vec<(u64, Row)>, ReadFault>
+        requires writable { IsTrue F.writable }
+        requires key { range.now.key < length self.old.rows.trees.places }
+        requires kept { IsKept (F.holds files.old) self.old }
+        ensures rows { IfOk result (λ rows. IfHolds (F.holds files.old) self.old (λ m s.
+            AnswersRange (defs_in self.old) s range.now
+            (F.reads files.old) (F.reads files.new) rows.items)) }
+        ensures whole { OnOk result (self.old.broken ≡ None) }
+        ensures first { IfErr result (IsBrokenFor self.old.broken) }
+        ensures never { IfErr result (NeverDamaged (F.holds files.old)) }
+        ensures still { StillHolds (F.holds files.old) (F.holds files.new) self.old self.new }
+        ensures kept { IsKept (F.holds files.new) self.new }
+        ensures same { IsSame self.old self.new }
+        ensures broken { self.new.broken ≡ self.old.broken }
+        ensures changed { self.new.changed ≡ self.old.changed }
+        ensures left { IsLeft self.old.rows self.new.rows }
+        ensures others { Told (F.holds files.old) (F.holds files.new)
+            (OthersStay (index_file self.old.name)) }
+        ensures counted { CountsOn self.old.rows.trees.cache self.new.rows.trees.cache }
+        ensures cause { HasCause File (F.faults files.old) (F.faults files.new) result }
+    {
+        rows_that_come_match();
+        self.refuse_reading()?;
+        let mut reading = range.begin(self.alloc)?;
+        let mut rows = Vec::new(self.alloc);
+        while let Some(row) = self.next_in_range(files, &mut reading)? {
+            rows.push(row)?;
+        }
+        Ok(rows)
     }
 }

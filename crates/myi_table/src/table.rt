@@ -90,11 +90,12 @@ impl Table {
         self.name.as_str()
     }
 
-    /// Its definitions.
+    /// Its definitions. It has a tree for each key.
     pub fn defs(&self) -> &Defs
         ensures defs { result.now ≡ defs_in self.now }
         ensures sound { IsSound result.now }
         ensures itself { AreDefs result.now }
+        ensures keys { length self.now.rows.trees.places ≡ length result.now.keys }
     {
         definitions_are_sound();
         &self.defs
