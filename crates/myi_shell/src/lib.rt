@@ -1,8 +1,8 @@
 //! Scripts that are run on a table: their statements.
 //!
 //! `insert`, `update` and `delete` make the change of a statement, and `push_reply` appends the line that is printed of the
-//! reply. What they say is by the definitions of `myi_history`: the reply is that of the step, and the table stands
-//! for the state of the step.
+//! reply. The reply is that of the step (`myi_tablestate`), and the table stands for the state of the step. The line is
+//! by the definitions of `myi_history`.
 //!
 //! ```
 //! let reply = delete(table, files, at)?;
