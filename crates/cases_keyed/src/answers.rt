@@ -1,6 +1,7 @@
 //! How the answers of calls on tables are written.
-use case_lines::Fault;
-use myi_table::{ChangeFault, LoadFault};
+use case_lines::{Fault, push_word};
+use myi_pack::Row;
+use myi_table::{ChangeFault, LoadFault, ReadFault};
 
 fn push_fault(out: &mut String, fault: ChangeFault) -> Result<(), Fault> {
     match fault {
@@ -35,5 +36,43 @@ pub fn push_done(out: &mut String, answer: Result<(), ChangeFault>) -> Result<()
     match answer {
         Ok(()) => Ok(out.push_str("ok")?),
         Err(fault) => push_fault(out, fault),
+    }
+}
+
+fn push_read_fault(out: &mut String, fault: ReadFault) -> Result<(), Fault> {
+    match fault {
+        ReadFault::Broken(_) => Ok(out.push_str("broken")?),
+        ReadFault::Damaged { at } => Ok(write!(out, "damaged {at}")?),
+        ReadFault::File => Ok(out.push_str("failed")?),
+        ReadFault::Memory => Err(Fault::Memory),
+    }
+}
+
+// The position of a row and its values, with commas between these.
+fn push_row(out: &mut String, at: u64, row: &Row) -> Result<(), Fault> {
+    write!(out, "{at}")?;
+    let mut before = ":";
+    for value in row.as_slice() {
+        out.push_str(before)?;
+        push_word(out, value.as_slice())?;
+        before = ",";
+    }
+    Ok(())
+}
+
+pub fn push_rows(
+    out: &mut String,
+    answer: Result<Vec<(u64, Row)>, ReadFault>,
+) -> Result<(), Fault> {
+    match answer {
+        Ok(rows) => {
+            write!(out, "{} rows", rows.len())?;
+            for (at, row) in rows.iter() {
+                out.push_str(" ")?;
+                push_row(out, *at, row)?;
+            }
+            Ok(())
+        }
+        Err(fault) => push_read_fault(out, fault),
     }
 }

@@ -1,21 +1,22 @@
 //! Calls on a table with keys, over files that tell nothing.
-ghost use Rattle.std.specs.Prelude.{◌≡◌, ◌≤◌, true, IfOk};
+ghost use Rattle.std.specs.Prelude.{◌≡◌, ◌≤◌, ◌<◌, true, length, IfOk};
 ghost use Rattle.myi_defs.specs.Sound.{IsSound};
 ghost use Rattle.myi_defs.specs.ReadDefs.{AreDefs};
 ghost use Rattle.myi_keycache.specs.Setup.{IsSetup};
 ghost use Rattle.myi_pack.specs.Spelling.{fits};
 
-use crate::answers::{push_done, push_load_fault, push_place};
-use case_lines::{Fault, PlaceText, Untold, Words, four_bytes, number, push_file};
+use crate::answers::{push_done, push_load_fault, push_place, push_rows};
+use case_lines::{Fault, PlaceText, Untold, Words, four_bytes, key_of_code, number, push_file};
 use myi_base::Sequence;
 use myi_check::check;
 use myi_defs::{Defs, definitions_are_sound, print_defs, read_defs};
 use myi_header::stored_state;
 use myi_io::Files;
 use myi_keycache::CacheSetup;
+use myi_keys::KeyVal;
 use myi_memfiles::MemFiles;
 use myi_pack::{Row, fits};
-use myi_table::{LoadFault, Table};
+use myi_table::{LoadFault, Range, Table};
 use std::alloc::Global;
 
 /// The name of the table, and the names of its files.
@@ -24,6 +25,9 @@ const NAME: &str = "t";
 const DATA: &str = "t.MYD";
 
 const INDEX: &str = "t.MYI";
+
+/// The word for no bound of a range.
+const NO_BOUND: &str = "*";
 
 /// The most pages that a key cache keeps.
 const MOST_BLOCKS: u32 = 65_536;
@@ -60,6 +64,30 @@ fn row(words: &Words, defs: &Defs, values: &str) -> Result<Row, Fault>
     }
 }
 
+// A key by its code, and None for a word that is no bound.
+fn bound(words: &Words, word: &str) -> Result<Option<KeyVal>, Fault> {
+    if word == NO_BOUND {
+        return Ok(None);
+    }
+    let key = key_of_code(words, word)?;
+    Ok(Some(key))
+}
+
+// The rows between two bounds of a key of a table, counted from 1.
+fn range(words: &Words, table: &Table, key: &str, from: &str, to: &str) -> Result<Range, Fault>
+    ensures { IfOk result (λ range. range.key < length table.now.rows.trees.places) }
+{
+    let number = four_bytes(key)? as usize;
+    if number == 0 || number > table.defs().keys.as_slice().len() {
+        return Err(Fault::Unread);
+    }
+    Ok(Range {
+        key: number - 1,
+        from: bound(words, from)?,
+        to: bound(words, to)?,
+    })
+}
+
 // Makes a call on a table, and writes its answer.
 fn push_answer(
     out: &mut String,
@@ -82,6 +110,11 @@ fn push_answer(
         ["update", at, values] => {
             let row = row(words, table.defs(), *values)?;
             push_done(out, table.update(files, number(*at)?, &row))
+        }
+        ["scan"] => push_rows(out, table.scan(files)),
+        ["range", key, from, to] => {
+            let range = range(words, table, *key, *from, *to)?;
+            push_rows(out, table.range(files, &range))
         }
         ["flush"] if table.broken().is_none() => push_done(out, table.flush(files)),
         _ => Err(Fault::Unread),
