@@ -46,16 +46,6 @@ number_read p w d bytes narrow is =
     later : (p k : ℕ) → p + (1 + k) ≡ p + 1 + k
     later p k = omega arith
 
--- ---- the front of what was read
-
-pub front_read : (n p count : ℕ) (d into : List ℕ) → into ≡ filled p (replicate n 0) d → count ≡ min n (length (drop p d)) → take count into ≡ take n (drop p d)
-front_read n p count d into is many = ap (take count) is ∙ by n count (drop p d) many
-  where
-    by : (n count : ℕ) (xs : List ℕ) → count ≡ min n (length xs) → take count (take (length (replicate {A = ℕ} n 0)) xs ++ drop (length xs) (replicate n 0)) ≡ take n xs
-    by n count xs many =
-        let long : length (replicate {A = ℕ} n 0) ≡ n = length-replicate {A = ℕ} n 0 in
-        take_at (take (length (replicate {A = ℕ} n 0)) xs) (drop (length xs) (replicate n 0)) count (length-take (length (replicate {A = ℕ} n 0)) xs ∙ ap (λ m. min m (length xs)) long ∙ sym many) ∙ ap (λ m. take m xs) long
-
 -- ---- a block, by its head
 
 pub short_block : (d : List ℕ) (p : ℕ) (bytes : List ℕ) → bytes ≡ take 20 (drop p d) → length bytes < 20 → block_of d p ≡ None

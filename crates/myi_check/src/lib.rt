@@ -6,7 +6,7 @@
 //! files are a clean pair. No file is changed.
 //!
 //! `check` opens the table, goes through the data file once in order (blocks of a row that the
-//! window does not hold are read besides), follows the list of deleted blocks by short reads, and
+//! window does not hold are read besides), follows the list of deleted blocks, and
 //! walks the tree of each key. Each pair of a tree is asked of its row, which is read at its slot, or block by
 //! block from its place (`asking`, `row_reads`, `chain_reads`): where the pairs rise, each is that of a row,
 //! and they are as many as the rows, they are the key's sorted list. Where a tree is not so, the data file
@@ -30,6 +30,7 @@ mod asking;
 mod busy;
 mod chain_reads;
 mod checking;
+mod head_reads;
 mod header;
 mod held_bytes;
 mod keys;

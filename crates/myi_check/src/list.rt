@@ -1,4 +1,4 @@
-//! The list of deleted blocks, which is followed once by short reads.
+//! The list of deleted blocks, which is followed once.
 //!
 //! `check_list` holds the places of all deleted blocks in their order, which the scan found, and
 //! beside them a flag for each that the list has named. A `Link` is what the block at a place says
@@ -9,7 +9,6 @@ ghost use Rattle.std.specs.Option.{option_map};
 ghost use Rattle.myi_base.specs.Holding.{IfTold, bytes_of};
 ghost use Rattle.myi_base.specs.Causes.{HasCause};
 ghost use Rattle.myi_base.specs.Numbers.{num_at};
-ghost use Rattle.myi_io.specs.declared.files.FileErr.TheVariants.{Failed};
 ghost use Rattle.myi_defs.specs.Sound.{IsSound};
 ghost use Rattle.myi_opening.specs.Opening.{IsCutOff};
 ghost use Rattle.myi_pair.specs.Clean.{slot_named, next_by, next_deleted};
@@ -19,10 +18,11 @@ ghost use Rattle.myi_placelist.specs.Places.{IsRising};
 ghost use Rattle.myi_check.specs.Rows.{ArePointed};
 ghost use Rattle.myi_check.specs.ListMet.{unmet, IsLinkAt};
 
+use crate::head_reads::HeadReads;
 use myi_base::number_at;
 use myi_defs::{Defs, RowFormat};
 use myi_frames::{LEAST_SIZE, head_at};
-use myi_io::{FileErr, Files};
+use myi_io::Files;
 use myi_opening::TableFault;
 use myi_placelist::PlaceList;
 use std::alloc::{AllocError, Global};
@@ -65,7 +65,9 @@ pub(crate) fn check_list<F: Files>(
     ensures holds { F.holds files.new ≡ F.holds files.old }
     ensures cause { HasCause TableFault.File (F.faults files.old) (F.faults files.new) result }
 {
-    let mut met = flags(defs.raw.allocator(), deleted.len())?;
+    let alloc = defs.raw.allocator();
+    let mut met = flags(alloc, deleted.len())?;
+    let mut heads = HeadReads::new(alloc)?;
     let mut before = None;
     let mut at = widened(head);
     for _step in 0..deleted.len() {
@@ -75,7 +77,9 @@ pub(crate) fn check_list<F: Files>(
         let Some(block) = take_out(deleted, &mut met, place) else {
             return Ok(Some(told(place)));
         };
-        let link = link_at(files, rows, defs, end, block, before)?;
+        let mut bytes = [0u8; LEAST_SIZE];
+        let count = heads.read(files, rows, block, &mut bytes)?;
+        let link = link_of(&bytes[..count], defs, end, block, before);
         if !link.named {
             return Ok(Some(told(place)));
         }
@@ -151,28 +155,16 @@ fn least_left(places: &PlaceList, met: &[bool]) -> Option<u64>
     None
 }
 
-// What the deleted block at a place of a data file of `end` bytes says, by one read. Where it is not there
-// whole, it names nothing.
-fn link_at<F: Files>(
-    files: &mut F,
-    rows: &str,
-    defs: &Defs,
-    end: u64,
-    place: u64,
-    before: Option<u64>,
-) -> Result<Link, FileErr>
+// What the deleted block at a place of a data file of `end` bytes says, by its first 20 bytes, or by all up to
+// the file's end. Where it is not there whole, it names nothing.
+fn link_of(bytes: &[u8], defs: &Defs, end: u64, place: u64, before: Option<u64>) -> Link
     requires sound { IsSound defs.now }
-    ensures told { IfOk result (λ link. IfTold (F.holds files.old) (λ m. (d : List ℕ)
-        → bytes_of rows.now m ≡ d → length d ≡ end
-        → ArePointed defs.now end (place ∷ []) → IsLinkAt defs.now d place before link)) }
-    ensures holds { F.holds files.new ≡ F.holds files.old }
-    ensures cause { HasCause Failed (F.faults files.old) (F.faults files.new) result }
+    ensures { (d : List ℕ) → length d ≡ end → bytes.now ≡ take 20 (drop place d)
+        → ArePointed defs.now end (place ∷ []) → IsLinkAt defs.now d place before result }
 {
-    let mut bytes = [0u8; LEAST_SIZE];
-    let count = files.read_at(rows, place, &mut bytes)?;
     match defs.format {
-        RowFormat::Static => Ok(slot_link(&bytes[..count], defs.slot_length, defs.rec_ref)),
-        RowFormat::Dynamic => Ok(block_link(&bytes[..count], place, end, before)),
+        RowFormat::Static => slot_link(bytes, defs.slot_length, defs.rec_ref),
+        RowFormat::Dynamic => block_link(bytes, place, end, before),
     }
 }
 
