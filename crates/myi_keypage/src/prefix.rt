@@ -11,6 +11,10 @@ use crate::item::{PageItem, read_item};
 /// More bytes than a page uses.
 const MOST_USED: usize = 32_768;
 
+/// More bytes than a page of 1,024 uses. A buffer of the greatest length would take longer to clear than such a
+/// page to read.
+const FEW_USED: usize = 1_024;
+
 #[tactic(auto, using(crate::proofs::Shared::shared_empty, crate::proofs::Shared::shared_heads))]
 fn none_shared(before: &[u8], rest: &[u8]) -> bool
     ensures { result ≡ (shared before.now rest.now == 0) }
@@ -40,13 +44,12 @@ fn keep_key(key: &mut [u8], len: usize, item: &PageItem) -> usize
     end
 }
 
-/// Whether the bytes are items, of which each has the longest prefix.
-pub(crate) fn all_pass(node: bool, rec_ref: usize, bytes: &[u8]) -> bool
+// Whether the bytes are items, of which each has the longest prefix, with a buffer for the key before each.
+fn pass_in(node: bool, rec_ref: usize, bytes: &[u8], key: &mut [u8]) -> bool
     requires narrow { rec_ref ≤ 8 }
-    requires len { length bytes.now ≤ 32768 }
+    requires room { length bytes.now ≤ length key.old }
     ensures { result ≡ passes [] (items_of node rec_ref bytes.now) }
 {
-    let mut key = [0u8; MOST_USED];
     let mut len = 0;
     let mut rest = bytes;
     while !rest.is_empty() {
@@ -56,8 +59,39 @@ pub(crate) fn all_pass(node: bool, rec_ref: usize, bytes: &[u8]) -> bool
         if !is_longest_prefix(&key[..len], &item) {
             return false;
         }
-        len = keep_key(&mut key, len, &item);
+        len = keep_key(key, len, &item);
         rest = after;
     }
     true
+}
+
+// The same of few bytes.
+fn few_pass(node: bool, rec_ref: usize, bytes: &[u8]) -> bool
+    requires narrow { rec_ref ≤ 8 }
+    requires len { length bytes.now ≤ 1024 }
+    ensures { result ≡ passes [] (items_of node rec_ref bytes.now) }
+{
+    pass_in(node, rec_ref, bytes, &mut [0u8; FEW_USED])
+}
+
+// The same of as many bytes as a page may use.
+fn many_pass(node: bool, rec_ref: usize, bytes: &[u8]) -> bool
+    requires narrow { rec_ref ≤ 8 }
+    requires len { length bytes.now ≤ 32768 }
+    ensures { result ≡ passes [] (items_of node rec_ref bytes.now) }
+{
+    pass_in(node, rec_ref, bytes, &mut [0u8; MOST_USED])
+}
+
+/// Whether the bytes are items, of which each has the longest prefix.
+pub(crate) fn all_pass(node: bool, rec_ref: usize, bytes: &[u8]) -> bool
+    requires narrow { rec_ref ≤ 8 }
+    requires len { length bytes.now ≤ 32768 }
+    ensures { result ≡ passes [] (items_of node rec_ref bytes.now) }
+{
+    if bytes.len() <= FEW_USED {
+        few_pass(node, rec_ref, bytes)
+    } else {
+        many_pass(node, rec_ref, bytes)
+    }
 }

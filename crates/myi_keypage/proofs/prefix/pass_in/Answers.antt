@@ -1,7 +1,7 @@
 use Rattle.std.proofs.Common.{◌≡◌, ◌≢◌, eqb, ◌∙◌, ◌≤◌, true, false, None, Some, arith, sym, refl, length, take}
 use Rattle.std.proofs.lemmas.List.{length-take}
 use Rattle.std.proofs.lemmas.Bool.{eqb-true, eqb-false, and_parts, leb-true}
-use Rattle.myi_keypage.proofs.prefix.all_pass.Goals as goal
+use Rattle.myi_keypage.proofs.prefix.pass_in.Goals as goal
 use Rattle.myi_keypage.specs.PageItems.{item_at, is_longest, item_view}
 use Rattle.myi_keypage.proofs.ItemLaws.{passes_more, passes_none, passes_nil, item_takes, item_shrinks}
 
