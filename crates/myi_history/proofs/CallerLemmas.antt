@@ -19,3 +19,13 @@ pub use Rattle.myi_history.proofs.ReplayLemmas.{none_left, replay_all}
 pub use Rattle.myi_history.proofs.NumberLemmas.{counted_fit, in_turn_fits}
 -- numbers_are_forced
 pub use Rattle.myi_history.proofs.ForcedLemmas.{forced_once, one_session}
+-- runs_begin
+pub use Rattle.myi_history.proofs.RunLemmas.{has_begun}
+-- runs_go_on
+pub use Rattle.myi_history.proofs.RunLemmas.{goes_on, locks_more, table_more, number_more, taken_more, counted_more, text_more}
+-- runs_end
+pub use Rattle.myi_history.proofs.RunLemmas.{ends_within, ends_text, ends_table}
+-- runs_that_stop
+pub use Rattle.myi_history.proofs.RunLemmas.{stops}
+-- tables_are_read
+pub use Rattle.myi_history.proofs.RunLemmas.{read_now}

@@ -6,4 +6,5 @@ mod NumberLemmas
 mod ForcedLemmas
 mod ReadLemmas
 mod AppendLemmas
+mod RunLemmas
 mod WorkedScripts

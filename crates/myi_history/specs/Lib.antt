@@ -16,3 +16,5 @@ pub mod Bounds
 pub mod Appending
 -- the numbers of a run on one thread, and what the laws say of rounds
 pub mod OneThread
+-- such a run that has come so far, and what stands behind it
+pub mod Running

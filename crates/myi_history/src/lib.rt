@@ -18,14 +18,17 @@
 //! - `specs/Bounds`: which numbers its reads may be given (`AreWithin`).
 //! - `specs/Appending`: inserts at the end, and the rows that stand before them.
 //! - `specs/OneThread`: the numbers of a run on one thread, and what the laws say of rounds.
+//! - `specs/Running`: such a run that has come so far, and what stands behind it.
 //!
 //! `script_steps` makes the steps of a script for `Locks::new`, and `AnswerTexts` appends the lines
-//! of answers. The laws are the contracts of the functions in `laws`.
+//! of answers. The laws are the contracts of the functions in `laws`, and those of runs on one
+//! thread in `running`.
 #![tactic(auto)]
 
 mod answers;
 mod laws;
 mod lines;
+mod running;
 
 pub use answers::AnswerTexts;
 pub use laws::{
@@ -34,3 +37,4 @@ pub use laws::{
     scripts_may_run,
 };
 pub use lines::script_steps;
+pub use running::{runs_begin, runs_end, runs_go_on, runs_that_stop, tables_are_read};

@@ -1,0 +1,213 @@
+-- A run on one thread goes on by the next round, prints its rounds one after the other, and ends with the script.
+use Rattle.std.proofs.Common.{◌≡◌, ℕ, ◌≤◌, List, [], ◌∷◌, ◌++◌, map, fold, take, length, Bool, true, false, cond, refl, ap, sym, ◌∙◌, arith, subst, length-append, append_assoc, append-nil}
+use Rattle.std.specs.List.{flat_map}
+use Rattle.std.proofs.lemmas.List.{map-append, length-map}
+use Rattle.std.proofs.lemmas.List.Sums.{fold-append}
+use Rattle.std.proofs.lemmas.Grind.{flat_map-append}
+use Rattle.std.proofs.Math.Seq.{take-append_seam}
+use Rattle.myi_keycache.specs.declared.setup.Counters.{Counters}
+use Rattle.myi_state.specs.State.{TableState}
+use Rattle.myi_state.specs.Changes.{Change, replay}
+use Rattle.myi_locks.specs.declared.steps.Round.{Round}
+use Rattle.myi_locks.specs.Rounds.{LockState, next_round, has_steps}
+use Rattle.myi_locks.specs.Done.{steps_of, advanced}
+use Rattle.myi_history.specs.Lines.{MayRun}
+use Rattle.myi_history.specs.History.{Opening, ScriptRound, changes_in, round_from, state_behind, number_behind, first_locks, rounds_of, history_in, history, locks_behind, has_hole}
+use Rattle.myi_history.specs.Answers.{said_text}
+use Rattle.myi_history.specs.Text.{Numbers, no_numbers, said_in, round_said, shell_text, state_at}
+use Rattle.myi_history.specs.Bounds.{SessionNumber, taken_by, is_stats, CountersRise, AreWithin}
+use Rattle.myi_history.specs.OneThread.{round_numbers, in_turn, counted_by, StatsRise}
+use Rattle.myi_history.specs.Running.{taken_in, counted_in, locks_after, table_after, number_after, next_after, run_text, HasRun, IsNext}
+use Rattle.myi_history.proofs.ReplayLemmas.{replay_append, replay_round, follows_history, none_left}
+use Rattle.myi_history.proofs.NumberLemmas.{none_counted, reads_of, counted_fit}
+
+-- ---- behind one round more
+
+pub locks_more : (o : Opening) (front : List ScriptRound) (p : ScriptRound) → locks_after o (front ++ p ∷ []) ≡ advanced (locks_after o front) p.round
+locks_more o front p = fold-append (λ (r : LockState) (q : ScriptRound). advanced r q.round) (first_locks o) front (p ∷ [])
+
+history_next : (o : Opening) (front : List ScriptRound) (p : ScriptRound) → history_in o (front ++ p ∷ []) ≡ history_in o front ++ changes_in o p
+history_next o front p = flat_map-append (changes_in o) front (p ∷ []) ∙ ap (λ cs. history_in o front ++ cs) (append-nil (changes_in o p))
+
+pub table_more : (o : Opening) (front : List ScriptRound) → table_after o (front ++ next_after o front ∷ []) ≡ state_behind o (next_after o front)
+table_more o front =
+    let p : ScriptRound = next_after o front in
+    ap (λ cs. replay o.defs o.base cs) (history_next o front p) ∙ replay_append o.defs o.base (history_in o front) (changes_in o p) ∙ replay_round o p
+
+pub number_more : (o : Opening) (front : List ScriptRound) → number_after o (front ++ next_after o front ∷ []) ≡ number_behind o (next_after o front)
+number_more o front = ap length (history_next o front (next_after o front)) ∙ length-append (history_in o front) (changes_in o (next_after o front))
+
+abbrev pub also_taken : List SessionNumber → ScriptRound → List SessionNumber
+also_taken taken p = taken_by p.before p.round ++ taken
+
+pub taken_more : (front : List ScriptRound) (p : ScriptRound) → taken_in (front ++ p ∷ []) ≡ taken_by p.before p.round ++ taken_in front
+taken_more front p = fold-append also_taken [] front (p ∷ [])
+
+-- ---- numbers of rounds, one list behind the other
+
+turns_many : (taken : List SessionNumber) (ps : List ScriptRound) → length (in_turn taken ps) ≡ length ps
+turns_many taken [] = refl
+turns_many taken (p ∷ ps) = let h = turns_many (taken_by p.before p.round ++ taken) ps in omega arith
+
+pub as_many : (o : Opening) (front : List ScriptRound) (c : List Numbers) → HasRun o front c → length c ≡ length front
+as_many o front c has = sym (length-map c (λ (n : Numbers). n.reads)) ∙ ap length has.reads ∙ length-map (in_turn [] front) (λ (n : Numbers). n.reads) ∙ turns_many [] front
+
+turns_join : (taken : List SessionNumber) (front back : List ScriptRound) → in_turn taken (front ++ back) ≡ in_turn taken front ++ in_turn (fold also_taken taken front) back
+turns_join taken [] back = refl
+turns_join taken (p ∷ front) back = ap (λ c. round_numbers p taken none_counted ∷ c) (turns_join (taken_by p.before p.round ++ taken) front back)
+
+reads_join : (front back : List ScriptRound) (c e : List Numbers) → reads_of c ≡ reads_of (in_turn [] front) → reads_of e ≡ reads_of (in_turn (taken_in front) back) → reads_of (c ++ e) ≡ reads_of (in_turn [] (front ++ back))
+reads_join front back c e a b =
+    map-append (λ (n : Numbers). n.reads) c e ∙ ap (λ q. q ++ reads_of e) a ∙ ap (λ q. reads_of (in_turn [] front) ++ q) b
+    ∙ sym (map-append (λ (n : Numbers). n.reads) (in_turn [] front) (in_turn (taken_in front) back)) ∙ ap reads_of (sym (turns_join [] front back))
+
+counted_join : (last : Counters) (front : List ScriptRound) (c : List Numbers) (p : ScriptRound) (ns : Numbers) → length c ≡ length front → counted_in last (front ++ p ∷ []) (c ++ ns ∷ []) ≡ counted_by (counted_in last front c) p ns
+counted_join last [] [] p ns e = refl
+counted_join last [] (m ∷ c) p ns e = absurd (omega arith)
+counted_join last (q ∷ front) [] p ns e = absurd (omega arith)
+counted_join last (q ∷ front) (m ∷ c) p ns e = counted_join (counted_by last q m) front c p ns (omega arith)
+
+pub counted_more : (o : Opening) (front : List ScriptRound) (c : List Numbers) (last : Counters) (p : ScriptRound) (ns : Numbers) → HasRun o front c → counted_in last (front ++ p ∷ []) (c ++ ns ∷ []) ≡ counted_by (counted_in last front c) p ns
+counted_more o front c last p ns has = counted_join last front c p ns (as_many o front c has)
+
+rise_join : (last : Counters) (front back : List ScriptRound) (c e : List Numbers) → length c ≡ length front → StatsRise last front c → StatsRise (counted_in last front c) back e → StatsRise last (front ++ back) (c ++ e)
+rise_join last [] back [] e many rise more = more
+rise_join last [] back (m ∷ c) e many rise more = absurd (omega arith)
+rise_join last (q ∷ front) back [] e many rise more = absurd (omega arith)
+rise_join last (q ∷ front) back (m ∷ c) e many rise more = (rise.0, rise_join (counted_by last q m) front back c e (omega arith) rise.1 more)
+
+said_join : (o : Opening) (h : List Change) (front back : List ScriptRound) (c e : List Numbers) → length c ≡ length front → said_in o h (front ++ back) (c ++ e) ≡ said_in o h front c ++ said_in o h back e
+said_join o h [] back [] e many = refl
+said_join o h [] back (m ∷ c) e many = absurd (omega arith)
+said_join o h (q ∷ front) back [] e many = absurd (omega arith)
+said_join o h (q ∷ front) back (m ∷ c) e many =
+    ap (λ k. round_said o h q m ++ k) (said_join o h front back c e (omega arith)) ∙ sym (append_assoc (round_said o h q m) (said_in o h front c) (said_in o h back e))
+
+text_join : (o : Opening) (front back : List ScriptRound) (c e : List Numbers) → length c ≡ length front → run_text o (front ++ back) (c ++ e) ≡ run_text o front c ++ run_text o back e
+text_join o front back c e many =
+    ap (λ k. flat_map said_text k) (said_join o (history o) front back c e many) ∙ flat_map-append said_text (said_in o (history o) front c) (said_in o (history o) back e)
+
+pub text_more : (o : Opening) (front : List ScriptRound) (c : List Numbers) (p : ScriptRound) (ns : Numbers) → HasRun o front c
+    → run_text o (front ++ p ∷ []) (c ++ ns ∷ []) ≡ run_text o front c ++ flat_map said_text (round_said o (history o) p ns)
+text_more o front c p ns has =
+    text_join o front (p ∷ []) c (ns ∷ []) (as_many o front c has)
+    ∙ ap (λ k. run_text o front c ++ flat_map said_text k) (append-nil (round_said o (history o) p ns))
+
+-- ---- the next round
+
+pub has_begun : (o : Opening) → HasRun o [] []
+has_begun o = record { first = (rounds_of o, refl); reads = refl; counted = tt }
+
+round_is : (p : ScriptRound) (r : LockState) (s : TableState) (n : ℕ) → p.locks ≡ r → p.state ≡ s → p.before ≡ n → p.round ≡ next_round p.locks (has_hole s) → p ≡ round_from r s n
+round_is p r s n locks state before round =
+    let a : Round → ScriptRound = λ q. record { locks = p.locks; state = p.state; before = p.before; round = q } in
+    let b : LockState → ScriptRound = λ q. record { locks = q; state = p.state; before = p.before; round = next_round q (has_hole s) } in
+    let c : TableState → ScriptRound = λ q. record { locks = r; state = q; before = p.before; round = next_round r (has_hole s) } in
+    let d : ℕ → ScriptRound = λ q. record { locks = r; state = s; before = q; round = next_round r (has_hole s) } in
+    ap a round ∙ ap b locks ∙ ap c state ∙ ap d before
+
+pub next_is : (o : Opening) (front back : List ScriptRound) (p : ScriptRound) → rounds_of o ≡ front ++ p ∷ back → p ≡ next_after o front
+next_is o front back p e =
+    let f = follows_history o front back p e in
+    round_is p (locks_after o front) (table_after o front) (number_after o front) f.locks f.state f.before f.round
+
+next_stands : (o : Opening) (front back : List ScriptRound) → MayRun o.defs o.lines → rounds_of o ≡ front ++ back → has_steps (locks_after o front) ≡ true
+    → (more : List ScriptRound) × (back ≡ next_after o front ∷ more)
+next_stands o front [] run e left =
+    let same : has_steps (locks_behind (first_locks o) (rounds_of o)) ≡ has_steps (locks_after o front) = ap (λ ps. has_steps (locks_behind (first_locks o) ps)) (e ∙ append-nil front) in
+    absurd (let k : true ≡ false = sym left ∙ sym same ∙ none_left o run in cc)
+next_stands o front (p ∷ more) run e left = (more, ap (λ q. q ∷ more) (next_is o front more p e))
+
+pub goes_on : (o : Opening) (front : List ScriptRound) (c : List Numbers) (ns : Numbers) → MayRun o.defs o.lines → HasRun o front c → has_steps (locks_after o front) ≡ true → IsNext o front c ns
+    → HasRun o (front ++ next_after o front ∷ []) (c ++ ns ∷ [])
+goes_on o front c ns run has left next =
+    let p : ScriptRound = next_after o front in
+    let more = next_stands o front has.first.0 run has.first.1 left in
+    record {
+      first = (more.0, has.first.1 ∙ ap (λ ps. front ++ ps) more.1 ∙ sym (append_assoc front (p ∷ []) more.0));
+      reads = reads_join front (p ∷ []) c (ns ∷ []) has.reads (ap (λ k. k ∷ []) next.reads);
+      counted = rise_join none_counted front (p ∷ []) c (ns ∷ []) (as_many o front c has) has.counted (next.counted, tt);
+    }
+
+-- ---- the end
+
+none_behind : (o : Opening) (front back : List ScriptRound) → rounds_of o ≡ front ++ back → has_steps (locks_after o front) ≡ false → rounds_of o ≡ front
+none_behind o front [] e none = e ∙ append-nil front
+none_behind o front (p ∷ back) e none =
+    let f = follows_history o front back p e in
+    absurd (let k : true ≡ false = sym f.left ∙ ap has_steps f.locks ∙ none in cc)
+
+all_done : (o : Opening) (front : List ScriptRound) (c : List Numbers) → HasRun o front c → has_steps (locks_after o front) ≡ false → rounds_of o ≡ front
+all_done o front c has none = none_behind o front has.first.0 has.first.1 none
+
+pub ends_within : (o : Opening) (front : List ScriptRound) (c : List Numbers) → HasRun o front c → has_steps (locks_after o front) ≡ false → AreWithin o c
+ends_within o front c has none =
+    let same = all_done o front c has none in
+    let P : List ScriptRound → Type 0 = λ ps. StatsRise none_counted ps c in
+    counted_fit o c (has.reads ∙ ap (λ ps. reads_of (in_turn [] ps)) (sym same)) (subst P (sym same) has.counted)
+
+pub ends_text : (o : Opening) (front : List ScriptRound) (c : List Numbers) → HasRun o front c → has_steps (locks_after o front) ≡ false → shell_text o c ≡ run_text o front c
+ends_text o front c has none = ap (λ ps. flat_map said_text (said_in o (history o) ps c)) (all_done o front c has none)
+
+pub ends_table : (o : Opening) (front : List ScriptRound) (c : List Numbers) → HasRun o front c → has_steps (locks_after o front) ≡ false → table_after o front ≡ replay o.defs o.base (history o)
+ends_table o front c has none = ap (λ ps. replay o.defs o.base (history_in o ps)) (sym (all_done o front c has none))
+
+-- ---- a run that stops could have gone on
+
+-- the numbers of rounds on one thread, where each `stats` counts as much as the last one
+rest_of : Counters → List SessionNumber → List ScriptRound → List Numbers
+rest_of k taken [] = []
+rest_of k taken (p ∷ ps) = round_numbers p taken k ∷ rest_of k (taken_by p.before p.round ++ taken) ps
+
+rest_reads : (k : Counters) (taken : List SessionNumber) (ps : List ScriptRound) → reads_of (rest_of k taken ps) ≡ reads_of (in_turn taken ps)
+unfolding rest_of
+rest_reads k taken [] = refl
+rest_reads k taken (p ∷ ps) = ap (λ q. (round_numbers p taken k).reads ∷ q) (rest_reads k (taken_by p.before p.round ++ taken) ps)
+
+rest_rises : (k : Counters) (taken : List SessionNumber) (ps : List ScriptRound) → k.reads ≤ k.read_requests → StatsRise k ps (rest_of k taken ps)
+unfolding rest_of
+rest_rises k taken [] fewer = tt
+rest_rises k taken (p ∷ ps) fewer = (
+  λ e. record { read_requests = omega arith; reads = omega arith; write_requests = omega arith; writes = omega arith; fewer = fewer },
+  (let P : Counters → Type 0 = λ q. StatsRise q ps (rest_of k (taken_by p.before p.round ++ taken) ps) in
+      subst P (sym (counts (is_stats (steps_of p.round)))) (rest_rises k (taken_by p.before p.round ++ taken) ps fewer)),
+)
+  where
+    counts : (b : Bool) → cond b k k ≡ k
+    counts true = refl
+    counts false = refl
+
+fewer_last : (last : Counters) (front : List ScriptRound) (c : List Numbers) → length c ≡ length front → last.reads ≤ last.read_requests → StatsRise last front c → (counted_in last front c).reads ≤ (counted_in last front c).read_requests
+fewer_last last [] c many fewer rise = fewer
+fewer_last last (p ∷ front) [] many fewer rise = absurd (omega arith)
+fewer_last last (p ∷ front) (ns ∷ c) many fewer rise = fewer_last (counted_by last p ns) front c (omega arith) (go (is_stats (steps_of p.round)) refl) rise.1
+  where
+    go : (b : Bool) → is_stats (steps_of p.round) ≡ b → (cond b ns.counters last).reads ≤ (cond b ns.counters last).read_requests
+    go true is = (rise.0 is).fewer
+    go false is = fewer
+
+pub stops : (o : Opening) (front : List ScriptRound) (c : List Numbers) → HasRun o front c → (e : List Numbers) × AreWithin o e × (rest : List ℕ) × (shell_text o e ≡ run_text o front c ++ rest)
+stops o front c has =
+    let back : List ScriptRound = has.first.0 in
+    let many = as_many o front c has in
+    let last : Counters = counted_in none_counted front c in
+    let more : List Numbers = rest_of last (taken_in front) back in
+    let P : List ScriptRound → Type 0 = λ ps. StatsRise none_counted ps (c ++ more) in
+    (c ++ more,
+    counted_fit o (c ++ more)
+    (reads_join front back c more has.reads (rest_reads last (taken_in front) back) ∙ ap (λ ps. reads_of (in_turn [] ps)) (sym has.first.1))
+    (subst P (sym has.first.1) (rise_join none_counted front back c more many has.counted (rest_rises last (taken_in front) back (fewer_last none_counted front c many (omega arith) has.counted)))),
+    run_text o back more,
+    ap (λ ps. flat_map said_text (said_in o (history o) ps (c ++ more))) has.first.1 ∙ text_join o front back c more many)
+
+-- ---- the table of the history so far
+
+pub history_is : (o : Opening) (front back : List ScriptRound) → rounds_of o ≡ front ++ back → history o ≡ history_in o front ++ history_in o back
+history_is o front back e = ap (λ ps. history_in o ps) e ∙ flat_map-append (changes_in o) front back
+
+pub table_now : (o : Opening) (front back : List ScriptRound) → rounds_of o ≡ front ++ back → state_at o (history o) (number_after o front) ≡ table_after o front
+table_now o front back e =
+    ap (λ cs. replay o.defs o.base cs) (ap (λ cs. take (number_after o front) cs) (history_is o front back e) ∙ take-append_seam (history_in o front) (history_in o back))
+
+pub read_now : (o : Opening) (front : List ScriptRound) (c : List Numbers) → HasRun o front c → state_at o (history o) (number_after o front) ≡ table_after o front
+read_now o front c has = table_now o front has.first.0 has.first.1

@@ -1,0 +1,5 @@
+use Rattle.myi_history.proofs.RunLemmas.{read_now}
+use Rattle.myi_history.proofs.running.tables_are_read.Goals as goal
+
+pub returns : goal.returns
+returns c = record { now = read_now }

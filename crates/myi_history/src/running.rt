@@ -1,0 +1,71 @@
+//! Laws of a run of a script on one thread, which does one round after the other: what it has done
+//! so far (`HasRun`), and what stands behind that. Each is the contract of a function that does
+//! nothing, so that it is proved with the crate and stands for the crates above.
+ghost use Rattle.std.specs.Prelude.{◌≡◌, ◌++◌, [], ◌∷◌, ℕ, true, false, List};
+ghost use Rattle.std.specs.List.{flat_map};
+ghost use Rattle.myi_keycache.specs.declared.setup.Counters.{Counters};
+ghost use Rattle.myi_state.specs.Changes.{replay};
+ghost use Rattle.myi_locks.specs.Rounds.{has_steps};
+ghost use Rattle.myi_locks.specs.Done.{advanced};
+ghost use Rattle.myi_history.specs.Answers.{said_text};
+ghost use Rattle.myi_history.specs.Bounds.{AreWithin, taken_by};
+ghost use Rattle.myi_history.specs.History.{Opening, ScriptRound, history, number_behind, state_behind};
+ghost use Rattle.myi_history.specs.Lines.{MayRun};
+ghost use Rattle.myi_history.specs.OneThread.{counted_by};
+ghost use Rattle.myi_history.specs.Running.{HasRun, IsNext, counted_in, taken_in};
+ghost use Rattle.myi_history.specs.Running.{locks_after, next_after, number_after, run_text, table_after};
+ghost use Rattle.myi_history.specs.Text.{Numbers, round_said, shell_text, state_at};
+
+/// Before the first round nothing is done.
+pub fn runs_begin()
+    ensures { (o : Opening) → HasRun o [] [] }
+{}
+
+/// Where a step is left, the run goes on by the next round, with numbers that go on from those
+/// before. What stands behind a round more.
+pub fn runs_go_on()
+    ensures next { (o : Opening) (front : List ScriptRound) (c : List Numbers) (ns : Numbers)
+        → MayRun o.defs o.lines → HasRun o front c → has_steps (locks_after o front) ≡ true
+        → IsNext o front c ns → HasRun o (front ++ next_after o front ∷ []) (c ++ ns ∷ []) }
+    ensures locks { (o : Opening) (front : List ScriptRound) (p : ScriptRound)
+        → locks_after o (front ++ p ∷ []) ≡ advanced (locks_after o front) p.round }
+    ensures table { (o : Opening) (front : List ScriptRound)
+        → table_after o (front ++ next_after o front ∷ []) ≡ state_behind o (next_after o front) }
+    ensures number { (o : Opening) (front : List ScriptRound)
+        → number_after o (front ++ next_after o front ∷ []) ≡ number_behind o (next_after o front) }
+    ensures taken { (front : List ScriptRound) (p : ScriptRound)
+        → taken_in (front ++ p ∷ []) ≡ taken_by p.before p.round ++ taken_in front }
+    ensures counted { (o : Opening) (front : List ScriptRound) (c : List Numbers) (last : Counters)
+        (p : ScriptRound) (ns : Numbers) → HasRun o front c
+        → counted_in last (front ++ p ∷ []) (c ++ ns ∷ [])
+        ≡ counted_by (counted_in last front c) p ns }
+    ensures text { (o : Opening) (front : List ScriptRound) (c : List Numbers) (p : ScriptRound)
+        (ns : Numbers) → HasRun o front c → run_text o (front ++ p ∷ []) (c ++ ns ∷ [])
+        ≡ run_text o front c ++ flat_map said_text (round_said o (history o) p ns) }
+{}
+
+/// Where no step is left, the run is one of the whole script: its numbers are within their bounds,
+/// it printed the script's text, and the table is the replay of the history.
+pub fn runs_end()
+    ensures within { (o : Opening) (front : List ScriptRound) (c : List Numbers) → HasRun o front c
+        → has_steps (locks_after o front) ≡ false → AreWithin o c }
+    ensures text { (o : Opening) (front : List ScriptRound) (c : List Numbers) → HasRun o front c
+        → has_steps (locks_after o front) ≡ false → shell_text o c ≡ run_text o front c }
+    ensures table { (o : Opening) (front : List ScriptRound) (c : List Numbers) → HasRun o front c
+        → has_steps (locks_after o front) ≡ false
+        → table_after o front ≡ replay o.defs o.base (history o) }
+{}
+
+/// What a run that stops has printed is the beginning of a text of the script, with numbers within
+/// their bounds.
+pub fn runs_that_stop()
+    ensures { (o : Opening) (front : List ScriptRound) (c : List Numbers) → HasRun o front c
+        → (e : List Numbers) × AreWithin o e
+        × (rest : List ℕ) × (shell_text o e ≡ run_text o front c ++ rest) }
+{}
+
+/// The table behind the rounds that are done is the one that the changes so far lead to.
+pub fn tables_are_read()
+    ensures now { (o : Opening) (front : List ScriptRound) (c : List Numbers) → HasRun o front c
+        → state_at o (history o) (number_after o front) ≡ table_after o front }
+{}
