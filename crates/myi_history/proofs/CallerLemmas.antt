@@ -29,3 +29,4 @@ pub use Rattle.myi_history.proofs.RunLemmas.{ends_within, ends_text, ends_table}
 pub use Rattle.myi_history.proofs.RunLemmas.{stops}
 -- tables_are_read
 pub use Rattle.myi_history.proofs.RunLemmas.{read_now}
+pub use Rattle.myi_history.proofs.FoundLemmas.{finds_before}

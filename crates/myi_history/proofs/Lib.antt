@@ -7,4 +7,5 @@ mod ForcedLemmas
 mod ReadLemmas
 mod AppendLemmas
 mod RunLemmas
+mod FoundLemmas
 mod WorkedScripts

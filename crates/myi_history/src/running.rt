@@ -1,17 +1,22 @@
 //! Laws of a run of a script on one thread, which does one round after the other: what it has done
 //! so far (`HasRun`), and what stands behind that. Each is the contract of a function that does
 //! nothing, so that it is proved with the crate and stands for the crates above.
-ghost use Rattle.std.specs.Prelude.{◌≡◌, ◌++◌, [], ◌∷◌, ℕ, true, false, List};
+ghost use Rattle.std.specs.Prelude.{◌≡◌, ◌++◌, [], ◌∷◌, ℕ, true, false, nat_lt, List, filter, Option};
 ghost use Rattle.std.specs.List.{flat_map};
 ghost use Rattle.myi_keycache.specs.declared.setup.Counters.{Counters};
+ghost use Rattle.myi_defs.specs.declared.types.Defs.{Defs};
+ghost use Rattle.myi_script.specs.declared.types.Act.{Act};
 ghost use Rattle.myi_state.specs.Changes.{replay};
+ghost use Rattle.myi_state.specs.State.{TableState};
 ghost use Rattle.myi_locks.specs.Rounds.{has_steps};
 ghost use Rattle.myi_locks.specs.Done.{advanced};
 ghost use Rattle.myi_history.specs.Answers.{said_text};
+ghost use Rattle.myi_history.specs.Appending.{rows_before};
 ghost use Rattle.myi_history.specs.Bounds.{AreWithin, taken_by};
 ghost use Rattle.myi_history.specs.History.{Opening, ScriptRound, history, number_behind, state_behind};
 ghost use Rattle.myi_history.specs.Lines.{MayRun};
 ghost use Rattle.myi_history.specs.OneThread.{counted_by};
+ghost use Rattle.myi_history.specs.Reads.{found};
 ghost use Rattle.myi_history.specs.Running.{HasRun, IsNext, counted_in, taken_in};
 ghost use Rattle.myi_history.specs.Running.{locks_after, next_after, number_after, run_text, table_after};
 ghost use Rattle.myi_history.specs.Text.{Numbers, round_said, shell_text, state_at};
@@ -68,4 +73,7 @@ pub fn runs_that_stop()
 pub fn tables_are_read()
     ensures now { (o : Opening) (front : List ScriptRound) (c : List Numbers) → HasRun o front c
         → state_at o (history o) (number_after o front) ≡ table_after o front }
+    ensures found { (d : Defs) (s t : TableState) (a : Option Act) (place : ℕ)
+        → t.rows ≡ rows_before place s.rows
+        → found d t a ≡ filter (λ r. nat_lt r.0 place) (found d s a) }
 {}

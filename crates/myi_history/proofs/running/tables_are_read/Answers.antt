@@ -1,5 +1,6 @@
 use Rattle.myi_history.proofs.RunLemmas.{read_now}
+use Rattle.myi_history.proofs.FoundLemmas.{finds_before}
 use Rattle.myi_history.proofs.running.tables_are_read.Goals as goal
 
 pub returns : goal.returns
-returns c = record { now = read_now }
+returns c = record { now = read_now; found = finds_before }
