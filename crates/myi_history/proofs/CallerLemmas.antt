@@ -30,3 +30,4 @@ pub use Rattle.myi_history.proofs.RunLemmas.{stops}
 -- tables_are_read
 pub use Rattle.myi_history.proofs.RunLemmas.{read_now}
 pub use Rattle.myi_history.proofs.FoundLemmas.{finds_before}
+pub use Rattle.myi_history.proofs.SeenLemmas.{run_state, run_appends, seen_rows}

@@ -8,4 +8,6 @@ mod ReadLemmas
 mod AppendLemmas
 mod RunLemmas
 mod FoundLemmas
+mod StepLemmas
+mod SeenLemmas
 mod WorkedScripts

@@ -5,20 +5,24 @@ ghost use Rattle.std.specs.Prelude.{◌≡◌, ◌++◌, [], ◌∷◌, ℕ, tru
 ghost use Rattle.std.specs.List.{flat_map};
 ghost use Rattle.myi_keycache.specs.declared.setup.Counters.{Counters};
 ghost use Rattle.myi_defs.specs.declared.types.Defs.{Defs};
+ghost use Rattle.myi_defs.specs.Sound.{IsSound};
 ghost use Rattle.myi_script.specs.declared.types.Act.{Act};
 ghost use Rattle.myi_state.specs.Changes.{replay};
+ghost use Rattle.myi_state.specs.Sound.{IsState};
 ghost use Rattle.myi_state.specs.State.{TableState};
 ghost use Rattle.myi_locks.specs.Rounds.{has_steps};
 ghost use Rattle.myi_locks.specs.Done.{advanced};
 ghost use Rattle.myi_history.specs.Answers.{said_text};
-ghost use Rattle.myi_history.specs.Appending.{rows_before};
+ghost use Rattle.myi_history.specs.Appending.{AreAppends, rows_before};
 ghost use Rattle.myi_history.specs.Bounds.{AreWithin, taken_by};
-ghost use Rattle.myi_history.specs.History.{Opening, ScriptRound, history, number_behind, state_behind};
+ghost use Rattle.myi_history.specs.History.{Opening, ScriptRound, changes_in, history};
+ghost use Rattle.myi_history.specs.History.{number_behind, reads_only, state_behind};
 ghost use Rattle.myi_history.specs.Lines.{MayRun};
 ghost use Rattle.myi_history.specs.OneThread.{counted_by};
 ghost use Rattle.myi_history.specs.Reads.{found};
 ghost use Rattle.myi_history.specs.Running.{HasRun, IsNext, counted_in, taken_in};
-ghost use Rattle.myi_history.specs.Running.{locks_after, next_after, number_after, run_text, table_after};
+ghost use Rattle.myi_history.specs.Running.{locks_after, next_after, number_after, run_text};
+ghost use Rattle.myi_history.specs.Running.{seen_state, table_after};
 ghost use Rattle.myi_history.specs.Text.{Numbers, round_said, shell_text, state_at};
 
 /// Before the first round nothing is done.
@@ -69,10 +73,25 @@ pub fn runs_that_stop()
         × (rest : List ℕ) × (shell_text o e ≡ run_text o front c ++ rest) }
 {}
 
-/// The table behind the rounds that are done is the one that the changes so far lead to.
+/// The table behind the rounds that are done is the one that the changes so far lead to. While a
+/// session holds READ or READ LOCAL, rows are inserted at the end alone (`appends`), so the rows
+/// that stood when it took the lock are those below the length that the data file had then
+/// (`taken`). Of the rows below a place a read finds those that it finds among all rows and that
+/// stand there, in the same order (`found`).
 pub fn tables_are_read()
     ensures now { (o : Opening) (front : List ScriptRound) (c : List Numbers) → HasRun o front c
         → state_at o (history o) (number_after o front) ≡ table_after o front }
+    ensures state { (o : Opening) (front : List ScriptRound) (c : List Numbers)
+        → MayRun o.defs o.lines → IsSound o.defs → IsState o.defs o.base → HasRun o front c
+        → IsState o.defs (table_after o front) }
+    ensures appends { (o : Opening) (front : List ScriptRound) (c : List Numbers) (n : ℕ)
+        → MayRun o.defs o.lines → HasRun o front c → reads_only (locks_after o front) n ≡ true
+        → AreAppends o.defs (changes_in o (next_after o front)) }
+    ensures taken { (o : Opening) (front : List ScriptRound) (c : List Numbers) (n : ℕ)
+        → MayRun o.defs o.lines → IsSound o.defs → IsState o.defs o.base → HasRun o front c
+        → reads_only (locks_after o front) n ≡ true
+        → rows_before (seen_state o front n).space.end (table_after o front).rows
+        ≡ (seen_state o front n).rows }
     ensures found { (d : Defs) (s t : TableState) (a : Option Act) (place : ℕ)
         → t.rows ≡ rows_before place s.rows
         → found d t a ≡ filter (λ r. nat_lt r.0 place) (found d s a) }
