@@ -1,6 +1,6 @@
 -- Scripts worked out by hand: what the definitions say of them, evaluated. On a table with a deleted slot, inserts beside a scan under each
 -- setting of concurrent inserts; and a delete that waits for READ LOCAL.
-use Rattle.std.proofs.Common.{◌≡◌, ◌+◌, ℕ, List, [], ◌∷◌, refl, map}
+use Rattle.std.proofs.Common.{◌≡◌, ◌+◌, ℕ, List, [], ◌∷◌, refl, map, take}
 use Rattle.myi_defs.specs.declared.types.Defs.{Defs}
 use Rattle.myi_defs.specs.declared.types.Field.{Field}
 use Rattle.myi_defs.specs.declared.types.FieldKind.TheVariants as field
@@ -14,9 +14,12 @@ use Rattle.myi_locks.specs.Rounds.{next_round, case_at_once, case_write_held, ca
 use Rattle.myi_tablestate.specs.Keyed.{keyed_step, keyed_refusal}
 use Rattle.myi_defs.specs.Addressable.{is_addressable}
 use Rattle.myi_history.specs.Answers.{LineAnswer, Answer, made, rows, done, locked_for_read}
-use Rattle.myi_history.specs.History.{Opening, history, rounds_of}
+use Rattle.myi_history.specs.History.{Opening, ScriptRound, history, rounds_of}
 use Rattle.myi_history.specs.Text.{Numbers, script_said, no_numbers}
 use Rattle.myi_history.specs.OneThread.{in_turn}
+use Rattle.myi_history.specs.Appending.{rows_before}
+use Rattle.myi_history.specs.Running.{taken_in, counted_in, table_after, seen_state}
+use Rattle.myi_keycache.specs.declared.setup.Counters.{Counters}
 use Rattle.myi_locks.specs.declared.steps.LockKind.TheVariants.{ReadLocal}
 use Rattle.myi_script.specs.declared.types.Act.{Act}
 
@@ -111,3 +114,46 @@ shown_locked = refl
 nothing : in_order (record { defs = table; lines = []; base = base; setting = 1 }) ≡ []
 unfolding rounds_of next_round case_at_once case_write_held case_write case_write_waits case_takes_read case_together keyed_step keyed_refusal accepted is_addressable
 nothing = refl
+
+-- ---- runs that have come so far
+
+-- session 2 has taken READ LOCAL, and beside its scan session 1 has inserted a row at the end
+abbrev pub three : List ScriptRound
+three = take 3 (rounds_of locked)
+
+abbrev pub places : List StoredRow → List ℕ
+places rs = map (λ (r : StoredRow). r.at) rs
+
+one_taken : taken_in (rounds_of locked) ≡ (2, 0) ∷ []
+unfolding rounds_of next_round case_at_once case_write_held case_write case_write_waits case_takes_read case_together keyed_step keyed_refusal accepted is_addressable
+one_taken = refl
+
+stands : places (table_after locked three).rows ≡ 0 ∷ 8 ∷ 16 ∷ []
+unfolding rounds_of next_round case_at_once case_write_held case_write case_write_waits case_takes_read case_together keyed_step keyed_refusal accepted is_addressable
+stands = refl
+
+sees_two : places (seen_state locked three 2).rows ≡ 0 ∷ 8 ∷ []
+unfolding rounds_of next_round case_at_once case_write_held case_write case_write_waits case_takes_read case_together keyed_step keyed_refusal accepted is_addressable
+sees_two = refl
+
+two_before : places (rows_before (seen_state locked three 2).space.end (table_after locked three).rows) ≡ 0 ∷ 8 ∷ []
+unfolding rounds_of next_round case_at_once case_write_held case_write case_write_waits case_takes_read case_together keyed_step keyed_refusal accepted is_addressable
+two_before = refl
+
+abbrev pub asking : Opening
+asking = record { defs = table; lines = l 1 1 act.Stats ∷ l 1 2 act.Scan ∷ l 1 3 act.Stats ∷ []; base = base; setting = 1 }
+
+abbrev pub requests : ℕ → Counters
+requests k = record { read_requests = k; reads = 0; write_requests = 0; writes = 0 }
+
+abbrev pub counts : ℕ → Numbers
+counts k = record { reads = []; counters = requests k }
+
+-- behind the scan what the first `stats` counted is what was counted last
+counted_first : counted_in (requests 0) (take 2 (rounds_of asking)) (counts 5 ∷ n (0 ∷ []) ∷ []) ≡ requests 5
+unfolding rounds_of next_round case_at_once case_write_held case_write case_write_waits case_takes_read case_together keyed_step keyed_refusal accepted is_addressable
+counted_first = refl
+
+counted_second : counted_in (requests 0) (rounds_of asking) (counts 5 ∷ n (0 ∷ []) ∷ counts 8 ∷ n [] ∷ []) ≡ requests 8
+unfolding rounds_of next_round case_at_once case_write_held case_write case_write_waits case_takes_read case_together keyed_step keyed_refusal accepted is_addressable
+counted_second = refl
