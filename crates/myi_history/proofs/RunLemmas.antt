@@ -192,13 +192,14 @@ stops o front c has =
     let many = as_many o front c has in
     let last : Counters = counted_in none_counted front c in
     let more : List Numbers = rest_of last (taken_in front) back in
-    let P : List ScriptRound → Type 0 = λ ps. StatsRise none_counted ps (c ++ more) in
-    (c ++ more,
-    counted_fit o (c ++ more)
-    (reads_join front back c more has.reads (rest_reads last (taken_in front) back) ∙ ap (λ ps. reads_of (in_turn [] ps)) (sym has.first.1))
-    (subst P (sym has.first.1) (rise_join none_counted front back c more many has.counted (rest_rises last (taken_in front) back (fewer_last none_counted front c many (omega arith) has.counted)))),
-    run_text o back more,
-    ap (λ ps. flat_map said_text (said_in o (history o) ps (c ++ more))) has.first.1 ∙ text_join o front back c more many)
+    let P : List ScriptRound → Type 0 = λ ps. StatsRise none_counted ps (c ++ more) in (
+      c ++ more,
+      counted_fit o (c ++ more)
+          (reads_join front back c more has.reads (rest_reads last (taken_in front) back) ∙ ap (λ ps. reads_of (in_turn [] ps)) (sym has.first.1))
+          (subst P (sym has.first.1) (rise_join none_counted front back c more many has.counted (rest_rises last (taken_in front) back (fewer_last none_counted front c many (omega arith) has.counted)))),
+      run_text o back more,
+      ap (λ ps. flat_map said_text (said_in o (history o) ps (c ++ more))) has.first.1 ∙ text_join o front back c more many,
+    )
 
 -- ---- the table of the history so far
 

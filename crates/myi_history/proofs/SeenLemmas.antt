@@ -371,8 +371,8 @@ sees_later o front n are none w =
       state = subst P (sym seen) w.state;
       appends = more_appends o.defs w.since (changes_in o p) w.appends are;
       table =
-        table_more o front ∙ sym (replay_round o p) ∙ ap (λ s. replay o.defs s (changes_in o p)) w.table
-        ∙ sym (replay_append o.defs (seen_state o front n) w.since (changes_in o p)) ∙ ap (λ s. replay o.defs s (w.since ++ changes_in o p)) (sym seen);
+          table_more o front ∙ sym (replay_round o p) ∙ ap (λ s. replay o.defs s (changes_in o p)) w.table
+          ∙ sym (replay_append o.defs (seen_state o front n) w.since (changes_in o p)) ∙ ap (λ s. replay o.defs s (w.since ++ changes_in o p)) (sym seen);
     }
 
 abbrev AllSee : Opening → List ScriptRound → Type 0
