@@ -13,7 +13,6 @@ use Rattle.myi_state.specs.State.{StoredRow, TableState}
 use Rattle.myi_pair.specs.KeyList.{PlacedRow}
 use Rattle.myi_tablestate.specs.Listed.{placed}
 use Rattle.myi_tablestate.specs.Matching.{Bounds, lies_between, placed_key}
-use Rattle.myi_script.specs.declared.types.Range.{Range}
 use Rattle.myi_script.specs.declared.types.Act.{Act}
 use Rattle.myi_script.specs.declared.types.Act.TheVariants as act
 use Rattle.myi_history.specs.Appending.{stands_before, rows_before}

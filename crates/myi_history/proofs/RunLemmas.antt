@@ -1,5 +1,5 @@
 -- A run on one thread goes on by the next round, prints its rounds one after the other, and ends with the script.
-use Rattle.std.proofs.Common.{◌≡◌, ℕ, ◌≤◌, List, [], ◌∷◌, ◌++◌, map, fold, take, length, Bool, true, false, cond, refl, ap, sym, ◌∙◌, arith, subst, length-append, append_assoc, append-nil}
+use Rattle.std.proofs.Common.{◌≡◌, ℕ, ◌≤◌, List, [], ◌∷◌, ◌++◌, fold, take, length, Bool, true, false, cond, refl, ap, sym, ◌∙◌, arith, subst, length-append, append_assoc, append-nil}
 use Rattle.std.specs.List.{flat_map}
 use Rattle.std.proofs.lemmas.List.{map-append, length-map}
 use Rattle.std.proofs.lemmas.List.Sums.{fold-append}
@@ -14,8 +14,8 @@ use Rattle.myi_locks.specs.Done.{steps_of, advanced}
 use Rattle.myi_history.specs.Lines.{MayRun}
 use Rattle.myi_history.specs.History.{Opening, ScriptRound, changes_in, round_from, state_behind, number_behind, first_locks, rounds_of, history_in, history, locks_behind, has_hole}
 use Rattle.myi_history.specs.Answers.{said_text}
-use Rattle.myi_history.specs.Text.{Numbers, no_numbers, said_in, round_said, shell_text, state_at}
-use Rattle.myi_history.specs.Bounds.{SessionNumber, taken_by, is_stats, CountersRise, AreWithin}
+use Rattle.myi_history.specs.Text.{Numbers, said_in, round_said, shell_text, state_at}
+use Rattle.myi_history.specs.Bounds.{SessionNumber, taken_by, is_stats, AreWithin}
 use Rattle.myi_history.specs.OneThread.{round_numbers, in_turn, counted_by, StatsRise}
 use Rattle.myi_history.specs.Running.{taken_in, counted_in, locks_after, table_after, number_after, next_after, run_text, HasRun, IsNext}
 use Rattle.myi_history.proofs.ReplayLemmas.{replay_append, replay_round, follows_history, none_left}

@@ -1,5 +1,5 @@
 -- While a session holds READ or READ LOCAL, rows are inserted at the end alone, so it goes on to find the rows that it took the lock at.
-use Rattle.std.proofs.Common.{◌≡◌, ℕ, ◌==◌, ◌&&◌, ◌||◌, not, List, [], ◌∷◌, ◌++◌, fold, length, Option, Some, None, Result, Ok, Err, Bool, true, false, cond, refl, ap, sym, ◌∙◌, inl, inr, subst, append_assoc, append-nil}
+use Rattle.std.proofs.Common.{◌≡◌, ℕ, ◌==◌, ◌&&◌, ◌||◌, not, List, [], ◌∷◌, ◌++◌, Option, Some, None, Result, Ok, Err, Bool, true, false, cond, refl, ap, sym, ◌∙◌, inl, inr, subst, append_assoc, append-nil}
 use Rattle.std.specs.Prelude.{◌⊎◌, option_map}
 use Rattle.std.specs.List.{AllByRecursion, find, list_any}
 use Rattle.std.proofs.lemmas.Bool.Decides.{eqb_tells}
@@ -8,7 +8,7 @@ use Rattle.myi_defs.specs.Sound.{IsSound}
 use Rattle.myi_pack.specs.Packed.{Values}
 use Rattle.myi_pack.specs.Spelling.{fits}
 use Rattle.myi_state.specs.State.{TableState}
-use Rattle.myi_state.specs.Changes.{Change, insert, insert_at_end, delete, update, accepted, replay}
+use Rattle.myi_state.specs.Changes.{Change, accepted, replay}
 use Rattle.myi_state.specs.Sound.{IsState, MayCome}
 use Rattle.myi_state.proofs.CallerLemmas.{accepted-kept}
 use Rattle.myi_tablestate.specs.Keyed.{KeyedRefusal, keyed_step, keyed_step_by, keyed_refusal, if_made}
@@ -21,7 +21,7 @@ use Rattle.myi_locks.specs.declared.steps.Round.{Round}
 use Rattle.myi_locks.specs.declared.steps.Round.TheVariants.{Finished, Alone, Together}
 use Rattle.myi_locks.specs.Steps.{is_insert, is_read, takes_read, writes_rows, lock_after}
 use Rattle.myi_locks.specs.Sessions.{Session, holds_read, holds_local}
-use Rattle.myi_locks.specs.Rounds.{LockState, next_round, has_steps, session_of}
+use Rattle.myi_locks.specs.Rounds.{LockState, next_round, session_of}
 use Rattle.myi_locks.specs.Done.{steps_of, advanced, held, lock_in, is_together}
 use Rattle.myi_locks.specs.Script.{own}
 use Rattle.myi_locks.specs.Laws.{IsLawful, IsExclusive, IsRefused, ReadsOrInserts, is_reader, lock_left}
@@ -31,12 +31,12 @@ use Rattle.myi_script.specs.declared.types.Act.TheVariants as act
 use Rattle.myi_script.specs.declared.types.Line.{Line}
 use Rattle.myi_history.specs.Lines.{MayRun, BringsRow, act_of, script_steps}
 use Rattle.myi_history.specs.Appending.{IsAppend, AreAppends, rows_before}
-use Rattle.myi_history.specs.History.{Opening, ScriptRound, change_of, reads_only, asks, asked_in, accepted_of, stepped_by, changes, state_after, changes_in, state_behind, first_locks, rounds_of, history, has_hole}
+use Rattle.myi_history.specs.History.{Opening, ScriptRound, change_of, reads_only, asks, asked_in, accepted_of, stepped_by, changes, state_after, changes_in, first_locks, rounds_of, history, has_hole}
 use Rattle.myi_history.specs.Text.{Numbers, state_at}
 use Rattle.myi_history.specs.Bounds.{SessionNumber, number_at, taken_by}
 use Rattle.myi_history.specs.Running.{taken_in, locks_after, table_after, number_after, next_after, seen_number, seen_state, HasRun}
 use Rattle.myi_history.proofs.LineLemmas.{steps_run}
-use Rattle.myi_history.proofs.ReplayLemmas.{replay_append, replay_round, follows_history}
+use Rattle.myi_history.proofs.ReplayLemmas.{replay_append, replay_round}
 use Rattle.myi_history.proofs.AppendLemmas.{appends_stand_behind}
 use Rattle.myi_history.proofs.RunLemmas.{locks_more, table_more, taken_more, next_is, table_now}
 use Rattle.myi_history.proofs.StepLemmas.{Each, EachLeft, each_so, IsOfLine, round_has, round_leaves, opening_has, are_of_lines}

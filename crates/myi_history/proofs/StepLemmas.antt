@@ -1,7 +1,7 @@
 -- The steps of a round are steps that were left, so they come from the script's lines, or are an End that was added.
-use Rattle.std.proofs.Common.{◌≡◌, ℕ, ◌+◌, ◌-◌, ◌≤◌, ◌==◌, ◌&&◌, not, List, [], ◌∷◌, ◌++◌, map, filter, fold, drop, length, Option, Some, None, Bool, true, false, cond, refl, ap, sym, ◌∙◌, arith, inl, inr, subst}
+use Rattle.std.proofs.Common.{◌≡◌, ℕ, ◌+◌, ◌-◌, ◌≤◌, ◌==◌, ◌&&◌, not, List, [], ◌∷◌, ◌++◌, map, filter, fold, drop, length, Option, Some, None, Bool, true, false, cond, refl, ◌∙◌, arith, inl, inr, subst}
 use Rattle.std.specs.Prelude.{option_map, slice_get}
-use Rattle.std.specs.List.{AllByRecursion, filter_map, cons_option, find, flat_map, list_any, take_while}
+use Rattle.std.specs.List.{AllByRecursion, filter_map, cons_option, flat_map, take_while}
 use Rattle.std.proofs.lemmas.List.Sums.{take_while-cons}
 use Rattle.std.proofs.lemmas.Bool.Decides.{eqb_tells}
 use Rattle.myi_defs.specs.declared.types.Defs.{Defs}
@@ -14,8 +14,8 @@ use Rattle.myi_locks.specs.declared.steps.Round.{Round}
 use Rattle.myi_locks.specs.declared.steps.Round.TheVariants.{Finished, Alone}
 use Rattle.myi_locks.specs.Steps.{is_insert, is_read, comes_before}
 use Rattle.myi_locks.specs.Sessions.{Session, head, first, earlier, is_next, holds_any, passes}
-use Rattle.myi_locks.specs.Rounds.{LockState, next_round, case_at_once, case_write_held, case_write, case_write_waits, case_takes_read, case_together, alone, or_else, has_step, run_of, reads, inserter, session_at, session_of, together}
-use Rattle.myi_locks.specs.Done.{steps_of, advanced, stepped, after, after_any, run_steps}
+use Rattle.myi_locks.specs.Rounds.{LockState, next_round, case_at_once, case_write_held, case_write, case_write_waits, case_takes_read, case_together, alone, or_else, run_of, reads, inserter, session_at, session_of, together}
+use Rattle.myi_locks.specs.Done.{steps_of, advanced, stepped, after, run_steps}
 use Rattle.myi_locks.specs.Script.{own, numbers, opening, with_end, added_end, session_from, is_end}
 use Rattle.myi_script.specs.declared.types.Act.{Act}
 use Rattle.myi_script.specs.declared.types.Act.TheVariants as act
