@@ -10,4 +10,6 @@ mod RunLemmas
 mod FoundLemmas
 mod StepLemmas
 mod SeenLemmas
+mod PartLemmas
+mod LineOrderLemmas
 mod WorkedScripts

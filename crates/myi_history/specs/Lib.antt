@@ -10,6 +10,8 @@ pub mod Answers
 pub mod History
 -- what a script prints, by the numbers that its reads are given and what its `stats` count
 pub mod Text
+-- texts of lines, and their order
+pub mod RoundTexts
 -- which numbers its reads may be given
 pub mod Bounds
 -- inserts at the end, and the rows that stand before them

@@ -1,8 +1,8 @@
 //! `AnswerTexts`: the buffers that serve for the lines of many answers.
 //!
-//! Where memory runs out, a line that is appended at once is not appended at all (`same`). Of the
-//! lines of rows (`push_found`, `push_row`) nothing is said then.
-ghost use Rattle.std.specs.Prelude.{◌≡◌, ◌++◌, decimal, string_bytes, OnOk};
+//! Where memory runs out, a line is not appended at all (`same`), and of several lines a first part
+//! may have been (`part`).
+ghost use Rattle.std.specs.Prelude.{◌≡◌, ◌++◌, decimal, length, filter, nat_lt, string_bytes, OnOk};
 ghost use Rattle.myi_history.specs.Answers.{numbered, gets_text, puts_text, counters_text};
 
 use myi_keycache::Counters;
@@ -10,30 +10,79 @@ use myi_pack::Row;
 use myi_rowtext::RowTexts;
 use std::alloc::{AllocError, Global};
 
-/// Buffers for the words of a line and for the text of a row.
+/// What a step answers that is no read.
+#[derive(Clone, Copy, Debug, PartialEq, Eq)]
+pub enum StepAnswer {
+    /// A change was made at a position.
+    Made { at: u64 },
+    /// No row stands at that position.
+    NoRow { at: u64 },
+    /// The row at that position has the complete key in the unique key of that number, from 1.
+    Duplicate { key: u64, at: u64 },
+    /// Row pointers would not reach the whole file.
+    Full,
+    /// The session of a change holds a read lock.
+    LockedForRead,
+    /// A lock was taken or given up, or a session ended.
+    Done,
+    /// What a key cache counted.
+    Counted(Counters),
+}
+
+/// Buffers for the words of a line, for the line of a row and for its text.
 pub struct AnswerTexts {
     words: String,
+    line: Vec<u8>,
     rows: RowTexts,
 }
 
 impl Drop for AnswerTexts {
     fn drop(self) {
-        let AnswerTexts { words: _, rows: _ } = self;
+        let AnswerTexts {
+            words: _,
+            line: _,
+            rows: _,
+        } = self;
     }
 }
 
 impl AnswerTexts {
-    ghost use Rattle.std.specs.Prelude.{◌≡◌, ◌++◌, OnOk, OnErr};
+    ghost use Rattle.std.specs.Prelude.{◌≡◌, ◌++◌, Some, nat_lt, filter, OnOk, OnErr};
+    ghost use Rattle.myi_base.specs.Output.{AppendsPart};
     ghost use Rattle.myi_tablestate.specs.Keyed.{lacks, duplicate, too_long};
     ghost use Rattle.myi_history.specs.Answers.{answer_text, made, refused, locked_for_read};
     ghost use Rattle.myi_history.specs.Answers.{done, counted, rows, count_text, numbered};
     ghost use Rattle.myi_history.specs.Answers.{row_line, row_lines};
+    ghost use Rattle.myi_history.specs.RoundTexts.{answer_of};
 
     /// Empty buffers, for which no memory is taken.
     pub fn new(alloc: Global) -> AnswerTexts {
         AnswerTexts {
             words: String::new(alloc),
+            line: Vec::new(alloc),
             rows: RowTexts::new(alloc),
+        }
+    }
+
+    /// Appends the line of what a step answered.
+    pub fn push(
+        &mut self,
+        out: &mut Vec<u8>,
+        line: u32,
+        answer: StepAnswer,
+    ) -> Result<(), AllocError>
+        ensures text { OnOk result (out.new.items
+            ≡ out.old.items ++ answer_text line (answer_of answer)) }
+        ensures same { OnErr result (out.new.items ≡ out.old.items) }
+    {
+        match answer {
+            StepAnswer::Made { at } => self.push_made(out, line, at),
+            StepAnswer::NoRow { at } => self.push_no_row(out, line, at),
+            StepAnswer::Duplicate { key, at } => self.push_duplicate(out, line, key, at),
+            StepAnswer::Full => self.push_full(out, line),
+            StepAnswer::LockedForRead => self.push_locked(out, line),
+            StepAnswer::Done => self.push_done(out, line),
+            StepAnswer::Counted(counters) => self.push_counters(out, line, counters),
         }
     }
 
@@ -152,15 +201,39 @@ impl AnswerTexts {
         found: &[(u64, Row)],
         number: u64,
     ) -> Result<(), AllocError>
-        ensures { OnOk result (out.new.items
+        ensures text { OnOk result (out.new.items
             ≡ out.old.items ++ answer_text line (rows found.now number)) }
+        ensures part { OnErr result (AppendsPart (answer_text line (rows found.now number))
+            (Some out.new.items) out.old.items) }
     {
         self.push_count(out, line, found.len() as u64, number)?;
         self.push_rows(out, found)
     }
 
+    /// Appends the lines of a read that found, after so many changes, those of these rows that stand
+    /// below a place.
+    pub fn push_found_below(
+        &mut self,
+        out: &mut Vec<u8>,
+        line: u32,
+        found: &[(u64, Row)],
+        below: u64,
+        number: u64,
+    ) -> Result<(), AllocError>
+        ensures text { OnOk result (out.new.items ≡ out.old.items
+            ++ answer_text line (rows (filter (λ r. nat_lt r.0 below) found.now) number)) }
+        ensures part { OnErr result (AppendsPart
+            (answer_text line (rows (filter (λ r. nat_lt r.0 below) found.now) number))
+            (Some out.new.items) out.old.items) }
+    {
+        self.push_count(out, line, count_below(found, below), number)?;
+        self.push_rows_below(out, found, below)
+    }
+
     fn push_rows(&mut self, out: &mut Vec<u8>, found: &[(u64, Row)]) -> Result<(), AllocError>
-        ensures { OnOk result (out.new.items ≡ out.old.items ++ row_lines found.now) }
+        ensures text { OnOk result (out.new.items ≡ out.old.items ++ row_lines found.now) }
+        ensures part { OnErr result
+            (AppendsPart (row_lines found.now) (Some out.new.items) out.old.items) }
     {
         for (at, row) in found {
             self.push_row(out, *at, row)?;
@@ -168,16 +241,45 @@ impl AnswerTexts {
         Ok(())
     }
 
-    /// Appends the line of a row that a read found.
-    pub fn push_row(&mut self, out: &mut Vec<u8>, at: u64, row: &Row) -> Result<(), AllocError>
-        ensures { OnOk result (out.new.items
-            ≡ out.old.items ++ row_line (at, row.now)) }
+    fn push_rows_below(
+        &mut self,
+        out: &mut Vec<u8>,
+        found: &[(u64, Row)],
+        below: u64,
+    ) -> Result<(), AllocError>
+        ensures text { OnOk result (out.new.items
+            ≡ out.old.items ++ row_lines (filter (λ r. nat_lt r.0 below) found.now)) }
+        ensures part { OnErr result
+            (AppendsPart (row_lines (filter (λ r. nat_lt r.0 below) found.now))
+            (Some out.new.items) out.old.items) }
     {
-        out.extend_from_slice(b"  ")?;
-        self.rows.push_row(out, at, row)?;
-        out.push(b'\n')?;
+        for (at, row) in found {
+            if *at < below {
+                self.push_row(out, *at, row)?;
+            }
+        }
         Ok(())
     }
+
+    /// Appends the line of a row that a read found.
+    pub fn push_row(&mut self, out: &mut Vec<u8>, at: u64, row: &Row) -> Result<(), AllocError>
+        ensures text { OnOk result (out.new.items
+            ≡ out.old.items ++ row_line (at, row.now)) }
+        ensures same { OnErr result (out.new.items ≡ out.old.items) }
+    {
+        self.line.clear();
+        self.line.extend_from_slice(b"  ")?;
+        self.rows.push_row(&mut self.line, at, row)?;
+        self.line.push(b'\n')?;
+        out.extend_from_slice(&self.line)
+    }
+}
+
+// How many of these rows stand below a place.
+fn count_below(found: &[(u64, Row)], below: u64) -> u64
+    ensures { result ≡ length (filter (λ r. nat_lt r.0 below) found.now) }
+{
+    found.iter().filter(|row| row.0 < below).count() as u64
 }
 
 fn write_gets(words: &mut String, line: u32, requests: u64, reads: u64) -> Result<(), AllocError>

@@ -17,20 +17,25 @@
 //! - `specs/Text`: the text of a script (`shell_text`).
 //! - `specs/Bounds`: which numbers its reads may be given (`AreWithin`).
 //! - `specs/Appending`: inserts at the end, and the rows that stand before them.
+//! - `specs/RoundTexts`: texts of lines, and their order.
 //! - `specs/OneThread`: the numbers of a run on one thread, and what the laws say of rounds.
 //! - `specs/Running`: such a run that has come so far, and what stands behind it.
 //!
 //! `script_steps` makes the steps of a script for `Locks::new`, and `AnswerTexts` appends the lines
 //! of answers. The laws are the contracts of the functions in `laws`, and those of runs on one
 //! thread in `running`.
+//! `script_steps` makes the steps of a script for `Locks::new`, `AnswerTexts` appends the lines of
+//! answers, and `RoundTexts` holds what a round said and writes it in order of line. The laws are
+//! the contracts of the functions in `laws`.
 #![tactic(auto)]
 
 mod answers;
 mod laws;
 mod lines;
 mod running;
+mod round_texts;
 
-pub use answers::AnswerTexts;
+pub use answers::{AnswerTexts, StepAnswer};
 pub use laws::{
     appended_rows_stand_behind, histories_are_replayed, numbers_are_forced, numbers_can_be_given,
     ranges_find_matching_rows, refused_changes_leave, rounds_are_whole, rounds_follow_the_history,
@@ -38,3 +43,4 @@ pub use laws::{
 };
 pub use lines::script_steps;
 pub use running::{runs_begin, runs_end, runs_go_on, runs_that_stop, tables_are_read};
+pub use round_texts::RoundTexts;
