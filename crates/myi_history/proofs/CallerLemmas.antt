@@ -31,3 +31,7 @@ pub use Rattle.myi_history.proofs.RunLemmas.{stops}
 pub use Rattle.myi_history.proofs.RunLemmas.{read_now}
 pub use Rattle.myi_history.proofs.FoundLemmas.{finds_before}
 pub use Rattle.myi_history.proofs.SeenLemmas.{run_state, run_appends, seen_rows}
+-- texts_stand_in_line_order
+pub use Rattle.myi_history.proofs.LineOrderLemmas.{texts_in_order}
+-- lines_are_answered_once
+pub use Rattle.myi_history.proofs.OnceLemmas.{answered_once}

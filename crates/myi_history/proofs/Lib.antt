@@ -12,4 +12,6 @@ mod StepLemmas
 mod SeenLemmas
 mod PartLemmas
 mod LineOrderLemmas
+mod SpokenLemmas
+mod OnceLemmas
 mod WorkedScripts

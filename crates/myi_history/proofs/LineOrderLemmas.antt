@@ -20,7 +20,7 @@ abbrev pub In : {X : Type 0} → X → List X → Type 0
 In x [] = ⊥
 In x (y ∷ ys) = (x ≡ y) ⊎ In x ys
 
-all_of : {X : Type 0} (P : X → Type 0) (xs : List X) (x : X) → AllByRecursion P xs → In x xs → P x
+pub all_of : {X : Type 0} (P : X → Type 0) (xs : List X) (x : X) → AllByRecursion P xs → In x xs → P x
 all_of P [] x h i = absurd i
 all_of P (y ∷ ys) x h (inl e) = subst P (sym e) h.0
 all_of P (y ∷ ys) x h (inr i) = all_of P ys x h.1 i
@@ -81,20 +81,20 @@ one_if a n = cond (a == n) 1 0
 abbrev pub hits : {X : Type 0} → (X → ℕ) → ℕ → List X → ℕ
 hits key n xs = sum_by (λ x. one_if (key x) n) xs
 
-hits_cons : {X : Type 0} (key : X → ℕ) (n : ℕ) (x : X) (xs : List X) → hits key n (x ∷ xs) ≡ one_if (key x) n + hits key n xs
+pub hits_cons : {X : Type 0} (key : X → ℕ) (n : ℕ) (x : X) (xs : List X) → hits key n (x ∷ xs) ≡ one_if (key x) n + hits key n xs
 hits_cons key n x xs = sum_by-cons (λ y. one_if (key y) n) x xs
 
-hit : (a n : ℕ) → a ≡ n → one_if a n ≡ 1
+pub hit : (a n : ℕ) → a ≡ n → one_if a n ≡ 1
 hit a n e = elim (eqb_tells a n) [ inl p ↦ rw p.0 refl | inr p ↦ absurd (p.1 e) ]
 
-missed : (a n : ℕ) → (a ≡ n → ⊥) → one_if a n ≡ 0
+pub missed : (a n : ℕ) → (a ≡ n → ⊥) → one_if a n ≡ 0
 missed a n ne = elim (eqb_tells a n) [ inl p ↦ absurd (ne p.1) | inr p ↦ rw p.0 refl ]
 
 never_hit : {X : Type 0} (key : X → ℕ) (n : ℕ) (xs : List X) → AllByRecursion (λ y. key y ≢ n) xs → hits key n xs ≡ 0
 never_hit key n [] h = refl
 never_hit key n (x ∷ xs) h = omega (arith, hits_cons key n x xs, missed (key x) n h.0, never_hit key n xs h.1)
 
-none_met : {X : Type 0} (key : X → ℕ) (n : ℕ) (xs : List X) → hits key n xs ≡ 0 → AllByRecursion (λ y. key y ≢ n) xs
+pub none_met : {X : Type 0} (key : X → ℕ) (n : ℕ) (xs : List X) → hits key n xs ≡ 0 → AllByRecursion (λ y. key y ≢ n) xs
 none_met key n [] e = tt
 none_met key n (x ∷ xs) e = (
   (λ same. let a = hits_cons key n x xs in let b = hit (key x) n same in absurd (omega arith)),

@@ -64,6 +64,12 @@ part_more old mid text piece rest new f p =
 pub part_same : (old mid new text rest : List ℕ) → Front old mid text rest → new ≡ mid → AppendsPart text (Some new) old
 part_same old mid new text rest f same = subst (λ (t : List ℕ). AppendsPart text (Some t) old) (sym same) (front_part old mid text rest f)
 
+-- a text and a first part of the one behind it
+pub part_behind : (old mid new text rest : List ℕ) → mid ≡ old ++ text → AppendsPart rest (Some new) mid → AppendsPart (text ++ rest) (Some new) old
+part_behind old mid new text rest e part =
+    part_more old mid (text ++ rest) rest [] (Some new)
+    (front_rest old mid (text ++ rest) rest (rest ++ []) (sym (append-nil rest)) (front_more old old mid (text ++ rest) text rest (front_none old (text ++ rest)) e)) part
+
 -- nothing was appended
 pub part_none : (old new text : List ℕ) → new ≡ old → AppendsPart text (Some new) old
 part_none old new text same = part_same old old new text text (front_none old text) same
@@ -73,15 +79,21 @@ pub part_is : (old new text : List ℕ) (p : AppendsPart text (Some new) old) �
 part_is old new text p = some_is new (old ++ take p.0 text) p.2
 
 -- of those that pass a test one more was appended, or one was left out
-pub front_passed : {X : Type 0} (p : X → Bool) (f : X → List ℕ) (old mid new text : List ℕ) (xs : List X) (i : ℕ) (d : X) → i < length xs → Front old mid text (flat_map f (filter p (drop i xs))) → p (get_or xs i d) ≡ true → new ≡ mid ++ f (get_or xs i d)
-    → Front old new text (flat_map f (filter p (drop (i + 1) xs)))
-front_passed p f old mid new text xs i d lt so passes more =
-    front_more old mid new text (f (get_or xs i d)) (flat_map f (filter p (drop (i + 1) xs)))
-    (front_rest old mid text _ _ (ap (λ us. flat_map f (filter p us)) (drop_more xs i d lt) ∙ ap (λ b. flat_map f (cond b (get_or xs i d ∷ filter p (drop (i + 1) xs)) (filter p (drop (i + 1) xs)))) passes) so) more
+passed_next : {X : Type 0} (p : X → Bool) (f : X → List ℕ) (xs : List X) (i : ℕ) (x : X) (b : Bool) → i < length xs → x ≡ get_or xs i x → p x ≡ b
+    → flat_map f (filter p (drop i xs)) ≡ flat_map f (cond b (x ∷ filter p (drop (i + 1) xs)) (filter p (drop (i + 1) xs)))
+passed_next p f xs i x b lt is tells =
+    ap (λ us. flat_map f (filter p us)) (drop_more xs i x lt ∙ ap (λ y. y ∷ drop (i + 1) xs) (sym is))
+    ∙ ap (λ q. flat_map f (cond q (x ∷ filter p (drop (i + 1) xs)) (filter p (drop (i + 1) xs)))) tells
 
-pub front_left : {X : Type 0} (p : X → Bool) (f : X → List ℕ) (old mid text : List ℕ) (xs : List X) (i : ℕ) (d : X) → i < length xs → Front old mid text (flat_map f (filter p (drop i xs))) → p (get_or xs i d) ≡ false → Front old mid text (flat_map f (filter p (drop (i + 1) xs)))
-front_left p f old mid text xs i d lt so fails =
-    front_rest old mid text _ _ (ap (λ us. flat_map f (filter p us)) (drop_more xs i d lt) ∙ ap (λ b. flat_map f (cond b (get_or xs i d ∷ filter p (drop (i + 1) xs)) (filter p (drop (i + 1) xs)))) fails) so
+pub front_passed : {X : Type 0} (p : X → Bool) (f : X → List ℕ) (old mid new text : List ℕ) (xs : List X) (i : ℕ) (x : X) → i < length xs → x ≡ get_or xs i x → Front old mid text (flat_map f (filter p (drop i xs))) → p x ≡ true → new ≡ mid ++ f x
+    → Front old new text (flat_map f (filter p (drop (i + 1) xs)))
+front_passed p f old mid new text xs i x lt is so passes more =
+    front_more old mid new text (f x) (flat_map f (filter p (drop (i + 1) xs)))
+    (front_rest old mid text (flat_map f (filter p (drop i xs))) (f x ++ flat_map f (filter p (drop (i + 1) xs))) (passed_next p f xs i x true lt is passes) so) more
+
+pub front_left : {X : Type 0} (p : X → Bool) (f : X → List ℕ) (old mid text : List ℕ) (xs : List X) (i : ℕ) (x : X) → i < length xs → x ≡ get_or xs i x → Front old mid text (flat_map f (filter p (drop i xs))) → p x ≡ false → Front old mid text (flat_map f (filter p (drop (i + 1) xs)))
+front_left p f old mid text xs i x lt is so fails =
+    front_rest old mid text (flat_map f (filter p (drop i xs))) (flat_map f (filter p (drop (i + 1) xs))) (passed_next p f xs i x false lt is fails) so
 
 pub test_yes : (a b : ℕ) → a < b → nat_lt a b ≡ true
 test_yes a b h = grind (arith, nat_tests)

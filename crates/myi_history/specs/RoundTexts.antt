@@ -1,11 +1,15 @@
 -- The texts of what the steps of a round said, each with the number of its line, and their order.
-use Rattle.std.specs.Prelude.{◌≢◌, ◌≤◌, ℕ, nat_lt, map, fold, List, [], ◌∷◌, if◌then◌else◌}
+use Rattle.std.specs.Prelude.{◌≢◌, ◌≤◌, ℕ, nat_lt, map, fold, List, [], ◌∷◌, ◌++◌, if◌then◌else◌}
 use Rattle.std.specs.List.{AllByRecursion, flat_map, slice_range}
+use Rattle.myi_state.specs.Changes.{Change}
 use Rattle.myi_tablestate.specs.Keyed.{lacks, duplicate, too_long}
+use Rattle.myi_locks.specs.Done.{steps_of}
 use Rattle.myi_history.specs.declared.answers.StepAnswer.{StepAnswer}
 use Rattle.myi_history.specs.declared.answers.StepAnswer.TheVariants as step
 use Rattle.myi_history.specs.declared.round_texts.Said.{Said}
 use Rattle.myi_history.specs.Answers.{Answer, made, refused, locked_for_read, done, counted, LineAnswer, said_text}
+use Rattle.myi_history.specs.History.{Opening, ScriptRound}
+use Rattle.myi_history.specs.Text.{Numbers, reads_said, others_said}
 
 -- what a step answers that is no read
 abbrev pub answer_of : StepAnswer → Answer
@@ -32,6 +36,12 @@ all_put_by key xs = fold (λ ys x. put_by key x ys) [] xs
 abbrev pub HaveOwnKeys : {X : Type 0} → (X → ℕ) → List X → Type 0
 HaveOwnKeys key [] = Unit {0}
 HaveOwnKeys key (x ∷ xs) = AllByRecursion (λ y. key y ≢ key x) xs × HaveOwnKeys key xs
+
+-- ---- what a round says
+
+-- what the steps of a round say, first its reads
+abbrev pub said_of : Opening → List Change → ScriptRound → Numbers → List LineAnswer
+said_of o h p ns = reads_said o h (steps_of p.round) ns.reads ++ others_said o p p.state ns.counters (steps_of p.round)
 
 -- ---- texts of lines
 

@@ -210,8 +210,8 @@ impl AnswerTexts {
         self.push_rows(out, found)
     }
 
-    /// Appends the lines of a read that found, after so many changes, those of these rows that stand
-    /// below a place.
+    /// Appends the lines of a read that found, after so many changes, those of these rows that
+    /// stand below a place.
     pub fn push_found_below(
         &mut self,
         out: &mut Vec<u8>,

@@ -16,7 +16,11 @@ ghost use Rattle.myi_script.specs.declared.types.Line.{Line};
 ghost use Rattle.myi_script.specs.Script.{IsScript};
 ghost use Rattle.myi_history.specs.Lines.{MayRun, script_steps};
 ghost use Rattle.myi_history.specs.History.{Opening, ScriptRound, rounds_of, history, changes_in, state_behind, first_locks, locks_behind, accepted_of, stepped_by};
-ghost use Rattle.myi_history.specs.Text.{Numbers, no_numbers};
+ghost use Rattle.std.specs.List.{flat_map};
+ghost use Rattle.myi_history.specs.Answers.{LineAnswer, said_text};
+ghost use Rattle.myi_history.specs.Text.{Numbers, no_numbers, put_lines};
+ghost use Rattle.myi_history.specs.RoundTexts.{said_of, texts_of, in_line_order, joined};
+ghost use Rattle.myi_history.specs.RoundTexts.{HaveOwnLines};
 ghost use Rattle.myi_history.specs.Bounds.{PastNumbers, RoundFits, AreWithin};
 ghost use Rattle.myi_history.specs.OneThread.{FollowsHistory, IsForced, in_turn, HaveReadsInTurn, StatsRise};
 
@@ -95,4 +99,17 @@ pub fn numbers_are_forced()
         → RoundFits o past p c → RoundFits o past p e → c.reads ≡ e.reads }
     ensures alone { (o : Opening) (c e : List Numbers) → length (first_locks o).sessions ≤ 1
         → AreWithin o c → AreWithin o e → map (λ n. n.reads) c ≡ map (λ n. n.reads) e }
+{}
+
+/// What is said of a round, put by its lines, has the texts in order of line.
+pub fn texts_stand_in_line_order()
+    ensures { (said : List LineAnswer)
+        → flat_map said_text (put_lines [] said) ≡ joined (in_line_order (texts_of said)) }
+{}
+
+/// In a round of a script that may run, no line is answered twice.
+pub fn lines_are_answered_once()
+    ensures { (o : Opening) (h : List Change) (front back : List ScriptRound) (p : ScriptRound)
+        (ns : Numbers) → MayRun o.defs o.lines → rounds_of o ≡ front ++ p ∷ back
+        → HaveOwnLines (texts_of (said_of o h p ns)) }
 {}

@@ -99,7 +99,8 @@ impl RoundTexts {
         ensures same { OnErr result (self.new ≡ self.old) }
     {
         let from = self.bytes.len();
-        self.answers.push_found(&mut self.bytes, line, found, number)?;
+        self.answers
+            .push_found(&mut self.bytes, line, found, number)?;
         note(&mut self.said, line, from, self.bytes.len())
     }
 
@@ -112,12 +113,15 @@ impl RoundTexts {
         below: u64,
         number: u64,
     ) -> Result<(), AllocError>
-        ensures text { OnOk result (self.new ≡ self.old
-            ++ (line, answer_text line (rows (filter (λ r. nat_lt r.0 below) found.now) number)) ∷ []) }
+        ensures text { OnOk result (self.new ≡ self.old ++ (
+          line,
+          answer_text line (rows (filter (λ r. nat_lt r.0 below) found.now) number),
+        ) ∷ []) }
         ensures same { OnErr result (self.new ≡ self.old) }
     {
         let from = self.bytes.len();
-        self.answers.push_found_below(&mut self.bytes, line, found, below, number)?;
+        self.answers
+            .push_found_below(&mut self.bytes, line, found, below, number)?;
         note(&mut self.said, line, from, self.bytes.len())
     }
 

@@ -11,6 +11,6 @@ returns-in_err-push_row-clause-part c =
 
 pub loop-at-preserved : goal.loop-at-preserved
 loop-at-preserved c = elim c.if-at-below.branch [
-  | then-at-below+in_ok-push_row w ↦ rw w.out-is (front_passed (λ r. nat_lt r.0 c.args.below) row_line c.args.out.now.items c.loop-at.out.items w.push_row.new.out.items _ c.args.found.now c.loop-at.at-index _ c.loop-at-test.true c.loop-at.invariant (test_yes _ _ w.if-at-below.true) w.in_ok-push_row.ensures.text)
-  | else-at-below w ↦ rw w.out-is (front_left (λ r. nat_lt r.0 c.args.below) row_line c.args.out.now.items c.loop-at.out.items _ c.args.found.now c.loop-at.at-index _ c.loop-at-test.true c.loop-at.invariant (test_no _ _ w.if-at-below.false))
+  | then-at-below+in_ok-push_row w ↦ rw w.out-is (front_passed (λ r. nat_lt r.0 c.args.below) row_line c.args.out.now.items c.loop-at.out.items w.push_row.new.out.items _ c.args.found.now c.loop-at.at-index c.loop-at-item.result c.loop-at-test.true c.loop-at-item.is c.loop-at.invariant (test_yes c.loop-at-item.result.0 c.args.below w.if-at-below.true) w.in_ok-push_row.ensures.text)
+  | else-at-below w ↦ rw w.out-is (front_left (λ r. nat_lt r.0 c.args.below) row_line c.args.out.now.items c.loop-at.out.items _ c.args.found.now c.loop-at.at-index c.loop-at-item.result c.loop-at-test.true c.loop-at-item.is c.loop-at.invariant (test_no c.loop-at-item.result.0 c.args.below w.if-at-below.false))
 ]

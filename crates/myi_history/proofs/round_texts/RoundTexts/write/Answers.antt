@@ -11,8 +11,8 @@ use Rattle.myi_history.proofs.round_texts.RoundTexts.write.Goals as goal
 pub write_parts-written-requires : goal.write_parts-written-requires
 write_parts-written-requires g c = record {
   within = subst (λ (b : List ℕ). AllByRecursion (IsWithin (length b)) c.deref-2.result.now) (sym c.deref.ensures.value)
-  (subst (λ (xs : List Said). AllByRecursion (IsWithin (length c.self.inside.bytes.items)) xs) (sym c.deref-2.ensures.value)
-  (permuted_all (IsWithin (length c.self.inside.bytes.items)) c.self.inside.said.items c.sort_by_line.new.said.items c.sort_by_line.ensures.same c.self.invariant));
+      (subst (λ (xs : List Said). AllByRecursion (IsWithin (length c.self.inside.bytes.items)) xs) (sym c.deref-2.ensures.value)
+      (permuted_all (IsWithin (length c.self.inside.bytes.items)) c.self.inside.said.items c.sort_by_line.new.said.items c.sort_by_line.ensures.same c.self.invariant));
 }
 
 pub invariant_of-self : goal.invariant_of-self
