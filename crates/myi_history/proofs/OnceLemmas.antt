@@ -1,5 +1,5 @@
 -- In a round no line is answered twice.
-use Rattle.std.proofs.Common.{◌≡◌, ℕ, ◌+◌, ◌<◌, ◌≤◌, ◌==◌, not, List, [], ◌∷◌, ◌++◌, map, Option, Some, None, Bool, true, false, cond, refl, ap, sym, arith, subst, inl, inr}
+use Rattle.std.proofs.Common.{◌≡◌, ℕ, ◌+◌, ◌<◌, ◌≤◌, ◌==◌, not, List, [], ◌∷◌, ◌++◌, map, Option, Some, None, Bool, true, false, cond, refl, sym, arith, subst, inl, inr}
 use Rattle.std.specs.Prelude.{drop, slice_index}
 use Rattle.std.specs.List.{AllByRecursion}
 use Rattle.std.proofs.lemmas.Bool.Decides.{eqb_tells}
@@ -13,7 +13,7 @@ use Rattle.myi_locks.specs.declared.steps.StepKind.{StepKind}
 use Rattle.myi_locks.specs.declared.steps.StepKind.TheVariants.{Release, Take, Rows, Insert, Change as Changes, Unlock, Stats, End}
 use Rattle.myi_locks.specs.declared.steps.Step.{Step}
 use Rattle.myi_locks.specs.Steps.{is_read}
-use Rattle.myi_locks.specs.Rounds.{LockState, next_round}
+use Rattle.myi_locks.specs.Rounds.{LockState}
 use Rattle.myi_locks.specs.Done.{steps_of, advanced}
 use Rattle.myi_script.specs.declared.types.Act.{Act}
 use Rattle.myi_script.specs.declared.types.Act.TheVariants as act
@@ -21,12 +21,12 @@ use Rattle.myi_script.specs.declared.types.Line.{Line}
 use Rattle.myi_history.specs.Lines.{kinds, steps_with, steps_of_line, script_steps, LinesGrow, MayRun}
 use Rattle.myi_history.specs.Answers.{Answer, LineAnswer, answer_on, by_reply, done, counted, locked_for_read}
 use Rattle.myi_history.specs.History.{Opening, ScriptRound, asked_in, reads_only, stepped_by, rounds_of, first_locks, locks_behind}
-use Rattle.myi_history.specs.Text.{Numbers, reads_said, rows_at, write_said, done_said, step_said, said_by, others_said}
+use Rattle.myi_history.specs.Text.{Numbers, reads_said, rows_at, write_said, step_said, said_by, others_said}
 use Rattle.myi_history.specs.RoundTexts.{HaveOwnKeys, HaveOwnLines, LineText, text_of, texts_of, said_of}
 use Rattle.myi_history.proofs.LineLemmas.{steps_run}
 use Rattle.myi_history.proofs.ReplayLemmas.{follows_history}
 use Rattle.myi_history.proofs.LineOrderLemmas.{hits, hits_cons, one_if, hit, missed, none_met}
-use Rattle.myi_history.proofs.SpokenLemmas.{says, said_on, spoken, spoken_cons, spoken_more, left_spoken, advanced_less, round_less, opening_less}
+use Rattle.myi_history.proofs.SpokenLemmas.{says, spoken, spoken_cons, spoken_more, left_spoken, advanced_less, round_less, opening_less}
 
 -- ---- answers of steps
 

@@ -1,23 +1,23 @@
 -- How often steps say something on a line: in the steps of a script, in those that its sessions have left, and in those of a round.
-use Rattle.std.proofs.Common.{◌≡◌, ℕ, ◌+◌, ◌-◌, ◌<◌, ◌≤◌, ◌==◌, ◌&&◌, not, List, [], ◌∷◌, ◌++◌, map, filter, fold, take, drop, length, slice_get, Option, Some, None, Bool, true, false, cond, refl, ap, sym, ◌∙◌, arith, subst, inl, inr}
+use Rattle.std.proofs.Common.{◌≡◌, ℕ, ◌+◌, ◌-◌, ◌<◌, ◌≤◌, ◌==◌, ◌&&◌, not, List, [], ◌∷◌, ◌++◌, map, filter, fold, drop, length, slice_get, Option, Some, None, Bool, true, false, cond, refl, ap, sym, arith, subst, inl, inr}
 use Rattle.std.specs.Prelude.{◌⊎◌, option_map}
 use Rattle.std.specs.List.{AllByRecursion, flat_map, find, filter_map, cons_option, list_any, prefix_len, sum_by, take_while}
-use Rattle.std.proofs.lemmas.Bool.Decides.{nat_tests, eqb_tells}
+use Rattle.std.proofs.lemmas.Bool.Decides.{eqb_tells}
 use Rattle.std.proofs.lemmas.List.Sums.{sum_by-cons, sum_by-append, sum_by-take-le}
 use Rattle.myi_locks.specs.declared.steps.StepKind.{StepKind}
 use Rattle.myi_locks.specs.declared.steps.StepKind.TheVariants.{Release, Take, Rows, Insert, Change, Unlock, Stats, End}
 use Rattle.myi_locks.specs.declared.steps.Step.{Step}
 use Rattle.myi_locks.specs.declared.steps.Run.{Run}
 use Rattle.myi_locks.specs.declared.steps.Round.{Round}
-use Rattle.myi_locks.specs.declared.steps.Round.TheVariants.{Finished, Alone}
+use Rattle.myi_locks.specs.declared.steps.Round.TheVariants.{Finished}
 use Rattle.myi_locks.specs.Steps.{is_insert, is_read, takes_read, comes_before}
 use Rattle.myi_locks.specs.Sessions.{Session, head, earlier, first, is_next, passes, holds_any}
-use Rattle.myi_locks.specs.Rounds.{LockState, next_round, case_at_once, case_write_held, case_write, case_write_waits, case_takes_read, case_together, alone, or_else, is_write, reads, run_of, session_at, session_of, inserter, together}
+use Rattle.myi_locks.specs.Rounds.{LockState, next_round, case_at_once, case_write_held, case_write, case_write_waits, case_takes_read, case_together, alone, or_else, is_write, reads, run_of, session_at, inserter, together}
 use Rattle.myi_locks.specs.Done.{steps_of, run_steps, after, after_any, stepped, advanced}
 use Rattle.myi_locks.specs.Script.{own, numbers, with_end, added_end, is_end, session_from, opening, IsScript}
 use Rattle.myi_locks.specs.Laws.{Rising}
 use Rattle.myi_locks.proofs.CallerLemmas.{opens}
-use Rattle.myi_history.proofs.LineOrderLemmas.{In, all_of, one_if, hit, missed}
+use Rattle.myi_history.proofs.LineOrderLemmas.{In, one_if}
 
 -- whether a step of this kind and line says something
 abbrev pub says : StepKind → ℕ → Bool

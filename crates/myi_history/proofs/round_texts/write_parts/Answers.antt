@@ -1,9 +1,9 @@
-use Rattle.std.proofs.Common.{◌++◌, ◌≤◌, List, ℕ, arith, length, sym, subst, get_or}
+use Rattle.std.proofs.Common.{arith, length, get_or}
 use Rattle.std.specs.List.{flat_map, slice_range}
 use Rattle.std.proofs.lemmas.Result.{on_ok_weaker, on_err_weaker}
 use Rattle.myi_history.specs.declared.round_texts.Said.{Said}
 use Rattle.myi_history.specs.RoundTexts.{part_of}
-use Rattle.myi_history.proofs.PartLemmas.{Wrote, on_err, wrote_all, wrote_part, parts_from, parts_next, parts_joined, parts_done, within_at}
+use Rattle.myi_history.proofs.PartLemmas.{on_err, wrote_all, wrote_part, parts_from, parts_next, parts_joined, parts_done, within_at}
 use Rattle.myi_history.proofs.round_texts.write_parts.Goals as goal
 use Rattle.myi_history.proofs.round_texts.write_parts.Goals.{then-text-to+in_ok-write_piece, else-text-to}
 
