@@ -21,19 +21,16 @@
 //! - `specs/OneThread`: the numbers of a run on one thread, and what the laws say of rounds.
 //! - `specs/Running`: such a run that has come so far, and what stands behind it.
 //!
-//! `script_steps` makes the steps of a script for `Locks::new`, and `AnswerTexts` appends the lines
-//! of answers. The laws are the contracts of the functions in `laws`, and those of runs on one
-//! thread in `running`.
 //! `script_steps` makes the steps of a script for `Locks::new`, `AnswerTexts` appends the lines of
 //! answers, and `RoundTexts` holds what a round said and writes it in order of line. The laws are
-//! the contracts of the functions in `laws`.
+//! the contracts of the functions in `laws`, and those of runs on one thread in `running`.
 #![tactic(auto)]
 
 mod answers;
 mod laws;
 mod lines;
-mod running;
 mod round_texts;
+mod running;
 
 pub use answers::{AnswerTexts, StepAnswer};
 pub use laws::{
@@ -42,5 +39,5 @@ pub use laws::{
     rounds_are_whole, rounds_follow_the_history, scripts_may_run, texts_stand_in_line_order,
 };
 pub use lines::script_steps;
-pub use running::{runs_begin, runs_end, runs_go_on, runs_that_stop, tables_are_read};
 pub use round_texts::RoundTexts;
+pub use running::{runs_begin, runs_end, runs_go_on, runs_that_stop, tables_are_read};

@@ -125,6 +125,11 @@ impl RoundTexts {
         note(&mut self.said, line, from, self.bytes.len())
     }
 
+    /// The allocator of the texts.
+    pub fn allocator(&self) -> Global {
+        *self.bytes.allocator()
+    }
+
     /// Drops the texts, and keeps the memory for others.
     pub fn clear(&mut self)
         ensures { self.new ≡ [] }
