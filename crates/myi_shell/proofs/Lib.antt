@@ -1,1 +1,12 @@
 mod ChangeLemmas
+mod CarryLemmas
+mod StatementLemmas
+mod ReadLemmas
+mod KindLemmas
+mod DoneLemmas
+mod StepLemmas
+mod LoopLemmas
+mod RoundLemmas
+mod PlayedLemmas
+mod RunLemmas
+mod EndLemmas

@@ -1,5 +1,5 @@
 -- A statement that changes a table: the reply is that of a step, and the table stands for the state of the step then.
-use Rattle.std.specs.Prelude.{◌≡◌, ℕ, Bool, Option, Result, Ok, Err, if◌then◌else◌}
+use Rattle.std.specs.Prelude.{◌≡◌, ℕ, Bool, Option, Some, None, Result, Ok, Err, if◌then◌else◌}
 use Rattle.myi_base.specs.Holding.{Holding}
 use Rattle.myi_pack.specs.Packed.{Values}
 use Rattle.myi_state.specs.State.{TableState}
@@ -24,6 +24,13 @@ reply_of (reply.NoRow at) = Err (lacks at)
 reply_of (reply.Duplicate key at) = Err (duplicate key at)
 reply_of reply.Full = Err too_long
 
+-- how many changes a step with this reply is
+abbrev pub count_of : Reply → ℕ
+count_of (reply.Made at) = 1
+count_of (reply.NoRow at) = 0
+count_of (reply.Duplicate key at) = 0
+count_of reply.Full = 0
+
 -- a step was made of a state that the table stood for
 pub record IsStep (c : Change) (old : OpenTable) (s : TableState) (next : Option Holding) (new : OpenTable) (r : Reply) : Type 0 where
   pub reply : (keyed_step (defs_in old) s c).reply ≡ reply_of r
@@ -32,6 +39,13 @@ pub record IsStep (c : Change) (old : OpenTable) (s : TableState) (next : Option
 -- where files tell what they hold, a step was made of each state that the table stood for
 abbrev pub Steps : Change → Option Holding → Option Holding → OpenTable → OpenTable → Reply → Type 0
 Steps c told next old new r = IfHolds told old (λ m s. IsStep c old s next new r)
+
+-- of a state that the table stood for, the step that was asked for was made, or none was and none was asked for
+abbrev pub IsChanged : OpenTable → TableState → Option Change → Option Holding → OpenTable → Option Reply → Type 0
+IsChanged old s None next new None = HoldsThen next new s
+IsChanged old s None next new (Some r) = ⊥
+IsChanged old s (Some c) next new None = ⊥
+IsChanged old s (Some c) next new (Some r) = IsStep c old s next new r
 
 -- where files tell what they hold and the table stands for a state, it is not damaged
 abbrev pub NeverDamaged : Option Holding → OpenTable → ShellFault → Type 0

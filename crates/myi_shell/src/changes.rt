@@ -1,26 +1,32 @@
 //! Statements that change a table.
-ghost use Rattle.std.specs.Prelude.{◌≡◌, ◌++◌, true, None, IfOk, IfErr, OnOk, IsTrue, Result};
+ghost use Rattle.std.specs.Prelude.{◌≡◌, ◌++◌, [], ◌∷◌, true, Some, None, Result};
+ghost use Rattle.std.specs.Prelude.{IfOk, IfErr, OnOk, IsTrue};
 ghost use Rattle.myi_base.specs.Causes.{HasCause};
 ghost use Rattle.myi_pack.specs.Spelling.{fits};
 ghost use Rattle.myi_search.specs.Counting.{CountsOn};
 ghost use Rattle.myi_state.specs.Changes as change;
-ghost use Rattle.myi_table.specs.Table.{defs_in, IsKept, IsSame, ChangesItsOwn};
-ghost use Rattle.myi_history.specs.Answers.{answer_text, by_reply};
+ghost use Rattle.myi_table.specs.Table.{defs_in, IsKept, IsSame, IfHolds, ChangesItsOwn};
+ghost use Rattle.myi_history.specs.Answers.{answer_on, by_reply};
+ghost use Rattle.myi_history.specs.RoundTexts.{text_of};
 ghost use Rattle.myi_shell.specs.declared.fault.ShellFault.TheVariants.{File};
+ghost use Rattle.myi_history.specs.History.{change_of};
+ghost use Rattle.myi_history.specs.Lines.{BringsRow};
+ghost use Rattle.myi_shell.specs.Carrying.{IsCarried};
 ghost use Rattle.myi_shell.specs.Changing as spec;
-ghost use Rattle.myi_shell.specs.Changing.{insert_of, reply_of, Steps, NeverDamaged};
+ghost use Rattle.myi_shell.specs.Changing.{insert_of, reply_of, Steps, IsChanged, NeverDamaged};
 
 use crate::fault::ShellFault;
-use myi_history::AnswerTexts;
+use myi_history::{RoundTexts, StepAnswer};
 use myi_io::Files;
 use myi_pack::Row;
+use myi_script::Act;
 use myi_table::{ChangeFault, Table};
 use myi_tablestate::keyed_refusals_come_in_order;
 use std::alloc::AllocError;
 
 /// What a change of a table answers: its position, or why it is refused.
 #[derive(Clone, Copy, Debug, PartialEq, Eq)]
-pub enum Reply {
+pub(crate) enum Reply {
     Made { at: u64 },
     /// No row stands at that position.
     NoRow { at: u64 },
@@ -57,7 +63,7 @@ fn at_place(at: u64, made: Result<(), ChangeFault>) -> Result<u64, ChangeFault>
 }
 
 /// Inserts a row; one of a round of kind Together goes to the end.
-pub fn insert<F: Files>(
+pub(crate) fn insert<F: Files>(
     table: &mut Table,
     files: &mut F,
     together: bool,
@@ -86,7 +92,11 @@ pub fn insert<F: Files>(
 }
 
 /// Deletes the row at a position.
-pub fn delete<F: Files>(table: &mut Table, files: &mut F, at: u64) -> Result<Reply, ShellFault>
+pub(crate) fn delete<F: Files>(
+    table: &mut Table,
+    files: &mut F,
+    at: u64,
+) -> Result<Reply, ShellFault>
     requires writable { IsTrue F.writable }
     requires kept { IsKept (F.holds files.old) table.old }
     requires whole { table.old.broken ≡ None }
@@ -105,7 +115,7 @@ pub fn delete<F: Files>(table: &mut Table, files: &mut F, at: u64) -> Result<Rep
 }
 
 /// Gives the row at a position other values.
-pub fn update<F: Files>(
+pub(crate) fn update<F: Files>(
     table: &mut Table,
     files: &mut F,
     at: u64,
@@ -129,20 +139,43 @@ pub fn update<F: Files>(
     replied(at_place(at, table.update(files, at, row)))
 }
 
-/// Appends the line of a reply.
-pub fn push_reply(
-    texts: &mut AnswerTexts,
-    out: &mut Vec<u8>,
-    line: u32,
-    reply: Reply,
-) -> Result<(), AllocError>
-    ensures { OnOk result (out.new.items
-        ≡ out.old.items ++ answer_text line (by_reply (reply_of reply))) }
+/// Makes the change that a statement asks for, if it asks for one.
+pub(crate) fn change<F: Files>(
+    table: &mut Table,
+    files: &mut F,
+    together: bool,
+    act: &Act,
+) -> Result<Option<Reply>, ShellFault>
+    requires writable { IsTrue F.writable }
+    requires row { BringsRow (defs_in table.old) act.now }
+    requires kept { IsKept (F.holds files.old) table.old }
+    requires whole { table.old.broken ≡ None }
+    ensures changed { IfOk result (λ reply. IfHolds (F.holds files.old) table.old (λ m s.
+        IsChanged table.old s (change_of together (Some act.now)) (F.holds files.new)
+        table.new reply)) }
+    ensures carried { IsCarried (F.holds files.old) (F.holds files.new) table.old table.new }
+    ensures whole { OnOk result (table.new.broken ≡ None) }
+    ensures refused { IfErr result (NeverDamaged (F.holds files.old) table.old) }
+    ensures cause { HasCause File (F.faults files.old) (F.faults files.new) result }
 {
-    match reply {
-        Reply::Made { at } => texts.push_made(out, line, at),
-        Reply::NoRow { at } => texts.push_no_row(out, line, at),
-        Reply::Duplicate { key, at } => texts.push_duplicate(out, line, key, at),
-        Reply::Full => texts.push_full(out, line),
+    match act {
+        Act::Insert(row) => Ok(Some(insert(table, files, together, row)?)),
+        Act::Update { at, row } => Ok(Some(update(table, files, *at, row)?)),
+        Act::Delete { at } => Ok(Some(delete(table, files, *at)?)),
+        _ => Ok(None),
     }
+}
+
+/// Notes the line of a reply.
+pub(crate) fn push_reply(texts: &mut RoundTexts, line: u32, reply: Reply) -> Result<(), AllocError>
+    ensures { OnOk result (texts.new
+        ≡ texts.old ++ text_of (answer_on line (by_reply (reply_of reply))) ∷ []) }
+{
+    let answer = match reply {
+        Reply::Made { at } => StepAnswer::Made { at },
+        Reply::NoRow { at } => StepAnswer::NoRow { at },
+        Reply::Duplicate { key, at } => StepAnswer::Duplicate { key, at },
+        Reply::Full => StepAnswer::Full,
+    };
+    texts.push(line, answer)
 }

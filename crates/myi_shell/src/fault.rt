@@ -1,4 +1,6 @@
 //! What cuts a script off.
+use myi_io::SinkErr;
+use myi_table::ReadFault;
 use std::alloc::{AllocError, AllocFailed};
 use thiserror::Error;
 
@@ -37,5 +39,35 @@ impl<T: Drop> From<AllocFailed<T>> for ShellFault {
 
     fn from(_: AllocFailed<T>) -> Self {
         ShellFault::Memory
+    }
+}
+
+impl From<ReadFault> for ShellFault {
+    ghost use Rattle.std.specs.Prelude.{◌≡◌};
+    ghost use Rattle.myi_shell.specs.Reading.{of_reading};
+
+    ghost from_gives = { λ e f. f ≡ of_reading e };
+
+    fn from(fault: ReadFault) -> Self {
+        match fault {
+            ReadFault::Damaged { at } => ShellFault::Damaged { at },
+            ReadFault::File => ShellFault::File,
+            // A table that is not broken is not refused so.
+            ReadFault::Memory | ReadFault::Broken(_) => ShellFault::Memory,
+        }
+    }
+}
+
+impl From<SinkErr> for ShellFault {
+    ghost use Rattle.std.specs.Prelude.{◌≡◌};
+    ghost use Rattle.myi_shell.specs.Running.{of_sink};
+
+    ghost from_gives = { λ e f. f ≡ of_sink e };
+
+    fn from(fault: SinkErr) -> Self {
+        match fault {
+            SinkErr::Failed => ShellFault::Sink,
+            SinkErr::Memory => ShellFault::Memory,
+        }
     }
 }

@@ -1,17 +1,32 @@
-//! Scripts that are run on a table: their statements.
+//! Scripts of sessions that are run on a table.
 //!
-//! `insert`, `update` and `delete` make the change of a statement, and `push_reply` appends the line that is printed of the
-//! reply. The reply is that of the step (`myi_tablestate`), and the table stands for the state of the step. The line is
-//! by the definitions of `myi_history`.
+//! `run_script` runs a script, round by round under the table's locks (`myi_locks`), on a table
+//! (`myi_table`), prints what its steps say, and closes the table. The rounds, the changes that the
+//! table accepts, and the text are those that `myi_history` defines: what is printed is the script's
+//! text, with the numbers of reads and counters within their bounds.
+//!
+//! One thread does all steps. In a round of kind Together the reads of all sessions go first, and
+//! then the inserts; so a read that holds no lock sees the changes of the rounds before. A session
+//! that holds READ or READ LOCAL sees the rows that stood below the length that the data file had
+//! when it took the lock.
+//!
+//! - `Play` (`play.rt`): the locks, the number of changes, and what the sessions' locks see; its
+//!   methods do one step, one run and one round.
+//! - `reading.rt`, `changes.rt`: statements that read and that change.
+//! - `statements.rt`: the statement of a line.
 //!
 //! ```
-//! let reply = delete(table, files, at)?;
-//! push_reply(&mut texts, &mut out, line, reply)?;
+//! let script = parse_script(alloc, text, table.defs(), false)?;
+//! run_script(alloc, table, &script, 1, files, out)?;
 //! ```
 #![tactic(auto)]
 
 mod changes;
 mod fault;
+mod play;
+mod reading;
+mod run;
+mod statements;
 
-pub use changes::{Reply, delete, insert, push_reply, update};
 pub use fault::ShellFault;
+pub use run::run_script;

@@ -1,0 +1,85 @@
+-- How a script ends: by its rounds, and by closing its table.
+use Rattle.std.proofs.Common.{◌≡◌, ℕ, ◌≤◌, List, [], ◌++◌, take, length, Option, Some, Result, Ok, Err, OnOk, OnErr, IfErr, refl, sym, ap, subst, ◌∙◌, arith}
+use Rattle.std.proofs.lemmas.List.{take_all}
+use Rattle.myi_base.specs.Holding.{Holding, IfTold}
+use Rattle.myi_state.specs.State.{TableState}
+use Rattle.myi_state.specs.Changes.{replay}
+use Rattle.myi_history.specs.History.{Opening, history}
+use Rattle.myi_history.specs.Text.{shell_text}
+use Rattle.myi_table.specs.declared.fault.ChangeFault.{ChangeFault}
+use Rattle.myi_table.specs.declared.fault.ChangeFault.TheVariants as change
+use Rattle.myi_table.specs.Table.{OpenTable, IfHolds, IsSame}
+use Rattle.myi_table.specs.Closing.{IsClosed}
+use Rattle.myi_shell.specs.declared.fault.ShellFault.{ShellFault}
+use Rattle.myi_shell.specs.declared.fault.ShellFault.TheVariants as fault
+use Rattle.myi_shell.specs.Running.{HasEnded, IsPrinted, IsPrintedPart, AreClosed, ended}
+
+both : (P Q : Type 0) (ran : Result (Unit {0}) ShellFault) (closed : Result (Unit {0}) ChangeFault) → OnOk ran P → OnOk closed Q → OnOk (ended ran closed) (P × Q)
+both P Q (Err (fault.Damaged at)) closed p q = tt
+both P Q (Err fault.File) closed p q = tt
+both P Q (Err fault.Memory) closed p q = tt
+both P Q (Err fault.Sink) (Ok done) p q = tt
+both P Q (Err fault.Sink) (Err (change.Broken by)) p q = tt
+both P Q (Err fault.Sink) (Err (change.NoRow at)) p q = tt
+both P Q (Err fault.Sink) (Err (change.Duplicate key at)) p q = tt
+both P Q (Err fault.Sink) (Err change.Full) p q = tt
+both P Q (Err fault.Sink) (Err (change.Damaged at)) p q = tt
+both P Q (Err fault.Sink) (Err change.File) p q = tt
+both P Q (Err fault.Sink) (Err change.Memory) p q = tt
+both P Q (Ok done) (Ok over) p q = (p, q)
+both P Q (Ok done) (Err (change.Broken by)) p q = tt
+both P Q (Ok done) (Err (change.NoRow at)) p q = tt
+both P Q (Ok done) (Err (change.Duplicate key at)) p q = tt
+both P Q (Ok done) (Err change.Full) p q = tt
+both P Q (Ok done) (Err (change.Damaged at)) p q = tt
+both P Q (Ok done) (Err change.File) p q = tt
+both P Q (Ok done) (Err change.Memory) p q = tt
+
+on_ok : (P Q : Type 0) (result : Result (Unit {0}) ShellFault) → (P → Q) → OnOk result P → OnOk result Q
+on_ok P Q (Ok done) f p = f p
+on_ok P Q (Err e) f p = tt
+
+told_ok : (P : Type 0) (result mine : Result (Unit {0}) ShellFault) → result ≡ mine → OnOk mine P → OnOk result P
+told_ok P result mine is h = subst (λ r. OnOk r P) (sym is) h
+
+always : {T E : Type 0} (result : Result T E) → OnOk result (Unit {0})
+always (Ok done) = tt
+always (Err e) = tt
+
+-- ---- the text
+
+pub text_of_end : (told : Option Holding) (start : Option (List ℕ)) (mid : Option Holding) (printed : Option (List ℕ)) (old t : OpenTable) (o : TableState → Opening) (result ran : Result (Unit {0}) ShellFault) (closed : Result (Unit {0}) ChangeFault) → result ≡ ended ran closed
+    → OnOk ran (IfHolds told old (λ m s. HasEnded (o s) start mid t printed)) → OnOk result (IfHolds told old (λ m s. IsPrinted (o s) start printed))
+text_of_end told start mid printed old t o result ran closed is done =
+    told_ok _ result (ended ran closed) is (on_ok _ _ (ended ran closed) (λ p. λ m held s h. (p.0 m held s h).text) (both _ _ ran closed done (always closed)))
+
+-- ---- the table
+
+pub table_of_end : (told : Option Holding) (start : Option (List ℕ)) (mid next : Option Holding) (printed : Option (List ℕ)) (old t : OpenTable) (o : TableState → Opening) (result ran : Result (Unit {0}) ShellFault) (closed : Result (Unit {0}) ChangeFault) → result ≡ ended ran closed → IsSame old t
+    → OnOk ran (IfHolds told old (λ m s. HasEnded (o s) start mid t printed)) → OnOk closed (IfHolds mid t (λ m s. IfTold next (IsClosed t s)))
+    → OnOk result (IfHolds told old (λ m s. IfTold next (AreClosed old (replay (o s).defs (o s).base (history (o s))))))
+table_of_end told start mid next printed old t o result ran closed is same done shut =
+    told_ok _ result (ended ran closed) is (on_ok _ _ (ended ran closed) (λ p. λ m held s h.
+    let k = (p.0 m held s h).table in
+    λ n shown. record { last = t; same = same; closed = p.1 k.0 k.1 (replay (o s).defs (o s).base (history (o s))) k.2 n shown }) (both _ _ ran closed done shut))
+
+-- ---- a part
+
+pub all_is_part : (o : Opening) (start printed : Option (List ℕ)) → IsPrinted o start printed → IsPrintedPart o start printed
+all_is_part o start printed all = record {
+  numbers = all.numbers;
+  within = all.within;
+  text = λ xs told. let text = shell_text o all.numbers in (length text, omega arith, all.text xs told ∙ ap (λ ys. Some (xs ++ ys)) (sym (take_all (length text) text (omega arith))));
+}
+
+part_of : (P : Type 0) (ran : Result (Unit {0}) ShellFault) (result : Result (Unit {0}) ShellFault) → OnOk ran P → IfErr ran (λ f. P) → IfErr result (λ f. P)
+part_of P (Ok done) (Ok over) p q = tt
+part_of P (Ok done) (Err f) p q = p
+part_of P (Err e) (Ok over) p q = tt
+part_of P (Err e) (Err f) p q = q
+
+pub part_of_end : (told : Option Holding) (start : Option (List ℕ)) (mid : Option Holding) (printed : Option (List ℕ)) (old t : OpenTable) (o : TableState → Opening) (result ran : Result (Unit {0}) ShellFault)
+    → OnOk ran (IfHolds told old (λ m s. HasEnded (o s) start mid t printed)) → IfErr ran (λ f. IfHolds told old (λ m s. IsPrintedPart (o s) start printed))
+    → IfErr result (λ f. IfHolds told old (λ m s. IsPrintedPart (o s) start printed))
+part_of_end told start mid printed old t o result ran done part =
+    part_of _ ran result (on_ok _ _ ran (λ p. λ m held s h. all_is_part (o s) start printed (p m held s h).text) done) part

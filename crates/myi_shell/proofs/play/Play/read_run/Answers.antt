@@ -1,0 +1,90 @@
+use Rattle.std.proofs.Common.{◌≡◌, ◌++◌, [], ◌∷◌, List, IfErr, refl, sym, ap, subst, ◌∙◌, arith, map}
+use Rattle.std.proofs.lemmas.Result.{err_from_is_err_and}
+use Rattle.myi_locks.specs.declared.steps.Step.{Step}
+use Rattle.myi_defs.specs.declared.types.Defs.{Defs}
+use Rattle.myi_history.specs.Lines.{MayRun}
+use Rattle.myi_history.specs.RoundTexts.{texts_of}
+use Rattle.myi_table.specs.Table.{defs_in}
+use Rattle.myi_shell.specs.Changing.{NeverDamaged}
+use Rattle.myi_shell.specs.declared.play.Play.{Play}
+use Rattle.myi_shell.specs.Playing.{playing, view_by, read_by}
+use Rattle.myi_shell.proofs.CarryLemmas.{carried_none, carried_then, still_none, still_then, never_before, cause_then}
+use Rattle.myi_shell.proofs.LoopLemmas.{read_more, texts_end, drop_none}
+use Rattle.myi_shell.proofs.play.Play.read_run.Goals as goal
+
+pub loop-step-init : goal.loop-step-init
+loop-step-init g c = record {
+  only = refl;
+  so_far = λ m held s h. refl;
+  still = still_none (g.F.Files.holds c.args.files.now) (g.F.Files.holds c.args.files.now) c.args.table.now refl;
+  carried = carried_none (g.F.Files.holds c.args.files.now) (g.F.Files.holds c.args.files.now) c.args.table.now refl c.requires.kept;
+  whole = c.requires.whole;
+  later = omega arith;
+}
+
+pub read-requires-clause-lines : goal.read-requires-clause-lines
+read-requires-clause-lines g c κs within = subst (λ (d : Defs). MayRun d c.args.lines.now) (sym c.loop-step.invariant.carried.same.defs) c.requires.lines
+
+pub read-requires-clause-kept : goal.read-requires-clause-kept
+read-requires-clause-kept g c κs within = c.loop-step.invariant.carried.kept
+
+pub read-requires-clause-whole : goal.read-requires-clause-whole
+read-requires-clause-whole g c κs within = c.loop-step.invariant.whole
+
+pub returns-in_err-read-clause-only : goal.returns-in_err-read-clause-only
+returns-in_err-read-clause-only g c = c.read.ensures.only ∙ ap (λ (p : Play). record p { texts = c.read.new.self.texts }) c.loop-step.invariant.only
+
+pub returns-in_err-read-clause-still : goal.returns-in_err-read-clause-still
+returns-in_err-read-clause-still g c = still_then (g.F.Files.holds c.args.files.now) (g.F.Files.holds c.loop-step.files) (g.F.Files.holds c.read.new.files) c.args.table.now c.loop-step.table c.read.new.table c.loop-step.invariant.still c.read.ensures.still
+
+pub returns-in_err-read-clause-carried : goal.returns-in_err-read-clause-carried
+returns-in_err-read-clause-carried g c = carried_then (g.F.Files.holds c.args.files.now) (g.F.Files.holds c.loop-step.files) (g.F.Files.holds c.read.new.files) c.args.table.now c.loop-step.table c.read.new.table c.loop-step.invariant.carried c.read.ensures.carried
+
+pub returns-in_err-read-clause-refused : goal.returns-in_err-read-clause-refused
+returns-in_err-read-clause-refused g c =
+    let e = err_from_is_err_and c.from_residual.result c.from_residual.ensures.1 in
+    let told = g.F.Files.holds c.args.files.now in
+    let t = c.args.table.now in
+    subst (λ r. IfErr r (NeverDamaged told t)) (sym e.1) (subst (NeverDamaged told t) (sym e.2) (never_before told (g.F.Files.holds c.loop-step.files) t c.loop-step.table c.in_err-read.field-0.0 c.loop-step.invariant.carried c.loop-step.invariant.whole c.in_err-read.ensures.refused))
+
+pub returns-in_err-read-clause-cause : goal.returns-in_err-read-clause-cause
+returns-in_err-read-clause-cause g c =
+    let e = err_from_is_err_and c.from_residual.result c.from_residual.ensures.1 in
+    cause_then _ _ _ _ _ _ c.loop-step.invariant.later e.1 e.2 c.in_err-read.was c.read.ensures.cause
+
+pub loop-step-preserved : goal.loop-step-preserved
+loop-step-preserved g c =
+    let was = c.loop-step.invariant in
+    let told = g.F.Files.holds c.args.files.now in
+    let mid = g.F.Files.holds c.loop-step.files in
+    let next = g.F.Files.holds c.read.new.files in
+    let old = c.args.table.now in
+    let half = c.loop-step.table in
+    record {
+      only = c.read.ensures.only ∙ ap (λ (p : Play). record p { texts = c.read.new.self.texts }) was.only;
+      so_far = read_more told mid old half c.args.lines.now (playing c.args.self.now) (playing c.loop-step.self) c.read.new.self.texts c.args.steps.now c.loop-step.step-index _ c.loop-step-test.true (ap playing was.only) was.carried.same was.still was.so_far c.in_ok-read.ensures.said;
+      still = still_then told mid next old half c.read.new.table was.still c.read.ensures.still;
+      carried = carried_then told mid next old half c.read.new.table was.carried c.read.ensures.carried;
+      whole = c.read.ensures.whole;
+      later = omega (arith, was.later, c.read.ensures.cause.later);
+    }
+
+pub returns-clause-said : goal.returns-clause-said
+returns-clause-said g c = λ m held s h.
+    texts_end (λ (xs : List Step). texts_of (map (read_by (defs_in c.args.table.now) c.args.lines.now (view_by (playing c.args.self.now)) s) xs)) c.args.self.now.texts c.loop-step.self.texts c.args.steps.now c.loop-step.step-index refl
+    (drop_none c.args.steps.now c.loop-step.step-index c.loop-step-test.false) (c.loop-step.invariant.so_far m held s h)
+
+pub returns-clause-only : goal.returns-clause-only
+returns-clause-only g c = c.loop-step.invariant.only
+
+pub returns-clause-still : goal.returns-clause-still
+returns-clause-still g c = c.loop-step.invariant.still
+
+pub returns-clause-carried : goal.returns-clause-carried
+returns-clause-carried g c = c.loop-step.invariant.carried
+
+pub returns-clause-whole : goal.returns-clause-whole
+returns-clause-whole g c = c.loop-step.invariant.whole
+
+pub returns-clause-cause : goal.returns-clause-cause
+returns-clause-cause g c = record { later = c.loop-step.invariant.later; cause = λ e. cc }

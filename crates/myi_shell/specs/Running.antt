@@ -1,0 +1,119 @@
+-- A script that was begun on a table: what stands behind the rounds that are done, and what a run leaves.
+use Rattle.std.specs.Prelude.{◌≡◌, ◌≤◌, ℕ, Bool, true, false, List, [], Option, Result, Ok, Err}
+use Rattle.myi_base.specs.Holding.{Holding, IfTold}
+use Rattle.myi_base.specs.Output.{Appends, AppendsPart}
+use Rattle.myi_io.specs.declared.sink.SinkErr.{SinkErr}
+use Rattle.myi_io.specs.declared.sink.SinkErr.TheVariants as sink
+use Rattle.myi_defs.specs.declared.types.Defs.{Defs}
+use Rattle.myi_keycache.specs.declared.setup.Counters.{Counters}
+use Rattle.myi_state.specs.State.{TableState}
+use Rattle.myi_state.specs.Sound.{IsState}
+use Rattle.myi_state.specs.Changes.{replay}
+use Rattle.myi_script.specs.declared.types.Line.{Line}
+use Rattle.myi_history.specs.History.{Opening, ScriptRound, history}
+use Rattle.myi_history.specs.Text.{Numbers, no_numbers, shell_text}
+use Rattle.myi_history.specs.Bounds.{AreWithin}
+use Rattle.myi_history.specs.Running.{HasRun, counted_in, locks_after, table_after, number_after, seen_number, seen_state, run_text}
+use Rattle.myi_table.specs.declared.fault.ChangeFault.{ChangeFault}
+use Rattle.myi_table.specs.declared.fault.ChangeFault.TheVariants as change
+use Rattle.myi_table.specs.Table.{OpenTable, HoldsThen, IfHolds, IsSame}
+use Rattle.myi_table.specs.Closing.{IsClosed}
+use Rattle.myi_shell.specs.declared.fault.ShellFault.{ShellFault}
+use Rattle.myi_shell.specs.declared.fault.ShellFault.TheVariants as fault
+use Rattle.myi_shell.specs.Playing.{Playing, counted_now}
+
+-- how a script begins on a table with these definitions that stands for a state
+abbrev pub opening_on : Defs → List Line → ℕ → TableState → Opening
+opening_on d ls setting s = record { defs = d; lines = ls; base = s; setting = setting }
+
+-- of each script with these lines that begins on a state of a table with these definitions, and each text before it, this holds
+abbrev pub ForOpening : Defs → List Line → (Opening → Option (List ℕ) → Type 0) → Type 0
+ForOpening d ls P = (setting : ℕ) (base : TableState) (start : Option (List ℕ)) → IsState d base → P (opening_on d ls setting base) start
+
+-- ---- between rounds
+
+-- no count is lower
+pub record AreNotBelow (old new : Counters) : Type 0 where
+  pub read_requests : old.read_requests ≤ new.read_requests
+  pub reads : old.reads ≤ new.reads
+  pub write_requests : old.write_requests ≤ new.write_requests
+  pub writes : old.writes ≤ new.writes
+
+-- Behind these rounds, with these numbers, the script and its table stand so.
+pub record Stands (o : Opening) (front : List ScriptRound) (c : List Numbers) (told : Option Holding) (p : Playing) (t : OpenTable) : Type 0 where
+  pub run : HasRun o front c
+  pub locks : p.locks ≡ locks_after o front
+  pub table : HoldsThen told t (table_after o front)
+  pub number : p.number ≡ number_after o front
+  pub taken : (n : ℕ) → p.taken n ≡ record { number = seen_number o front n; length = (seen_state o front n).space.end }
+  pub counted : AreNotBelow (counted_in no_numbers.counters front c) (counted_now t)
+  pub texts : p.texts ≡ []
+
+-- some rounds are done, and their text was printed behind what was printed before
+pub record HasPlayed (o : Opening) (start : Option (List ℕ)) (told : Option Holding) (p : Playing) (t : OpenTable) (printed : Option (List ℕ)) : Type 0 where
+  pub front : List ScriptRound
+  pub numbers : List Numbers
+  pub stands : Stands o front numbers told p t
+  pub text : IfTold start (Appends (run_text o front numbers) printed)
+
+-- ---- the end
+
+-- the text of the script was printed, with numbers within their bounds
+pub record IsPrinted (o : Opening) (start printed : Option (List ℕ)) : Type 0 where
+  pub numbers : List Numbers
+  pub within : AreWithin o numbers
+  pub text : IfTold start (Appends (shell_text o numbers) printed)
+
+-- of a text of the script, with numbers within their bounds, a first part was printed
+pub record IsPrintedPart (o : Opening) (start printed : Option (List ℕ)) : Type 0 where
+  pub numbers : List Numbers
+  pub within : AreWithin o numbers
+  pub text : IfTold start (AppendsPart (shell_text o numbers) printed)
+
+-- all rounds are done, and the table stands for the replay of the history
+pub record HasEnded (o : Opening) (start : Option (List ℕ)) (told : Option Holding) (t : OpenTable) (printed : Option (List ℕ)) : Type 0 where
+  pub text : IsPrinted o start printed
+  pub table : HoldsThen told t (replay o.defs o.base (history o))
+
+-- a round was done, or there was none
+abbrev pub HasGoneOn : Bool → Opening → Option (List ℕ) → Option Holding → Playing → OpenTable → Option (List ℕ) → Type 0
+HasGoneOn true o start told p t printed = HasPlayed o start told p t printed
+HasGoneOn false o start told p t printed = HasEnded o start told t printed
+
+-- a run is not stopped by damage where files tell what they hold and the table stands for a state
+abbrev pub IsStopped : Option Holding → OpenTable → ShellFault → Type 0
+IsStopped told t (fault.Damaged at) = IfHolds told t (λ m s. ⊥)
+IsStopped told t fault.File = Unit {0}
+IsStopped told t fault.Sink = Unit {0}
+IsStopped told t fault.Memory = Unit {0}
+
+-- the two files are a clean pair that stands for a state, by the header that the table was closed with
+pub record AreClosed (t : OpenTable) (s : TableState) (m : Holding) : Type 0 where
+  pub last : OpenTable
+  pub same : IsSame t last
+  pub closed : IsClosed last s m
+
+-- ---- how the answers are told
+
+abbrev pub of_sink : SinkErr → ShellFault
+of_sink sink.Failed = fault.Sink
+of_sink sink.Memory = fault.Memory
+
+-- the fault of closing the table, which is that a file call failed or memory was wanting, or else this
+abbrev pub by_closing : Result (Unit {0}) ChangeFault → Result (Unit {0}) ShellFault → Result (Unit {0}) ShellFault
+by_closing (Ok done) ran = ran
+by_closing (Err (change.Broken by)) ran = Err fault.Memory
+by_closing (Err (change.NoRow at)) ran = Err fault.Memory
+by_closing (Err (change.Duplicate key at)) ran = Err fault.Memory
+by_closing (Err change.Full) ran = Err fault.Memory
+by_closing (Err (change.Damaged at)) ran = Err fault.Memory
+by_closing (Err change.File) ran = Err fault.File
+by_closing (Err change.Memory) ran = Err fault.Memory
+
+-- a fault of the rounds but of the output goes first, then one of closing the table
+abbrev pub ended : Result (Unit {0}) ShellFault → Result (Unit {0}) ChangeFault → Result (Unit {0}) ShellFault
+ended (Err (fault.Damaged at)) closed = Err (fault.Damaged at)
+ended (Err fault.File) closed = Err fault.File
+ended (Err fault.Memory) closed = Err fault.Memory
+ended (Err fault.Sink) closed = by_closing closed (Err fault.Sink)
+ended (Ok done) closed = by_closing closed (Ok done)

@@ -1,0 +1,493 @@
+//! `Play`: a script that goes on, round by round.
+//!
+//! The table is the caller's. In a round the reads go first, each over the table as it is, and then
+//! what changes it. What the steps say is noted, and printed behind the round in order of the lines.
+
+use crate::changes::{Reply, change, push_reply};
+use crate::fault::ShellFault;
+use crate::reading::{View, push_found, read};
+use crate::statements::act_of;
+use myi_history::{RoundTexts, StepAnswer};
+use myi_io::{Files, Sink};
+use myi_keycache::Counters;
+use myi_locks::{LockKind, Locks, Round, Run, Step, StepKind};
+use myi_script::Line;
+use myi_table::Table;
+use std::alloc::{AllocError, Global};
+use std::collections::BTreeMap;
+
+/// What stood at a session's Take of READ or READ LOCAL: how many changes were accepted, and how
+/// long the data file was.
+#[derive(Clone, Copy)]
+pub(crate) struct Taken {
+    pub(crate) number: u64,
+    pub(crate) length: u64,
+}
+
+/// Where a script stands: the locks of its sessions, how many changes were accepted, what stood at
+/// the sessions' Takes of READ or READ LOCAL and what stood at none, and what the steps of the round
+/// said so far.
+#[derive(Drop)]
+pub(crate) struct Play {
+    locks: Locks,
+    number: u64,
+    taken: BTreeMap<u32, Taken>,
+    first: Taken,
+    texts: RoundTexts,
+}
+
+impl Play {
+    ghost use Rattle.std.specs.Prelude.{◌≡◌, ◌==◌, ◌&&◌, ◌+◌, ◌<◌, ◌++◌, [], ◌∷◌, ℕ, true, false};
+    ghost use Rattle.std.specs.Prelude.{None, is_some, map, OnOk, OnErr, IfOk, IfErr, IsTrue};
+    ghost use Rattle.std.specs.Prelude.{if◌then◌else◌};
+    ghost use Rattle.std.specs.List.{AllByRecursion, flat_map};
+    ghost use Rattle.myi_base.specs.Causes.{HasCause};
+    ghost use Rattle.myi_defs.specs.Sound.{IsSound};
+    ghost use Rattle.myi_locks.specs.declared.steps.Round.TheVariants.{Alone};
+    ghost use Rattle.myi_locks.specs.declared.steps.StepKind.TheVariants.{Take};
+    ghost use Rattle.myi_locks.specs.Steps.{writes_rows, is_insert, takes_read};
+    ghost use Rattle.myi_locks.specs.Rounds.{next_round, has_steps};
+    ghost use Rattle.myi_locks.specs.Done.{is_together, steps_of};
+    ghost use Rattle.myi_locks.specs.Laws.{steps_left, IsLawful};
+    ghost use Rattle.myi_history.specs.Lines.{MayRun};
+    ghost use Rattle.myi_history.specs.Answers.{answer_on, done};
+    ghost use Rattle.myi_history.specs.History.{reads_only};
+    ghost use Rattle.myi_history.specs.RoundTexts.{text_of, texts_of, answer_of};
+    ghost use Rattle.myi_history.specs.Text.{done_said};
+    ghost use Rattle.myi_table.specs.Table.{defs_in, IsKept, IfHolds, StillHolds};
+    ghost use Rattle.myi_shell.specs.declared.fault.ShellFault.TheVariants.{File, Memory, Sink};
+    ghost use Rattle.myi_shell.specs.Carrying.{IsCarried};
+    ghost use Rattle.myi_shell.specs.Changing.{NeverDamaged, count_of};
+    ghost use Rattle.myi_shell.specs.Playing.{playing, view_by, read_by, writes_by, round_by};
+    ghost use Rattle.myi_shell.specs.Playing.{HasItsKinds, AreDone};
+    ghost use Rattle.myi_shell.specs.Playing.{taken_behind, taken_now, taken_as};
+    ghost use Rattle.myi_shell.specs.Running.{ForOpening, HasPlayed, HasGoneOn};
+    ghost use Rattle.myi_shell.specs.Running.{IsPrintedPart, IsStopped};
+
+    /// A script before its first round.
+    pub(crate) fn new(alloc: Global, locks: Locks, length: u64) -> Play
+        ensures { playing result ≡ record {
+          locks = locks;
+          number = 0;
+          taken = λ n. record { number = 0; length = length };
+          texts = [];
+        } }
+    {
+        Play {
+            locks,
+            number: 0,
+            taken: BTreeMap::new(alloc),
+            first: Taken { number: 0, length },
+            texts: RoundTexts::new(alloc),
+        }
+    }
+
+    // What the session reads.
+    fn view(&self, session: u32) -> View
+        ensures { result ≡ view_by (playing self.now) session }
+    {
+        match self.locks.held(session) {
+            Some(LockKind::Read) | Some(LockKind::ReadLocal) => {
+                let taken = self.taken_by(session);
+                View {
+                    number: taken.number,
+                    below: Some(taken.length),
+                }
+            }
+            _ => View {
+                number: self.number,
+                below: None,
+            },
+        }
+    }
+
+    // What stood at the session's last Take of READ or READ LOCAL.
+    fn taken_by(&self, session: u32) -> Taken
+        ensures { result ≡ (playing self.now).taken session }
+    {
+        self.taken.get(&session).copied().unwrap_or(self.first)
+    }
+
+    // Whether the session holds READ or READ LOCAL.
+    fn reads_only(&self, session: u32) -> bool
+        ensures { result ≡ reads_only self.now.locks session }
+    {
+        matches!(
+            self.locks.held(session),
+            Some(LockKind::Read) | Some(LockKind::ReadLocal)
+        )
+    }
+
+    // A step that reads.
+    fn read<F: Files>(
+        &mut self,
+        table: &mut Table,
+        files: &mut F,
+        lines: &[Line],
+        step: &Step,
+    ) -> Result<(), ShellFault>
+        requires writable { IsTrue F.writable }
+        requires lines { MayRun (defs_in table.old) lines.now }
+        requires kept { IsKept (F.holds files.old) table.old }
+        requires whole { table.old.broken ≡ None }
+        ensures said { OnOk result (IfHolds (F.holds files.old) table.old (λ m s.
+            self.new.texts ≡ self.old.texts ++ text_of
+            (read_by (defs_in table.old) lines.now (view_by (playing self.old)) s step.now) ∷ [])) }
+        ensures only { self.new ≡ record self.old { texts = self.new.texts } }
+        ensures still { StillHolds (F.holds files.old) (F.holds files.new) table.old table.new }
+        ensures carried { IsCarried (F.holds files.old) (F.holds files.new) table.old table.new }
+        ensures whole { table.new.broken ≡ None }
+        ensures refused { IfErr result (NeverDamaged (F.holds files.old) table.old) }
+        ensures cause { HasCause File (F.faults files.old) (F.faults files.new) result }
+    {
+        let view = self.view(step.session);
+        let Some(act) = act_of(lines, step.line) else {
+            push_found(&mut self.texts, step.line, &[], view)?;
+            return Ok(());
+        };
+        read(table, files, &mut self.texts, act, step.line, view)
+    }
+
+    // Steps that read.
+    fn read_run<F: Files>(
+        &mut self,
+        table: &mut Table,
+        files: &mut F,
+        lines: &[Line],
+        steps: &[Step],
+    ) -> Result<(), ShellFault>
+        requires writable { IsTrue F.writable }
+        requires lines { MayRun (defs_in table.old) lines.now }
+        requires kept { IsKept (F.holds files.old) table.old }
+        requires whole { table.old.broken ≡ None }
+        ensures said { OnOk result (IfHolds (F.holds files.old) table.old (λ m s.
+            self.new.texts ≡ self.old.texts ++ texts_of (map (read_by (defs_in table.old)
+            lines.now (view_by (playing self.old)) s) steps.now))) }
+        ensures only { self.new ≡ record self.old { texts = self.new.texts } }
+        ensures still { StillHolds (F.holds files.old) (F.holds files.new) table.old table.new }
+        ensures carried { IsCarried (F.holds files.old) (F.holds files.new) table.old table.new }
+        ensures whole { table.new.broken ≡ None }
+        ensures refused { IfErr result (NeverDamaged (F.holds files.old) table.old) }
+        ensures cause { HasCause File (F.faults files.old) (F.faults files.new) result }
+    {
+        for step in steps {
+            self.read(table, files, lines, step)?;
+        }
+        Ok(())
+    }
+
+    // Runs of steps that read.
+    fn read_runs<F: Files>(
+        &mut self,
+        table: &mut Table,
+        files: &mut F,
+        lines: &[Line],
+        runs: &[Run],
+    ) -> Result<(), ShellFault>
+        requires writable { IsTrue F.writable }
+        requires lines { MayRun (defs_in table.old) lines.now }
+        requires kept { IsKept (F.holds files.old) table.old }
+        requires whole { table.old.broken ≡ None }
+        ensures said { OnOk result (IfHolds (F.holds files.old) table.old (λ m s.
+            self.new.texts ≡ self.old.texts ++ texts_of
+            (map (read_by (defs_in table.old) lines.now (view_by (playing self.old)) s)
+            (flat_map (λ run. run.steps) runs.now)))) }
+        ensures only { self.new ≡ record self.old { texts = self.new.texts } }
+        ensures still { StillHolds (F.holds files.old) (F.holds files.new) table.old table.new }
+        ensures carried { IsCarried (F.holds files.old) (F.holds files.new) table.old table.new }
+        ensures whole { table.new.broken ≡ None }
+        ensures refused { IfErr result (NeverDamaged (F.holds files.old) table.old) }
+        ensures cause { HasCause File (F.faults files.old) (F.faults files.new) result }
+    {
+        for run in runs {
+            self.read_run(table, files, lines, run.steps.as_slice())?;
+        }
+        Ok(())
+    }
+
+    // A step that writes.
+    fn write<F: Files>(
+        &mut self,
+        table: &mut Table,
+        files: &mut F,
+        lines: &[Line],
+        step: &Step,
+        together: bool,
+    ) -> Result<(), ShellFault>
+        requires writable { IsTrue F.writable }
+        requires lines { MayRun (defs_in table.old) lines.now }
+        requires kept { IsKept (F.holds files.old) table.old }
+        requires whole { table.old.broken ≡ None }
+        requires kind { writes_rows step.now.kind ≡ true }
+        ensures done { OnOk result (IfHolds (F.holds files.old) table.old (λ m s.
+            AreDone (defs_in table.old) lines.now together (playing self.old) s (step.now ∷ [])
+            (writes_by (defs_in table.old) lines.now self.old.locks together s (step.now ∷ []))
+            (F.holds files.new) table.new (playing self.new))) }
+        ensures only { self.new
+            ≡ record self.old { number = self.new.number; texts = self.new.texts } }
+        ensures carried { IsCarried (F.holds files.old) (F.holds files.new) table.old table.new }
+        ensures whole { OnOk result (table.new.broken ≡ None) }
+        ensures refused { IfErr result (NeverDamaged (F.holds files.old) table.old) }
+        ensures cause { HasCause File (F.faults files.old) (F.faults files.new) result }
+    {
+        if self.reads_only(step.session) {
+            return self.say(step.line, StepAnswer::LockedForRead);
+        }
+        let Some(act) = act_of(lines, step.line) else {
+            return Ok(());
+        };
+        let Some(reply) = change(table, files, together, act)? else {
+            return Ok(());
+        };
+        push_reply(&mut self.texts, step.line, reply)?;
+        self.count(reply)
+    }
+
+    // Counts a change that was made.
+    fn count(&mut self, reply: Reply) -> Result<(), ShellFault>
+        ensures number { OnOk result (self.new.number ≡ self.old.number + count_of reply) }
+        ensures only { self.new ≡ record self.old { number = self.new.number } }
+        ensures memory { IfErr result (λ f. f ≡ Memory) }
+    {
+        if let Reply::Made { .. } = reply {
+            let Some(number) = self.number.checked_add(1) else {
+                return Err(ShellFault::Memory);
+            };
+            self.number = number;
+        }
+        Ok(())
+    }
+
+    // The inserts of a round of kind Together.
+    fn insert_run<F: Files>(
+        &mut self,
+        table: &mut Table,
+        files: &mut F,
+        lines: &[Line],
+        steps: &[Step],
+    ) -> Result<(), ShellFault>
+        requires writable { IsTrue F.writable }
+        requires lines { MayRun (defs_in table.old) lines.now }
+        requires kept { IsKept (F.holds files.old) table.old }
+        requires whole { table.old.broken ≡ None }
+        requires kinds { AllByRecursion (λ x. is_insert x.kind ≡ true) steps.now }
+        ensures done { OnOk result (IfHolds (F.holds files.old) table.old (λ m s.
+            AreDone (defs_in table.old) lines.now true (playing self.old) s steps.now
+            (writes_by (defs_in table.old) lines.now self.old.locks true s steps.now)
+            (F.holds files.new) table.new (playing self.new))) }
+        ensures only { self.new
+            ≡ record self.old { number = self.new.number; texts = self.new.texts } }
+        ensures carried { IsCarried (F.holds files.old) (F.holds files.new) table.old table.new }
+        ensures whole { OnOk result (table.new.broken ≡ None) }
+        ensures refused { IfErr result (NeverDamaged (F.holds files.old) table.old) }
+        ensures cause { HasCause File (F.faults files.old) (F.faults files.new) result }
+    {
+        for step in steps {
+            self.write(table, files, lines, step, true)?;
+        }
+        Ok(())
+    }
+
+    // A step that goes alone, before which this was counted.
+    fn step<F: Files>(
+        &mut self,
+        table: &mut Table,
+        files: &mut F,
+        lines: &[Line],
+        step: &Step,
+        counters: Counters,
+    ) -> Result<(), ShellFault>
+        requires writable { IsTrue F.writable }
+        requires lines { MayRun (defs_in table.old) lines.now }
+        requires kept { IsKept (F.holds files.old) table.old }
+        requires whole { table.old.broken ≡ None }
+        ensures done { OnOk result (IfHolds (F.holds files.old) table.old (λ m s.
+            AreDone (defs_in table.old) lines.now false (playing self.old) s (step.now ∷ [])
+            (round_by (defs_in table.old) lines.now (playing self.old) counters s (Alone step.now))
+            (F.holds files.new) table.new (playing self.new))) }
+        ensures locks { self.new.locks ≡ self.old.locks }
+        ensures taken { OnOk result ((n : ℕ) → (playing self.new).taken n
+            ≡ taken_behind (Alone step.now) (taken_now (playing self.old) table.old)
+            (playing self.old).taken n) }
+        ensures carried { IsCarried (F.holds files.old) (F.holds files.new) table.old table.new }
+        ensures whole { OnOk result (table.new.broken ≡ None) }
+        ensures refused { IfErr result (NeverDamaged (F.holds files.old) table.old) }
+        ensures cause { HasCause File (F.faults files.old) (F.faults files.new) result }
+    {
+        match step.kind {
+            StepKind::Release => Ok(()),
+            StepKind::Take(lock) => self.take(step, lock, table.length()),
+            StepKind::Rows => self.read(table, files, lines, step),
+            StepKind::Insert | StepKind::Change => self.write(table, files, lines, step, false),
+            StepKind::Unlock => self.say(step.line, StepAnswer::Done),
+            StepKind::Stats => self.say(step.line, StepAnswer::Counted(counters)),
+            StepKind::End => self.end(step.line),
+        }
+    }
+
+    // Notes what a step answered that is no read.
+    fn say(&mut self, line: u32, answer: StepAnswer) -> Result<(), ShellFault>
+        ensures said { OnOk result (self.new ≡ record self.old {
+          texts = self.old.texts ++ text_of (answer_on line (answer_of answer)) ∷ [];
+        }) }
+        ensures only { self.new ≡ record self.old { texts = self.new.texts } }
+        ensures memory { IfErr result (λ f. f ≡ Memory) }
+    {
+        self.texts.push(line, answer)?;
+        Ok(())
+    }
+
+    // A session ends. One that no line ends says nothing.
+    fn end(&mut self, line: u32) -> Result<(), ShellFault>
+        ensures said { OnOk result (self.new
+            ≡ record self.old { texts = self.old.texts ++ texts_of (done_said line) }) }
+        ensures only { self.new ≡ record self.old { texts = self.new.texts } }
+        ensures memory { IfErr result (λ f. f ≡ Memory) }
+    {
+        if line == 0 {
+            return Ok(());
+        }
+        self.say(line, StepAnswer::Done)
+    }
+
+    // A session takes a lock, where the data file is so long.
+    fn take(&mut self, step: &Step, lock: LockKind, length: u64) -> Result<(), ShellFault>
+        ensures said { OnOk result (self.new.texts
+            ≡ self.old.texts ++ text_of (answer_on step.now.line done) ∷ []) }
+        ensures taken { OnOk result ((n : ℕ) → (playing self.new).taken n
+            ≡ (if takes_read (Take lock) && (step.now.session == n)
+            then taken_as self.old.number length else (playing self.old).taken n)) }
+        ensures locks { self.new.locks ≡ self.old.locks }
+        ensures number { self.new.number ≡ self.old.number }
+        ensures memory { IfErr result (λ f. f ≡ Memory) }
+    {
+        if lock != LockKind::Write {
+            let taken = Taken {
+                number: self.number,
+                length,
+            };
+            self.taken.insert(step.session, taken)?;
+        }
+        self.say(step.line, StepAnswer::Done)
+    }
+
+    // The steps of a round, before which this was counted.
+    fn round<F: Files>(
+        &mut self,
+        table: &mut Table,
+        files: &mut F,
+        lines: &[Line],
+        round: &Round,
+        counters: Counters,
+    ) -> Result<(), ShellFault>
+        requires writable { IsTrue F.writable }
+        requires lines { MayRun (defs_in table.old) lines.now }
+        requires kept { IsKept (F.holds files.old) table.old }
+        requires whole { table.old.broken ≡ None }
+        requires kinds { HasItsKinds round.now }
+        ensures done { OnOk result (IfHolds (F.holds files.old) table.old (λ m s.
+            AreDone (defs_in table.old) lines.now (is_together round.now) (playing self.old) s
+            (steps_of round.now)
+            (round_by (defs_in table.old) lines.now (playing self.old) counters s round.now)
+            (F.holds files.new) table.new (playing self.new))) }
+        ensures locks { self.new.locks ≡ self.old.locks }
+        ensures taken { OnOk result ((n : ℕ) → (playing self.new).taken n
+            ≡ taken_behind round.now (taken_now (playing self.old) table.old)
+            (playing self.old).taken n) }
+        ensures carried { IsCarried (F.holds files.old) (F.holds files.new) table.old table.new }
+        ensures whole { OnOk result (table.new.broken ≡ None) }
+        ensures refused { IfErr result (NeverDamaged (F.holds files.old) table.old) }
+        ensures cause { HasCause File (F.faults files.old) (F.faults files.new) result }
+    {
+        match round {
+            Round::Finished => Ok(()),
+            Round::Alone(step) => self.step(table, files, lines, step, counters),
+            Round::Together { inserter, readers } => {
+                self.read_runs(table, files, lines, readers.runs.as_slice())?;
+                match inserter {
+                    Some(run) => self.insert_run(table, files, lines, run.steps.as_slice()),
+                    None => Ok(()),
+                }
+            }
+        }
+    }
+
+    // Does a round, prints its lines, and goes on in the locks.
+    fn play_round<F: Files, O: Sink>(
+        &mut self,
+        table: &mut Table,
+        files: &mut F,
+        lines: &[Line],
+        out: &mut O,
+        round: &Round,
+    ) -> Result<(), ShellFault>
+        requires writable { IsTrue F.writable }
+        requires lines { MayRun (defs_in table.old) lines.now }
+        requires sound { IsSound (defs_in table.old) }
+        requires kept { IsKept (F.holds files.old) table.old }
+        requires whole { table.old.broken ≡ None }
+        requires lawful { IsLawful self.old.locks.sessions }
+        requires left { has_steps self.old.locks ≡ true }
+        requires next { round.now
+            ≡ next_round self.old.locks (is_some table.old.rows.rows.file.counts.dellink) }
+        ensures played { OnOk result (ForOpening (defs_in table.old) lines.now (λ o start.
+            HasPlayed o start (F.holds files.old) (playing self.old) table.old (O.written out.old)
+            → HasPlayed o start (F.holds files.new) (playing self.new) table.new
+            (O.written out.new))) }
+        ensures stopped { OnErr result (ForOpening (defs_in table.old) lines.now (λ o start.
+            HasPlayed o start (F.holds files.old) (playing self.old) table.old (O.written out.old)
+            → IsPrintedPart o start (O.written out.new))) }
+        ensures lawful { OnOk result (IsLawful self.new.locks.sessions) }
+        ensures fewer { OnOk result
+            (steps_left self.new.locks.sessions < steps_left self.old.locks.sessions) }
+        ensures carried { IsCarried (F.holds files.old) (F.holds files.new) table.old table.new }
+        ensures whole { OnOk result (table.new.broken ≡ None) }
+        ensures refused { IfErr result (IsStopped (F.holds files.old) table.old) }
+        ensures file { HasCause File (F.faults files.old) (F.faults files.new) result }
+        ensures sink { HasCause Sink (O.faults out.old) (O.faults out.new) result }
+    {
+        let counters = table.counters();
+        self.round(table, files, lines, round, counters)?;
+        self.texts.write(out)?;
+        self.locks.advance(round);
+        Ok(())
+    }
+
+    /// Does the next round, and prints its lines. There was none where the answer is false.
+    pub(crate) fn next_round<F: Files, O: Sink>(
+        &mut self,
+        table: &mut Table,
+        files: &mut F,
+        lines: &[Line],
+        out: &mut O,
+    ) -> Result<bool, ShellFault>
+        requires writable { IsTrue F.writable }
+        requires lines { MayRun (defs_in table.old) lines.now }
+        requires sound { IsSound (defs_in table.old) }
+        requires kept { IsKept (F.holds files.old) table.old }
+        requires whole { table.old.broken ≡ None }
+        requires lawful { IsLawful self.old.locks.sessions }
+        ensures played { IfOk result (λ more. ForOpening (defs_in table.old) lines.now (λ o start.
+            HasPlayed o start (F.holds files.old) (playing self.old) table.old (O.written out.old)
+            → HasGoneOn more o start (F.holds files.new) (playing self.new) table.new
+            (O.written out.new))) }
+        ensures stopped { OnErr result (ForOpening (defs_in table.old) lines.now (λ o start.
+            HasPlayed o start (F.holds files.old) (playing self.old) table.old (O.written out.old)
+            → IsPrintedPart o start (O.written out.new))) }
+        ensures lawful { OnOk result (IsLawful self.new.locks.sessions) }
+        ensures fewer { IfOk result (λ more. more ≡ true
+            → steps_left self.new.locks.sessions < steps_left self.old.locks.sessions) }
+        ensures carried { IsCarried (F.holds files.old) (F.holds files.new) table.old table.new }
+        ensures whole { OnOk result (table.new.broken ≡ None) }
+        ensures refused { IfErr result (IsStopped (F.holds files.old) table.old) }
+        ensures file { HasCause File (F.faults files.old) (F.faults files.new) result }
+        ensures sink { HasCause Sink (O.faults out.old) (O.faults out.new) result }
+    {
+        let round = self.locks.round(table.holes())?;
+        if let Round::Finished = round {
+            return Ok(false);
+        }
+        self.play_round(table, files, lines, out, &round)?;
+        Ok(true)
+    }
+}

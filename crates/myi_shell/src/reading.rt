@@ -1,0 +1,106 @@
+//! Statements that read a table.
+ghost use Rattle.std.specs.Prelude.{◌≡◌, ◌<◌, ◌++◌, [], ◌∷◌, Some, None, IfOk, IfErr, OnOk, IsTrue};
+ghost use Rattle.myi_base.specs.Causes.{HasCause};
+ghost use Rattle.myi_defs.specs.declared.types.Defs.{Defs};
+ghost use Rattle.myi_history.specs.Answers.{rows, answer_on};
+ghost use Rattle.myi_history.specs.RoundTexts.{text_of};
+ghost use Rattle.myi_history.specs.Lines.{IsRange, ReadsRange};
+ghost use Rattle.myi_table.specs.Table.{defs_in, IsKept, IfHolds, StillHolds};
+ghost use Rattle.myi_shell.specs.Carrying.{IsCarried};
+ghost use Rattle.myi_shell.specs.Changing.{NeverDamaged};
+ghost use Rattle.myi_shell.specs.Playing.{seen_rows, read_answer};
+ghost use Rattle.myi_shell.specs.Reading.{table_range};
+ghost use Rattle.myi_shell.specs.declared.fault.ShellFault.TheVariants.{File};
+
+use crate::fault::ShellFault;
+use myi_history::RoundTexts;
+use myi_io::Files;
+use myi_keys::KeyVal;
+use myi_pack::Row;
+use myi_script::{self as script, Act};
+use myi_table::{Range, Table};
+use std::alloc::{AllocError, Global};
+
+/// What a statement reads: the table after so many changes, whose rows are those below a place, or
+/// all rows of the table as it is.
+#[derive(Clone, Copy)]
+pub(crate) struct View {
+    pub(crate) number: u64,
+    pub(crate) below: Option<u64>,
+}
+
+// The same bound.
+fn bound_of(alloc: Global, bound: &Option<KeyVal>) -> Result<Option<KeyVal>, AllocError>
+    ensures { IfOk result (λ same. same ≡ bound.now) }
+{
+    let Some(key) = bound else { return Ok(None) };
+    let code = Vec::from_slice(alloc, key.code())?;
+    Ok(Some(KeyVal::of_code(code)))
+}
+
+// The rows of a script's range, whose keys are counted from 1.
+fn range_of(alloc: Global, range: &script::Range) -> Result<Range, AllocError>
+    requires { 0 < range.now.key }
+    ensures { IfOk result (λ r. r ≡ table_range range.now) }
+{
+    Ok(Range {
+        key: range.key as usize - 1,
+        from: bound_of(alloc, &range.from)?,
+        to: bound_of(alloc, &range.to)?,
+    })
+}
+
+/// Notes the lines of a read that found these rows.
+pub(crate) fn push_found(
+    texts: &mut RoundTexts,
+    line: u32,
+    found: &[(u64, Row)],
+    view: View,
+) -> Result<(), AllocError>
+    ensures { OnOk result (texts.new ≡ texts.old ++ text_of
+        (answer_on line (rows (seen_rows view.below found.now) view.number)) ∷ []) }
+{
+    match view.below {
+        Some(below) => texts.push_found_below(line, found, below, view.number),
+        None => texts.push_found(line, found, view.number),
+    }
+}
+
+/// Reads the rows of a statement, and notes the lines of them.
+pub(crate) fn read<F: Files>(
+    table: &mut Table,
+    files: &mut F,
+    texts: &mut RoundTexts,
+    act: &Act,
+    line: u32,
+    view: View,
+) -> Result<(), ShellFault>
+    requires writable { IsTrue F.writable }
+    requires range { ReadsRange (defs_in table.old) act.now }
+    requires kept { IsKept (F.holds files.old) table.old }
+    requires whole { table.old.broken ≡ None }
+    ensures said { OnOk result (IfHolds (F.holds files.old) table.old (λ m s.
+        texts.new ≡ texts.old ++ text_of (answer_on line
+        (read_answer (defs_in table.old) view s (Some act.now))) ∷ [])) }
+    ensures still { StillHolds (F.holds files.old) (F.holds files.new) table.old table.new }
+    ensures carried { IsCarried (F.holds files.old) (F.holds files.new) table.old table.new }
+    ensures whole { table.new.broken ≡ None }
+    ensures refused { IfErr result (NeverDamaged (F.holds files.old) table.old) }
+    ensures cause { HasCause File (F.faults files.old) (F.faults files.new) result }
+{
+    match act {
+        Act::Scan => {
+            let found = table.scan(files)?;
+            push_found(texts, line, &found, view)?;
+        }
+        Act::Over(range) => {
+            // The table has a tree for each of its keys.
+            table.defs();
+            let range = range_of(texts.allocator(), range)?;
+            let found = table.range(files, &range)?;
+            push_found(texts, line, &found, view)?;
+        }
+        _ => push_found(texts, line, &[], view)?,
+    }
+    Ok(())
+}

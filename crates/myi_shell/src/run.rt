@@ -1,0 +1,137 @@
+//! `run_script`: a script from its first round to its last.
+ghost use Rattle.std.specs.Prelude.{◌≡◌, ◌≤◌, None, OnOk, IfOk, IfErr, IsTrue};
+ghost use Rattle.myi_base.specs.Holding.{IfTold};
+ghost use Rattle.myi_base.specs.Causes.{HasCause};
+ghost use Rattle.myi_defs.specs.Sound.{IsSound};
+ghost use Rattle.myi_state.specs.Changes.{replay};
+ghost use Rattle.myi_history.specs.History.{history};
+ghost use Rattle.myi_locks.specs.Script.{IsScript};
+ghost use Rattle.myi_history.specs.Lines.{MayRun, script_steps};
+ghost use Rattle.myi_table.specs.Table.{defs_in, IsKept, IfHolds, ChangesItsOwn};
+ghost use Rattle.myi_shell.specs.Carrying.{IsCarried};
+ghost use Rattle.myi_shell.specs.Playing.{begun, playing};
+ghost use Rattle.myi_shell.specs.Running.{opening_on, HasEnded, IsPrinted, IsPrintedPart};
+ghost use Rattle.myi_shell.specs.Running.{IsStopped, AreClosed, ended};
+ghost use Rattle.myi_shell.specs.declared.fault.ShellFault.TheVariants.{File, Sink};
+
+use crate::fault::ShellFault;
+use crate::play::Play;
+use myi_history::{script_steps, scripts_may_run};
+use myi_io::{Files, Sink};
+use myi_locks::Locks;
+use myi_script::{Line, Script};
+use myi_table::{ChangeFault, Table};
+use std::alloc::{AllocError, Global};
+
+/// Runs a script on a table, and closes the table. `setting` is that of concurrent inserts, as
+/// `Locks::new` has it. The lines are printed round by round, in order of their numbers. What is
+/// printed is the text of the script, with numbers within their bounds, and the files are a clean
+/// pair that stands for the table that the history leads to. A run that is cut off has printed a
+/// first part of such a text. The table is closed then too, and where that fails behind a failed
+/// write of the output, its fault is the answer.
+pub fn run_script<F: Files, O: Sink>(
+    alloc: Global,
+    table: Table,
+    script: &Script,
+    setting: u8,
+    files: &mut F,
+    out: &mut O,
+) -> Result<(), ShellFault>
+    requires writable { IsTrue F.writable }
+    requires setting { setting ≤ 2 }
+    requires script { MayRun (defs_in table) script.now.lines }
+    requires kept { IsKept (F.holds files.old) table }
+    requires whole { table.broken ≡ None }
+    ensures text { OnOk result (IfHolds (F.holds files.old) table (λ m s.
+        IsPrinted (opening_on (defs_in table) script.now.lines setting s)
+        (O.written out.old) (O.written out.new))) }
+    ensures table { OnOk result (IfHolds (F.holds files.old) table (λ m s.
+        IfTold (F.holds files.new) (AreClosed table (replay (defs_in table) s
+        (history (opening_on (defs_in table) script.now.lines setting s)))))) }
+    ensures part { IfErr result (λ f. IfHolds (F.holds files.old) table (λ m s.
+        IsPrintedPart (opening_on (defs_in table) script.now.lines setting s)
+        (O.written out.old) (O.written out.new))) }
+    ensures refused { IfErr result (IsStopped (F.holds files.old) table) }
+    ensures others { ChangesItsOwn (F.holds files.old) (F.holds files.new) table }
+    ensures file { HasCause File (F.faults files.old) (F.faults files.new) result }
+    ensures sink { HasCause Sink (O.faults out.old) (O.faults out.new) result }
+{
+    let mut table = table;
+    let ran = run(
+        alloc,
+        &mut table,
+        script.lines.as_slice(),
+        setting,
+        files,
+        out,
+    );
+    let closed = table.close(files);
+    ended(ran, closed)
+}
+
+// The answer of a script, by how it ran and how its table was closed.
+fn ended(ran: Result<(), ShellFault>, closed: Result<(), ChangeFault>) -> Result<(), ShellFault>
+    ensures { result ≡ ended ran closed }
+{
+    match (ran, closed) {
+        (Err(ShellFault::Damaged { at }), _) => Err(ShellFault::Damaged { at }),
+        (Err(ShellFault::File), _) => Err(ShellFault::File),
+        (Err(ShellFault::Memory), _) => Err(ShellFault::Memory),
+        (_, Err(ChangeFault::File)) => Err(ShellFault::File),
+        // A table that is closed is refused for nothing else.
+        (_, Err(_)) => Err(ShellFault::Memory),
+        (ran, Ok(())) => ran,
+    }
+}
+
+// A script before its first round.
+fn begin(alloc: Global, lines: &[Line], setting: u8, length: u64) -> Result<Play, AllocError>
+    requires setting { setting ≤ 2 }
+    requires lines { IsScript (script_steps lines.now) }
+    ensures { IfOk result (λ play. playing play ≡ begun setting lines.now length) }
+{
+    let steps = script_steps(alloc, lines)?;
+    let locks = Locks::new(alloc, steps, setting)?;
+    Ok(Play::new(alloc, locks, length))
+}
+
+// How long the data file of a table is. Its definitions are sound.
+fn length_of(table: &Table) -> u64
+    ensures length { result ≡ table.now.rows.rows.file.counts.length }
+    ensures sound { IsSound (defs_in table.now) }
+{
+    table.defs();
+    table.length()
+}
+
+// Does the rounds of a script one after the other.
+fn run<F: Files, O: Sink>(
+    alloc: Global,
+    table: &mut Table,
+    lines: &[Line],
+    setting: u8,
+    files: &mut F,
+    out: &mut O,
+) -> Result<(), ShellFault>
+    requires writable { IsTrue F.writable }
+    requires setting { setting ≤ 2 }
+    requires lines { MayRun (defs_in table.old) lines.now }
+    requires kept { IsKept (F.holds files.old) table.old }
+    requires whole { table.old.broken ≡ None }
+    ensures ran { OnOk result (IfHolds (F.holds files.old) table.old (λ m s.
+        HasEnded (opening_on (defs_in table.old) lines.now setting s) (O.written out.old)
+        (F.holds files.new) table.new (O.written out.new))) }
+    ensures part { IfErr result (λ f. IfHolds (F.holds files.old) table.old (λ m s.
+        IsPrintedPart (opening_on (defs_in table.old) lines.now setting s)
+        (O.written out.old) (O.written out.new))) }
+    ensures carried { IsCarried (F.holds files.old) (F.holds files.new) table.old table.new }
+    ensures whole { OnOk result (table.new.broken ≡ None) }
+    ensures refused { IfErr result (IsStopped (F.holds files.old) table.old) }
+    ensures file { HasCause File (F.faults files.old) (F.faults files.new) result }
+    ensures sink { HasCause Sink (O.faults out.old) (O.faults out.new) result }
+{
+    scripts_may_run();
+    let mut play = begin(alloc, lines, setting, length_of(table))?;
+    while play.next_round(table, files, lines, out)? {}
+    Ok(())
+}
