@@ -1,6 +1,5 @@
 -- Calls on a table one after the other.
-use Rattle.std.proofs.Common.{◌≡◌, ◌≤◌, ◌+◌, ℕ, List, Option, Some, None, Result, Ok, Err, IfErr, OnErr, refl, sym, ap, subst, ◌∙◌, arith}
-use Rattle.std.specs.Prelude.{min, ◌-◌, ◌^◌}
+use Rattle.std.proofs.Common.{◌≡◌, ◌≤◌, ℕ, List, Option, Some, None, Result, Ok, Err, IfOk, OnOk, IfErr, OnErr, refl, sym, ap, subst, ◌∙◌, arith}
 use Rattle.myi_base.specs.Causes.{Rose, HasCause}
 use Rattle.myi_base.specs.Holding.{Holding, Told}
 use Rattle.myi_io.specs.declared.sink.SinkErr.{SinkErr}
@@ -10,7 +9,7 @@ use Rattle.myi_search.proofs.CallerLemmas.{counts_none, counts_on}
 use Rattle.myi_opening.specs.Names.{index_file}
 use Rattle.myi_base.specs.Holding.{OthersStay}
 use Rattle.myi_state.specs.State.{TableState}
-use Rattle.myi_table.specs.Table.{OpenTable, HoldState, HoldsThen, IsKept, IfHolds, StillHolds, IsSame, KeepsOthers, ChangesItsOwn}
+use Rattle.myi_table.specs.Table.{OpenTable, HoldState, IsKept, StillHolds, IsSame, KeepsOthers}
 use Rattle.myi_shell.specs.declared.fault.ShellFault.{ShellFault}
 use Rattle.myi_shell.specs.declared.fault.ShellFault.TheVariants as fault
 use Rattle.myi_shell.specs.Carrying.{IsCarried}
@@ -109,3 +108,9 @@ on_err (Err f) p = p
 pub if_err : {T E : Type 0} {P : Type 0} (result : Result T E) → P → IfErr result (λ f. P)
 if_err (Ok done) p = tt
 if_err (Err f) p = p
+
+pub not_ok : {T E : Type 0} (P : T → Type 0) {f : E} (result : Result T E) → result ≡ Err f → IfOk result P
+not_ok {T} {E} P {f} result is = subst (λ r. IfOk r P) (sym is) tt
+
+pub not_on_ok : {T E : Type 0} (P : Type 0) {f : E} (result : Result T E) → result ≡ Err f → OnOk result P
+not_on_ok {T} {E} P {f} result is = subst (λ r. OnOk r P) (sym is) tt

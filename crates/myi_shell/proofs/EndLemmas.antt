@@ -1,5 +1,5 @@
 -- How a script ends: by its rounds, and by closing its table.
-use Rattle.std.proofs.Common.{◌≡◌, ℕ, ◌≤◌, List, [], ◌++◌, take, length, Option, Some, Result, Ok, Err, OnOk, OnErr, IfErr, refl, sym, ap, subst, ◌∙◌, arith}
+use Rattle.std.proofs.Common.{◌≡◌, ℕ, List, ◌++◌, length, Option, Some, Result, Ok, Err, OnOk, IfErr, refl, sym, ap, subst, ◌∙◌, arith}
 use Rattle.std.proofs.lemmas.List.{take_all}
 use Rattle.myi_base.specs.Holding.{Holding, IfTold}
 use Rattle.myi_state.specs.State.{TableState}
@@ -12,7 +12,7 @@ use Rattle.myi_table.specs.Table.{OpenTable, IfHolds, IsSame}
 use Rattle.myi_table.specs.Closing.{IsClosed}
 use Rattle.myi_shell.specs.declared.fault.ShellFault.{ShellFault}
 use Rattle.myi_shell.specs.declared.fault.ShellFault.TheVariants as fault
-use Rattle.myi_shell.specs.Running.{HasEnded, IsPrinted, IsPrintedPart, AreClosed, ended}
+use Rattle.myi_shell.specs.Running.{HasEnded, IsPrinted, IsPrintedPart, AreClosed, StandsBehind, AreClosedBehind, IfSink, ended}
 
 both : (P Q : Type 0) (ran : Result (Unit {0}) ShellFault) (closed : Result (Unit {0}) ChangeFault) → OnOk ran P → OnOk closed Q → OnOk (ended ran closed) (P × Q)
 both P Q (Err (fault.Damaged at)) closed p q = tt
@@ -83,3 +83,35 @@ pub part_of_end : (told : Option Holding) (start : Option (List ℕ)) (mid : Opt
     → IfErr result (λ f. IfHolds told old (λ m s. IsPrintedPart (o s) start printed))
 part_of_end told start mid printed old t o result ran done part =
     part_of _ ran result (on_ok _ _ ran (λ p. λ m held s h. all_is_part (o s) start printed (p m held s h).text) done) part
+
+-- ---- the output failed
+
+sink_ran : (ran : Result (Unit {0}) ShellFault) (closed : Result (Unit {0}) ChangeFault) → ended ran closed ≡ Err fault.Sink → (ran ≡ Err fault.Sink) × (closed ≡ Ok tt)
+sink_ran (Err (fault.Damaged at)) closed e = cc
+sink_ran (Err fault.File) closed e = cc
+sink_ran (Err fault.Memory) closed e = cc
+sink_ran (Err fault.Sink) (Ok done) e = (refl, refl)
+sink_ran (Err fault.Sink) (Err (change.Broken by)) e = cc
+sink_ran (Err fault.Sink) (Err (change.NoRow at)) e = cc
+sink_ran (Err fault.Sink) (Err (change.Duplicate key at)) e = cc
+sink_ran (Err fault.Sink) (Err change.Full) e = cc
+sink_ran (Err fault.Sink) (Err (change.Damaged at)) e = cc
+sink_ran (Err fault.Sink) (Err change.File) e = cc
+sink_ran (Err fault.Sink) (Err change.Memory) e = cc
+sink_ran (Ok done) (Ok over) e = cc
+sink_ran (Ok done) (Err (change.Broken by)) e = cc
+sink_ran (Ok done) (Err (change.NoRow at)) e = cc
+sink_ran (Ok done) (Err (change.Duplicate key at)) e = cc
+sink_ran (Ok done) (Err change.Full) e = cc
+sink_ran (Ok done) (Err (change.Damaged at)) e = cc
+sink_ran (Ok done) (Err change.File) e = cc
+sink_ran (Ok done) (Err change.Memory) e = cc
+
+pub closed_behind : (told : Option Holding) (start : Option (List ℕ)) (mid next : Option Holding) (printed : Option (List ℕ)) (old t : OpenTable) (o : TableState → Opening) (result ran : Result (Unit {0}) ShellFault) (closed : Result (Unit {0}) ChangeFault) → result ≡ ended ran closed → IsSame old t
+    → IfSink ran (IfHolds told old (λ m s. StandsBehind (o s) start mid t printed)) → OnOk closed (IfHolds mid t (λ m s. IfTold next (IsClosed t s)))
+    → IfSink result (IfHolds told old (λ m s. IfTold next (AreClosedBehind (o s) old start printed)))
+closed_behind told start mid next printed old t o result ran closed is same stands shut = λ failed m held s h.
+    let both = sink_ran ran closed (sym is ∙ failed) in
+    let done = subst (λ r. OnOk r (IfHolds mid t (λ m s. IfTold next (IsClosed t s)))) both.1 shut in
+    let k = stands both.0 m held s h in
+    λ n shown. record { front = k.front; last = k.last; cut = k.cut; closed = record { last = t; same = same; closed = done k.table.0 k.table.1 _ k.table.2 n shown } }

@@ -7,12 +7,12 @@ use Rattle.myi_locks.specs.declared.steps.StepKind.{StepKind}
 use Rattle.myi_locks.specs.declared.steps.Step.{Step}
 use Rattle.myi_locks.specs.declared.steps.Run.{Run}
 use Rattle.myi_locks.specs.declared.steps.Round.{Round}
-use Rattle.myi_locks.specs.declared.steps.Round.TheVariants.{Finished, Alone, Together}
+use Rattle.myi_locks.specs.declared.steps.Round.TheVariants.{Finished, Alone}
 use Rattle.myi_locks.specs.Steps.{is_insert, is_read, takes_read}
 use Rattle.myi_locks.specs.Sessions.{Session, first, is_next, holds_any, holds_write, others_hold}
 use Rattle.myi_locks.specs.Rounds.{LockState, next_round, case_at_once, case_write_held, case_write, case_write_waits, case_takes_read, case_together, alone, or_else, has_steps, at_once, is_write, reads, inserter, session_at, run_of, together}
 use Rattle.myi_locks.specs.Done.{run_steps}
-use Rattle.myi_shell.specs.Playing.{HasItsKinds}
+use Rattle.myi_shell.specs.Stepping.{HasItsKinds}
 
 abbrev AreOf : (StepKind → Bool) → List Step → Type 0
 AreOf test xs = AllByRecursion (λ (x : Step). test x.kind ≡ true) xs

@@ -7,6 +7,6 @@ mod DoneLemmas
 mod StepLemmas
 mod LoopLemmas
 mod RoundLemmas
-mod PlayedLemmas
+mod RoundsLemmas
 mod RunLemmas
 mod EndLemmas

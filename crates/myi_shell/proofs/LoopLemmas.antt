@@ -1,5 +1,5 @@
 -- Loops over the steps of a run, and over the runs of a round.
-use Rattle.std.proofs.Common.{◌≡◌, ℕ, zero, suc, ◌+◌, ◌<◌, ◌≤◌, Bool, true, false, List, [], ◌∷◌, ◌++◌, map, drop, length, get_or, Option, Some, None, Result, Ok, Err, OnOk, refl, sym, ap, subst, ◌∙◌, arith, append_assoc}
+use Rattle.std.proofs.Common.{◌≡◌, ℕ, zero, suc, ◌+◌, ◌<◌, ◌≤◌, Bool, true, List, [], ◌∷◌, ◌++◌, map, drop, length, get_or, Option, Result, Ok, Err, OnOk, refl, sym, ap, subst, ◌∙◌, arith, append_assoc}
 use Rattle.std.proofs.lemmas.List.{append-nil, map-append, length-append}
 use Rattle.std.specs.List.{flat_map}
 use Rattle.myi_base.specs.Holding.{Holding}
@@ -11,11 +11,11 @@ use Rattle.myi_script.specs.declared.types.Line.{Line}
 use Rattle.myi_script.specs.declared.types.Act.{Act}
 use Rattle.myi_history.specs.Lines.{act_of}
 use Rattle.myi_history.specs.Answers.{answer_on}
-use Rattle.myi_shell.specs.declared.reading.View.{View}
+use Rattle.myi_shell.specs.declared.reading.Snapshot.{Snapshot}
 use Rattle.myi_history.specs.History.{asks, changes, state_after, stepped_by, accepted_of}
 use Rattle.myi_history.specs.RoundTexts.{LineText, text_of, texts_of}
 use Rattle.myi_table.specs.Table.{OpenTable, defs_in, HoldsThen, IfHolds, StillHolds, IsSame}
-use Rattle.myi_shell.specs.Playing.{Playing, view_by, read_answer, read_by, writes_by, AreDone}
+use Rattle.myi_shell.specs.Stepping.{RunState, seen_by, read_answer, read_by, writes_by, AreDone}
 use Rattle.myi_shell.proofs.StepLemmas.{IsHalfDone, writes_first}
 
 pub drop_more : {A : Type 0} (xs : List A) (i : ℕ) (d : A) → i < length xs → drop i xs ≡ get_or xs i d ∷ drop (i + 1) xs
@@ -39,34 +39,34 @@ text_more f all step old half new xs i d lt so_far adds =
     ∙ ap (λ t. half ++ t) (sym (step (get_or xs i d) (drop (i + 1) xs)) ∙ ap all (sym (drop_more xs i d lt))) ∙ so_far
 
 -- what reads say of a table
-abbrev ReadBy : Defs → List Line → Playing → TableState → Step → List LineText
-ReadBy d ls p s x = text_of (read_by d ls (view_by p) s x) ∷ []
+abbrev ReadBy : Defs → List Line → RunState → TableState → Step → List LineText
+ReadBy d ls p s x = text_of (read_by d ls (seen_by p) s x) ∷ []
 
-same_read : (old half : OpenTable) (ls : List Line) (p q : Playing) (s : TableState) → q ≡ record p { texts = q.texts } → IsSame old half → (xs : List Step)
-    → texts_of (map (read_by (defs_in half) ls (view_by q) s) xs) ≡ texts_of (map (read_by (defs_in old) ls (view_by p) s) xs)
+same_read : (old half : OpenTable) (ls : List Line) (p q : RunState) (s : TableState) → q ≡ record p { texts = q.texts } → IsSame old half → (xs : List Step)
+    → texts_of (map (read_by (defs_in half) ls (seen_by q) s) xs) ≡ texts_of (map (read_by (defs_in old) ls (seen_by p) s) xs)
 same_read old half ls p q s only same xs =
-    ap (λ d. texts_of (map (read_by d ls (view_by q) s) xs)) same.defs ∙ ap (λ z. texts_of (map (read_by (defs_in old) ls (view_by z) s) xs)) only
+    ap (λ d. texts_of (map (read_by d ls (seen_by q) s) xs)) same.defs ∙ ap (λ z. texts_of (map (read_by (defs_in old) ls (seen_by z) s) xs)) only
 
 -- one read more
-pub read_more : (told mid : Option Holding) (old half : OpenTable) (ls : List Line) (p q : Playing) (new : List LineText) (xs : List Step) (i : ℕ) (e : Step)
+pub read_more : (told mid : Option Holding) (old half : OpenTable) (ls : List Line) (p q : RunState) (new : List LineText) (xs : List Step) (i : ℕ) (e : Step)
     → i < length xs → q ≡ record p { texts = q.texts } → IsSame old half → StillHolds told mid old half
-    → IfHolds told old (λ m s. q.texts ++ texts_of (map (read_by (defs_in old) ls (view_by p) s) (drop i xs)) ≡ p.texts ++ texts_of (map (read_by (defs_in old) ls (view_by p) s) xs))
-    → IfHolds mid half (λ m s. new ≡ q.texts ++ text_of (read_by (defs_in half) ls (view_by q) s (get_or xs i e)) ∷ [])
-    → IfHolds told old (λ m s. new ++ texts_of (map (read_by (defs_in old) ls (view_by p) s) (drop (i + 1) xs)) ≡ p.texts ++ texts_of (map (read_by (defs_in old) ls (view_by p) s) xs))
+    → IfHolds told old (λ m s. q.texts ++ texts_of (map (read_by (defs_in old) ls (seen_by p) s) (drop i xs)) ≡ p.texts ++ texts_of (map (read_by (defs_in old) ls (seen_by p) s) xs))
+    → IfHolds mid half (λ m s. new ≡ q.texts ++ text_of (read_by (defs_in half) ls (seen_by q) s (get_or xs i e)) ∷ [])
+    → IfHolds told old (λ m s. new ++ texts_of (map (read_by (defs_in old) ls (seen_by p) s) (drop (i + 1) xs)) ≡ p.texts ++ texts_of (map (read_by (defs_in old) ls (seen_by p) s) xs))
 read_more told mid old half ls p q new xs i e lt only same still so_far said = λ m held s h.
     let k = still m held s h in
-    text_more (ReadBy (defs_in old) ls p s) (λ ys. texts_of (map (read_by (defs_in old) ls (view_by p) s) ys)) (λ y ys. refl) p.texts q.texts new xs i e lt (so_far m held s h)
+    text_more (ReadBy (defs_in old) ls p s) (λ ys. texts_of (map (read_by (defs_in old) ls (seen_by p) s) ys)) (λ y ys. refl) p.texts q.texts new xs i e lt (so_far m held s h)
     (said k.0 k.1 s k.2 ∙ ap (λ t. q.texts ++ t) (same_read old half ls p q s only same (get_or xs i e ∷ [])))
 
 -- the steps of one run more
-pub run_more : (told mid : Option Holding) (old half : OpenTable) (ls : List Line) (p q : Playing) (new : List LineText) (runs : List Run) (i : ℕ) (e : Run)
+pub run_more : (told mid : Option Holding) (old half : OpenTable) (ls : List Line) (p q : RunState) (new : List LineText) (runs : List Run) (i : ℕ) (e : Run)
     → i < length runs → q ≡ record p { texts = q.texts } → IsSame old half → StillHolds told mid old half
-    → IfHolds told old (λ m s. q.texts ++ texts_of (map (read_by (defs_in old) ls (view_by p) s) (flat_map (λ (r : Run). r.steps) (drop i runs))) ≡ p.texts ++ texts_of (map (read_by (defs_in old) ls (view_by p) s) (flat_map (λ (r : Run). r.steps) runs)))
-    → IfHolds mid half (λ m s. new ≡ q.texts ++ texts_of (map (read_by (defs_in half) ls (view_by q) s) (get_or runs i e).steps))
-    → IfHolds told old (λ m s. new ++ texts_of (map (read_by (defs_in old) ls (view_by p) s) (flat_map (λ (r : Run). r.steps) (drop (i + 1) runs))) ≡ p.texts ++ texts_of (map (read_by (defs_in old) ls (view_by p) s) (flat_map (λ (r : Run). r.steps) runs)))
+    → IfHolds told old (λ m s. q.texts ++ texts_of (map (read_by (defs_in old) ls (seen_by p) s) (flat_map (λ (r : Run). r.steps) (drop i runs))) ≡ p.texts ++ texts_of (map (read_by (defs_in old) ls (seen_by p) s) (flat_map (λ (r : Run). r.steps) runs)))
+    → IfHolds mid half (λ m s. new ≡ q.texts ++ texts_of (map (read_by (defs_in half) ls (seen_by q) s) (get_or runs i e).steps))
+    → IfHolds told old (λ m s. new ++ texts_of (map (read_by (defs_in old) ls (seen_by p) s) (flat_map (λ (r : Run). r.steps) (drop (i + 1) runs))) ≡ p.texts ++ texts_of (map (read_by (defs_in old) ls (seen_by p) s) (flat_map (λ (r : Run). r.steps) runs)))
 run_more told mid old half ls p q new runs i e lt only same still so_far said = λ m held s h.
     let k = still m held s h in
-    let f = read_by (defs_in old) ls (view_by p) s in
+    let f = read_by (defs_in old) ls (seen_by p) s in
     text_more (λ (r : Run). texts_of (map f r.steps)) (λ rs. texts_of (map f (flat_map (λ (r : Run). r.steps) rs)))
     (λ r rs. ap texts_of (map-append f r.steps (flat_map (λ (q : Run). q.steps) rs)) ∙ map-append text_of (map f r.steps) (map f (flat_map (λ (q : Run). q.steps) rs)))
     p.texts q.texts new runs i e lt (so_far m held s h)
@@ -78,7 +78,7 @@ texts_end all old new xs i none end so_far = sym (append-nil new) ∙ ap (λ t. 
 
 -- ---- steps that write
 
-one_more : (d : Defs) (ls : List Line) (together : Bool) (p q new : Playing) (s : TableState) (xs now : List Step) (x : Step) (left : List Step) (mid next : Option Holding) (half table : OpenTable)
+one_more : (d : Defs) (ls : List Line) (together : Bool) (p q new : RunState) (s : TableState) (xs now : List Step) (x : Step) (left : List Step) (mid next : Option Holding) (half table : OpenTable)
     → now ≡ x ∷ left → q.locks ≡ p.locks
     → (w : IsHalfDone d ls together p s xs now mid half q)
     → AreDone d ls together q w.state (x ∷ []) (writes_by d ls q.locks together w.state (x ∷ [])) next table new
@@ -118,17 +118,17 @@ one_more d ls together p q new s xs now x left mid next half table more locks w 
         ∙ ap (λ ts. q.texts ++ ts) (sym (map-append text_of head rest) ∙ ap texts_of (writes_first d ls p.locks together w.state x left) ∙ ap (λ ys. texts_of (writes_by d ls p.locks together w.state ys)) (sym more)) ∙ w.texts
 
 -- one step more
-pub half_more : (d : Defs) (ls : List Line) (together : Bool) (p q new : Playing) (s : TableState) (xs : List Step) (i : ℕ) (e : Step) (mid next : Option Holding) (half table : OpenTable)
+pub half_more : (d : Defs) (ls : List Line) (together : Bool) (p q new : RunState) (s : TableState) (xs : List Step) (i : ℕ) (e : Step) (mid next : Option Holding) (half table : OpenTable)
     → i < length xs → q.locks ≡ p.locks
     → (w : IsHalfDone d ls together p s xs (drop i xs) mid half q)
     → AreDone d ls together q w.state (get_or xs i e ∷ []) (writes_by d ls q.locks together w.state (get_or xs i e ∷ [])) next table new
     → IsHalfDone d ls together p s xs (drop (i + 1) xs) next table new
 half_more d ls together p q new s xs i e mid next half table lt locks w done = one_more d ls together p q new s xs (drop i xs) (get_or xs i e) (drop (i + 1) xs) mid next half table (drop_more xs i e lt) locks w done
 
-pub half_begins : (d : Defs) (ls : List Line) (together : Bool) (p : Playing) (s : TableState) (xs : List Step) (told : Option Holding) (t : OpenTable) → HoldsThen told t s → IsHalfDone d ls together p s xs xs told t p
+pub half_begins : (d : Defs) (ls : List Line) (together : Bool) (p : RunState) (s : TableState) (xs : List Step) (told : Option Holding) (t : OpenTable) → HoldsThen told t s → IsHalfDone d ls together p s xs xs told t p
 half_begins d ls together p s xs told t h = record { state = s; holds = h; whole = refl; number = refl; texts = refl }
 
-pub half_ends : (d : Defs) (ls : List Line) (together : Bool) (p new : Playing) (s : TableState) (xs left : List Step) (next : Option Holding) (t : OpenTable) → left ≡ [] → IsHalfDone d ls together p s xs left next t new
+pub half_ends : (d : Defs) (ls : List Line) (together : Bool) (p new : RunState) (s : TableState) (xs left : List Step) (next : Option Holding) (t : OpenTable) → left ≡ [] → IsHalfDone d ls together p s xs left next t new
     → AreDone d ls together p s xs (writes_by d ls p.locks together s xs) next t new
 half_ends d ls together p new s xs left next t none w =
     let asked = asks ls p.locks together in
@@ -143,7 +143,7 @@ half_ends d ls together p new s xs left next t none w =
 
 -- ---- one read
 
-pub read_as : {E : Type 0} (told : Option Holding) (t : OpenTable) (ls : List Line) (views : ℕ → View) (old new : List LineText) (x : Step) (v : View) (a : Option Act) (result : Result (Unit {0}) E) → v ≡ views x.session → a ≡ act_of ls x.line
+pub read_as : {E : Type 0} (told : Option Holding) (t : OpenTable) (ls : List Line) (views : ℕ → Snapshot) (old new : List LineText) (x : Step) (v : Snapshot) (a : Option Act) (result : Result (Unit {0}) E) → v ≡ views x.session → a ≡ act_of ls x.line
     → OnOk result (IfHolds told t (λ m s. new ≡ old ++ text_of (answer_on x.line (read_answer (defs_in t) v s a)) ∷ []))
     → OnOk result (IfHolds told t (λ m s. new ≡ old ++ text_of (read_by (defs_in t) ls views s x) ∷ []))
 read_as told t ls views old new x v a (Ok done) view act said = λ m held s h.
@@ -151,7 +151,7 @@ read_as told t ls views old new x v a (Ok done) view act said = λ m held s h.
 read_as told t ls views old new x v a (Err f) view act said = tt
 
 -- of each state that the table stood for, one step more
-pub half_steps : (told mid next : Option Holding) (old half table : OpenTable) (ls : List Line) (p q new : Playing) (xs : List Step) (i : ℕ) (e : Step) → i < length xs → q.locks ≡ p.locks → defs_in half ≡ defs_in old
+pub half_steps : (told mid next : Option Holding) (old half table : OpenTable) (ls : List Line) (p q new : RunState) (xs : List Step) (i : ℕ) (e : Step) → i < length xs → q.locks ≡ p.locks → defs_in half ≡ defs_in old
     → IfHolds told old (λ m s. IsHalfDone (defs_in old) ls true p s xs (drop i xs) mid half q)
     → IfHolds mid half (λ m s. AreDone (defs_in half) ls true q s (get_or xs i e ∷ []) (writes_by (defs_in half) ls q.locks true s (get_or xs i e ∷ [])) next table new)
     → IfHolds told old (λ m s. IsHalfDone (defs_in old) ls true p s xs (drop (i + 1) xs) next table new)

@@ -1,12 +1,10 @@
 -- A script from its first round to its last.
-use Rattle.std.proofs.Common.{◌≡◌, ℕ, ◌≤◌, Bool, true, false, List, [], ◌++◌, Option, Some, None, Result, Ok, Err, OnErr, IfErr, refl, sym, ap, subst, ◌∙◌, arith}
+use Rattle.std.proofs.Common.{◌≡◌, ℕ, Bool, List, [], ◌++◌, Option, Some, None, Result, Err, refl, sym, ap, subst, ◌∙◌, arith}
 use Rattle.std.proofs.lemmas.List.{append-nil}
-use Rattle.myi_base.specs.Holding.{Holding, IfTold}
+use Rattle.myi_base.specs.Holding.{Holding}
 use Rattle.myi_defs.specs.declared.types.Defs.{Defs}
 use Rattle.myi_state.specs.State.{TableState}
-use Rattle.myi_state.specs.Sound.{IsState}
 use Rattle.myi_locks.specs.Laws.{IsLawful}
-use Rattle.myi_locks.specs.Script.{opening}
 use Rattle.myi_locks.specs.Rounds.{LockState}
 use Rattle.myi_locks.proofs.CallerLemmas.{opens}
 use Rattle.myi_script.specs.declared.types.Line.{Line}
@@ -14,14 +12,13 @@ use Rattle.myi_history.specs.Lines.{MayRun, script_steps}
 use Rattle.myi_history.specs.History.{Opening}
 use Rattle.myi_history.proofs.CallerLemmas.{has_begun, stops, steps_run}
 use Rattle.myi_table.specs.Table.{OpenTable, defs_in, HoldState, IfHolds}
-use Rattle.myi_shell.specs.declared.play.Taken.{Taken}
 use Rattle.myi_shell.specs.declared.fault.ShellFault.{ShellFault}
 use Rattle.myi_shell.specs.declared.fault.ShellFault.TheVariants as fault
 use Rattle.myi_shell.specs.Carrying.{IsCarried}
-use Rattle.myi_shell.specs.Playing.{Playing, begun, counted_now}
-use Rattle.myi_shell.specs.Running.{opening_on, ForOpening, HasPlayed, HasGoneOn, HasEnded, IsPrintedPart, IsStopped}
+use Rattle.myi_shell.specs.Stepping.{RunState, begun}
+use Rattle.myi_shell.specs.Running.{opening_on, ForOpening, HasDone, HasGoneOn, IsPrintedPart, IsStopped, StandsBehind}
 use Rattle.myi_shell.proofs.CarryLemmas.{kept_then}
-use Rattle.myi_shell.proofs.PlayedLemmas.{length_is, front_part}
+use Rattle.myi_shell.proofs.RoundsLemmas.{length_is, front_part}
 
 -- nothing was printed
 pub nothing_printed : (o : Opening) (out : Option (List ℕ)) → IsPrintedPart o out out
@@ -30,8 +27,8 @@ nothing_printed o out =
     record { numbers = e.0; within = e.1; text = λ old is. front_part _ [] e.2 e.3 0 [] (omega arith) e.2 refl old out (is ∙ ap Some (sym (append-nil old) ∙ sym (append-nil (old ++ [])))) }
 
 -- a script before its first round
-pub begins : (ls : List Line) (setting : ℕ) (s : TableState) (t : OpenTable) (told : Option Holding) (m : Holding) (out : Option (List ℕ)) (p : Playing) → told ≡ Some m → HoldState t s m → p ≡ begun setting ls t.rows.rows.file.counts.length
-    → HasPlayed (opening_on (defs_in t) ls setting s) out told p t out
+pub begins : (ls : List Line) (setting : ℕ) (s : TableState) (t : OpenTable) (told : Option Holding) (m : Holding) (out : Option (List ℕ)) (p : RunState) → told ≡ Some m → HoldState t s m → p ≡ begun setting ls t.rows.rows.file.counts.length
+    → HasDone (opening_on (defs_in t) ls setting s) out told p t out
 begins ls setting s t told m out p held h is =
     let o = opening_on (defs_in t) ls setting s in
     record {
@@ -39,34 +36,34 @@ begins ls setting s t told m out p held h is =
       numbers = [];
       stands = record {
         run = has_begun o;
-        locks = ap (λ (z : Playing). z.locks) is;
+        locks = ap (λ (z : RunState). z.locks) is;
         table = (m, held, h);
-        number = ap (λ (z : Playing). z.number) is;
-        taken = λ n. ap (λ (z : Playing). z.taken n) is ∙ ap (λ k. record { number = 0; length = k }) (length_is t s m h);
+        number = ap (λ (z : RunState). z.number) is;
+        taken = λ n. ap (λ (z : RunState). z.taken n) is ∙ ap (λ k. record { number = 0; length = k }) (length_is t s m h);
         counted = record { read_requests = omega arith; reads = omega arith; write_requests = omega arith; writes = omega arith };
-        texts = ap (λ (z : Playing). z.texts) is;
+        texts = ap (λ (z : RunState). z.texts) is;
       };
       text = λ xs told. told ∙ ap Some (sym (append-nil xs));
     }
 
-pub begun_lawful : (d : Defs) (ls : List Line) (setting length : ℕ) (p : Playing) → MayRun d ls → p ≡ begun setting ls length → IsLawful p.locks.sessions
-begun_lawful d ls setting length p may is = subst (λ (r : LockState). IsLawful r.sessions) (sym (ap (λ (z : Playing). z.locks) is)) (opens setting (script_steps ls) (steps_run d ls may))
+pub begun_lawful : (d : Defs) (ls : List Line) (setting length : ℕ) (p : RunState) → MayRun d ls → p ≡ begun setting ls length → IsLawful p.locks.sessions
+begun_lawful d ls setting length p may is = subst (λ (r : LockState). IsLawful r.sessions) (sym (ap (λ (z : RunState). z.locks) is)) (opens setting (script_steps ls) (steps_run d ls may))
 
 -- of each state that the table stood for, one round more
-pub goes_on_by : (told mid next : Option Holding) (old half table : OpenTable) (ls : List Line) (setting : ℕ) (start out printed : Option (List ℕ)) (p q : Playing) (more : Bool) → defs_in half ≡ defs_in old
-    → IfHolds told old (λ m s. HasPlayed (opening_on (defs_in old) ls setting s) start mid p half out)
-    → ForOpening (defs_in half) ls (λ o from. HasPlayed o from mid p half out → HasGoneOn more o from next q table printed)
+pub goes_on_by : (told mid next : Option Holding) (old half table : OpenTable) (ls : List Line) (setting : ℕ) (start out printed : Option (List ℕ)) (p q : RunState) (more : Bool) → defs_in half ≡ defs_in old
+    → IfHolds told old (λ m s. HasDone (opening_on (defs_in old) ls setting s) start mid p half out)
+    → ForOpening (defs_in half) ls (λ o from. HasDone o from mid p half out → HasGoneOn more o from next q table printed)
     → IfHolds told old (λ m s. HasGoneOn more (opening_on (defs_in old) ls setting s) start next q table printed)
 goes_on_by told mid next old half table ls setting start out printed p q more same so_far played = λ m held s h.
-    let all = subst (λ (d : Defs). ForOpening d ls (λ o from. HasPlayed o from mid p half out → HasGoneOn more o from next q table printed)) same played in
+    let all = subst (λ (d : Defs). ForOpening d ls (λ o from. HasDone o from mid p half out → HasGoneOn more o from next q table printed)) same played in
     all setting s start h.files.table.table.state (so_far m held s h)
 
-pub stops_by : (told mid : Option Holding) (old half : OpenTable) (ls : List Line) (setting : ℕ) (start out printed : Option (List ℕ)) (p : Playing) → defs_in half ≡ defs_in old
-    → IfHolds told old (λ m s. HasPlayed (opening_on (defs_in old) ls setting s) start mid p half out)
-    → ForOpening (defs_in half) ls (λ o from. HasPlayed o from mid p half out → IsPrintedPart o from printed)
+pub stops_by : (told mid : Option Holding) (old half : OpenTable) (ls : List Line) (setting : ℕ) (start out printed : Option (List ℕ)) (p : RunState) → defs_in half ≡ defs_in old
+    → IfHolds told old (λ m s. HasDone (opening_on (defs_in old) ls setting s) start mid p half out)
+    → ForOpening (defs_in half) ls (λ o from. HasDone o from mid p half out → IsPrintedPart o from printed)
     → IfHolds told old (λ m s. IsPrintedPart (opening_on (defs_in old) ls setting s) start printed)
 stops_by told mid old half ls setting start out printed p same so_far stopped = λ m held s h.
-    let all = subst (λ (d : Defs). ForOpening d ls (λ o from. HasPlayed o from mid p half out → IsPrintedPart o from printed)) same stopped in
+    let all = subst (λ (d : Defs). ForOpening d ls (λ o from. HasDone o from mid p half out → IsPrintedPart o from printed)) same stopped in
     all setting s start h.files.table.table.state (so_far m held s h)
 
 pub stopped_before : (told mid : Option Holding) (old half : OpenTable) (f : ShellFault) → IsCarried told mid old half → half.broken ≡ None → IsStopped mid half f → IsStopped told old f
@@ -74,3 +71,18 @@ stopped_before told mid old half (fault.Damaged at) carried whole never = λ m h
 stopped_before told mid old half fault.File carried whole never = tt
 stopped_before told mid old half fault.Sink carried whole never = tt
 stopped_before told mid old half fault.Memory carried whole never = tt
+
+pub stands_by : (told mid next : Option Holding) (old half table : OpenTable) (ls : List Line) (setting : ℕ) (start out printed : Option (List ℕ)) (p : RunState) → defs_in half ≡ defs_in old
+    → IfHolds told old (λ m s. HasDone (opening_on (defs_in old) ls setting s) start mid p half out)
+    → ForOpening (defs_in half) ls (λ o from. HasDone o from mid p half out → StandsBehind o from next table printed)
+    → IfHolds told old (λ m s. StandsBehind (opening_on (defs_in old) ls setting s) start next table printed)
+stands_by told mid next old half table ls setting start out printed p same so_far stands = λ m held s h.
+    let all = subst (λ (d : Defs). ForOpening d ls (λ o from. HasDone o from mid p half out → StandsBehind o from next table printed)) same stands in
+    all setting s start h.files.table.table.state (so_far m held s h)
+
+err_is : {T : Type 0} {f g : ShellFault} → ◌≡◌ {A = Result T ShellFault} (Err f) (Err g) → f ≡ g
+err_is e = cc
+
+-- a call failed for the output, where the whole did for it
+pub sink_again : {T U : Type 0} {result : Result T ShellFault} {called : Result U ShellFault} {f g : ShellFault} → result ≡ Err f → f ≡ g → called ≡ Err g → result ≡ Err fault.Sink → called ≡ Err fault.Sink
+sink_again is same was failed = was ∙ ap Err (sym same ∙ err_is (sym is ∙ failed))

@@ -1,12 +1,14 @@
 -- What a reader of the contracts must believe.
 
+-- how a script begins on a table; what was printed of it, and what the closed files are; how the answers are told
+pub mod Running
+-- ---- what serves the contracts of the crate's own calls
+
 -- a statement that changes a table
 pub mod Changing
 -- a statement that reads one
 pub mod Reading
 -- what calls on a table leave
 pub mod Carrying
--- a script that goes on, round by round
-pub mod Playing
--- what stands behind the rounds that are done, and what a run leaves
-pub mod Running
+-- what the steps of a round do and say where the table is in a state
+pub mod Stepping

@@ -1,5 +1,5 @@
 -- A script that was begun on a table: what stands behind the rounds that are done, and what a run leaves.
-use Rattle.std.specs.Prelude.{◌≡◌, ◌≤◌, ℕ, Bool, true, false, List, [], Option, Result, Ok, Err}
+use Rattle.std.specs.Prelude.{◌≡◌, ◌≤◌, ℕ, Bool, true, false, List, [], ◌∷◌, ◌++◌, length, take, Option, Some, Result, Ok, Err}
 use Rattle.myi_base.specs.Holding.{Holding, IfTold}
 use Rattle.myi_base.specs.Output.{Appends, AppendsPart}
 use Rattle.myi_io.specs.declared.sink.SinkErr.{SinkErr}
@@ -10,7 +10,7 @@ use Rattle.myi_state.specs.State.{TableState}
 use Rattle.myi_state.specs.Sound.{IsState}
 use Rattle.myi_state.specs.Changes.{replay}
 use Rattle.myi_script.specs.declared.types.Line.{Line}
-use Rattle.myi_history.specs.History.{Opening, ScriptRound, history}
+use Rattle.myi_history.specs.History.{Opening, ScriptRound, rounds_of, history}
 use Rattle.myi_history.specs.Text.{Numbers, no_numbers, shell_text}
 use Rattle.myi_history.specs.Bounds.{AreWithin}
 use Rattle.myi_history.specs.Running.{HasRun, counted_in, locks_after, table_after, number_after, seen_number, seen_state, run_text}
@@ -20,7 +20,7 @@ use Rattle.myi_table.specs.Table.{OpenTable, HoldsThen, IfHolds, IsSame}
 use Rattle.myi_table.specs.Closing.{IsClosed}
 use Rattle.myi_shell.specs.declared.fault.ShellFault.{ShellFault}
 use Rattle.myi_shell.specs.declared.fault.ShellFault.TheVariants as fault
-use Rattle.myi_shell.specs.Playing.{Playing, counted_now}
+use Rattle.myi_shell.specs.Stepping.{RunState, counted_now}
 
 -- how a script begins on a table with these definitions that stands for a state
 abbrev pub opening_on : Defs → List Line → ℕ → TableState → Opening
@@ -40,7 +40,7 @@ pub record AreNotBelow (old new : Counters) : Type 0 where
   pub writes : old.writes ≤ new.writes
 
 -- Behind these rounds, with these numbers, the script and its table stand so.
-pub record Stands (o : Opening) (front : List ScriptRound) (c : List Numbers) (told : Option Holding) (p : Playing) (t : OpenTable) : Type 0 where
+pub record Stands (o : Opening) (front : List ScriptRound) (c : List Numbers) (told : Option Holding) (p : RunState) (t : OpenTable) : Type 0 where
   pub run : HasRun o front c
   pub locks : p.locks ≡ locks_after o front
   pub table : HoldsThen told t (table_after o front)
@@ -50,7 +50,7 @@ pub record Stands (o : Opening) (front : List ScriptRound) (c : List Numbers) (t
   pub texts : p.texts ≡ []
 
 -- some rounds are done, and their text was printed behind what was printed before
-pub record HasPlayed (o : Opening) (start : Option (List ℕ)) (told : Option Holding) (p : Playing) (t : OpenTable) (printed : Option (List ℕ)) : Type 0 where
+pub record HasDone (o : Opening) (start : Option (List ℕ)) (told : Option Holding) (p : RunState) (t : OpenTable) (printed : Option (List ℕ)) : Type 0 where
   pub front : List ScriptRound
   pub numbers : List Numbers
   pub stands : Stands o front numbers told p t
@@ -70,14 +70,32 @@ pub record IsPrintedPart (o : Opening) (start printed : Option (List ℕ)) : Typ
   pub within : AreWithin o numbers
   pub text : IfTold start (AppendsPart (shell_text o numbers) printed)
 
+-- The output failed at the lines of this round: all text of the rounds before it was printed, and of its own a first part or nothing.
+pub record IsCutIn (o : Opening) (front : List ScriptRound) (last : ScriptRound) (start printed : Option (List ℕ)) : Type 0 where
+  pub back : List ScriptRound
+  pub rounds : rounds_of o ≡ front ++ last ∷ back
+  pub numbers : List Numbers
+  pub own : Numbers
+  pub run : HasRun o (front ++ last ∷ []) (numbers ++ own ∷ [])
+  pub text : IfTold start (λ xs. (k : ℕ) × (length (run_text o front numbers) ≤ k)
+      × (k ≤ length (run_text o (front ++ last ∷ []) (numbers ++ own ∷ [])))
+      × (printed ≡ Some (xs ++ take k (run_text o (front ++ last ∷ []) (numbers ++ own ∷ [])))))
+
+-- it failed at the lines of a round, and the table stands for what the changes up to that round's end lead to
+pub record StandsBehind (o : Opening) (start : Option (List ℕ)) (told : Option Holding) (t : OpenTable) (printed : Option (List ℕ)) : Type 0 where
+  pub front : List ScriptRound
+  pub last : ScriptRound
+  pub cut : IsCutIn o front last start printed
+  pub table : HoldsThen told t (table_after o (front ++ last ∷ []))
+
 -- all rounds are done, and the table stands for the replay of the history
 pub record HasEnded (o : Opening) (start : Option (List ℕ)) (told : Option Holding) (t : OpenTable) (printed : Option (List ℕ)) : Type 0 where
   pub text : IsPrinted o start printed
   pub table : HoldsThen told t (replay o.defs o.base (history o))
 
 -- a round was done, or there was none
-abbrev pub HasGoneOn : Bool → Opening → Option (List ℕ) → Option Holding → Playing → OpenTable → Option (List ℕ) → Type 0
-HasGoneOn true o start told p t printed = HasPlayed o start told p t printed
+abbrev pub HasGoneOn : Bool → Opening → Option (List ℕ) → Option Holding → RunState → OpenTable → Option (List ℕ) → Type 0
+HasGoneOn true o start told p t printed = HasDone o start told p t printed
 HasGoneOn false o start told p t printed = HasEnded o start told t printed
 
 -- a run is not stopped by damage where files tell what they hold and the table stands for a state
@@ -93,7 +111,18 @@ pub record AreClosed (t : OpenTable) (s : TableState) (m : Holding) : Type 0 whe
   pub same : IsSame t last
   pub closed : IsClosed last s m
 
+-- the output failed at the lines of a round, and the files are such a pair for what the changes up to that round's end lead to
+pub record AreClosedBehind (o : Opening) (t : OpenTable) (start printed : Option (List ℕ)) (m : Holding) : Type 0 where
+  pub front : List ScriptRound
+  pub last : ScriptRound
+  pub cut : IsCutIn o front last start printed
+  pub closed : AreClosed t (table_after o (front ++ last ∷ [])) m
+
 -- ---- how the answers are told
+
+-- where the output failed, this holds
+abbrev pub IfSink : {T : Type 0} → Result T ShellFault → Type 0 → Type 0
+IfSink result P = result ≡ Err fault.Sink → P
 
 abbrev pub of_sink : SinkErr → ShellFault
 of_sink sink.Failed = fault.Sink

@@ -16,6 +16,7 @@ pub enum ShellFault {
     /// A write to the output failed. The output's count of faults rose.
     #[error("the output cannot be written")]
     Sink,
+    /// No memory is left, or more changes were made than 64 bits count.
     #[error("out of memory")]
     Memory,
 }

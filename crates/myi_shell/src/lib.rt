@@ -1,31 +1,31 @@
 //! Scripts of sessions that are run on a table.
 //!
 //! `run_script` runs a script, round by round under the table's locks (`myi_locks`), on a table
-//! (`myi_table`), prints what its steps say, and closes the table. The rounds, the changes that the
-//! table accepts, and the text are those that `myi_history` defines: what is printed is the script's
-//! text, with the numbers of reads and counters within their bounds.
+//! (`myi_table`), prints what its steps say, and closes the table. The rounds, the changes that
+//! the table accepts, and the text are those that `myi_history` defines: what is printed is the
+//! script's text, with the numbers of reads and counters within their bounds.
 //!
-//! One thread does all steps. In a round of kind Together the reads of all sessions go first, and
-//! then the inserts; so a read that holds no lock sees the changes of the rounds before. A session
-//! that holds READ or READ LOCAL sees the rows that stood below the length that the data file had
-//! when it took the lock.
+//! One thread does all steps here. In a round of kind Together the reads of all sessions go first,
+//! and then the inserts; callers may rely on the bounds of the numbers alone. A session that holds
+//! READ or READ LOCAL sees the rows that stood below the length that the data file had when it
+//! took the lock.
 //!
-//! - `Play` (`play.rt`): the locks, the number of changes, and what the sessions' locks see; its
-//!   methods do one step, one run and one round.
+//! - `ScriptRun` (`script_run.rt`): the locks, the number of changes, and what the sessions' locks
+//!   see; its methods do one step, one run and one round.
 //! - `reading.rt`, `changes.rt`: statements that read and that change.
 //! - `statements.rt`: the statement of a line.
 //!
 //! ```
-//! let script = parse_script(alloc, text, table.defs(), false)?;
+//! let script = myi_script::parse_script(alloc, text, table.defs(), false)?;
 //! run_script(alloc, table, &script, 1, files, out)?;
 //! ```
 #![tactic(auto)]
 
 mod changes;
 mod fault;
-mod play;
 mod reading;
 mod run;
+mod script_run;
 mod statements;
 
 pub use fault::ShellFault;

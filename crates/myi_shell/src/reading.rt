@@ -8,7 +8,7 @@ ghost use Rattle.myi_history.specs.Lines.{IsRange, ReadsRange};
 ghost use Rattle.myi_table.specs.Table.{defs_in, IsKept, IfHolds, StillHolds};
 ghost use Rattle.myi_shell.specs.Carrying.{IsCarried};
 ghost use Rattle.myi_shell.specs.Changing.{NeverDamaged};
-ghost use Rattle.myi_shell.specs.Playing.{seen_rows, read_answer};
+ghost use Rattle.myi_shell.specs.Stepping.{seen_rows, read_answer};
 ghost use Rattle.myi_shell.specs.Reading.{table_range};
 ghost use Rattle.myi_shell.specs.declared.fault.ShellFault.TheVariants.{File};
 
@@ -24,7 +24,7 @@ use std::alloc::{AllocError, Global};
 /// What a statement reads: the table after so many changes, whose rows are those below a place, or
 /// all rows of the table as it is.
 #[derive(Clone, Copy)]
-pub(crate) struct View {
+pub(crate) struct Snapshot {
     pub(crate) number: u64,
     pub(crate) below: Option<u64>,
 }
@@ -55,7 +55,7 @@ pub(crate) fn push_found(
     texts: &mut RoundTexts,
     line: u32,
     found: &[(u64, Row)],
-    view: View,
+    view: Snapshot,
 ) -> Result<(), AllocError>
     ensures { OnOk result (texts.new ≡ texts.old ++ text_of
         (answer_on line (rows (seen_rows view.below found.now) view.number)) ∷ []) }
@@ -73,7 +73,7 @@ pub(crate) fn read<F: Files>(
     texts: &mut RoundTexts,
     act: &Act,
     line: u32,
-    view: View,
+    view: Snapshot,
 ) -> Result<(), ShellFault>
     requires writable { IsTrue F.writable }
     requires range { ReadsRange (defs_in table.old) act.now }

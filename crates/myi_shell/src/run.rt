@@ -9,13 +9,14 @@ ghost use Rattle.myi_locks.specs.Script.{IsScript};
 ghost use Rattle.myi_history.specs.Lines.{MayRun, script_steps};
 ghost use Rattle.myi_table.specs.Table.{defs_in, IsKept, IfHolds, ChangesItsOwn};
 ghost use Rattle.myi_shell.specs.Carrying.{IsCarried};
-ghost use Rattle.myi_shell.specs.Playing.{begun, playing};
+ghost use Rattle.myi_shell.specs.Stepping.{begun, state_of};
 ghost use Rattle.myi_shell.specs.Running.{opening_on, HasEnded, IsPrinted, IsPrintedPart};
 ghost use Rattle.myi_shell.specs.Running.{IsStopped, AreClosed, ended};
+ghost use Rattle.myi_shell.specs.Running.{IfSink, StandsBehind, AreClosedBehind};
 ghost use Rattle.myi_shell.specs.declared.fault.ShellFault.TheVariants.{File, Sink};
 
 use crate::fault::ShellFault;
-use crate::play::Play;
+use crate::script_run::ScriptRun;
 use myi_history::{script_steps, scripts_may_run};
 use myi_io::{Files, Sink};
 use myi_locks::Locks;
@@ -27,8 +28,8 @@ use std::alloc::{AllocError, Global};
 /// `Locks::new` has it. The lines are printed round by round, in order of their numbers. What is
 /// printed is the text of the script, with numbers within their bounds, and the files are a clean
 /// pair that stands for the table that the history leads to. A run that is cut off has printed a
-/// first part of such a text. The table is closed then too, and where that fails behind a failed
-/// write of the output, its fault is the answer.
+/// first part of such a text. Where the output failed, the table is closed too, behind the round
+/// whose lines were being printed; where closing it fails, its fault is the answer.
 pub fn run_script<F: Files, O: Sink>(
     alloc: Global,
     table: Table,
@@ -51,6 +52,10 @@ pub fn run_script<F: Files, O: Sink>(
     ensures part { IfErr result (λ f. IfHolds (F.holds files.old) table (λ m s.
         IsPrintedPart (opening_on (defs_in table) script.now.lines setting s)
         (O.written out.old) (O.written out.new))) }
+    ensures closed { IfSink result (IfHolds (F.holds files.old) table (λ m s.
+        IfTold (F.holds files.new) (AreClosedBehind
+        (opening_on (defs_in table) script.now.lines setting s) table
+        (O.written out.old) (O.written out.new)))) }
     ensures refused { IfErr result (IsStopped (F.holds files.old) table) }
     ensures others { ChangesItsOwn (F.holds files.old) (F.holds files.new) table }
     ensures file { HasCause File (F.faults files.old) (F.faults files.new) result }
@@ -85,14 +90,14 @@ fn ended(ran: Result<(), ShellFault>, closed: Result<(), ChangeFault>) -> Result
 }
 
 // A script before its first round.
-fn begin(alloc: Global, lines: &[Line], setting: u8, length: u64) -> Result<Play, AllocError>
+fn begin(alloc: Global, lines: &[Line], setting: u8, length: u64) -> Result<ScriptRun, AllocError>
     requires setting { setting ≤ 2 }
     requires lines { IsScript (script_steps lines.now) }
-    ensures { IfOk result (λ play. playing play ≡ begun setting lines.now length) }
+    ensures { IfOk result (λ state. state_of state ≡ begun setting lines.now length) }
 {
     let steps = script_steps(alloc, lines)?;
     let locks = Locks::new(alloc, steps, setting)?;
-    Ok(Play::new(alloc, locks, length))
+    Ok(ScriptRun::new(alloc, locks, length))
 }
 
 // How long the data file of a table is. Its definitions are sound.
@@ -124,6 +129,9 @@ fn run<F: Files, O: Sink>(
     ensures part { IfErr result (λ f. IfHolds (F.holds files.old) table.old (λ m s.
         IsPrintedPart (opening_on (defs_in table.old) lines.now setting s)
         (O.written out.old) (O.written out.new))) }
+    ensures stands { IfSink result (IfHolds (F.holds files.old) table.old (λ m s.
+        StandsBehind (opening_on (defs_in table.old) lines.now setting s) (O.written out.old)
+        (F.holds files.new) table.new (O.written out.new))) }
     ensures carried { IsCarried (F.holds files.old) (F.holds files.new) table.old table.new }
     ensures whole { OnOk result (table.new.broken ≡ None) }
     ensures refused { IfErr result (IsStopped (F.holds files.old) table.old) }
@@ -131,7 +139,7 @@ fn run<F: Files, O: Sink>(
     ensures sink { HasCause Sink (O.faults out.old) (O.faults out.new) result }
 {
     scripts_may_run();
-    let mut play = begin(alloc, lines, setting, length_of(table))?;
-    while play.next_round(table, files, lines, out)? {}
+    let mut state = begin(alloc, lines, setting, length_of(table))?;
+    while state.next_round(table, files, lines, out)? {}
     Ok(())
 }

@@ -1,7 +1,6 @@
 use Rattle.std.proofs.Common.{◌≡◌, ◌∙◌, ap, subst, length, map}
 use Rattle.myi_defs.specs.declared.types.Defs.{Defs}
 use Rattle.myi_tablestate.specs.Listed.{placed}
-use Rattle.myi_script.specs.declared.types.Act.{Act}
 use Rattle.myi_history.specs.Lines.{IsRange, ReadsRange}
 use Rattle.myi_table.specs.Table.{defs_in}
 use Rattle.myi_shell.proofs.ReadLemmas.{in_table, found_scan, found_range}

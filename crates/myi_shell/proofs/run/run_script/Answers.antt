@@ -4,9 +4,9 @@ use Rattle.myi_state.specs.Changes.{replay}
 use Rattle.myi_script.specs.declared.types.Line.{Line}
 use Rattle.myi_history.specs.History.{history}
 use Rattle.myi_table.specs.Table.{defs_in, IfHolds}
-use Rattle.myi_shell.specs.Running.{opening_on, IsPrinted, IsPrintedPart, AreClosed}
+use Rattle.myi_shell.specs.Running.{opening_on, IsPrinted, IsPrintedPart, AreClosed, AreClosedBehind, IfSink}
 use Rattle.myi_shell.proofs.CarryLemmas.{others_then}
-use Rattle.myi_shell.proofs.EndLemmas.{text_of_end, table_of_end, part_of_end}
+use Rattle.myi_shell.proofs.EndLemmas.{text_of_end, table_of_end, part_of_end, closed_behind}
 use Rattle.myi_shell.proofs.run.run_script.Goals as goal
 
 pub returns-clause-text : goal.returns-clause-text
@@ -37,3 +37,13 @@ returns-clause-part g c =
 pub returns-clause-others : goal.returns-clause-others
 returns-clause-others g c =
     others_then (g.F.Files.holds c.args.files.now) (g.F.Files.holds c.run-ran.new.files) (g.F.Files.holds c.close-closed.new.files) c.args.table.name c.run-ran.new.table.name c.run-ran.ensures.carried.same.name c.run-ran.ensures.carried.others c.close-closed.ensures.others
+
+pub returns-clause-closed : goal.returns-clause-closed
+returns-clause-closed g c =
+    let told = g.F.Files.holds c.args.files.now in
+    let next = g.F.Files.holds c.close-closed.new.files in
+    let start = g.O.Sink.written c.args.out.now in
+    let printed = g.O.Sink.written c.run-ran.new.out in
+    let d = defs_in c.args.table in
+    subst (λ (ls : List Line). IfSink c.ended.result (IfHolds told c.args.table (λ m s. IfTold next (AreClosedBehind (opening_on d ls c.args.setting s) c.args.table start printed)))) c.as_slice.ensures
+    (closed_behind told start (g.F.Files.holds c.run-ran.new.files) next printed c.args.table c.run-ran.new.table (λ s. opening_on d c.as_slice.result.now c.args.setting s) c.ended.result c.run-ran.result c.close-closed.result c.ended.ensures c.run-ran.ensures.carried.same c.run-ran.ensures.stands c.close-closed.ensures.closed)

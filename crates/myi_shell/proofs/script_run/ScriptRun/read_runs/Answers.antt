@@ -6,11 +6,11 @@ use Rattle.myi_locks.specs.declared.steps.Step.{Step}
 use Rattle.myi_history.specs.RoundTexts.{texts_of}
 use Rattle.myi_table.specs.Table.{defs_in, IfHolds}
 use Rattle.myi_shell.specs.Changing.{NeverDamaged}
-use Rattle.myi_shell.specs.declared.play.Play.{Play}
-use Rattle.myi_shell.specs.Playing.{playing, view_by, read_by}
+use Rattle.myi_shell.specs.declared.script_run.ScriptRun.{ScriptRun}
+use Rattle.myi_shell.specs.Stepping.{state_of, seen_by, read_by}
 use Rattle.myi_shell.proofs.CarryLemmas.{carried_then, still_then, never_before}
 use Rattle.myi_shell.proofs.LoopLemmas.{run_more, texts_end, drop_none}
-use Rattle.myi_shell.proofs.play.Play.read_runs.Goals as goal
+use Rattle.myi_shell.proofs.script_run.ScriptRun.read_runs.Goals as goal
 
 pub returns-in_err-read_run-clause-still : goal.returns-in_err-read_run-clause-still
 returns-in_err-read_run-clause-still g c = still_then (g.F.Files.holds c.args.files.now) (g.F.Files.holds c.loop-run.files) (g.F.Files.holds c.read_run.new.files) c.args.table.now c.loop-run.table c.read_run.new.table c.loop-run.invariant.still c.read_run.ensures.still
@@ -30,11 +30,11 @@ loop-run-preserved g c =
     let next = g.F.Files.holds c.read_run.new.files in
     let old = c.args.table.now in
     let half = c.loop-run.table in
-    let Says : List Step → Type 0 = λ xs. IfHolds mid half (λ m s. c.read_run.new.self.texts ≡ c.loop-run.self.texts ++ texts_of (map (read_by (defs_in half) c.args.lines.now (view_by (playing c.loop-run.self)) s) xs)) in
+    let Says : List Step → Type 0 = λ xs. IfHolds mid half (λ m s. c.read_run.new.self.texts ≡ c.loop-run.self.texts ++ texts_of (map (read_by (defs_in half) c.args.lines.now (seen_by (state_of c.loop-run.self)) s) xs)) in
     let said = subst (λ (r : Run). Says r.steps) c.run-item.is (subst Says c.as_slice.ensures c.in_ok-read_run.ensures.said) in
     record {
-      only = c.read_run.ensures.only ∙ ap (λ (p : Play). record p { texts = c.read_run.new.self.texts }) was.only;
-      so_far = run_more told mid old half c.args.lines.now (playing c.args.self.now) (playing c.loop-run.self) c.read_run.new.self.texts c.args.runs.now c.loop-run.run-index c.run-item.result c.loop-run-test.true (ap playing was.only) was.carried.same was.still was.so_far said;
+      only = c.read_run.ensures.only ∙ ap (λ (p : ScriptRun). record p { texts = c.read_run.new.self.texts }) was.only;
+      so_far = run_more told mid old half c.args.lines.now (state_of c.args.self.now) (state_of c.loop-run.self) c.read_run.new.self.texts c.args.runs.now c.loop-run.run-index c.run-item.result c.loop-run-test.true (ap state_of was.only) was.carried.same was.still was.so_far said;
       still = still_then told mid next old half c.read_run.new.table was.still c.read_run.ensures.still;
       carried = carried_then told mid next old half c.read_run.new.table was.carried c.read_run.ensures.carried;
       whole = c.read_run.ensures.whole;
@@ -43,5 +43,5 @@ loop-run-preserved g c =
 
 pub returns-clause-said : goal.returns-clause-said
 returns-clause-said g c = λ m held s h.
-    texts_end (λ (rs : List Run). texts_of (map (read_by (defs_in c.args.table.now) c.args.lines.now (view_by (playing c.args.self.now)) s) (flat_map (λ (r : Run). r.steps) rs))) c.args.self.now.texts c.loop-run.self.texts c.args.runs.now c.loop-run.run-index refl
+    texts_end (λ (rs : List Run). texts_of (map (read_by (defs_in c.args.table.now) c.args.lines.now (seen_by (state_of c.args.self.now)) s) (flat_map (λ (r : Run). r.steps) rs))) c.args.self.now.texts c.loop-run.self.texts c.args.runs.now c.loop-run.run-index refl
     (drop_none c.args.runs.now c.loop-run.run-index c.loop-run-test.false) (c.loop-run.invariant.so_far m held s h)

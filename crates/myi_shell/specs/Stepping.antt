@@ -26,20 +26,20 @@ use Rattle.myi_history.specs.Text.{write_said, step_said}
 use Rattle.myi_history.specs.RoundTexts.{LineText, texts_of}
 use Rattle.myi_table.specs.Table.{OpenTable, HoldsThen}
 use Rattle.myi_table.specs.Counting.{sum_of}
-use Rattle.myi_shell.specs.declared.reading.View.{View}
-use Rattle.myi_shell.specs.declared.play.Taken.{Taken}
-use Rattle.myi_shell.specs.declared.play.Play.{Play}
+use Rattle.myi_shell.specs.declared.reading.Snapshot.{Snapshot}
+use Rattle.myi_shell.specs.declared.script_run.Taken.{Taken}
+use Rattle.myi_shell.specs.declared.script_run.ScriptRun.{ScriptRun}
 
 -- where a script stands: the locks of its sessions, how many changes were accepted, what stood at each session's last Take of READ
 -- or READ LOCAL, and what the steps of the round said so far, each with the number of its line
-pub record Playing : Type 0 where
+pub record RunState : Type 0 where
   pub locks : LockState
   pub number : ℕ
   pub taken : ℕ → Taken
   pub texts : List LineText
 
-abbrev pub playing : Play → Playing
-playing p = record {
+abbrev pub state_of : ScriptRun → RunState
+state_of p = record {
   locks = p.locks;
   number = p.number;
   taken = λ n. unwrap_or (get nat_cmp p.taken n) p.first;
@@ -47,7 +47,7 @@ playing p = record {
 }
 
 -- a script before its first round, on a data file of this length
-abbrev pub begun : ℕ → List Line → ℕ → Playing
+abbrev pub begun : ℕ → List Line → ℕ → RunState
 begun setting ls length = record {
   locks = opening setting (script_steps ls);
   number = 0;
@@ -63,20 +63,20 @@ seen_rows None found = found
 seen_rows (Some place) found = filter (λ (r : PlacedRow). nat_lt r.0 place) found
 
 -- what a session reads: where it holds READ or READ LOCAL what stood at its Take, and else the table as it is
-abbrev pub view_by : Playing → ℕ → View
-view_by p n =
+abbrev pub seen_by : RunState → ℕ → Snapshot
+seen_by p n =
     if reads_only p.locks n then record { number = (p.taken n).number; below = Some (p.taken n).length }
     else record { number = p.number; below = None }
 
 -- what a read says, where the table is in a state
-abbrev pub read_answer : Defs → View → TableState → Option Act → Answer
+abbrev pub read_answer : Defs → Snapshot → TableState → Option Act → Answer
 read_answer d v s a = rows (seen_rows v.below (found d s a)) v.number
 
-abbrev pub read_by : Defs → List Line → (ℕ → View) → TableState → Step → LineAnswer
+abbrev pub read_by : Defs → List Line → (ℕ → Snapshot) → TableState → Step → LineAnswer
 read_by d ls views s x = answer_on x.line (read_answer d (views x.session) s (act_of ls x.line))
 
 -- what those of the steps say that read
-abbrev pub reads_by : Defs → List Line → (ℕ → View) → TableState → List Step → List LineAnswer
+abbrev pub reads_by : Defs → List Line → (ℕ → Snapshot) → TableState → List Step → List LineAnswer
 reads_by d ls views s xs = map (read_by d ls views s) (filter (λ (x : Step). is_read x.kind) xs)
 
 -- ---- other steps
@@ -98,9 +98,9 @@ others_by d ls r together c s (x ∷ xs) =
     step_by d ls r together c s x ++ others_by d ls r together c (stepped_by d s (asks ls r together x)) xs
 
 -- what a round says: its reads first
-abbrev pub round_by : Defs → List Line → Playing → Counters → TableState → Round → List LineAnswer
+abbrev pub round_by : Defs → List Line → RunState → Counters → TableState → Round → List LineAnswer
 round_by d ls p c s round =
-    reads_by d ls (view_by p) s (steps_of round)
+    reads_by d ls (seen_by p) s (steps_of round)
     ++ others_by d ls p.locks (is_together round) c s (steps_of round)
 
 -- in a round of kind Together the run beside the readers is one of inserts, and those of the readers are of reads
@@ -121,7 +121,7 @@ abbrev pub taken_as : ℕ → ℕ → Taken
 taken_as number length = record { number = number; length = length }
 
 -- the number of changes that were accepted, and how long the data file of the table is
-abbrev pub taken_now : Playing → OpenTable → Taken
+abbrev pub taken_now : RunState → OpenTable → Taken
 taken_now p t = taken_as p.number t.rows.rows.file.counts.length
 
 -- what the key cache of the table counted, and what was added
@@ -131,7 +131,7 @@ counted_now t = sum_of t.rows.trees.cache.counters t.added
 -- ---- what was done
 
 -- Steps were done, and this was said: the table stands for the state behind them, their changes are counted, and the lines are noted.
-pub record AreDone (d : Defs) (ls : List Line) (together : Bool) (old : Playing) (s : TableState) (xs : List Step) (said : List LineAnswer) (next : Option Holding) (table : OpenTable) (new : Playing) : Type 0 where
+pub record AreDone (d : Defs) (ls : List Line) (together : Bool) (old : RunState) (s : TableState) (xs : List Step) (said : List LineAnswer) (next : Option Holding) (table : OpenTable) (new : RunState) : Type 0 where
   pub state : HoldsThen next table (state_after d (asks ls old.locks together) s xs)
   pub number : new.number ≡ old.number + length (changes d (asks ls old.locks together) s xs)
   pub texts : new.texts ≡ old.texts ++ texts_of said

@@ -1,4 +1,4 @@
-use Rattle.std.proofs.Common.{◌≡◌, ◌++◌, [], ◌∷◌, List, IfErr, refl, sym, ap, subst, ◌∙◌, arith, map}
+use Rattle.std.proofs.Common.{List, IfErr, refl, sym, ap, subst, ◌∙◌, arith, map}
 use Rattle.std.proofs.lemmas.Result.{err_from_is_err_and}
 use Rattle.myi_locks.specs.declared.steps.Step.{Step}
 use Rattle.myi_defs.specs.declared.types.Defs.{Defs}
@@ -6,11 +6,11 @@ use Rattle.myi_history.specs.Lines.{MayRun}
 use Rattle.myi_history.specs.RoundTexts.{texts_of}
 use Rattle.myi_table.specs.Table.{defs_in}
 use Rattle.myi_shell.specs.Changing.{NeverDamaged}
-use Rattle.myi_shell.specs.declared.play.Play.{Play}
-use Rattle.myi_shell.specs.Playing.{playing, view_by, read_by}
+use Rattle.myi_shell.specs.declared.script_run.ScriptRun.{ScriptRun}
+use Rattle.myi_shell.specs.Stepping.{state_of, seen_by, read_by}
 use Rattle.myi_shell.proofs.CarryLemmas.{carried_none, carried_then, still_none, still_then, never_before, cause_then}
 use Rattle.myi_shell.proofs.LoopLemmas.{read_more, texts_end, drop_none}
-use Rattle.myi_shell.proofs.play.Play.read_run.Goals as goal
+use Rattle.myi_shell.proofs.script_run.ScriptRun.read_run.Goals as goal
 
 pub loop-step-init : goal.loop-step-init
 loop-step-init g c = record {
@@ -32,7 +32,7 @@ pub read-requires-clause-whole : goal.read-requires-clause-whole
 read-requires-clause-whole g c κs within = c.loop-step.invariant.whole
 
 pub returns-in_err-read-clause-only : goal.returns-in_err-read-clause-only
-returns-in_err-read-clause-only g c = c.read.ensures.only ∙ ap (λ (p : Play). record p { texts = c.read.new.self.texts }) c.loop-step.invariant.only
+returns-in_err-read-clause-only g c = c.read.ensures.only ∙ ap (λ (p : ScriptRun). record p { texts = c.read.new.self.texts }) c.loop-step.invariant.only
 
 pub returns-in_err-read-clause-still : goal.returns-in_err-read-clause-still
 returns-in_err-read-clause-still g c = still_then (g.F.Files.holds c.args.files.now) (g.F.Files.holds c.loop-step.files) (g.F.Files.holds c.read.new.files) c.args.table.now c.loop-step.table c.read.new.table c.loop-step.invariant.still c.read.ensures.still
@@ -61,8 +61,8 @@ loop-step-preserved g c =
     let old = c.args.table.now in
     let half = c.loop-step.table in
     record {
-      only = c.read.ensures.only ∙ ap (λ (p : Play). record p { texts = c.read.new.self.texts }) was.only;
-      so_far = read_more told mid old half c.args.lines.now (playing c.args.self.now) (playing c.loop-step.self) c.read.new.self.texts c.args.steps.now c.loop-step.step-index _ c.loop-step-test.true (ap playing was.only) was.carried.same was.still was.so_far c.in_ok-read.ensures.said;
+      only = c.read.ensures.only ∙ ap (λ (p : ScriptRun). record p { texts = c.read.new.self.texts }) was.only;
+      so_far = read_more told mid old half c.args.lines.now (state_of c.args.self.now) (state_of c.loop-step.self) c.read.new.self.texts c.args.steps.now c.loop-step.step-index _ c.loop-step-test.true (ap state_of was.only) was.carried.same was.still was.so_far c.in_ok-read.ensures.said;
       still = still_then told mid next old half c.read.new.table was.still c.read.ensures.still;
       carried = carried_then told mid next old half c.read.new.table was.carried c.read.ensures.carried;
       whole = c.read.ensures.whole;
@@ -71,7 +71,7 @@ loop-step-preserved g c =
 
 pub returns-clause-said : goal.returns-clause-said
 returns-clause-said g c = λ m held s h.
-    texts_end (λ (xs : List Step). texts_of (map (read_by (defs_in c.args.table.now) c.args.lines.now (view_by (playing c.args.self.now)) s) xs)) c.args.self.now.texts c.loop-step.self.texts c.args.steps.now c.loop-step.step-index refl
+    texts_end (λ (xs : List Step). texts_of (map (read_by (defs_in c.args.table.now) c.args.lines.now (seen_by (state_of c.args.self.now)) s) xs)) c.args.self.now.texts c.loop-step.self.texts c.args.steps.now c.loop-step.step-index refl
     (drop_none c.args.steps.now c.loop-step.step-index c.loop-step-test.false) (c.loop-step.invariant.so_far m held s h)
 
 pub returns-clause-only : goal.returns-clause-only

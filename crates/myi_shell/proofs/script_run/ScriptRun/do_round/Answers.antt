@@ -6,23 +6,23 @@ use Rattle.myi_locks.specs.Rounds.{LockState, next_round}
 use Rattle.myi_locks.specs.Done.{advanced}
 use Rattle.myi_locks.specs.Laws.{IsLawful, steps_left}
 use Rattle.myi_locks.proofs.CallerLemmas.{kept, fewer}
-use Rattle.myi_shell.specs.Playing.{playing, HasItsKinds}
+use Rattle.myi_shell.specs.Stepping.{state_of, HasItsKinds}
 use Rattle.myi_shell.proofs.KindLemmas.{has_its_kinds}
 use Rattle.myi_shell.proofs.CarryLemmas.{sink_cause, on_err}
-use Rattle.myi_shell.proofs.PlayedLemmas.{plays_on, plays_part, stops_between}
-use Rattle.myi_shell.proofs.play.Play.play_round.Goals as goal
+use Rattle.myi_shell.proofs.RoundsLemmas.{round_on, round_part, round_behind, stops_between}
+use Rattle.myi_shell.proofs.script_run.ScriptRun.do_round.Goals as goal
 
 pub round-requires-clause-kinds : goal.round-requires-clause-kinds
 round-requires-clause-kinds g c κs within = subst HasItsKinds (sym c.requires.next) (has_its_kinds c.args.self.now.locks (is_some c.args.table.now.rows.rows.file.counts.dellink))
 
 pub returns-in_err-round-clause-stopped : goal.returns-in_err-round-clause-stopped
 returns-in_err-round-clause-stopped g c =
-    on_err c.from_residual.result (λ setting base start state w. stops_between _ start (g.F.Files.holds c.args.files.now) (g.O.Sink.written c.args.out.now) (g.O.Sink.written c.args.out.now) (playing c.args.self.now) c.args.table.now w refl)
+    on_err c.from_residual.result (λ setting base start state w. stops_between _ start (g.F.Files.holds c.args.files.now) (g.O.Sink.written c.args.out.now) (g.O.Sink.written c.args.out.now) (state_of c.args.self.now) c.args.table.now w refl)
 
 pub returns-in_err-write-clause-stopped : goal.returns-in_err-write-clause-stopped
 returns-in_err-write-clause-stopped g c =
     on_err c.from_residual-in_err-write.result (λ setting base start state w.
-    plays_part c.args.table.now c.round.new.table c.args.lines.now setting base start (g.F.Files.holds c.args.files.now) (g.F.Files.holds c.round.new.files) (g.O.Sink.written c.args.out.now) (g.O.Sink.written c.write.new.out) (playing c.args.self.now) (playing c.round.new.self) c.args.round.now c.counters-counters.result
+    round_part c.args.table.now c.round.new.table c.args.lines.now setting base start (g.F.Files.holds c.args.files.now) (g.F.Files.holds c.round.new.files) (g.O.Sink.written c.args.out.now) (g.O.Sink.written c.write.new.out) (state_of c.args.self.now) (state_of c.round.new.self) c.args.round.now c.counters-counters.result
     c.requires.lines c.requires.sound state c.requires.left c.counters-counters.ensures.sum c.counters-counters.ensures.fewer c.requires.next c.in_ok-round.ensures.done c.in_ok-round.ensures.taken c.in_err-write.ensures.err w)
 
 pub returns-in_err-write-clause-sink : goal.returns-in_err-write-clause-sink
@@ -30,13 +30,13 @@ returns-in_err-write-clause-sink g c =
     let e = err_from_is_err_and c.from_residual-in_err-write.result c.from_residual-in_err-write.ensures.1 in
     sink_cause _ _ c.from_residual-in_err-write.result c.write.result e.0 c.in_err-write.field-0.0 e.1 e.2 c.in_err-write.was c.write.ensures.cause
 
-pub returns-clause-played : goal.returns-clause-played
-returns-clause-played g c = λ setting base start state w.
-    plays_on c.args.table.now c.round.new.table c.args.lines.now setting base start (g.F.Files.holds c.args.files.now) (g.F.Files.holds c.round.new.files) (g.O.Sink.written c.args.out.now) (g.O.Sink.written c.write.new.out) (playing c.args.self.now) (playing c.round.new.self)
-    (record (playing c.round.new.self) { locks = c.advance.new.self; texts = c.write.new.self }) c.args.round.now c.counters-counters.result
+pub returns-clause-gone_on : goal.returns-clause-gone_on
+returns-clause-gone_on g c = λ setting base start state w.
+    round_on c.args.table.now c.round.new.table c.args.lines.now setting base start (g.F.Files.holds c.args.files.now) (g.F.Files.holds c.round.new.files) (g.O.Sink.written c.args.out.now) (g.O.Sink.written c.write.new.out) (state_of c.args.self.now) (state_of c.round.new.self)
+    (record (state_of c.round.new.self) { locks = c.advance.new.self; texts = c.write.new.self }) c.args.round.now c.counters-counters.result
     c.requires.lines c.requires.sound state c.requires.left c.counters-counters.ensures.sum c.counters-counters.ensures.fewer c.requires.next c.in_ok-round.ensures.done c.in_ok-round.ensures.taken
-    (ap (λ (z : LockState). record (playing c.round.new.self) { locks = z; texts = c.write.new.self }) (c.advance.ensures ∙ ap (λ (z : LockState). advanced z c.args.round.now) c.in_ok-round.ensures.locks)
-    ∙ ap (λ ts. record (playing c.round.new.self) { locks = advanced c.args.self.now.locks c.args.round.now; texts = ts }) c.write.ensures.empty)
+    (ap (λ (z : LockState). record (state_of c.round.new.self) { locks = z; texts = c.write.new.self }) (c.advance.ensures ∙ ap (λ (z : LockState). advanced z c.args.round.now) c.in_ok-round.ensures.locks)
+    ∙ ap (λ ts. record (state_of c.round.new.self) { locks = advanced c.args.self.now.locks c.args.round.now; texts = ts }) c.write.ensures.empty)
     c.round.ensures.carried c.in_ok-write.ensures.ok w
 
 pub returns-clause-lawful : goal.returns-clause-lawful
@@ -52,3 +52,8 @@ returns-clause-fewer g c =
     let b = is_some c.args.table.now.rows.rows.file.counts.dellink in
     let after : c.advance.new.self ≡ advanced r (next_round r b) = c.advance.ensures ∙ ap (λ (z : LockState). advanced z c.args.round.now) c.in_ok-round.ensures.locks ∙ ap (λ (x : Round). advanced r x) c.requires.next in
     subst (λ (z : LockState). steps_left z.sessions < steps_left r.sessions) (sym after) (fewer r b c.requires.lawful c.requires.left)
+
+pub returns-in_err-write-clause-stands : goal.returns-in_err-write-clause-stands
+returns-in_err-write-clause-stands g c = λ failed setting base start state w.
+    round_behind c.args.table.now c.round.new.table c.args.lines.now setting base start (g.F.Files.holds c.args.files.now) (g.F.Files.holds c.round.new.files) (g.O.Sink.written c.args.out.now) (g.O.Sink.written c.write.new.out) (state_of c.args.self.now) (state_of c.round.new.self) c.args.round.now c.counters-counters.result
+    c.requires.lines c.requires.sound state c.requires.left c.counters-counters.ensures.sum c.counters-counters.ensures.fewer c.requires.next c.in_ok-round.ensures.done c.in_ok-round.ensures.taken c.round.ensures.carried c.in_err-write.ensures.err w

@@ -1,20 +1,19 @@
-use Rattle.std.proofs.Common.{◌≡◌, List, IfErr, refl, sym, ap, subst, ◌∙◌, arith}
+use Rattle.std.proofs.Common.{IfErr, refl, sym, ap, subst, ◌∙◌, arith}
 use Rattle.std.proofs.lemmas.Result.{err_from_is_err_and}
 use Rattle.myi_defs.specs.declared.types.Defs.{Defs}
-use Rattle.myi_locks.specs.Rounds.{LockState}
 use Rattle.myi_history.specs.Lines.{MayRun}
 use Rattle.myi_table.specs.Table.{defs_in}
 use Rattle.myi_shell.specs.Changing.{NeverDamaged}
-use Rattle.myi_shell.specs.declared.play.Play.{Play}
-use Rattle.myi_shell.specs.Playing.{playing}
+use Rattle.myi_shell.specs.declared.script_run.ScriptRun.{ScriptRun}
+use Rattle.myi_shell.specs.Stepping.{state_of}
 use Rattle.myi_shell.proofs.CarryLemmas.{carried_none, carried_then, never_before, cause_then}
 use Rattle.myi_shell.proofs.LoopLemmas.{drop_none, half_begins, half_steps, half_ends}
-use Rattle.myi_shell.proofs.play.Play.insert_run.Goals as goal
+use Rattle.myi_shell.proofs.script_run.ScriptRun.insert_run.Goals as goal
 
 pub loop-step-init : goal.loop-step-init
 loop-step-init g c = record {
   only = refl;
-  so_far = λ m held s h. half_begins (defs_in c.args.table.now) c.args.lines.now _ (playing c.args.self.now) s c.args.steps.now (g.F.Files.holds c.args.files.now) c.args.table.now (m, held, h);
+  so_far = λ m held s h. half_begins (defs_in c.args.table.now) c.args.lines.now _ (state_of c.args.self.now) s c.args.steps.now (g.F.Files.holds c.args.files.now) c.args.table.now (m, held, h);
   carried = carried_none (g.F.Files.holds c.args.files.now) (g.F.Files.holds c.args.files.now) c.args.table.now refl c.requires.kept;
   whole = c.requires.whole;
   later = omega arith;
@@ -30,7 +29,7 @@ pub write-requires-clause-whole : goal.write-requires-clause-whole
 write-requires-clause-whole g c κs within = c.loop-step.invariant.whole
 
 pub returns-in_err-write-clause-only : goal.returns-in_err-write-clause-only
-returns-in_err-write-clause-only g c = c.write.ensures.only ∙ ap (λ (p : Play). record p { number = c.write.new.self.number; texts = c.write.new.self.texts }) c.loop-step.invariant.only
+returns-in_err-write-clause-only g c = c.write.ensures.only ∙ ap (λ (p : ScriptRun). record p { number = c.write.new.self.number; texts = c.write.new.self.texts }) c.loop-step.invariant.only
 
 pub returns-in_err-write-clause-carried : goal.returns-in_err-write-clause-carried
 returns-in_err-write-clause-carried g c = carried_then (g.F.Files.holds c.args.files.now) (g.F.Files.holds c.loop-step.files) (g.F.Files.holds c.write.new.files) c.args.table.now c.loop-step.table c.write.new.table c.loop-step.invariant.carried c.write.ensures.carried
@@ -56,8 +55,8 @@ loop-step-preserved g c =
     let old = c.args.table.now in
     let half = c.loop-step.table in
     record {
-      only = c.write.ensures.only ∙ ap (λ (p : Play). record p { number = c.write.new.self.number; texts = c.write.new.self.texts }) was.only;
-      so_far = half_steps told mid next old half c.write.new.table c.args.lines.now (playing c.args.self.now) (playing c.loop-step.self) (playing c.write.new.self) c.args.steps.now c.loop-step.step-index _ c.loop-step-test.true (ap (λ (p : Play). p.locks) was.only) was.carried.same.defs was.so_far c.in_ok-write.ensures.done;
+      only = c.write.ensures.only ∙ ap (λ (p : ScriptRun). record p { number = c.write.new.self.number; texts = c.write.new.self.texts }) was.only;
+      so_far = half_steps told mid next old half c.write.new.table c.args.lines.now (state_of c.args.self.now) (state_of c.loop-step.self) (state_of c.write.new.self) c.args.steps.now c.loop-step.step-index _ c.loop-step-test.true (ap (λ (p : ScriptRun). p.locks) was.only) was.carried.same.defs was.so_far c.in_ok-write.ensures.done;
       carried = carried_then told mid next old half c.write.new.table was.carried c.write.ensures.carried;
       whole = c.in_ok-write.ensures.whole;
       later = omega (arith, was.later, c.write.ensures.cause.later);
@@ -65,7 +64,7 @@ loop-step-preserved g c =
 
 pub returns-clause-done : goal.returns-clause-done
 returns-clause-done g c = λ m held s h.
-    half_ends (defs_in c.args.table.now) c.args.lines.now _ (playing c.args.self.now) (playing c.loop-step.self) s c.args.steps.now _ (g.F.Files.holds c.loop-step.files) c.loop-step.table (drop_none c.args.steps.now c.loop-step.step-index c.loop-step-test.false) (c.loop-step.invariant.so_far m held s h)
+    half_ends (defs_in c.args.table.now) c.args.lines.now _ (state_of c.args.self.now) (state_of c.loop-step.self) s c.args.steps.now _ (g.F.Files.holds c.loop-step.files) c.loop-step.table (drop_none c.args.steps.now c.loop-step.step-index c.loop-step-test.false) (c.loop-step.invariant.so_far m held s h)
 
 pub returns-clause-only : goal.returns-clause-only
 returns-clause-only g c = c.loop-step.invariant.only

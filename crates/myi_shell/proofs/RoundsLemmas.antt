@@ -1,21 +1,18 @@
 -- A round more of a script, and how a run ends.
-use Rattle.std.proofs.Common.{◌≡◌, ℕ, zero, suc, ◌+◌, ◌≤◌, ◌&&◌, not, Bool, true, false, eqb, cond, List, [], ◌∷◌, ◌++◌, map, take, drop, filter, length, Option, Some, None, refl, sym, ap, subst, ◌∙◌, arith, append_assoc}
-use Rattle.std.specs.Prelude.{is_some, min, ◌^◌, ◌-◌}
-use Rattle.std.specs.List.{flat_map, list_any}
+use Rattle.std.proofs.Common.{◌≡◌, ℕ, zero, suc, ◌+◌, ◌≤◌, not, Bool, true, false, eqb, cond, List, [], ◌∷◌, ◌++◌, take, length, Option, Some, refl, sym, ap, subst, ◌∙◌, arith, append_assoc}
+use Rattle.std.specs.Prelude.{is_some}
+use Rattle.std.specs.List.{flat_map}
 use Rattle.std.proofs.lemmas.List.{append-nil, length-append}
 use Rattle.myi_base.specs.Holding.{Holding, IfTold}
 use Rattle.myi_base.specs.Output.{Appends, AppendsPart}
-use Rattle.myi_defs.specs.declared.types.Defs.{Defs}
 use Rattle.myi_defs.specs.Sound.{IsSound}
 use Rattle.myi_keycache.specs.declared.setup.Counters.{Counters}
 use Rattle.myi_keycache.specs.Counts.{raised}
-use Rattle.myi_search.specs.Counting.{CountsOn, GoesOn}
+use Rattle.myi_search.specs.Counting.{GoesOn}
 use Rattle.myi_state.specs.State.{TableState}
 use Rattle.myi_state.specs.Sound.{IsState}
-use Rattle.myi_state.specs.Changes.{replay}
 use Rattle.myi_state.specs.declared.counts.Counts.{Counts}
 use Rattle.myi_state.specs.Numbers.{counts_of}
-use Rattle.myi_locks.specs.declared.steps.Step.{Step}
 use Rattle.myi_locks.specs.declared.steps.Round.{Round}
 use Rattle.myi_locks.specs.declared.steps.Round.TheVariants.{Finished, Alone, Together}
 use Rattle.myi_locks.specs.Steps.{takes_read}
@@ -25,19 +22,18 @@ use Rattle.myi_locks.specs.Done.{steps_of, is_together, advanced}
 use Rattle.myi_script.specs.declared.types.Line.{Line}
 use Rattle.myi_history.specs.Lines.{MayRun}
 use Rattle.myi_history.specs.Answers.{LineAnswer, said_text}
-use Rattle.myi_history.specs.History.{Opening, ScriptRound, history, has_hole, asks, asked_in, changes, state_after, state_behind, number_behind}
-use Rattle.myi_history.specs.Text.{Numbers, no_numbers, shell_text, state_at, reads_said, others_said, round_said, put_lines}
+use Rattle.myi_history.specs.History.{Opening, ScriptRound, history, has_hole, asks, changes, state_after}
+use Rattle.myi_history.specs.Text.{Numbers, no_numbers, shell_text, state_at, reads_said, others_said, round_said}
 use Rattle.myi_history.specs.Bounds.{SessionNumber, number_at, taken_by, is_stats, CountersRise}
-use Rattle.myi_history.specs.OneThread.{numbers_now, counted_by}
+use Rattle.myi_history.specs.OneThread.{numbers_now}
 use Rattle.myi_history.specs.RoundTexts.{LineText, texts_of, joined, in_line_order, HaveOwnLines}
 use Rattle.myi_history.specs.Running.{HasRun, IsNext, taken_in, counted_in, locks_after, table_after, number_after, next_after, seen_number, seen_state, run_text}
 use Rattle.myi_history.proofs.CallerLemmas.{goes_on, locks_more, table_more, number_more, taken_more, counted_more, text_more, ends_within, ends_text, ends_table, stops, read_now, texts_in_order, answered_once}
 use Rattle.myi_table.specs.Table.{OpenTable, defs_in, HoldState, HoldsThen}
-use Rattle.myi_table.specs.Counting.{sum_of}
-use Rattle.myi_shell.specs.declared.play.Taken.{Taken}
+use Rattle.myi_shell.specs.declared.script_run.Taken.{Taken}
 use Rattle.myi_shell.specs.Carrying.{IsCarried}
-use Rattle.myi_shell.specs.Playing.{Playing, view_by, reads_by, others_by, round_by, taken_behind, taken_now, counted_now, AreDone}
-use Rattle.myi_shell.specs.Running.{opening_on, Stands, AreNotBelow, HasPlayed, HasEnded, IsPrinted, IsPrintedPart}
+use Rattle.myi_shell.specs.Stepping.{RunState, seen_by, others_by, round_by, taken_behind, taken_now, counted_now, AreDone}
+use Rattle.myi_shell.specs.Running.{opening_on, Stands, AreNotBelow, HasDone, HasEnded, IsPrintedPart, StandsBehind}
 use Rattle.myi_shell.proofs.DoneLemmas.{IsRoundDone, AreRounds}
 use Rattle.myi_shell.proofs.RoundLemmas.{others_same, reads_same, alike}
 
@@ -100,13 +96,13 @@ answers_of o front k =
     reads_said o (history o) (steps_of (next_after o front).round) (numbers_of o front k).reads
     ++ others_said o (next_after o front) (table_after o front) k (steps_of (next_after o front).round)
 
-pub says : (o : Opening) (front : List ScriptRound) (c : List Numbers) (told : Option Holding) (p : Playing) (t : OpenTable) (k : Counters) → MayRun o.defs o.lines → IsSound o.defs → IsState o.defs o.base
+pub says : (o : Opening) (front : List ScriptRound) (c : List Numbers) (told : Option Holding) (p : RunState) (t : OpenTable) (k : Counters) → MayRun o.defs o.lines → IsSound o.defs → IsState o.defs o.base
     → Stands o front c told p t → round_by o.defs o.lines p k (table_after o front) (next_after o front).round ≡ answers_of o front k
 says o front c told p t k may sound base w =
     let q = next_after o front in
     let s = table_after o front in
     let xs = steps_of q.round in
-    let reads = reads_same o (history o) q (taken_in front) (view_by p) s xs (alike o front c p may sound base w.run w.locks w.number w.taken) in
+    let reads = reads_same o (history o) q (taken_in front) (seen_by p) s xs (alike o front c p may sound base w.run w.locks w.number w.taken) in
     let others : others_said o q s k xs ≡ others_by o.defs o.lines p.locks (is_together q.round) k s xs =
     others_same o q s k xs ∙ ap (λ (r : LockState). others_by o.defs o.lines r (is_together q.round) k s xs) (sym w.locks) in
     ap (λ said. said ++ others_by o.defs o.lines p.locks (is_together q.round) k s xs) (sym reads) ∙ ap (λ said. reads_said o (history o) xs (numbers_of o front k).reads ++ said) (sym others)
@@ -135,14 +131,14 @@ counted_then last k now next true h is on = subst (λ q. AreNotBelow q next) (sy
 counted_then last k now next false h is on = below_then last now next h on
 
 -- what one round leaves
-pub record RoundLeaves (o : Opening) (front : List ScriptRound) (k : Counters) (p mid q : Playing) (t : OpenTable) (next : Option Holding) (u : OpenTable) : Type 0 where
+pub record RoundLeaves (o : Opening) (front : List ScriptRound) (k : Counters) (p mid q : RunState) (t : OpenTable) (next : Option Holding) (u : OpenTable) : Type 0 where
   pub done : AreDone o.defs o.lines (is_together (next_after o front).round) p (table_after o front) (steps_of (next_after o front).round) (round_by o.defs o.lines p k (table_after o front) (next_after o front).round) next u mid
   pub locks : q.locks ≡ advanced p.locks (next_after o front).round
   pub number : q.number ≡ mid.number
   pub taken : (n : ℕ) → q.taken n ≡ taken_behind (next_after o front).round (taken_now p t) p.taken n
   pub texts : q.texts ≡ []
 
-pub said_texts : (o : Opening) (front : List ScriptRound) (c : List Numbers) (told next : Option Holding) (p mid q : Playing) (t u : OpenTable) (k : Counters) → MayRun o.defs o.lines → IsSound o.defs → IsState o.defs o.base
+pub said_texts : (o : Opening) (front : List ScriptRound) (c : List Numbers) (told next : Option Holding) (p mid q : RunState) (t u : OpenTable) (k : Counters) → MayRun o.defs o.lines → IsSound o.defs → IsState o.defs o.base
     → Stands o front c told p t → RoundLeaves o front k p mid q t next u → mid.texts ≡ texts_of (answers_of o front k)
 said_texts o front c told next p mid q t u k may sound base w leaves =
     leaves.done.texts ∙ ap (λ ts. ts ++ texts_of (round_by o.defs o.lines p k (table_after o front) (next_after o front).round)) w.texts ∙ ap texts_of (says o front c told p t k may sound base w)
@@ -152,7 +148,7 @@ abbrev pub round_text : Opening → List ScriptRound → Counters → List ℕ
 round_text o front k = flat_map said_text (round_said o (history o) (next_after o front) (numbers_of o front k))
 
 -- the numbers of the next round go on
-pub next_run : (o : Opening) (front : List ScriptRound) (c : List Numbers) (told : Option Holding) (p : Playing) (t : OpenTable) (k : Counters) → MayRun o.defs o.lines → Stands o front c told p t → has_steps p.locks ≡ true → k ≡ counted_now t → k.reads ≤ k.read_requests
+pub next_run : (o : Opening) (front : List ScriptRound) (c : List Numbers) (told : Option Holding) (p : RunState) (t : OpenTable) (k : Counters) → MayRun o.defs o.lines → Stands o front c told p t → has_steps p.locks ≡ true → k ≡ counted_now t → k.reads ≤ k.read_requests
     → HasRun o (front ++ next_after o front ∷ []) (c ++ numbers_of o front k ∷ [])
 next_run o front c told p t k may w left is few =
     let last = counted_in no_numbers.counters front c in
@@ -164,7 +160,7 @@ pub own_lines : (o : Opening) (front : List ScriptRound) (c : List Numbers) (k :
 own_lines o front c k may run =
     answered_once o (history o) front run.first.0 (next_after o front) (numbers_of o front k) may (run.first.1 ∙ append_assoc front (next_after o front ∷ []) run.first.0)
 
-pub next_stands : (o : Opening) (front : List ScriptRound) (c : List Numbers) (told next : Option Holding) (p mid q : Playing) (t u : OpenTable) (k : Counters) → MayRun o.defs o.lines → IsSound o.defs → IsState o.defs o.base
+pub next_stands : (o : Opening) (front : List ScriptRound) (c : List Numbers) (told next : Option Holding) (p mid q : RunState) (t u : OpenTable) (k : Counters) → MayRun o.defs o.lines → IsSound o.defs → IsState o.defs o.base
     → (w : Stands o front c told p t) → has_steps p.locks ≡ true → k ≡ counted_now t → k.reads ≤ k.read_requests → RoundLeaves o front k p mid q t next u → IsCarried told next t u
     → Stands o (front ++ next_after o front ∷ []) (c ++ numbers_of o front k ∷ []) next q u
 next_stands o front c told next p mid q t u k may sound base w left is few leaves carried =
@@ -192,9 +188,9 @@ next_stands o front c told next p mid q t u k may sound base w left is few leave
 text_on : (start printed : Option (List ℕ)) (text more : List ℕ) → (out : Option (List ℕ)) → IfTold start (Appends text out) → IfTold out (Appends more printed) → IfTold start (Appends (text ++ more) printed)
 text_on start printed text more out one two = λ xs told. two (xs ++ text) (one xs told) ∙ ap Some (append_assoc xs text more)
 
-pub goes_round : (o : Opening) (start told next out printed : _) (p mid q : Playing) (t u : OpenTable) (k : Counters) → MayRun o.defs o.lines → IsSound o.defs → IsState o.defs o.base
-    → (w : HasPlayed o start told p t out) → has_steps p.locks ≡ true → k ≡ counted_now t → k.reads ≤ k.read_requests → RoundLeaves o w.front k p mid q t next u → IsCarried told next t u
-    → IfTold out (Appends (round_text o w.front k) printed) → HasPlayed o start next q u printed
+pub goes_round : (o : Opening) (start told next out printed : _) (p mid q : RunState) (t u : OpenTable) (k : Counters) → MayRun o.defs o.lines → IsSound o.defs → IsState o.defs o.base
+    → (w : HasDone o start told p t out) → has_steps p.locks ≡ true → k ≡ counted_now t → k.reads ≤ k.read_requests → RoundLeaves o w.front k p mid q t next u → IsCarried told next t u
+    → IfTold out (Appends (round_text o w.front k) printed) → HasDone o start next q u printed
 goes_round o start told next out printed p mid q t u k may sound base w left is few leaves carried text = record {
   front = w.front ++ next_after o w.front ∷ [];
   numbers = w.numbers ++ numbers_of o w.front k ∷ [];
@@ -204,7 +200,7 @@ goes_round o start told next out printed p mid q t u k may sound base w left is 
 
 -- ---- the end
 
-pub ends_run : (o : Opening) (start told out : _) (p : Playing) (t : OpenTable) → (w : HasPlayed o start told p t out) → has_steps p.locks ≡ false → HasEnded o start told t out
+pub ends_run : (o : Opening) (start told out : _) (p : RunState) (t : OpenTable) → (w : HasDone o start told p t out) → has_steps p.locks ≡ false → HasEnded o start told t out
 ends_run o start told out p t w none =
     let over = subst (λ (z : LockState). has_steps z ≡ false) w.stands.locks none in
     record {
@@ -236,7 +232,7 @@ front_part whole text rest is k ys le more behind old printed shown =
     (n, omega (arith, long, le), shown ∙ ap Some (append_assoc old text (take k ys) ∙ ap (λ r. old ++ r) (sym first)))
 
 -- of a round's text a first part was printed, or nothing
-pub stops_in : (o : Opening) (start told out printed : _) (p : Playing) (t : OpenTable) (ns : Numbers) → (w : HasPlayed o start told p t out) → HasRun o (w.front ++ next_after o w.front ∷ []) (w.numbers ++ ns ∷ [])
+pub stops_in : (o : Opening) (start told out printed : _) (p : RunState) (t : OpenTable) (ns : Numbers) → (w : HasDone o start told p t out) → HasRun o (w.front ++ next_after o w.front ∷ []) (w.numbers ++ ns ∷ [])
     → IfTold out (AppendsPart (flat_map said_text (round_said o (history o) (next_after o w.front) ns)) printed) → IsPrintedPart o start printed
 stops_in o start told out printed p t ns w run part =
     let e = stops o (w.front ++ next_after o w.front ∷ []) (w.numbers ++ ns ∷ []) run in
@@ -246,7 +242,7 @@ stops_in o start told out printed p t ns w run part =
     e.3 ∙ ap (λ xs. xs ++ e.2) (text_more o w.front w.numbers (next_after o w.front) ns w.stands.run) ∙ append_assoc text piece e.2 in
     record { numbers = e.0; within = e.1; text = λ old is. let k = part (old ++ text) (w.text old is) in front_part (shell_text o e.0) text (piece ++ e.2) whole k.0 piece k.1 e.2 refl old printed k.2 }
 
-pub stops_between : (o : Opening) (start told out printed : _) (p : Playing) (t : OpenTable) → HasPlayed o start told p t out → printed ≡ out → IsPrintedPart o start printed
+pub stops_between : (o : Opening) (start told out printed : _) (p : RunState) (t : OpenTable) → HasDone o start told p t out → printed ≡ out → IsPrintedPart o start printed
 stops_between o start told out printed p t w same =
     let e = stops o w.front w.numbers w.stands.run in
     let text = run_text o w.front w.numbers in
@@ -255,12 +251,12 @@ stops_between o start told out printed p t w same =
 -- ---- one round, as the table and the output tell it
 
 -- the round is the one that comes next
-round_next : (o : Opening) (start told out : _) (p : Playing) (t : OpenTable) (round : Round) → (w : HasPlayed o start told p t out) → round ≡ next_round p.locks (is_some t.rows.rows.file.counts.dellink) → round ≡ (next_after o w.front).round
+round_next : (o : Opening) (start told out : _) (p : RunState) (t : OpenTable) (round : Round) → (w : HasDone o start told p t out) → round ≡ next_round p.locks (is_some t.rows.rows.file.counts.dellink) → round ≡ (next_after o w.front).round
 round_next o start told out p t round w is =
     let held = w.stands.table in
     is ∙ ap (λ (z : LockState). next_round z (is_some t.rows.rows.file.counts.dellink)) w.stands.locks ∙ ap (λ b. next_round (locks_after o w.front) b) (holes_are t (table_after o w.front) held.0 held.2)
 
-leaves_of : (t u : OpenTable) (ls : List Line) (setting : ℕ) (base : TableState) (start told next out : _) (p mid q : Playing) (round : Round) (k : Counters) → (w : HasPlayed (opening_on (defs_in t) ls setting base) start told p t out)
+leaves_of : (t u : OpenTable) (ls : List Line) (setting : ℕ) (base : TableState) (start told next out : _) (p mid q : RunState) (round : Round) (k : Counters) → (w : HasDone (opening_on (defs_in t) ls setting base) start told p t out)
     → round ≡ next_round p.locks (is_some t.rows.rows.file.counts.dellink) → AreRounds told t ls p k round next u mid → ((n : ℕ) → mid.taken n ≡ taken_behind round (taken_now p t) p.taken n) → q ≡ record mid { locks = advanced p.locks round; texts = [] }
     → RoundLeaves (opening_on (defs_in t) ls setting base) w.front k p mid q t next u
 leaves_of t u ls setting base start told next out p mid q round k w is done taken after =
@@ -269,22 +265,22 @@ leaves_of t u ls setting base start told next out p mid q round k w is done take
     let same = round_next o start told out p t round w is in
     record {
       done = subst (λ (r : Round). IsRoundDone (defs_in t) ls p k (table_after o w.front) r next u mid) same (done held.0 held.1 (table_after o w.front) held.2);
-      locks = ap (λ (z : Playing). z.locks) after ∙ ap (λ r. advanced p.locks r) same;
-      number = ap (λ (z : Playing). z.number) after;
-      taken = λ n. ap (λ (z : Playing). z.taken n) after ∙ taken n ∙ ap (λ r. taken_behind r (taken_now p t) p.taken n) same;
-      texts = ap (λ (z : Playing). z.texts) after;
+      locks = ap (λ (z : RunState). z.locks) after ∙ ap (λ r. advanced p.locks r) same;
+      number = ap (λ (z : RunState). z.number) after;
+      taken = λ n. ap (λ (z : RunState). z.taken n) after ∙ taken n ∙ ap (λ r. taken_behind r (taken_now p t) p.taken n) same;
+      texts = ap (λ (z : RunState). z.texts) after;
     }
 
 -- what was printed in order of the lines is the text of the round
 round_shown : (o : Opening) (front : List ScriptRound) (k : Counters) (texts : List LineText) → texts ≡ texts_of (answers_of o front k) → joined (in_line_order texts) ≡ round_text o front k
 round_shown o front k texts is = ap (λ ts. joined (in_line_order ts)) is ∙ sym (texts_in_order (answers_of o front k))
 
-pub plays_on : (t u : OpenTable) (ls : List Line) (setting : ℕ) (base : TableState) (start told next out printed : _) (p mid q : Playing) (round : Round) (k : Counters) → MayRun (defs_in t) ls → IsSound (defs_in t) → IsState (defs_in t) base
+pub round_on : (t u : OpenTable) (ls : List Line) (setting : ℕ) (base : TableState) (start told next out printed : _) (p mid q : RunState) (round : Round) (k : Counters) → MayRun (defs_in t) ls → IsSound (defs_in t) → IsState (defs_in t) base
     → has_steps p.locks ≡ true → k ≡ counted_now t → k.reads ≤ k.read_requests
     → round ≡ next_round p.locks (is_some t.rows.rows.file.counts.dellink) → AreRounds told t ls p k round next u mid → ((n : ℕ) → mid.taken n ≡ taken_behind round (taken_now p t) p.taken n) → q ≡ record mid { locks = advanced p.locks round; texts = [] }
     → IsCarried told next t u → (HaveOwnLines mid.texts → IfTold out (Appends (joined (in_line_order mid.texts)) printed))
-    → HasPlayed (opening_on (defs_in t) ls setting base) start told p t out → HasPlayed (opening_on (defs_in t) ls setting base) start next q u printed
-plays_on t u ls setting base start told next out printed p mid q round k may sound state left is few round_is done taken after carried shown w =
+    → HasDone (opening_on (defs_in t) ls setting base) start told p t out → HasDone (opening_on (defs_in t) ls setting base) start next q u printed
+round_on t u ls setting base start told next out printed p mid q round k may sound state left is few round_is done taken after carried shown w =
     let o = opening_on (defs_in t) ls setting base in
     let leaves = leaves_of t u ls setting base start told next out p mid q round k w round_is done taken after in
     let texts = said_texts o w.front w.numbers told next p mid q t u k may sound state w.stands leaves in
@@ -292,12 +288,12 @@ plays_on t u ls setting base start told next out printed p mid q round k may sou
     let own = subst HaveOwnLines (sym texts) (own_lines o w.front (w.numbers ++ numbers_of o w.front k ∷ []) k may run) in
     goes_round o start told next out printed p mid q t u k may sound state w left is few leaves carried (subst (λ xs. IfTold out (Appends xs printed)) (round_shown o w.front k mid.texts texts) (shown own))
 
-pub plays_part : (t u : OpenTable) (ls : List Line) (setting : ℕ) (base : TableState) (start told next out printed : _) (p mid : Playing) (round : Round) (k : Counters) → MayRun (defs_in t) ls → IsSound (defs_in t) → IsState (defs_in t) base
+pub round_part : (t u : OpenTable) (ls : List Line) (setting : ℕ) (base : TableState) (start told next out printed : _) (p mid : RunState) (round : Round) (k : Counters) → MayRun (defs_in t) ls → IsSound (defs_in t) → IsState (defs_in t) base
     → has_steps p.locks ≡ true → k ≡ counted_now t → k.reads ≤ k.read_requests
     → round ≡ next_round p.locks (is_some t.rows.rows.file.counts.dellink) → AreRounds told t ls p k round next u mid → ((n : ℕ) → mid.taken n ≡ taken_behind round (taken_now p t) p.taken n)
     → (HaveOwnLines mid.texts → IfTold out (AppendsPart (joined (in_line_order mid.texts)) printed))
-    → HasPlayed (opening_on (defs_in t) ls setting base) start told p t out → IsPrintedPart (opening_on (defs_in t) ls setting base) start printed
-plays_part t u ls setting base start told next out printed p mid round k may sound state left is few round_is done taken shown w =
+    → HasDone (opening_on (defs_in t) ls setting base) start told p t out → IsPrintedPart (opening_on (defs_in t) ls setting base) start printed
+round_part t u ls setting base start told next out printed p mid round k may sound state left is few round_is done taken shown w =
     let o = opening_on (defs_in t) ls setting base in
     let leaves = leaves_of t u ls setting base start told next out p mid (record mid { locks = advanced p.locks round; texts = [] }) round k w round_is done taken refl in
     let texts = said_texts o w.front w.numbers told next p mid (record mid { locks = advanced p.locks round; texts = [] }) t u k may sound state w.stands leaves in
@@ -319,3 +315,45 @@ is_left r holes round is other = by_steps (has_steps r) refl where
   by_steps : (b : Bool) → has_steps r ≡ b → has_steps r ≡ true
   by_steps true some = some
   by_steps false none = absurd (other (is ∙ over_round r holes none))
+
+-- of the text of a round a first part was printed
+cut_text : (o : Opening) (front : List ScriptRound) (c : List Numbers) (k : Counters) (start out printed : Option (List ℕ)) → HasRun o front c → IfTold start (Appends (run_text o front c) out) → IfTold out (AppendsPart (round_text o front k) printed)
+    → IfTold start (λ xs. (n : ℕ) × (length (run_text o front c) ≤ n) × (n ≤ length (run_text o (front ++ next_after o front ∷ []) (c ++ numbers_of o front k ∷ [])))
+    × (printed ≡ Some (xs ++ take n (run_text o (front ++ next_after o front ∷ []) (c ++ numbers_of o front k ∷ [])))))
+cut_text o front c k start out printed run before part = λ xs told.
+    let text = run_text o front c in
+    let piece = round_text o front k in
+    let whole = run_text o (front ++ next_after o front ∷ []) (c ++ numbers_of o front k ∷ []) in
+    let is : whole ≡ text ++ piece = text_more o front c (next_after o front) (numbers_of o front k) run in
+    let j = part (xs ++ text) (before xs told) in
+    let le = j.1 in
+    let long : length whole ≡ length text + length piece = ap length is ∙ length-append text piece in
+    let first : take (length text + j.0) whole ≡ text ++ take j.0 piece = ap (take (length text + j.0)) is ∙ take_behind text piece j.0 in
+    (length text + j.0, omega arith, omega (arith, le, long), j.2 ∙ ap Some (append_assoc xs text (take j.0 piece) ∙ ap (λ r. xs ++ r) (sym first)))
+
+-- behind a round whose text was not printed whole the table stands for its changes too
+pub round_behind : (t u : OpenTable) (ls : List Line) (setting : ℕ) (base : TableState) (start told next out printed : _) (p mid : RunState) (round : Round) (k : Counters) → MayRun (defs_in t) ls → IsSound (defs_in t) → IsState (defs_in t) base
+    → has_steps p.locks ≡ true → k ≡ counted_now t → k.reads ≤ k.read_requests
+    → round ≡ next_round p.locks (is_some t.rows.rows.file.counts.dellink) → AreRounds told t ls p k round next u mid → ((n : ℕ) → mid.taken n ≡ taken_behind round (taken_now p t) p.taken n) → IsCarried told next t u
+    → (HaveOwnLines mid.texts → IfTold out (AppendsPart (joined (in_line_order mid.texts)) printed))
+    → HasDone (opening_on (defs_in t) ls setting base) start told p t out → StandsBehind (opening_on (defs_in t) ls setting base) start next u printed
+round_behind t u ls setting base start told next out printed p mid round k may sound state left is few round_is done taken carried shown w =
+    let o = opening_on (defs_in t) ls setting base in
+    let after : RunState = record mid { locks = advanced p.locks round; texts = [] } in
+    let leaves = leaves_of t u ls setting base start told next out p mid after round k w round_is done taken refl in
+    let stands = next_stands o w.front w.numbers told next p mid after t u k may sound state w.stands left is few leaves carried in
+    let texts = said_texts o w.front w.numbers told next p mid after t u k may sound state w.stands leaves in
+    let own = subst HaveOwnLines (sym texts) (own_lines o w.front (w.numbers ++ numbers_of o w.front k ∷ []) k may stands.run) in
+    record {
+      front = w.front;
+      last = next_after o w.front;
+      cut = record {
+        back = stands.run.first.0;
+        rounds = stands.run.first.1 ∙ append_assoc w.front (next_after o w.front ∷ []) stands.run.first.0;
+        numbers = w.numbers;
+        own = numbers_of o w.front k;
+        run = stands.run;
+        text = cut_text o w.front w.numbers k start out printed w.stands.run w.text (subst (λ xs. IfTold out (AppendsPart xs printed)) (round_shown o w.front k mid.texts texts) (shown own));
+      };
+      table = stands.table;
+    }

@@ -1,11 +1,12 @@
-//! `Play`: a script that goes on, round by round.
+//! `ScriptRun`: a script that goes on, round by round.
 //!
-//! The table is the caller's. In a round the reads go first, each over the table as it is, and then
-//! what changes it. What the steps say is noted, and printed behind the round in order of the lines.
+//! The table is the caller's. In a round the reads go first, each over the table as it is, and
+//! then what changes it. What the steps say is noted, and printed behind the round in order of
+//! the lines.
 
 use crate::changes::{Reply, change, push_reply};
 use crate::fault::ShellFault;
-use crate::reading::{View, push_found, read};
+use crate::reading::{Snapshot, push_found, read};
 use crate::statements::act_of;
 use myi_history::{RoundTexts, StepAnswer};
 use myi_io::{Files, Sink};
@@ -25,10 +26,10 @@ pub(crate) struct Taken {
 }
 
 /// Where a script stands: the locks of its sessions, how many changes were accepted, what stood at
-/// the sessions' Takes of READ or READ LOCAL and what stood at none, and what the steps of the round
-/// said so far.
+/// the sessions' Takes of READ or READ LOCAL and where there was none, and what the steps of the
+/// round said so far.
 #[derive(Drop)]
-pub(crate) struct Play {
+pub(crate) struct ScriptRun {
     locks: Locks,
     number: u64,
     taken: BTreeMap<u32, Taken>,
@@ -36,7 +37,7 @@ pub(crate) struct Play {
     texts: RoundTexts,
 }
 
-impl Play {
+impl ScriptRun {
     ghost use Rattle.std.specs.Prelude.{◌≡◌, ◌==◌, ◌&&◌, ◌+◌, ◌<◌, ◌++◌, [], ◌∷◌, ℕ, true, false};
     ghost use Rattle.std.specs.Prelude.{None, is_some, map, OnOk, OnErr, IfOk, IfErr, IsTrue};
     ghost use Rattle.std.specs.Prelude.{if◌then◌else◌};
@@ -58,22 +59,22 @@ impl Play {
     ghost use Rattle.myi_shell.specs.declared.fault.ShellFault.TheVariants.{File, Memory, Sink};
     ghost use Rattle.myi_shell.specs.Carrying.{IsCarried};
     ghost use Rattle.myi_shell.specs.Changing.{NeverDamaged, count_of};
-    ghost use Rattle.myi_shell.specs.Playing.{playing, view_by, read_by, writes_by, round_by};
-    ghost use Rattle.myi_shell.specs.Playing.{HasItsKinds, AreDone};
-    ghost use Rattle.myi_shell.specs.Playing.{taken_behind, taken_now, taken_as};
-    ghost use Rattle.myi_shell.specs.Running.{ForOpening, HasPlayed, HasGoneOn};
-    ghost use Rattle.myi_shell.specs.Running.{IsPrintedPart, IsStopped};
+    ghost use Rattle.myi_shell.specs.Stepping.{state_of, seen_by, read_by, writes_by, round_by};
+    ghost use Rattle.myi_shell.specs.Stepping.{HasItsKinds, AreDone};
+    ghost use Rattle.myi_shell.specs.Stepping.{taken_behind, taken_now, taken_as};
+    ghost use Rattle.myi_shell.specs.Running.{ForOpening, HasDone, HasGoneOn};
+    ghost use Rattle.myi_shell.specs.Running.{IsPrintedPart, IsStopped, IfSink, StandsBehind};
 
     /// A script before its first round.
-    pub(crate) fn new(alloc: Global, locks: Locks, length: u64) -> Play
-        ensures { playing result ≡ record {
+    pub(crate) fn new(alloc: Global, locks: Locks, length: u64) -> ScriptRun
+        ensures { state_of result ≡ record {
           locks = locks;
           number = 0;
           taken = λ n. record { number = 0; length = length };
           texts = [];
         } }
     {
-        Play {
+        ScriptRun {
             locks,
             number: 0,
             taken: BTreeMap::new(alloc),
@@ -83,18 +84,18 @@ impl Play {
     }
 
     // What the session reads.
-    fn view(&self, session: u32) -> View
-        ensures { result ≡ view_by (playing self.now) session }
+    fn snapshot(&self, session: u32) -> Snapshot
+        ensures { result ≡ seen_by (state_of self.now) session }
     {
         match self.locks.held(session) {
             Some(LockKind::Read) | Some(LockKind::ReadLocal) => {
                 let taken = self.taken_by(session);
-                View {
+                Snapshot {
                     number: taken.number,
                     below: Some(taken.length),
                 }
             }
-            _ => View {
+            _ => Snapshot {
                 number: self.number,
                 below: None,
             },
@@ -103,7 +104,7 @@ impl Play {
 
     // What stood at the session's last Take of READ or READ LOCAL.
     fn taken_by(&self, session: u32) -> Taken
-        ensures { result ≡ (playing self.now).taken session }
+        ensures { result ≡ (state_of self.now).taken session }
     {
         self.taken.get(&session).copied().unwrap_or(self.first)
     }
@@ -132,7 +133,7 @@ impl Play {
         requires whole { table.old.broken ≡ None }
         ensures said { OnOk result (IfHolds (F.holds files.old) table.old (λ m s.
             self.new.texts ≡ self.old.texts ++ text_of
-            (read_by (defs_in table.old) lines.now (view_by (playing self.old)) s step.now) ∷ [])) }
+            (read_by (defs_in table.old) lines.now (seen_by (state_of self.old)) s step.now) ∷ [])) }
         ensures only { self.new ≡ record self.old { texts = self.new.texts } }
         ensures still { StillHolds (F.holds files.old) (F.holds files.new) table.old table.new }
         ensures carried { IsCarried (F.holds files.old) (F.holds files.new) table.old table.new }
@@ -140,7 +141,7 @@ impl Play {
         ensures refused { IfErr result (NeverDamaged (F.holds files.old) table.old) }
         ensures cause { HasCause File (F.faults files.old) (F.faults files.new) result }
     {
-        let view = self.view(step.session);
+        let view = self.snapshot(step.session);
         let Some(act) = act_of(lines, step.line) else {
             push_found(&mut self.texts, step.line, &[], view)?;
             return Ok(());
@@ -162,7 +163,7 @@ impl Play {
         requires whole { table.old.broken ≡ None }
         ensures said { OnOk result (IfHolds (F.holds files.old) table.old (λ m s.
             self.new.texts ≡ self.old.texts ++ texts_of (map (read_by (defs_in table.old)
-            lines.now (view_by (playing self.old)) s) steps.now))) }
+            lines.now (seen_by (state_of self.old)) s) steps.now))) }
         ensures only { self.new ≡ record self.old { texts = self.new.texts } }
         ensures still { StillHolds (F.holds files.old) (F.holds files.new) table.old table.new }
         ensures carried { IsCarried (F.holds files.old) (F.holds files.new) table.old table.new }
@@ -190,7 +191,7 @@ impl Play {
         requires whole { table.old.broken ≡ None }
         ensures said { OnOk result (IfHolds (F.holds files.old) table.old (λ m s.
             self.new.texts ≡ self.old.texts ++ texts_of
-            (map (read_by (defs_in table.old) lines.now (view_by (playing self.old)) s)
+            (map (read_by (defs_in table.old) lines.now (seen_by (state_of self.old)) s)
             (flat_map (λ run. run.steps) runs.now)))) }
         ensures only { self.new ≡ record self.old { texts = self.new.texts } }
         ensures still { StillHolds (F.holds files.old) (F.holds files.new) table.old table.new }
@@ -220,9 +221,9 @@ impl Play {
         requires whole { table.old.broken ≡ None }
         requires kind { writes_rows step.now.kind ≡ true }
         ensures done { OnOk result (IfHolds (F.holds files.old) table.old (λ m s.
-            AreDone (defs_in table.old) lines.now together (playing self.old) s (step.now ∷ [])
+            AreDone (defs_in table.old) lines.now together (state_of self.old) s (step.now ∷ [])
             (writes_by (defs_in table.old) lines.now self.old.locks together s (step.now ∷ []))
-            (F.holds files.new) table.new (playing self.new))) }
+            (F.holds files.new) table.new (state_of self.new))) }
         ensures only { self.new
             ≡ record self.old { number = self.new.number; texts = self.new.texts } }
         ensures carried { IsCarried (F.holds files.old) (F.holds files.new) table.old table.new }
@@ -272,9 +273,9 @@ impl Play {
         requires whole { table.old.broken ≡ None }
         requires kinds { AllByRecursion (λ x. is_insert x.kind ≡ true) steps.now }
         ensures done { OnOk result (IfHolds (F.holds files.old) table.old (λ m s.
-            AreDone (defs_in table.old) lines.now true (playing self.old) s steps.now
+            AreDone (defs_in table.old) lines.now true (state_of self.old) s steps.now
             (writes_by (defs_in table.old) lines.now self.old.locks true s steps.now)
-            (F.holds files.new) table.new (playing self.new))) }
+            (F.holds files.new) table.new (state_of self.new))) }
         ensures only { self.new
             ≡ record self.old { number = self.new.number; texts = self.new.texts } }
         ensures carried { IsCarried (F.holds files.old) (F.holds files.new) table.old table.new }
@@ -302,13 +303,13 @@ impl Play {
         requires kept { IsKept (F.holds files.old) table.old }
         requires whole { table.old.broken ≡ None }
         ensures done { OnOk result (IfHolds (F.holds files.old) table.old (λ m s.
-            AreDone (defs_in table.old) lines.now false (playing self.old) s (step.now ∷ [])
-            (round_by (defs_in table.old) lines.now (playing self.old) counters s (Alone step.now))
-            (F.holds files.new) table.new (playing self.new))) }
+            AreDone (defs_in table.old) lines.now false (state_of self.old) s (step.now ∷ [])
+            (round_by (defs_in table.old) lines.now (state_of self.old) counters s (Alone step.now))
+            (F.holds files.new) table.new (state_of self.new))) }
         ensures locks { self.new.locks ≡ self.old.locks }
-        ensures taken { OnOk result ((n : ℕ) → (playing self.new).taken n
-            ≡ taken_behind (Alone step.now) (taken_now (playing self.old) table.old)
-            (playing self.old).taken n) }
+        ensures taken { OnOk result ((n : ℕ) → (state_of self.new).taken n
+            ≡ taken_behind (Alone step.now) (taken_now (state_of self.old) table.old)
+            (state_of self.old).taken n) }
         ensures carried { IsCarried (F.holds files.old) (F.holds files.new) table.old table.new }
         ensures whole { OnOk result (table.new.broken ≡ None) }
         ensures refused { IfErr result (NeverDamaged (F.holds files.old) table.old) }
@@ -354,9 +355,9 @@ impl Play {
     fn take(&mut self, step: &Step, lock: LockKind, length: u64) -> Result<(), ShellFault>
         ensures said { OnOk result (self.new.texts
             ≡ self.old.texts ++ text_of (answer_on step.now.line done) ∷ []) }
-        ensures taken { OnOk result ((n : ℕ) → (playing self.new).taken n
+        ensures taken { OnOk result ((n : ℕ) → (state_of self.new).taken n
             ≡ (if takes_read (Take lock) && (step.now.session == n)
-            then taken_as self.old.number length else (playing self.old).taken n)) }
+            then taken_as self.old.number length else (state_of self.old).taken n)) }
         ensures locks { self.new.locks ≡ self.old.locks }
         ensures number { self.new.number ≡ self.old.number }
         ensures memory { IfErr result (λ f. f ≡ Memory) }
@@ -386,14 +387,14 @@ impl Play {
         requires whole { table.old.broken ≡ None }
         requires kinds { HasItsKinds round.now }
         ensures done { OnOk result (IfHolds (F.holds files.old) table.old (λ m s.
-            AreDone (defs_in table.old) lines.now (is_together round.now) (playing self.old) s
+            AreDone (defs_in table.old) lines.now (is_together round.now) (state_of self.old) s
             (steps_of round.now)
-            (round_by (defs_in table.old) lines.now (playing self.old) counters s round.now)
-            (F.holds files.new) table.new (playing self.new))) }
+            (round_by (defs_in table.old) lines.now (state_of self.old) counters s round.now)
+            (F.holds files.new) table.new (state_of self.new))) }
         ensures locks { self.new.locks ≡ self.old.locks }
-        ensures taken { OnOk result ((n : ℕ) → (playing self.new).taken n
-            ≡ taken_behind round.now (taken_now (playing self.old) table.old)
-            (playing self.old).taken n) }
+        ensures taken { OnOk result ((n : ℕ) → (state_of self.new).taken n
+            ≡ taken_behind round.now (taken_now (state_of self.old) table.old)
+            (state_of self.old).taken n) }
         ensures carried { IsCarried (F.holds files.old) (F.holds files.new) table.old table.new }
         ensures whole { OnOk result (table.new.broken ≡ None) }
         ensures refused { IfErr result (NeverDamaged (F.holds files.old) table.old) }
@@ -413,7 +414,7 @@ impl Play {
     }
 
     // Does a round, prints its lines, and goes on in the locks.
-    fn play_round<F: Files, O: Sink>(
+    fn do_round<F: Files, O: Sink>(
         &mut self,
         table: &mut Table,
         files: &mut F,
@@ -430,13 +431,16 @@ impl Play {
         requires left { has_steps self.old.locks ≡ true }
         requires next { round.now
             ≡ next_round self.old.locks (is_some table.old.rows.rows.file.counts.dellink) }
-        ensures played { OnOk result (ForOpening (defs_in table.old) lines.now (λ o start.
-            HasPlayed o start (F.holds files.old) (playing self.old) table.old (O.written out.old)
-            → HasPlayed o start (F.holds files.new) (playing self.new) table.new
+        ensures gone_on { OnOk result (ForOpening (defs_in table.old) lines.now (λ o start.
+            HasDone o start (F.holds files.old) (state_of self.old) table.old (O.written out.old)
+            → HasDone o start (F.holds files.new) (state_of self.new) table.new
             (O.written out.new))) }
         ensures stopped { OnErr result (ForOpening (defs_in table.old) lines.now (λ o start.
-            HasPlayed o start (F.holds files.old) (playing self.old) table.old (O.written out.old)
+            HasDone o start (F.holds files.old) (state_of self.old) table.old (O.written out.old)
             → IsPrintedPart o start (O.written out.new))) }
+        ensures stands { IfSink result (ForOpening (defs_in table.old) lines.now (λ o start.
+            HasDone o start (F.holds files.old) (state_of self.old) table.old (O.written out.old)
+            → StandsBehind o start (F.holds files.new) table.new (O.written out.new))) }
         ensures lawful { OnOk result (IsLawful self.new.locks.sessions) }
         ensures fewer { OnOk result
             (steps_left self.new.locks.sessions < steps_left self.old.locks.sessions) }
@@ -467,13 +471,16 @@ impl Play {
         requires kept { IsKept (F.holds files.old) table.old }
         requires whole { table.old.broken ≡ None }
         requires lawful { IsLawful self.old.locks.sessions }
-        ensures played { IfOk result (λ more. ForOpening (defs_in table.old) lines.now (λ o start.
-            HasPlayed o start (F.holds files.old) (playing self.old) table.old (O.written out.old)
-            → HasGoneOn more o start (F.holds files.new) (playing self.new) table.new
+        ensures gone_on { IfOk result (λ more. ForOpening (defs_in table.old) lines.now (λ o start.
+            HasDone o start (F.holds files.old) (state_of self.old) table.old (O.written out.old)
+            → HasGoneOn more o start (F.holds files.new) (state_of self.new) table.new
             (O.written out.new))) }
         ensures stopped { OnErr result (ForOpening (defs_in table.old) lines.now (λ o start.
-            HasPlayed o start (F.holds files.old) (playing self.old) table.old (O.written out.old)
+            HasDone o start (F.holds files.old) (state_of self.old) table.old (O.written out.old)
             → IsPrintedPart o start (O.written out.new))) }
+        ensures stands { IfSink result (ForOpening (defs_in table.old) lines.now (λ o start.
+            HasDone o start (F.holds files.old) (state_of self.old) table.old (O.written out.old)
+            → StandsBehind o start (F.holds files.new) table.new (O.written out.new))) }
         ensures lawful { OnOk result (IsLawful self.new.locks.sessions) }
         ensures fewer { IfOk result (λ more. more ≡ true
             → steps_left self.new.locks.sessions < steps_left self.old.locks.sessions) }
@@ -487,7 +494,7 @@ impl Play {
         if let Round::Finished = round {
             return Ok(false);
         }
-        self.play_round(table, files, lines, out, &round)?;
+        self.do_round(table, files, lines, out, &round)?;
         Ok(true)
     }
 }
