@@ -7,9 +7,12 @@ use Rattle.std.proofs.lemmas.Bool.{cases_Bool}
 use Rattle.std.proofs.lemmas.Slice.Eq.{bytes_eq-Decides}
 use Rattle.myisamkit.specs.declared.options.Options.{Options}
 use Rattle.myisamkit.specs.declared.options.Flag.{Flag}
-use Rattle.myisamkit.specs.Words.{Request, usage, chk, create, dump, make, plan, plan_chk, plan_create, plan_dump, plan_make, create_of, dump_of, make_of, make_by, count_of, seed_of, are_accepted, is_empty, is_name, names_in, flags_in, spelled_out, table_name}
+use Rattle.myisamkit.specs.declared.shell_options.ShellFlag.{ShellFlag}
+use Rattle.myisamkit.specs.declared.shell_options.ShellOptions.{ShellOptions}
+use Rattle.myisamkit.specs.ShellOptions.{shell_go_together, shell_options_in}
+use Rattle.myisamkit.specs.Words.{Request, usage, chk, create, dump, make, shell, shell_of, plan_shell, shell_flags_in, shell_spelled_out, plan, plan_chk, plan_create, plan_dump, plan_make, create_of, dump_of, make_of, make_by, count_of, seed_of, are_accepted, is_empty, is_name, names_in, flags_in, spelled_out, table_name}
 use Rattle.myisamkit.specs.Options.{is_mode, is_extend, at_most_one, go_together, options_in}
-use Rattle.myisamkit.specs.Asked.{AreChk, AreCreate, AreDump, AreMake}
+use Rattle.myisamkit.specs.Asked.{AreChk, AreCreate, AreDump, AreMake, AreShell}
 
 first_holds : (a b : Bool) → (a && b) ≡ true → a ≡ true
 first_holds true b e = refl
@@ -198,9 +201,70 @@ made_no_dump others table is = by (make_is (flags_in others) (names_in others) (
     by (inl e) = cc
     by (inr e) = let same = e.3 in cc
 
--- what words behind a command other than `chk` ask for, behind one that is not `create` either, and not `dump`
+-- what words behind `shell` ask for, if they are not refused
+shell_is : (flags : List (Option ShellFlag)) (names : List (List ℕ)) (r : Request) → shell_of flags names ≡ r → (r ≡ usage) ⊎ ((o : ShellOptions) × (table : List ℕ) × (script : List ℕ) × (r ≡ shell o table script))
+shell_is flags [] r is = inl (sym is)
+shell_is flags (name ∷ []) r is = inl (sym is)
+shell_is flags (name ∷ (script ∷ [])) r is = by ((is_name name && is_name script) && shell_go_together flags) is
+  where
+    by : (b : Bool) → (if b then shell (shell_options_in flags) (table_name name) script else usage) ≡ r → (r ≡ usage) ⊎ ((o : ShellOptions) × (table : List ℕ) × (script : List ℕ) × (r ≡ shell o table script))
+    by true e = inr (shell_options_in flags, table_name name, script, sym e)
+    by false e = inl (sym e)
+shell_is flags (name ∷ (script ∷ (other ∷ names))) r is = inl (sym is)
+
+scripted_no : (others : List (List ℕ)) (r : Request) → (r ≡ usage → ⊥) → ((o : ShellOptions) (table script : List ℕ) → r ≡ shell o table script → ⊥) → plan_shell (shell_spelled_out others) ≡ r → ⊥
+scripted_no others r refused other is = by (shell_is (shell_flags_in (shell_spelled_out others)) (names_in (shell_spelled_out others)) r is)
+  where
+    by : (r ≡ usage) ⊎ ((o : ShellOptions) × (table : List ℕ) × (script : List ℕ) × (r ≡ shell o table script)) → ⊥
+    by (inl e) = refused e
+    by (inr e) = other e.0 e.1 e.2 e.3
+
+scripted_no_chk : (others : List (List ℕ)) (o : Options) (tables : List (List ℕ)) → plan_shell (shell_spelled_out others) ≡ chk o tables → ⊥
+scripted_no_chk others o tables is = scripted_no others (chk o tables) (λ e. cc) (λ p t s e. cc) is
+
+scripted_no_create : (others : List (List ℕ)) (table file : List ℕ) → plan_shell (shell_spelled_out others) ≡ create table file → ⊥
+scripted_no_create others table file is = scripted_no others (create table file) (λ e. cc) (λ p t s e. cc) is
+
+scripted_no_dump : (others : List (List ℕ)) (table : List ℕ) → plan_shell (shell_spelled_out others) ≡ dump table → ⊥
+scripted_no_dump others table is = scripted_no others (dump table) (λ e. cc) (λ p t s e. cc) is
+
+scripted_no_make : (others : List (List ℕ)) (c s : ℕ) (table : List ℕ) → plan_shell (shell_spelled_out others) ≡ make c s table → ⊥
+scripted_no_make others c s table is = scripted_no others (make c s table) (λ e. cc) (λ p t q e. cc) is
+
+checked_no_shell : (others : List (List ℕ)) (o : ShellOptions) (table script : List ℕ) → plan_chk others ≡ shell o table script → ⊥
+checked_no_shell others o table script is = by (chk_is others (shell o table script) is)
+  where
+    by : (shell o table script ≡ usage) ⊎ ((p : Options) × (tables : List (List ℕ)) × (shell o table script ≡ chk p tables)) → ⊥
+    by (inl e) = cc
+    by (inr e) = let same = e.2 in cc
+
+created_no_shell : (others : List (List ℕ)) (o : ShellOptions) (table script : List ℕ) → plan_create others ≡ shell o table script → ⊥
+created_no_shell others o table script is = by (create_is (flags_in others) (names_in others) (shell o table script) is)
+  where
+    by : (shell o table script ≡ usage) ⊎ ((t : List ℕ) × (file : List ℕ) × (shell o table script ≡ create t file)) → ⊥
+    by (inl e) = cc
+    by (inr e) = let same = e.2 in cc
+
+dumped_no_shell : (others : List (List ℕ)) (o : ShellOptions) (table script : List ℕ) → plan_dump others ≡ shell o table script → ⊥
+dumped_no_shell others o table script is = by (dump_is (flags_in others) (names_in others) (shell o table script) is)
+  where
+    by : (shell o table script ≡ usage) ⊎ ((t : List ℕ) × (shell o table script ≡ dump t)) → ⊥
+    by (inl e) = cc
+    by (inr e) = let same = e.1 in cc
+
+made_no_shell : (others : List (List ℕ)) (o : ShellOptions) (table script : List ℕ) → plan_make others ≡ shell o table script → ⊥
+made_no_shell others o table script is = by (make_is (flags_in others) (names_in others) (shell o table script) is)
+  where
+    by : (shell o table script ≡ usage) ⊎ ((c : ℕ) × (s : ℕ) × (t : List ℕ) × (shell o table script ≡ make c s t)) → ⊥
+    by (inl e) = cc
+    by (inr e) = let same = e.3 in cc
+
+-- what words behind a command other than `chk` ask for, behind one that is not `create` either, not `dump`, and not `make`
+abbrev end_plan : List ℕ → List (List ℕ) → Request
+end_plan command others = if bytes_eq command (codes "shell") then plan_shell (shell_spelled_out others) else usage
+
 abbrev final_plan : List ℕ → List (List ℕ) → Request
-final_plan command others = if bytes_eq command (codes "make") then plan_make others else usage
+final_plan command others = if bytes_eq command (codes "make") then plan_make others else end_plan command others
 
 abbrev last_plan : List ℕ → List (List ℕ) → Request
 last_plan command others = if bytes_eq command (codes "dump") then plan_dump others else final_plan command others
@@ -214,17 +278,19 @@ pub data Command (command : List ℕ) : Type 0 where
   is_create : bytes_eq command (codes "chk") ≡ false → command ≡ codes "create" → Command command
   is_dump : bytes_eq command (codes "chk") ≡ false → bytes_eq command (codes "create") ≡ false → command ≡ codes "dump" → Command command
   is_make : bytes_eq command (codes "chk") ≡ false → bytes_eq command (codes "create") ≡ false → bytes_eq command (codes "dump") ≡ false → command ≡ codes "make" → Command command
-  is_none : bytes_eq command (codes "chk") ≡ false → bytes_eq command (codes "create") ≡ false → bytes_eq command (codes "dump") ≡ false → bytes_eq command (codes "make") ≡ false → Command command
+  is_shell : bytes_eq command (codes "chk") ≡ false → bytes_eq command (codes "create") ≡ false → bytes_eq command (codes "dump") ≡ false → bytes_eq command (codes "make") ≡ false → command ≡ codes "shell" → Command command
+  is_none : bytes_eq command (codes "chk") ≡ false → bytes_eq command (codes "create") ≡ false → bytes_eq command (codes "dump") ≡ false → bytes_eq command (codes "make") ≡ false → bytes_eq command (codes "shell") ≡ false → Command command
 
 pub command_of : (command : List ℕ) → Command command
-command_of command = by (cases_Bool (bytes_eq command (codes "chk"))) (cases_Bool (bytes_eq command (codes "create"))) (cases_Bool (bytes_eq command (codes "dump"))) (cases_Bool (bytes_eq command (codes "make")))
+command_of command = by (cases_Bool (bytes_eq command (codes "chk"))) (cases_Bool (bytes_eq command (codes "create"))) (cases_Bool (bytes_eq command (codes "dump"))) (cases_Bool (bytes_eq command (codes "make"))) (cases_Bool (bytes_eq command (codes "shell")))
   where
-    by : (bytes_eq command (codes "chk") ≡ true) ⊎ (bytes_eq command (codes "chk") ≡ false) → (bytes_eq command (codes "create") ≡ true) ⊎ (bytes_eq command (codes "create") ≡ false) → (bytes_eq command (codes "dump") ≡ true) ⊎ (bytes_eq command (codes "dump") ≡ false) → (bytes_eq command (codes "make") ≡ true) ⊎ (bytes_eq command (codes "make") ≡ false) → Command command
-    by (inl a) b c d = is_chk ((bytes_eq-Decides command (codes "chk")).0 a)
-    by (inr a) (inl b) c d = is_create a ((bytes_eq-Decides command (codes "create")).0 b)
-    by (inr a) (inr b) (inl c) d = is_dump a b ((bytes_eq-Decides command (codes "dump")).0 c)
-    by (inr a) (inr b) (inr c) (inl d) = is_make a b c ((bytes_eq-Decides command (codes "make")).0 d)
-    by (inr a) (inr b) (inr c) (inr d) = is_none a b c d
+    by : (bytes_eq command (codes "chk") ≡ true) ⊎ (bytes_eq command (codes "chk") ≡ false) → (bytes_eq command (codes "create") ≡ true) ⊎ (bytes_eq command (codes "create") ≡ false) → (bytes_eq command (codes "dump") ≡ true) ⊎ (bytes_eq command (codes "dump") ≡ false) → (bytes_eq command (codes "make") ≡ true) ⊎ (bytes_eq command (codes "make") ≡ false) → (bytes_eq command (codes "shell") ≡ true) ⊎ (bytes_eq command (codes "shell") ≡ false) → Command command
+    by (inl a) b c d e = is_chk ((bytes_eq-Decides command (codes "chk")).0 a)
+    by (inr a) (inl b) c d e = is_create a ((bytes_eq-Decides command (codes "create")).0 b)
+    by (inr a) (inr b) (inl c) d e = is_dump a b ((bytes_eq-Decides command (codes "dump")).0 c)
+    by (inr a) (inr b) (inr c) (inl d) e = is_make a b c ((bytes_eq-Decides command (codes "make")).0 d)
+    by (inr a) (inr b) (inr c) (inr d) (inl e) = is_shell a b c d ((bytes_eq-Decides command (codes "shell")).0 e)
+    by (inr a) (inr b) (inr c) (inr d) (inr e) = is_none a b c d e
 
 matches : (command word : List ℕ) → command ≡ word → bytes_eq command word ≡ true
 matches command word same = (bytes_eq-Decides command word).1 same
@@ -247,10 +313,17 @@ final command others a b c =
     ∙ (ap (λ k. if k then plan_create others else last_plan command others) b ∙ ap (λ k. if k then plan_dump others else final_plan command others) c)
 
 pub make_plan : (command : List ℕ) (others : List (List ℕ)) → bytes_eq command (codes "chk") ≡ false → bytes_eq command (codes "create") ≡ false → bytes_eq command (codes "dump") ≡ false → command ≡ codes "make" → plan (command ∷ others) ≡ plan_make others
-make_plan command others a b c same = final command others a b c ∙ ap (λ k. if k then plan_make others else usage) (matches command (codes "make") same)
+make_plan command others a b c same = final command others a b c ∙ ap (λ k. if k then plan_make others else end_plan command others) (matches command (codes "make") same)
 
-pub no_plan : (command : List ℕ) (others : List (List ℕ)) → bytes_eq command (codes "chk") ≡ false → bytes_eq command (codes "create") ≡ false → bytes_eq command (codes "dump") ≡ false → bytes_eq command (codes "make") ≡ false → plan (command ∷ others) ≡ usage
-no_plan command others a b c d = final command others a b c ∙ ap (λ k. if k then plan_make others else usage) d
+-- behind a command that is none of the first four
+end : (command : List ℕ) (others : List (List ℕ)) → bytes_eq command (codes "chk") ≡ false → bytes_eq command (codes "create") ≡ false → bytes_eq command (codes "dump") ≡ false → bytes_eq command (codes "make") ≡ false → plan (command ∷ others) ≡ end_plan command others
+end command others a b c d = final command others a b c ∙ ap (λ k. if k then plan_make others else end_plan command others) d
+
+pub shell_plan : (command : List ℕ) (others : List (List ℕ)) → bytes_eq command (codes "chk") ≡ false → bytes_eq command (codes "create") ≡ false → bytes_eq command (codes "dump") ≡ false → bytes_eq command (codes "make") ≡ false → command ≡ codes "shell" → plan (command ∷ others) ≡ plan_shell (shell_spelled_out others)
+shell_plan command others a b c d same = end command others a b c d ∙ ap (λ k. if k then plan_shell (shell_spelled_out others) else usage) (matches command (codes "shell") same)
+
+pub no_plan : (command : List ℕ) (others : List (List ℕ)) → bytes_eq command (codes "chk") ≡ false → bytes_eq command (codes "create") ≡ false → bytes_eq command (codes "dump") ≡ false → bytes_eq command (codes "make") ≡ false → bytes_eq command (codes "shell") ≡ false → plan (command ∷ others) ≡ usage
+no_plan command others a b c d e = end command others a b c d ∙ ap (λ k. if k then plan_shell (shell_spelled_out others) else usage) e
 
 pub words_accepted : (words : List (List ℕ)) (o : Options) (tables : List (List ℕ)) → plan words ≡ chk o tables → AreChk words o tables
 words_accepted [] o tables is = absurd cc
@@ -261,8 +334,9 @@ words_accepted (command ∷ others) o tables is = by (command_of command)
     by (is_create a same) = absurd (created_no_chk others o tables (sym (create_plan command others a same) ∙ is))
     by (is_dump a b same) = absurd (dumped_no_chk others o tables (sym (dump_plan command others a b same) ∙ is))
     by (is_make a b c same) = absurd (made_no_chk others o tables (sym (make_plan command others a b c same) ∙ is))
-    by (is_none a b c d) =
-        let e : usage ≡ chk o tables = sym (no_plan command others a b c d) ∙ is in
+    by (is_shell a b c d same) = absurd (scripted_no_chk others o tables (sym (shell_plan command others a b c d same) ∙ is))
+    by (is_none a b c d f) =
+        let e : usage ≡ chk o tables = sym (no_plan command others a b c d f) ∙ is in
         absurd cc
 
 -- ---- the words of a creation
@@ -307,8 +381,9 @@ words_created (command ∷ others) table file is = by (command_of command)
     by (is_create a same) = subst (λ c. AreCreate (c ∷ others) table file) (sym same) (created_parts others table file (flags_in others) (names_in others) refl refl (sym (create_plan command others a same) ∙ is))
     by (is_dump a b same) = absurd (dumped_no_create others table file (sym (dump_plan command others a b same) ∙ is))
     by (is_make a b c same) = absurd (made_no_create others table file (sym (make_plan command others a b c same) ∙ is))
-    by (is_none a b c d) =
-        let e : usage ≡ create table file = sym (no_plan command others a b c d) ∙ is in
+    by (is_shell a b c d same) = absurd (scripted_no_create others table file (sym (shell_plan command others a b c d same) ∙ is))
+    by (is_none a b c d f) =
+        let e : usage ≡ create table file = sym (no_plan command others a b c d f) ∙ is in
         absurd cc
 
 -- ---- the words of a dump
@@ -336,8 +411,9 @@ words_dumped (command ∷ others) table is = by (command_of command)
     by (is_create a same) = absurd (created_no_dump others table (sym (create_plan command others a same) ∙ is))
     by (is_dump a b same) = subst (λ c. AreDump (c ∷ others) table) (sym same) (dumped_parts others table (flags_in others) (names_in others) refl refl (sym (dump_plan command others a b same) ∙ is))
     by (is_make a b c same) = absurd (made_no_dump others table (sym (make_plan command others a b c same) ∙ is))
-    by (is_none a b c d) =
-        let e : usage ≡ dump table = sym (no_plan command others a b c d) ∙ is in
+    by (is_shell a b c d same) = absurd (scripted_no_dump others table (sym (shell_plan command others a b c d same) ∙ is))
+    by (is_none a b c d f) =
+        let e : usage ≡ dump table = sym (no_plan command others a b c d f) ∙ is in
         absurd cc
 
 -- ---- the words of a making
@@ -383,6 +459,53 @@ words_made (command ∷ others) c s table is = by (command_of command)
     by (is_create a same) = absurd (created_no_make others c s table (sym (create_plan command others a same) ∙ is))
     by (is_dump a b same) = absurd (dumped_no_make others c s table (sym (dump_plan command others a b same) ∙ is))
     by (is_make a b d same) = subst (λ w. AreMake (w ∷ others) c s table) (sym same) (made_parts others c s table (flags_in others) (names_in others) refl refl (sym (make_plan command others a b d same) ∙ is))
-    by (is_none a b d e) =
-        let same : usage ≡ make c s table = sym (no_plan command others a b d e) ∙ is in
+    by (is_shell a b d e same) = absurd (scripted_no_make others c s table (sym (shell_plan command others a b d e same) ∙ is))
+    by (is_none a b d e f) =
+        let same : usage ≡ make c s table = sym (no_plan command others a b d e f) ∙ is in
+        absurd cc
+
+-- ---- the words of a script
+
+scripted_parts : (others : List (List ℕ)) (o : ShellOptions) (table script : List ℕ) (names : List (List ℕ)) → names_in (shell_spelled_out others) ≡ names → shell_of (shell_flags_in (shell_spelled_out others)) names ≡ shell o table script → AreShell (codes "shell" ∷ others) o table script
+scripted_parts others o table script [] b is = absurd cc
+scripted_parts others o table script (name ∷ []) b is = absurd cc
+scripted_parts others o table script (name ∷ (file ∷ [])) b is = by (cases_Bool ((is_name name && is_name file) && shell_go_together flags))
+  where
+    flags : List (Option ShellFlag)
+    flags = shell_flags_in (shell_spelled_out others)
+
+    by : (((is_name name && is_name file) && shell_go_together flags) ≡ true) ⊎ (((is_name name && is_name file) && shell_go_together flags) ≡ false) → AreShell (codes "shell" ∷ others) o table script
+    by (inl all) =
+        let e : shell (shell_options_in flags) (table_name name) file ≡ shell o table script = sym (ap (λ c. if c then shell (shell_options_in flags) (table_name name) file else usage) all) ∙ is in
+        let same : file ≡ script = cc in
+        let both = both_hold (is_name name && is_name file) (shell_go_together flags) all in
+        let forms = both_hold (is_name name) (is_name file) both.0 in
+        record {
+          others = others;
+          command = refl;
+          name = name;
+          named = b ∙ ap (λ f. name ∷ (f ∷ [])) same;
+          in_form = forms.0;
+          script_in_form = sym (ap is_name same) ∙ forms.1;
+          table_is = cc;
+          together = both.1;
+          options = cc;
+        }
+    by (inr bad) =
+        let e : usage ≡ shell o table script = sym (ap (λ c. if c then shell (shell_options_in flags) (table_name name) file else usage) bad) ∙ is in
+        absurd cc
+scripted_parts others o table script (name ∷ (file ∷ (other ∷ names))) b is = absurd cc
+
+pub words_scripted : (words : List (List ℕ)) (o : ShellOptions) (table script : List ℕ) → plan words ≡ shell o table script → AreShell words o table script
+words_scripted [] o table script is = absurd cc
+words_scripted (command ∷ others) o table script is = by (command_of command)
+  where
+    by : Command command → AreShell (command ∷ others) o table script
+    by (is_chk same) = absurd (checked_no_shell (spelled_out others) o table script (sym (chk_plan command others same) ∙ is))
+    by (is_create a same) = absurd (created_no_shell others o table script (sym (create_plan command others a same) ∙ is))
+    by (is_dump a b same) = absurd (dumped_no_shell others o table script (sym (dump_plan command others a b same) ∙ is))
+    by (is_make a b c same) = absurd (made_no_shell others o table script (sym (make_plan command others a b c same) ∙ is))
+    by (is_shell a b c d same) = subst (λ w. AreShell (w ∷ others) o table script) (sym same) (scripted_parts others o table script (names_in (shell_spelled_out others)) refl (sym (shell_plan command others a b c d same) ∙ is))
+    by (is_none a b c d f) =
+        let e : usage ≡ shell o table script = sym (no_plan command others a b c d f) ∙ is in
         absurd cc

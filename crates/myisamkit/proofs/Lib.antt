@@ -6,6 +6,14 @@ pub mod CreateWordLaws
 pub mod CreateLaws
 pub mod MakeWordLaws
 pub mod MakeLaws
+pub mod PrefixLaws
+pub mod ShellOptionLaws
+pub mod ShellWordLaws
+pub mod ShellLaws
+pub mod ShellFoundLaws
+pub mod ShellRunLaws
+pub mod ShellSettingLaws
+pub mod SaidLaws
 pub mod DumpTurnLaws
 pub mod SinkLaws
 pub mod OpenLaws

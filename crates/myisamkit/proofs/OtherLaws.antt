@@ -19,7 +19,7 @@ use Rattle.myisamkit.specs.declared.options.Mode.TheVariants.{Check, Recover, De
 use Rattle.myisamkit.specs.declared.options.Options.{Options}
 use Rattle.myisamkit.specs.declared.status.Status.{Status}
 use Rattle.myisamkit.specs.declared.status.Status.TheVariants as status
-use Rattle.myisamkit.specs.Words.{Request, usage, chk, create, dump, make}
+use Rattle.myisamkit.specs.Words.{Request, usage, chk, create, dump, make, shell}
 use Rattle.myi_opening.specs.Opening as opening
 use Rattle.myi_opening.specs.Names.{index_file}
 use Rattle.myi_repair.specs.Names.{new_index_file}
@@ -30,6 +30,7 @@ use Rattle.myisamkit.specs.Turns.{replaced, with_index, analyzed_turn, sorted_tu
 use Rattle.myisamkit.specs.Creates.{made, made_turn, CreateLeaves}
 use Rattle.myi_make.specs.MadeTable.{defs, damaged_file}
 use Rattle.myisamkit.specs.Makes.{MakeDone, MakeLeaves}
+use Rattle.myisamkit.specs.Shells.{ShellLeaves}
 use Rattle.myisamkit.specs.Runs.{TablesDone, CutsTablesOff, FailsInTables, TablesLeave, Leaves, IsApart, IsNoFileOf, KeepsOthers}
 
 pub other_name : (q name : List ℕ) → q ≢ name → bytes_eq q name ≡ false
@@ -172,12 +173,23 @@ make_keeps count seed name now status.Usage m n q apart left = done_making_keeps
 make_keeps count seed name now status.Refused m n q apart left = done_making_keeps count seed name now m n q apart left
 make_keeps count seed name now status.Absent m n q apart left = done_making_keeps count seed name now m n q apart left
 
+shell_keeps : (setting : ℕ) (name script : List ℕ) (s : Status) (m n : Holding) (q : List ℕ) → IsApart q (names_for name) → ShellLeaves setting name script s m n → n q ≡ m q
+shell_keeps setting name script status.FileFault m n q apart left = left q apart.rows apart.index
+shell_keeps setting name script status.Memory m n q apart left = left q apart.rows apart.index
+shell_keeps setting name script status.SinkFault m n q apart left = left q apart.rows apart.index
+shell_keeps setting name script status.Ok m n q apart left = left.others q apart.rows apart.index
+shell_keeps setting name script status.Findings m n q apart left = ap (λ (h : Holding). h q) left
+shell_keeps setting name script status.Usage m n q apart left = ap (λ (h : Holding). h q) left
+shell_keeps setting name script status.Refused m n q apart left = ap (λ (h : Holding). h q) left
+shell_keeps setting name script status.Absent m n q apart left = ap (λ (h : Holding). h q) left
+
 run_keeps : (request : Request) (now before after : ℕ) (s : Status) (m n : Holding) → Leaves request now before after s m n → KeepsOthers request m n
 run_keeps usage now before after s m n leaves q apart = ap (λ (h : Holding). h q) leaves
 run_keeps (chk o names) now before after s m n leaves q apart = tables_keep o now before after names s m n q apart leaves
 run_keeps (create name file) now before after s m n leaves q apart = create_keeps name file s m n q apart.0 leaves
 run_keeps (dump name) now before after s m n leaves q apart = ap (λ (h : Holding). h q) leaves
 run_keeps (make count seed name) now before after s m n leaves q apart = make_keeps count seed name now s m n q apart.0 leaves
+run_keeps (shell o name script) now before after s m n leaves q apart = shell_keeps o.concurrent name script s m n q apart.0 leaves
 
 -- whatever a run leaves, it leaves other files
 pub others_told : (request : Request) (now before after : ℕ) (s : Status) (old new : Option Holding) → Told old new (Leaves request now before after s) → Told old new (KeepsOthers request)

@@ -26,7 +26,7 @@ use Rattle.myisamkit.specs.Words.{Request, chk}
 use Rattle.myisamkit.specs.Statuses.{IsFault, worse}
 use Rattle.myisamkit.specs.Stops.{status_of_stop}
 use Rattle.myisamkit.specs.Turns.{replaced, turn, turn_by, repair_turn, TurnRecovers, TurnRecoversBy, TurnDone, FailsInTurn, FailsInTurnBy}
-use Rattle.myisamkit.specs.Runs.{run_of, IsOrFault, Leaves}
+use Rattle.myisamkit.specs.Runs.{IsOrFault, Leaves}
 use Rattle.myisamkit.specs.Recovers.{IsRepaired, Recovers}
 
 -- what files hold that took a table's place
@@ -96,16 +96,16 @@ ends o now before after name defs d status.Refused m n parallel mode table (inr 
 ends o now before after name defs d status.Absent m n parallel mode table (inl f) left = absurd f
 ends o now before after name defs d status.Absent m n parallel mode table (inr e) left = absurd cc
 
-recovers : (request : Request) (now before after : ℕ) (s : Status) (m n : Holding) → IsOrFault (run_of request now m).status s → Leaves request now before after s m n → Recovers request now s m n
+recovers : (request : Request) (now before after : ℕ) (s : Status) (m n : Holding) → IsOrFault request now s m → Leaves request now before after s m n → Recovers request now s m n
 recovers request now before after s m n is left o parallel name defs d asked mode table =
-    ends o now before after name defs d s m n parallel mode table (ok (subst (λ r. IsOrFault (run_of r now m).status s) asked is)) (subst (λ r. Leaves r now before after s m n) asked left)
+    ends o now before after name defs d s m n parallel mode table (ok (subst (λ r. IsOrFault r now s m) asked is)) (subst (λ r. Leaves r now before after s m n) asked left)
   where
-    ok : IsOrFault (worse status.Ok (turn o now name m).status) s → IsFault s ⊎ (s ≡ status.Ok)
+    ok : IsFault s ⊎ (s ≡ worse status.Ok (turn o now name m).status) → IsFault s ⊎ (s ≡ status.Ok)
     ok (inl f) = inl f
     ok (inr e) = inr (e ∙ ap (worse status.Ok) (status_of o now name defs d m parallel mode table))
 
 -- a run
-pub recovers_told : (request : Request) (now before after : ℕ) (s : Status) (old new : Option Holding) → IfTold old (λ m. IsOrFault (run_of request now m).status s) → Told old new (Leaves request now before after s) → Told old new (Recovers request now s)
+pub recovers_told : (request : Request) (now before after : ℕ) (s : Status) (old new : Option Holding) → IfTold old (λ m. IsOrFault request now s m) → Told old new (Leaves request now before after s) → Told old new (Recovers request now s)
 recovers_told request now before after s old new is left = record {
   told = λ m told. let n = left.told m told in (n.0, n.1, recovers request now before after s m n.0 (is m told) n.2);
   untold = left.untold;

@@ -6,10 +6,12 @@ use Rattle.std.specs.Str.{bytes_eq}
 use Rattle.std.proofs.lemmas.Bool.{cases_Bool, false_from_ne_true}
 use Rattle.std.proofs.lemmas.Slice.Eq.{bytes_eq-Decides}
 use Rattle.myisamkit.specs.declared.options.Flag.{Flag}
-use Rattle.myisamkit.specs.Words.{usage, chk, create, dump, make, plan, plan_create, plan_dump, plan_make, create_of, dump_of, make_of, make_by, count_of, seed_of, are_accepted, is_empty, is_name, names_in, flags_in, spelled_out, table_name}
+use Rattle.myisamkit.specs.declared.shell_options.ShellFlag.{ShellFlag}
+use Rattle.myisamkit.specs.ShellOptions.{are_once, shell_go_together, shell_options_in}
+use Rattle.myisamkit.specs.Words.{usage, chk, create, dump, make, shell, shell_of, plan_shell, shell_flags_in, shell_spelled_out, plan, plan_create, plan_dump, plan_make, create_of, dump_of, make_of, make_by, count_of, seed_of, are_accepted, is_empty, is_name, names_in, flags_in, spelled_out, table_name}
 use Rattle.myisamkit.specs.Options.{is_mode, is_extend, is_force, at_most_one, go_together, options_in}
-use Rattle.myisamkit.specs.Asked.{AreRefused, make_option, make_names, make_bad_count, make_bad_seed, make_bad_name, create_option, create_names, create_bad_name, dump_option, dump_names, dump_bad_name, no_command, no_name, bad_name, unknown_option, two_modes, extend_twice, force_twice}
-use Rattle.myisamkit.proofs.AskedLaws.{one_fails, not_false, Command, is_chk, is_create, is_dump, is_make, is_none, command_of, chk_plan, create_plan, dump_plan, make_plan, no_plan}
+use Rattle.myisamkit.specs.Asked.{AreRefused, shell_names, shell_bad_name, shell_unknown_option, shell_option_twice, make_option, make_names, make_bad_count, make_bad_seed, make_bad_name, create_option, create_names, create_bad_name, dump_option, dump_names, dump_bad_name, no_command, no_name, bad_name, unknown_option, two_modes, extend_twice, force_twice}
+use Rattle.myisamkit.proofs.AskedLaws.{one_fails, not_false, Command, is_chk, is_create, is_dump, is_make, is_shell, is_none, command_of, chk_plan, create_plan, dump_plan, make_plan, shell_plan, no_plan}
 
 -- which of the reasons holds of the words behind `chk`
 why : (others : List (List ℕ)) → are_accepted (spelled_out others) ≡ false → AreRefused (codes "chk" ∷ others)
@@ -81,8 +83,25 @@ why_make others [] (count ∷ (seed ∷ (name ∷ []))) a b is = why_numbers oth
 why_make others [] (x ∷ (y ∷ (z ∷ (u ∷ names)))) a b is = make_names others refl (λ e. omega (arith, e, ap (λ (l : List (List ℕ)). length l) b))
 why_make others (f ∷ flags) names a b is = make_option others refl (λ e. let k : f ∷ flags ≡ [] = sym a ∙ e in cc)
 
+-- which holds of the words behind `shell`
+why_shell : (others : List (List ℕ)) (names : List (List ℕ)) → names_in (shell_spelled_out others) ≡ names → shell_of (shell_flags_in (shell_spelled_out others)) names ≡ usage → AreRefused (codes "shell" ∷ others)
+why_shell others [] b is = shell_names others refl (λ e. omega (arith, e, ap (λ (l : List (List ℕ)). length l) b))
+why_shell others (name ∷ []) b is = shell_names others refl (λ e. omega (arith, e, ap (λ (l : List (List ℕ)). length l) b))
+why_shell others (name ∷ (script ∷ [])) b is = by (is_name name) (is_name script) (list_all is_some flags) (are_once flags) refl refl refl refl is
+  where
+    flags : List (Option ShellFlag)
+    flags = shell_flags_in (shell_spelled_out others)
+
+    by : (c d f g : Bool) → is_name name ≡ c → is_name script ≡ d → list_all is_some flags ≡ f → are_once flags ≡ g → (if (c && d) && (f && g) then shell (shell_options_in flags) (table_name name) script else usage) ≡ usage → AreRefused (codes "shell" ∷ others)
+    by true true true true one other known once e = absurd cc
+    by true true true false one other known once e = shell_option_twice others refl once
+    by true true false g one other known once e = shell_unknown_option others refl known
+    by true false f g one other known once e = shell_bad_name others refl (ap (list_all is_name) b ∙ (ap (λ k. k && (is_name script && true)) one ∙ ap (λ k. k && true) other))
+    by false d f g one other known once e = shell_bad_name others refl (ap (list_all is_name) b ∙ ap (λ k. k && (is_name script && true)) one)
+why_shell others (name ∷ (script ∷ (other ∷ names))) b is = shell_names others refl (λ e. omega (arith, e, ap (λ (l : List (List ℕ)). length l) b))
+
 pub words_refused : (words : List (List ℕ)) → plan words ≡ usage → AreRefused words
-words_refused [] is = no_command (λ others e. cc) (λ others e. cc) (λ others e. cc) (λ others e. cc)
+words_refused [] is = no_command (λ others e. cc) (λ others e. cc) (λ others e. cc) (λ others e. cc) (λ others e. cc)
 words_refused (command ∷ others) is = by (command_of command)
   where
     not_refused : (b : Bool) → (if b then chk (options_in (flags_in (spelled_out others))) (map table_name (names_in (spelled_out others))) else usage) ≡ usage → b ≡ false
@@ -97,7 +116,8 @@ words_refused (command ∷ others) is = by (command_of command)
     by (is_create a same) = subst (λ c. AreRefused (c ∷ others)) (sym same) (why_create others (flags_in others) (names_in others) refl refl (sym (create_plan command others a same) ∙ is))
     by (is_dump a b same) = subst (λ c. AreRefused (c ∷ others)) (sym same) (why_dump others (flags_in others) (names_in others) refl refl (sym (dump_plan command others a b same) ∙ is))
     by (is_make a b c same) = subst (λ k. AreRefused (k ∷ others)) (sym same) (why_make others (flags_in others) (names_in others) refl refl (sym (make_plan command others a b c same) ∙ is))
-    by (is_none a b c d) = no_command (is_no (codes "chk") a) (is_no (codes "create") b) (is_no (codes "dump") c) (is_no (codes "make") d)
+    by (is_shell a b c d same) = subst (λ k. AreRefused (k ∷ others)) (sym same) (why_shell others (names_in (shell_spelled_out others)) refl (sym (shell_plan command others a b c d same) ∙ is))
+    by (is_none a b c d e) = no_command (is_no (codes "chk") a) (is_no (codes "create") b) (is_no (codes "dump") c) (is_no (codes "make") d) (is_no (codes "shell") e)
 
 -- ---- words with a reason are refused
 
@@ -120,6 +140,32 @@ not_dumped words others is none = ap plan is ∙ (dump_plan (codes "dump") other
 
 not_made : (words others : List (List ℕ)) → words ≡ codes "make" ∷ others → plan_make others ≡ usage → plan words ≡ usage
 not_made words others is none = ap plan is ∙ (make_plan (codes "make") others refl refl refl refl ∙ none)
+
+not_scripted : (words others : List (List ℕ)) → words ≡ codes "shell" ∷ others → plan_shell (shell_spelled_out others) ≡ usage → plan words ≡ usage
+not_scripted words others is none = ap plan is ∙ (shell_plan (codes "shell") others refl refl refl refl refl ∙ none)
+
+shell_counted : (flags : List (Option ShellFlag)) (names : List (List ℕ)) → length names ≢ 2 → shell_of flags names ≡ usage
+shell_counted flags [] other = refl
+shell_counted flags (name ∷ []) other = refl
+shell_counted flags (name ∷ (script ∷ [])) other = absurd (other refl)
+shell_counted flags (name ∷ (script ∷ (another ∷ names))) other = refl
+
+shell_misnamed : (flags : List (Option ShellFlag)) (names : List (List ℕ)) → list_all is_name names ≡ false → shell_of flags names ≡ usage
+shell_misnamed flags [] bad = refl
+shell_misnamed flags (name ∷ []) bad = refl
+shell_misnamed flags (name ∷ (script ∷ [])) bad = by (is_name name) (is_name script) bad
+  where
+    by : (c d : Bool) → (c && (d && true)) ≡ false → (if (c && d) && shell_go_together flags then shell (shell_options_in flags) (table_name name) script else usage) ≡ usage
+    by true true e = absurd cc
+    by true false e = refl
+    by false d e = refl
+shell_misnamed flags (name ∷ (script ∷ (other ∷ names))) bad = refl
+
+shell_apart : (flags : List (Option ShellFlag)) (names : List (List ℕ)) → shell_go_together flags ≡ false → shell_of flags names ≡ usage
+shell_apart flags [] bad = refl
+shell_apart flags (name ∷ []) bad = refl
+shell_apart flags (name ∷ (script ∷ [])) bad = ap (λ q. if q then shell (shell_options_in flags) (table_name name) script else usage) (right_fails (is_name name && is_name script) (shell_go_together flags) bad)
+shell_apart flags (name ∷ (script ∷ (other ∷ names))) bad = refl
 
 create_refused : (flags : List (Option Flag)) (names : List (List ℕ)) → flags ≢ [] → create_of flags names ≡ usage
 create_refused [] names some = absurd (some refl)
@@ -207,14 +253,14 @@ twice_fails : (others : List (List ℕ)) → (at_most_one is_extend (flags_in (s
 twice_fails others none = rest_fails others (right_fails (at_most_one is_mode (flags_in (spelled_out others))) _ none)
 
 pub reasons_refuse : (words : List (List ℕ)) → AreRefused words → plan words ≡ usage
-reasons_refuse words (no_command checks creates dumps makes) = by words checks creates dumps makes
+reasons_refuse words (no_command checks creates dumps makes scripts) = by words checks creates dumps makes scripts
   where
     no_word : (command : List ℕ) (others : List (List ℕ)) (word : List ℕ) → ((rest : List (List ℕ)) → command ∷ others ≢ word ∷ rest) → bytes_eq command word ≡ false
     no_word command others word none = false_from_ne_true _ (λ same. none others (ap (λ c. c ∷ others) ((bytes_eq-Decides command word).0 same)))
 
-    by : (words : List (List ℕ)) → ((others : List (List ℕ)) → words ≢ codes "chk" ∷ others) → ((others : List (List ℕ)) → words ≢ codes "create" ∷ others) → ((others : List (List ℕ)) → words ≢ codes "dump" ∷ others) → ((others : List (List ℕ)) → words ≢ codes "make" ∷ others) → plan words ≡ usage
-    by [] checks creates dumps makes = refl
-    by (command ∷ others) checks creates dumps makes = no_plan command others (no_word command others (codes "chk") checks) (no_word command others (codes "create") creates) (no_word command others (codes "dump") dumps) (no_word command others (codes "make") makes)
+    by : (words : List (List ℕ)) → ((others : List (List ℕ)) → words ≢ codes "chk" ∷ others) → ((others : List (List ℕ)) → words ≢ codes "create" ∷ others) → ((others : List (List ℕ)) → words ≢ codes "dump" ∷ others) → ((others : List (List ℕ)) → words ≢ codes "make" ∷ others) → ((others : List (List ℕ)) → words ≢ codes "shell" ∷ others) → plan words ≡ usage
+    by [] checks creates dumps makes scripts = refl
+    by (command ∷ others) checks creates dumps makes scripts = no_plan command others (no_word command others (codes "chk") checks) (no_word command others (codes "create") creates) (no_word command others (codes "dump") dumps) (no_word command others (codes "make") makes) (no_word command others (codes "shell") scripts)
 reasons_refuse words (no_name others is none) = not_accepted words others is (left_fails _ (go_together (flags_in (spelled_out others))) (left_fails _ (list_all is_name (names_in (spelled_out others))) (ap not none)))
 reasons_refuse words (bad_name others is bad) = not_accepted words others is (left_fails _ (go_together (flags_in (spelled_out others))) (right_fails (not (is_empty (names_in (spelled_out others)))) _ bad))
 reasons_refuse words (unknown_option others is unknown) = not_accepted words others is (flags_fail others (left_fails _ (at_most_one is_mode (flags_in (spelled_out others)) && (at_most_one is_extend (flags_in (spelled_out others)) && at_most_one is_force (flags_in (spelled_out others)))) unknown))
@@ -232,3 +278,7 @@ reasons_refuse words (make_names others is other) = not_made words others is (ma
 reasons_refuse words (make_bad_count others count names is named bad) = not_made words others is (ap (make_of (flags_in others)) named ∙ make_uncounted (flags_in others) count names bad)
 reasons_refuse words (make_bad_seed others count seed names is named bad) = not_made words others is (ap (make_of (flags_in others)) named ∙ make_unseeded (flags_in others) count seed names bad)
 reasons_refuse words (make_bad_name others count seed name is named bad) = not_made words others is (ap (make_of (flags_in others)) named ∙ make_misnamed (flags_in others) count seed name bad)
+reasons_refuse words (shell_names others is other) = not_scripted words others is (shell_counted (shell_flags_in (shell_spelled_out others)) (names_in (shell_spelled_out others)) other)
+reasons_refuse words (shell_bad_name others is bad) = not_scripted words others is (shell_misnamed (shell_flags_in (shell_spelled_out others)) (names_in (shell_spelled_out others)) bad)
+reasons_refuse words (shell_unknown_option others is unknown) = not_scripted words others is (shell_apart (shell_flags_in (shell_spelled_out others)) (names_in (shell_spelled_out others)) (left_fails _ (are_once (shell_flags_in (shell_spelled_out others))) unknown))
+reasons_refuse words (shell_option_twice others is twice) = not_scripted words others is (shell_apart (shell_flags_in (shell_spelled_out others)) (names_in (shell_spelled_out others)) (right_fails (list_all is_some (shell_flags_in (shell_spelled_out others))) _ twice))

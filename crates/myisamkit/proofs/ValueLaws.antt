@@ -89,7 +89,7 @@ long_word value = codes "--" ++ (sort_records ++ value)
 pub long_no_end : (value : List ℕ) → is_end (long_word value) ≡ false
 long_no_end value = refl
 
-two_or_more : (n : ℕ) → nat_lt 1 (suc (suc n)) ≡ true
+pub two_or_more : (n : ℕ) → nat_lt 1 (suc (suc n)) ≡ true
 two_or_more n = lt-ltb 1 (suc (suc n)) (omega arith)
 
 pub long_option : (value : List ℕ) → is_option (long_word value) ≡ true

@@ -3,7 +3,9 @@ use Rattle.std.specs.Prelude.{◌≡◌, ◌≢◌, false, true, List, [], ◌�
 use Rattle.std.specs.List.{list_all, list_any}
 use Rattle.myisamkit.specs.declared.options.Options.{Options}
 use Rattle.myisamkit.specs.declared.options.Mode.TheVariants.{Check}
-use Rattle.myisamkit.specs.Words.{is_empty, is_name, names_in, flags_in, spelled_out, table_name, count_of, seed_of}
+use Rattle.myisamkit.specs.declared.shell_options.ShellOptions.{ShellOptions}
+use Rattle.myisamkit.specs.ShellOptions.{are_once, shell_go_together, shell_options_in}
+use Rattle.myisamkit.specs.Words.{is_empty, is_name, names_in, flags_in, spelled_out, shell_flags_in, shell_spelled_out, table_name, count_of, seed_of}
 use Rattle.myisamkit.specs.Options.{is_mode, is_extend, is_force, is_silent, at_most_one, mode_or}
 
 -- these words are `chk` with these options and tables
@@ -57,9 +59,21 @@ pub record AreMake (words : List (List ℕ)) (count seed : ℕ) (table : List �
   pub in_form : is_name name ≡ true
   pub table_is : table ≡ table_name name
 
+-- these words are `shell` with these options, this table and this script
+pub record AreShell (words : List (List ℕ)) (o : ShellOptions) (table script : List ℕ) : Type 0 where
+  pub others : List (List ℕ)
+  pub command : words ≡ codes "shell" ∷ others
+  pub name : List ℕ
+  pub named : names_in (shell_spelled_out others) ≡ name ∷ script ∷ []
+  pub in_form : is_name name ≡ true
+  pub script_in_form : is_name script ≡ true
+  pub table_is : table ≡ table_name name
+  pub together : shell_go_together (shell_flags_in (shell_spelled_out others)) ≡ true
+  pub options : o ≡ shell_options_in (shell_flags_in (shell_spelled_out others))
+
 -- why words are refused: the command is none, or of the words behind it one of these holds
 pub data AreRefused (words : List (List ℕ)) : Type 0 where
-  no_command : ((others : List (List ℕ)) → words ≢ codes "chk" ∷ others) → ((others : List (List ℕ)) → words ≢ codes "create" ∷ others) → ((others : List (List ℕ)) → words ≢ codes "dump" ∷ others) → ((others : List (List ℕ)) → words ≢ codes "make" ∷ others) → AreRefused words
+  no_command : ((others : List (List ℕ)) → words ≢ codes "chk" ∷ others) → ((others : List (List ℕ)) → words ≢ codes "create" ∷ others) → ((others : List (List ℕ)) → words ≢ codes "dump" ∷ others) → ((others : List (List ℕ)) → words ≢ codes "make" ∷ others) → ((others : List (List ℕ)) → words ≢ codes "shell" ∷ others) → AreRefused words
   no_name : (others : List (List ℕ)) → words ≡ codes "chk" ∷ others → is_empty (names_in (spelled_out others)) ≡ true → AreRefused words
   bad_name : (others : List (List ℕ)) → words ≡ codes "chk" ∷ others → list_all is_name (names_in (spelled_out others)) ≡ false → AreRefused words
   unknown_option : (others : List (List ℕ)) → words ≡ codes "chk" ∷ others → list_all is_some (flags_in (spelled_out others)) ≡ false → AreRefused words
@@ -77,3 +91,7 @@ pub data AreRefused (words : List (List ℕ)) : Type 0 where
   make_bad_count : (others : List (List ℕ)) (count : List ℕ) (names : List (List ℕ)) → words ≡ codes "make" ∷ others → names_in others ≡ count ∷ names → count_of count ≡ None → AreRefused words
   make_bad_seed : (others : List (List ℕ)) (count seed : List ℕ) (names : List (List ℕ)) → words ≡ codes "make" ∷ others → names_in others ≡ count ∷ seed ∷ names → seed_of seed ≡ None → AreRefused words
   make_bad_name : (others : List (List ℕ)) (count seed name : List ℕ) → words ≡ codes "make" ∷ others → names_in others ≡ count ∷ seed ∷ name ∷ [] → is_name name ≡ false → AreRefused words
+  shell_names : (others : List (List ℕ)) → words ≡ codes "shell" ∷ others → length (names_in (shell_spelled_out others)) ≢ 2 → AreRefused words
+  shell_bad_name : (others : List (List ℕ)) → words ≡ codes "shell" ∷ others → list_all is_name (names_in (shell_spelled_out others)) ≡ false → AreRefused words
+  shell_unknown_option : (others : List (List ℕ)) → words ≡ codes "shell" ∷ others → list_all is_some (shell_flags_in (shell_spelled_out others)) ≡ false → AreRefused words
+  shell_option_twice : (others : List (List ℕ)) → words ≡ codes "shell" ∷ others → are_once (shell_flags_in (shell_spelled_out others)) ≡ false → AreRefused words

@@ -6,6 +6,8 @@ pub mod Words
 pub mod Numbers
 -- which options are known, and what they ask for together
 pub mod Options
+-- the same of the options of `shell`
+pub mod ShellOptions
 -- what accepted words ask for; why words are refused
 pub mod Asked
 -- the printed lines
@@ -22,6 +24,8 @@ pub mod Creates
 pub mod Makes
 -- what a dump of a table says
 pub mod Dumps
+-- what the run of a script says and leaves
+pub mod Shells
 -- what a run says and does: its tables one after the other
 pub mod Runs
 -- what a repair of one table comes to
@@ -32,5 +36,7 @@ pub mod Recovers
 pub mod Stops
 -- how words are read, one after the other
 pub mod Reading
+-- the same of the words of `shell`
+pub mod ShellReading
 -- the plan that the code makes of the words
 pub mod Plans

@@ -9,12 +9,13 @@ use Rattle.myisamkit.specs.declared.status.Status.TheVariants as status
 use Rattle.myisamkit.specs.declared.status.Stop.{Stop}
 use Rattle.myisamkit.specs.declared.status.Stop.TheVariants as stop
 use Rattle.myisamkit.specs.declared.options.Options.{Options}
-use Rattle.myisamkit.specs.Words.{Request, usage, chk, create, dump, make}
+use Rattle.myisamkit.specs.Words.{Request, usage, chk, create, dump, make, shell}
 use Rattle.myisamkit.specs.Statuses.{IsFault, worse}
 use Rattle.myisamkit.specs.Lines.{usage_line}
 use Rattle.myisamkit.specs.Creates.{create_turn, CreateLeaves}
 use Rattle.myisamkit.specs.Dumps.{dump_turn}
 use Rattle.myisamkit.specs.Makes.{make_turn, MakeLeaves}
+use Rattle.myisamkit.specs.Shells.{text_in, shell_begin_turn, ShellComesTo, ShellSaid, ShellSaidPart, ShellSays, ShellLeaves}
 use Rattle.myisamkit.specs.Turns.{Turn, then_turn, turn, MayFind, TurnRecovers, CutsTurnOff, FailsInTurn}
 
 -- the tables of these names, behind tables of this status: all lines, the greatest status, the files at the end
@@ -22,13 +23,14 @@ abbrev pub tables_run : Status → Options → ℕ → List (List ℕ) → Holdi
 tables_run s o now [] m = record { text = []; status = s; files = m }
 tables_run s o now (name ∷ names) m = then_turn (turn o now name m) (tables_run (worse s (turn o now name m).status) o now names (turn o now name m).files)
 
--- what a run comes to that nothing cuts off
+-- what a run comes to that nothing cuts off; of a script what it comes to before its lines are read
 abbrev pub run_of : Request → ℕ → Holding → Turn
 run_of usage now m = record { text = usage_line; status = status.Usage; files = m }
 run_of (chk o names) now m = tables_run status.Ok o now names m
 run_of (create name file) now m = create_turn name file m
 run_of (dump name) now m = dump_turn name m
 run_of (make count seed name) now m = make_turn count seed name now m
+run_of (shell o name script) now m = shell_begin_turn (text_in name script m) m
 
 -- the answer may be that something was found: of `make` by its own check, which finds nothing where files tell
 abbrev pub MayFindAny : Request → Type 0
@@ -37,6 +39,7 @@ MayFindAny (chk o names) = MayFind o
 MayFindAny (create name file) = ⊥
 MayFindAny (dump name) = ⊥
 MayFindAny (make count seed name) = Unit {0}
+MayFindAny (shell o name script) = ⊥
 
 -- ---- the files
 
@@ -80,14 +83,53 @@ Leaves (chk o names) now before after s m n = TablesLeave o now before after nam
 Leaves (create name file) now before after s m n = CreateLeaves name file s m n
 Leaves (dump name) now before after s m n = n ≡ m
 Leaves (make count seed name) now before after s m n = MakeLeaves count seed name now s m n
+Leaves (shell o name script) now before after s m n = ShellLeaves o.concurrent name script s m n
 
 -- what was written is this text, or a front of it where a fault cut the run off
 abbrev pub Says : List ℕ → Option (List ℕ) → Option (List ℕ) → Status → Type 0
 Says text old new s = IfTold old (λ w. (IsFault s × AppendsPart text new w) ⊎ ((IsFault s → ⊥) × Appends text new w))
 
+-- ---- by the request
+
+-- what was written is a text that the words have on these files: of a script one with numbers within their bounds
+abbrev pub SaysText : Request → ℕ → Option (List ℕ) → Option (List ℕ) → Status → Holding → Type 0
+SaysText usage now old new s m = Says (run_of usage now m).text old new s
+SaysText (chk o names) now old new s m = Says (run_of (chk o names) now m).text old new s
+SaysText (create name file) now old new s m = Says (run_of (create name file) now m).text old new s
+SaysText (dump name) now old new s m = Says (run_of (dump name) now m).text old new s
+SaysText (make count seed name) now old new s m = Says (run_of (make count seed name) now m).text old new s
+SaysText (shell o name script) now old new s m = ShellSays o.concurrent name script old new s m
+
+-- the same of a run that nothing cut off, with its status
+abbrev pub SaidText : Request → ℕ → Status → Option (List ℕ) → Option (List ℕ) → Holding → Type 0
+SaidText usage now s old new m = IfTold old (Appends (run_of usage now m).text new)
+SaidText (chk o names) now s old new m = IfTold old (Appends (run_of (chk o names) now m).text new)
+SaidText (create name file) now s old new m = IfTold old (Appends (run_of (create name file) now m).text new)
+SaidText (dump name) now s old new m = IfTold old (Appends (run_of (dump name) now m).text new)
+SaidText (make count seed name) now s old new m = IfTold old (Appends (run_of (make count seed name) now m).text new)
+SaidText (shell o name script) now s old new m = ShellSaid o.concurrent name script s old new m
+
+-- the same of a run that was cut off
+abbrev pub SaidPart : Request → ℕ → Option (List ℕ) → Option (List ℕ) → Holding → Type 0
+SaidPart usage now old new m = IfTold old (AppendsPart (run_of usage now m).text new)
+SaidPart (chk o names) now old new m = IfTold old (AppendsPart (run_of (chk o names) now m).text new)
+SaidPart (create name file) now old new m = IfTold old (AppendsPart (run_of (create name file) now m).text new)
+SaidPart (dump name) now old new m = IfTold old (AppendsPart (run_of (dump name) now m).text new)
+SaidPart (make count seed name) now old new m = IfTold old (AppendsPart (run_of (make count seed name) now m).text new)
+SaidPart (shell o name script) now old new m = ShellSaidPart o.concurrent name script old new m
+
+-- the status is the defined one; of a script one that it comes to
+abbrev pub HasStatus : Request → ℕ → Status → Holding → Type 0
+HasStatus usage now s m = s ≡ (run_of usage now m).status
+HasStatus (chk o names) now s m = s ≡ (run_of (chk o names) now m).status
+HasStatus (create name file) now s m = s ≡ (run_of (create name file) now m).status
+HasStatus (dump name) now s m = s ≡ (run_of (dump name) now m).status
+HasStatus (make count seed name) now s m = s ≡ (run_of (make count seed name) now m).status
+HasStatus (shell o name script) now s m = (said : List ℕ) × ShellComesTo o.concurrent name script m said s
+
 -- this status, or a fault
-abbrev pub IsOrFault : Status → Status → Type 0
-IsOrFault defined s = IsFault s ⊎ (s ≡ defined)
+abbrev pub IsOrFault : Request → ℕ → Status → Holding → Type 0
+IsOrFault request now s m = IsFault s ⊎ HasStatus request now s m
 
 -- ---- other files
 
@@ -109,6 +151,7 @@ tables_of (chk o names) = names
 tables_of (create name file) = name ∷ []
 tables_of (dump name) = name ∷ []
 tables_of (make count seed name) = name ∷ []
+tables_of (shell o name script) = name ∷ []
 
 -- files that are none of a request's tables hold what they held
 abbrev pub KeepsOthers : Request → Holding → Holding → Type 0

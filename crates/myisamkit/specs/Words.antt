@@ -8,15 +8,19 @@ use Rattle.myisamkit.specs.declared.options.Flag.{Flag}
 use Rattle.myisamkit.specs.declared.options.Options.{Options}
 use Rattle.myisamkit.specs.Numbers.{number_in}
 use Rattle.myisamkit.specs.Options.{letter_flag, long_flag, sort_records, go_together, options_in}
+use Rattle.myisamkit.specs.declared.shell_options.ShellFlag.{ShellFlag}
+use Rattle.myisamkit.specs.declared.shell_options.ShellOptions.{ShellOptions}
+use Rattle.myisamkit.specs.ShellOptions.{shell_flag, takes_value, shell_go_together, shell_options_in}
 
 -- A command with its options and the names of its tables, or a refusal. `create` makes one table, by the text of a file,
--- `dump` prints one, and `make` makes one of so many rows, which a seed decides.
+-- `dump` prints one, `make` makes one of so many rows, which a seed decides, and `shell` runs the script of a file on one.
 pub data Request : Type 0 where
   usage : Request
   chk : Options → List (List ℕ) → Request
   create : List ℕ → List ℕ → Request
   dump : List ℕ → Request
   make : ℕ → ℕ → List ℕ → Request
+  shell : ShellOptions → List ℕ → List ℕ → Request
 
 -- ---- what a word is
 
@@ -158,13 +162,41 @@ make_of (f ∷ flags) names = usage
 abbrev pub plan_make : List (List ℕ) → Request
 plan_make words = make_of (flags_in words) (names_in words)
 
+-- the options of `shell`: a word, and behind it the next one, of which a first one that does not begin with a dash is the value
+abbrev pub value_joined : List ℕ → List (List ℕ) → List (List ℕ)
+value_joined word [] = word ∷ []
+value_joined word (next ∷ words) = if has_dash next then word ∷ (next ∷ words) else (word ++ 61 ∷ next) ∷ words
+
+-- the same words, in which each option of `shell` has its value behind it
+abbrev pub shell_spelled_out : List (List ℕ) → List (List ℕ)
+shell_spelled_out [] = []
+shell_spelled_out (word ∷ words) =
+    if is_end word then word ∷ words else
+    (if takes_value word then value_joined word (shell_spelled_out words) else word ∷ shell_spelled_out words)
+
+-- the options among the words
+abbrev pub shell_flags_in : List (List ℕ) → List (Option ShellFlag)
+shell_flags_in words = map shell_flag (filter is_option (before_end words))
+
+-- `shell` has one table and the file of a script, and options that go together
+abbrev pub shell_of : List (Option ShellFlag) → List (List ℕ) → Request
+shell_of flags [] = usage
+shell_of flags (name ∷ []) = usage
+shell_of flags (name ∷ (script ∷ [])) = if (is_name name && is_name script) && shell_go_together flags then shell (shell_options_in flags) (table_name name) script else usage
+shell_of flags (name ∷ (script ∷ (other ∷ names))) = usage
+
+-- what words that are spelled out ask for, behind the command
+abbrev pub plan_shell : List (List ℕ) → Request
+plan_shell words = shell_of (shell_flags_in words) (names_in words)
+
 abbrev pub plan : List (List ℕ) → Request
 plan [] = usage
 plan (command ∷ words) =
     if bytes_eq command (codes "chk") then plan_chk (spelled_out words) else
     (if bytes_eq command (codes "create") then plan_create words else
     (if bytes_eq command (codes "dump") then plan_dump words else
-    (if bytes_eq command (codes "make") then plan_make words else usage)))
+    (if bytes_eq command (codes "make") then plan_make words else
+    (if bytes_eq command (codes "shell") then plan_shell (shell_spelled_out words) else usage))))
 
 -- what these words ask for
 abbrev pub request_of : List (String Global) → Request

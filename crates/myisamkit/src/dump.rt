@@ -131,8 +131,8 @@ fn refuse<O: Sink>(alloc: Global, out: &mut O, name: &str, finding: Finding) -> 
     Ok(Status::Refused)
 }
 
-// The line on what was found, and where the table is foreign, that it is refused for this.
-fn refusal(alloc: Global, name: &str, finding: Finding) -> Result<String, AllocError>
+/// The line on what was found, and where the table is foreign, that it is refused for this.
+pub(crate) fn refusal(alloc: Global, name: &str, finding: Finding) -> Result<String, AllocError>
     ensures { IfOk result (λ text. string_bytes text
         ≡ spec.finding_line name.now finding ++ reason name.now finding) }
 {

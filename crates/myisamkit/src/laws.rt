@@ -2,8 +2,9 @@
 //! is proved with the crate.
 ghost use Rattle.std.specs.Prelude.{◌≡◌, ℕ, List};
 ghost use Rattle.myisamkit.specs.declared.options.Options.{Options};
-ghost use Rattle.myisamkit.specs.Words.{plan, chk, create, dump, make, usage};
-ghost use Rattle.myisamkit.specs.Asked.{AreChk, AreCreate, AreDump, AreMake, AreRefused};
+ghost use Rattle.myisamkit.specs.declared.shell_options.ShellOptions.{ShellOptions};
+ghost use Rattle.myisamkit.specs.Words.{plan, chk, create, dump, make, shell, usage};
+ghost use Rattle.myisamkit.specs.Asked.{AreChk, AreCreate, AreDump, AreMake, AreShell, AreRefused};
 
 /// Words that are accepted have the command, exactly its options, and its tables in their order.
 pub fn accepted_words_are_a_command()
@@ -29,12 +30,19 @@ pub fn making_words_are_a_command()
         → plan words ≡ make count seed table → AreMake words count seed table }
 {}
 
+/// The words of a script have the command, exactly its options, one table and one file.
+pub fn shell_words_are_a_command()
+    ensures { (words : List (List ℕ)) (o : ShellOptions) (table script : List ℕ)
+        → plan words ≡ shell o table script → AreShell words o table script }
+{}
+
 /// Words are refused exactly where they have one of these reasons: no command that is known; behind
 /// `chk`, when they are spelled out, no name, or one out of form, an option that is not known or whose
 /// value is missing or no number of a key, two modes, or another option twice, but the silent one;
 /// behind `create` an option, or other than two names in form; behind `dump` an option, or other than
 /// one name in form; behind `make` an option, or other than a number from 1 to 100,000, one below 2^64
-/// and one name in form.
+/// and one name in form; behind `shell`, when they are spelled out, other than two names in form, or an
+/// option that is not known, whose value is missing or out of its range, or that stands twice.
 pub fn refused_words_have_a_reason()
     ensures reason { (words : List (List ℕ)) → plan words ≡ usage → AreRefused words }
     ensures refused { (words : List (List ℕ)) → AreRefused words → plan words ≡ usage }

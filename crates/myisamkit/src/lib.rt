@@ -5,8 +5,8 @@
 //! name. Each table has its turn (`turn.rt`), one after the other (`tables.rt`). What a turn and a whole
 //! run say, answer and do is defined over what the files hold before (`Turns`, `Runs`), and the files
 //! that a repair leaves over the bytes of the two files before it (`Rattle.myi_pair.specs`,
-//! `RecoveredBytes` and `Recovered`), what a check finds over the same bytes (`Findings`); analysis and sorting are those of `myi_order`. Of the commands
-//! `chk`, `create`, `dump` and `make` are built.
+//! `RecoveredBytes` and `Recovered`), what a check finds over the same bytes (`Findings`); analysis and sorting are those of `myi_order`. The commands are
+//! `chk`, `create`, `dump`, `make` and `shell`.
 //!
 //! ```
 //! let mut words = Vec::new(alloc);
@@ -35,6 +35,9 @@ mod options;
 mod ordering;
 mod recover;
 mod say;
+mod shell;
+mod shell_options;
+mod shell_words;
 mod sort;
 mod status;
 mod tables;
@@ -44,7 +47,7 @@ mod words;
 
 pub use laws::{
     accepted_words_are_a_command, creating_words_are_a_command, dumping_words_are_a_command,
-    making_words_are_a_command, refused_words_have_a_reason,
+    making_words_are_a_command, refused_words_have_a_reason, shell_words_are_a_command,
 };
 pub use status::Status;
 pub use top::kit;

@@ -4,7 +4,7 @@ ghost use Rattle.myisamkit.specs.declared.status.Stop.TheVariants.{Memory};
 ghost use Rattle.myisamkit.specs.Statuses.{number_of, worse};
 
 use myi_dump::DumpFault;
-use myi_io::SinkErr;
+use myi_io::{FileErr, SinkErr};
 use std::alloc::AllocError;
 
 /// What a run answers.
@@ -82,6 +82,21 @@ impl From<SinkErr> for Stop {
         match error {
             SinkErr::Failed => Stop::Sink,
             SinkErr::Memory => Stop::Memory,
+        }
+    }
+}
+
+impl From<FileErr> for Stop {
+    ghost use Rattle.myi_base.specs.HandsOn.{HandsOn};
+    ghost use Rattle.myi_io.specs.declared.files.FileErr.TheVariants as file;
+    ghost use Rattle.myisamkit.specs.declared.status.Stop.TheVariants.{File, Memory};
+
+    ghost from_gives = { HandsOn (file.Failed, File) (file.Memory, Memory) };
+
+    fn from(error: FileErr) -> Self {
+        match error {
+            FileErr::Failed => Stop::File,
+            FileErr::Memory => Stop::Memory,
         }
     }
 }

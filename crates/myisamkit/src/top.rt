@@ -6,7 +6,8 @@ ghost use Rattle.myi_base.specs.Causes.{Rose, HasCause};
 ghost use Rattle.myisamkit.specs.Words.{request_of, usage};
 ghost use Rattle.myisamkit.specs.Stops.{status_of_stop};
 ghost use Rattle.myisamkit.specs.Statuses.{IsFault};
-ghost use Rattle.myisamkit.specs.Runs.{run_of, MayFindAny, Leaves, KeepsOthers, Says, IsOrFault};
+ghost use Rattle.myisamkit.specs.Runs.{MayFindAny, Leaves, KeepsOthers, Says, SaysText, IsOrFault};
+ghost use Rattle.myisamkit.specs.Runs.{SaidText, SaidPart, HasStatus};
 ghost use Rattle.myisamkit.specs.Recovers.{Recovers};
 ghost use Rattle.myisamkit.specs.Lines as spec;
 
@@ -16,6 +17,7 @@ use crate::host::Host;
 use crate::lines::usage_line;
 use crate::make::make_of_rows;
 use crate::say::say;
+use crate::shell::run_shell;
 use crate::status::{Status, Stop};
 use crate::tables::run_tables;
 use crate::words::{Plan, read_words};
@@ -39,10 +41,10 @@ pub fn kit<R: Threads + Sync, F: Files, O: Sink>(
     ensures headline { Told (F.holds files.old) (F.holds files.new)
         (Recovers (request_of words.now) now result) }
 
-    // What is written is the text that the words have on these files; a fault may cut it off.
+    // What is written is the text that the words have on these files, or of a script such a text, with
+    // numbers within their bounds; a fault may cut it off.
     ensures text { IfTold (F.holds files.old) (λ m.
-        Says (run_of (request_of words.now) now m).text (O.written out.old) (O.written out.new)
-        result) }
+        SaysText (request_of words.now) now (O.written out.old) (O.written out.new) result m) }
 
     // Where the words are no command, the line on usage is written, whatever the files tell; a fault
     // may cut it off.
@@ -51,7 +53,7 @@ pub fn kit<R: Threads + Sync, F: Files, O: Sink>(
 
     // Where no fault cuts the run off, the status is the defined one.
     ensures status { IfTold (F.holds files.old) (λ m.
-        IsOrFault (run_of (request_of words.now) now m).status result) }
+        IsOrFault (request_of words.now) now result m) }
     ensures usage { IsFault result ⊎ ((request_of words.now ≡ usage) ↔ (result ≡ Status.Usage)) }
 
     // That something was found is answered by a check without force, an analysis, sorting, or the
@@ -87,16 +89,16 @@ fn run<R: Threads + Sync, F: Files, O: Sink>(
     now: u64,
 ) -> Result<Status, Stop>
     requires { IsTrue F.writable }
-    ensures said { OnOk result (IfTold (F.holds files.old) (λ m. IfTold (O.written out.old)
-        (Appends (run_of (request_of words.now) now m).text (O.written out.new)))) }
-    ensures part { OnErr result (IfTold (F.holds files.old) (λ m. IfTold (O.written out.old)
-        (AppendsPart (run_of (request_of words.now) now m).text (O.written out.new)))) }
+    ensures said { IfOk result (λ s. IfTold (F.holds files.old)
+        (SaidText (request_of words.now) now s (O.written out.old) (O.written out.new))) }
+    ensures part { OnErr result (IfTold (F.holds files.old)
+        (SaidPart (request_of words.now) now (O.written out.old) (O.written out.new))) }
     ensures usage_said { OnOk result (request_of words.now ≡ usage → IfTold (O.written out.old)
         (Appends spec.usage_line (O.written out.new))) }
     ensures usage_part { OnErr result (request_of words.now ≡ usage → IfTold (O.written out.old)
         (AppendsPart spec.usage_line (O.written out.new))) }
-    ensures status { IfOk result (λ s. IfTold (F.holds files.old) (λ m.
-        s ≡ (run_of (request_of words.now) now m).status)) }
+    ensures status { IfOk result (λ s. IfTold (F.holds files.old)
+        (HasStatus (request_of words.now) now s)) }
     ensures plain { IfOk result (λ s. IsFault s → ⊥) }
     ensures usage { IfOk result (λ s. (request_of words.now ≡ usage) ↔ (s ≡ Status.Usage)) }
     ensures findings { IfOk result (λ s. s ≡ Status.Findings → MayFindAny (request_of words.now)) }
@@ -117,5 +119,6 @@ fn run<R: Threads + Sync, F: Files, O: Sink>(
         Plan::Create(name, text) => create_from_text(host.alloc, files, out, name, text),
         Plan::Dump(name) => dump_table(host.alloc, files, out, name),
         Plan::Make(rows, name) => make_of_rows(host.alloc, files, out, rows, name, now),
+        Plan::Shell(job) => run_shell(host.alloc, files, out, &job),
     }
 }

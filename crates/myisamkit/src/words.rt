@@ -8,6 +8,8 @@ ghost use Rattle.myisamkit.specs.Plans.{asked};
 
 use crate::numbers::number_in;
 use crate::options::{Options, Seen, letter_flag, long_flag, sort_flag};
+use crate::shell::Job;
+use crate::shell_words::plan_shell;
 
 /// How many rows a table is made of, and the seed that decides them.
 #[derive(Clone, Copy)]
@@ -32,6 +34,8 @@ pub(crate) enum Plan<'a> {
     Dump(&'a str),
     /// A table of this name is made of these rows, damaged and recovered.
     Make(Rows, &'a str),
+    /// A script is run on a table.
+    Shell(Job<'a>),
 }
 
 /// What was read of a list of words.
@@ -55,6 +59,7 @@ pub(crate) fn read_words(words: &[String]) -> Plan<'_>
         Some((command, others)) if command.as_str() == "create" => plan_create(others),
         Some((command, others)) if command.as_str() == "dump" => plan_dump(others),
         Some((command, others)) if command.as_str() == "make" => plan_make(others),
+        Some((command, others)) if command.as_str() == "shell" => plan_shell(others),
         _ => Plan::Usage,
     }
 }
@@ -320,8 +325,8 @@ fn is_long(word: &str) -> bool
     word.starts_with("--")
 }
 
-// A word that begins with a dash, and so is no value.
-fn has_dash(word: &str) -> bool
+/// A word that begins with a dash, and so is no value.
+pub(crate) fn has_dash(word: &str) -> bool
     ensures { result ≡ spec.has_dash word.now }
 {
     word.starts_with("-")
@@ -385,8 +390,8 @@ fn seen_letters(seen: Seen, letters: &[u8]) -> Option<Seen>
     Some(seen)
 }
 
-// All words behind this one are names.
-fn is_end(word: &str) -> bool
+/// All words behind this one are names.
+pub(crate) fn is_end(word: &str) -> bool
     ensures { result ≡ spec.is_end word.now }
 {
     word == "--"
@@ -399,14 +404,14 @@ fn is_option(word: &str) -> bool
     bytes.len() > 1 && bytes[0] == b'-'
 }
 
-// The word is a name, where the word behind which all are names came before or not.
-fn names_table(word: &str, ended: bool) -> bool
+/// The word is a name, where the word behind which all are names came before or not.
+pub(crate) fn names_table(word: &str, ended: bool) -> bool
     ensures { result ≡ spec.names_table ended word.now }
 {
     ended || !(is_end(word) || is_option(word))
 }
 
-fn is_name(word: &str) -> bool
+pub(crate) fn is_name(word: &str) -> bool
     ensures { result ≡ spec.is_name word.now }
 {
     let bytes = word.as_bytes();

@@ -4,6 +4,8 @@ use Rattle.myi_base.specs.Holding.{Told}
 use Rattle.myisamkit.specs.Words.{request_of}
 use Rattle.myisamkit.specs.Recovers.{Recovers}
 use Rattle.myisamkit.proofs.RecoverLaws.{recovers_told, stops_are_faults}
+use Rattle.myisamkit.specs.Statuses.{IsFault}
+use Rattle.myisamkit.proofs.SaidLaws.{whole_said, part_said}
 use Rattle.myisamkit.proofs.top.kit.Goals as goal
 
 pub returns-in-Ok-clause-others : goal.returns-in-Ok-clause-others
@@ -21,3 +23,15 @@ returns-in-Err-clause-headline g c =
 
 pub returns-in-Ok-clause-usage : goal.returns-in-Ok-clause-usage
 returns-in-Ok-clause-usage g c = inr c.in-Ok.ensures.usage
+
+pub returns-in-Ok-clause-text : goal.returns-in-Ok-clause-text
+returns-in-Ok-clause-text g c = whole_said (request_of c.args.words.now) _ _ _ _ _ c.in-Ok.ensures.plain c.in-Ok.ensures.said
+
+pub returns-in-Err-clause-text : goal.returns-in-Err-clause-text
+returns-in-Err-clause-text g c = part_said (request_of c.args.words.now) _ _ _ _ _ (subst IsFault (sym c.into.ensures) (stops_are_faults c.in-Err.stop)) c.in-Err.ensures.part
+
+pub returns-in-Ok-clause-status : goal.returns-in-Ok-clause-status
+returns-in-Ok-clause-status g c m told = inr (c.in-Ok.ensures.status m told)
+
+pub returns-in-Err-clause-status : goal.returns-in-Err-clause-status
+returns-in-Err-clause-status g c m told = inl (subst IsFault (sym c.into.ensures) (stops_are_faults c.in-Err.stop))

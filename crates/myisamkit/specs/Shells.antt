@@ -1,0 +1,188 @@
+-- What the run of a script on a table prints, answers and leaves. The text of a script has free numbers (what its reads find while
+-- others insert, what a key cache counted), so it is a relation.
+use Rattle.std.specs.Prelude.{◌≡◌, ◌⊎◌, ℕ, false, List, [], ◌∷◌, ◌++◌, Option, Some, None, Result, Ok, Err, Vec, string_bytes}
+use Rattle.myi_base.specs.Holding.{Holding, IfTold, bytes_of}
+use Rattle.myi_base.specs.Output.{Appends, AppendsPart}
+use Rattle.std.specs.declared.alloc.Global.{Global}
+use Rattle.myi_defs.specs.declared.types.Defs.{Defs}
+use Rattle.myi_defs.specs.declared.types.DefFault.{DefFault}
+use Rattle.myi_deftext.specs.Text.{lines}
+use Rattle.myi_opening.specs.declared.fault.TableFault.{TableFault}
+use Rattle.myi_opening.specs.declared.fault.TableFault.TheVariants as fault
+use Rattle.myi_opening.specs.Names.{rows_file, index_file, file_of}
+use Rattle.myi_opening.specs.Opening as opening
+use Rattle.myi_pair.specs.declared.finding.Finding.{Finding}
+use Rattle.myi_pair.specs.Clean.{IsClean}
+use Rattle.myi_check.specs.Checking.{findings_in}
+use Rattle.myi_state.specs.State.{TableState}
+use Rattle.myi_state.specs.Changes.{replay}
+use Rattle.myi_tablestate.specs.Standing.{StandForTable}
+use Rattle.myi_keyedrows.specs.Files.{defs_with}
+use Rattle.myi_script.specs.declared.types.Line.{Line}
+use Rattle.myi_script.specs.Script.{IsScript, IsFirstOutside}
+use Rattle.myi_history.specs.History.{Opening, history}
+use Rattle.myi_history.specs.Text.{Numbers, shell_text}
+use Rattle.myi_history.specs.Bounds.{AreWithin}
+use Rattle.myi_table.specs.Table.{OpenTable, defs_in, KeepsOthers}
+use Rattle.myi_table.specs.Loading.{IsLoaded}
+use Rattle.myisamkit.specs.declared.status.Status.{Status}
+use Rattle.myisamkit.specs.declared.status.Status.TheVariants as status
+use Rattle.myisamkit.specs.declared.shell.Found.{Found}
+use Rattle.myisamkit.specs.declared.shell.Found.TheVariants as found
+use Rattle.myisamkit.specs.Statuses.{IsFault}
+use Rattle.myisamkit.specs.Lines.{absent_line, refused_line, reason_of, finding_line, text_line}
+use Rattle.myisamkit.specs.Turns.{Turn}
+use Rattle.myisamkit.specs.Dumps.{reason}
+
+-- ---- before the script
+
+-- why no script is read: what is said, and the status
+pub record Refusal : Type 0 where
+  pub said : List ℕ
+  pub status : Status
+
+abbrev pub refusal : List ℕ → Status → Refusal
+refusal said s = record { said = said; status = s }
+
+-- what is said of a table that is there, if something is: that its definitions are refused, or what is found first
+abbrev pub said_of : List ℕ → Result (List Finding) DefFault → Option (List ℕ)
+said_of name (Err f) = Some (refused_line name (reason_of f))
+said_of name (Ok []) = None
+said_of name (Ok (f ∷ fs)) = Some (finding_line name f ++ reason name f)
+
+abbrev pub text_unless : Option (List ℕ) → List ℕ → Result (List ℕ) Refusal
+text_unless None text = Ok text
+text_unless (Some said) text = Err (refusal said status.Refused)
+
+-- by the file of the script
+abbrev pub text_by : List ℕ → List ℕ → Result (List Finding) DefFault → Option (List ℕ) → Result (List ℕ) Refusal
+text_by name script looked None = Err (refusal (absent_line script) status.Absent)
+text_by name script looked (Some text) = text_unless (said_of name looked) text
+
+-- files that are absent go first; the faults that cut a check off are none of what files hold
+abbrev pub text_of : List ℕ → List ℕ → Result (List Finding) TableFault → Option (List ℕ) → Result (List ℕ) Refusal
+text_of name script (Err (fault.Absent f)) text = Err (refusal (absent_line (file_of f name)) status.Absent)
+text_of name script (Err (fault.Def f)) text = text_by name script (Err f) text
+text_of name script (Err fault.File) text = Err (refusal [] status.FileFault)
+text_of name script (Err fault.Memory) text = Err (refusal [] status.Memory)
+text_of name script (Ok looked) text = text_by name script (Ok looked) text
+
+-- the text of the script, where nothing is wrong with the table, or why it is not read
+unfoldable pub text_in : List ℕ → List ℕ → Holding → Result (List ℕ) Refusal
+text_in name script m = text_of name script (findings_in name m) (m script)
+
+-- a table of which no script is read keeps its files
+abbrev pub shell_begin_turn : Result (List ℕ) Refusal → Holding → Turn
+shell_begin_turn (Err r) m = record { text = r.said; status = r.status; files = m }
+shell_begin_turn (Ok text) m = record { text = []; status = status.Ok; files = m }
+
+-- ---- the script
+
+-- how this text begins on the table of this name, with this setting of concurrent inserts
+pub record Begins (setting : ℕ) (name : List ℕ) (m : Holding) (text : List ℕ) (o : Opening) : Type 0 where
+  pub table : opening.Table
+  pub is : opening.table_in (index_file name) (rows_file name) m ≡ Ok table
+  pub defs : o.defs ≡ table.defs
+  pub lines : IsScript false table.defs text o.lines
+  pub base : StandForTable table.defs o.base table.rows table.index
+  pub inserts : o.setting ≡ setting
+
+-- a line of this text is the first that is not in the grammar, which is said
+pub record IsOutside (name script : List ℕ) (m : Holding) (text said : List ℕ) (s : Status) : Type 0 where
+  pub table : opening.Table
+  pub is : opening.table_in (index_file name) (rows_file name) m ≡ Ok table
+  pub line : ℕ
+  pub first : IsFirstOutside false table.defs (lines text) line
+  pub says : said ≡ text_line script line
+  pub ends : s ≡ status.Refused
+
+-- the script is run, and this is its text, with numbers within their bounds
+pub record IsRun (setting : ℕ) (name : List ℕ) (m : Holding) (text said : List ℕ) (s : Status) : Type 0 where
+  pub begin : Opening
+  pub begins : Begins setting name m text begin
+  pub numbers : List Numbers
+  pub within : AreWithin begin numbers
+  pub says : said ≡ shell_text begin numbers
+  pub ends : s ≡ status.Ok
+
+abbrev pub ComesTo : ℕ → List ℕ → List ℕ → Holding → Result (List ℕ) Refusal → List ℕ → Status → Type 0
+ComesTo setting name script m (Err r) said s = (said ≡ r.said) × (s ≡ r.status)
+ComesTo setting name script m (Ok text) said s = IsOutside name script m text said s ⊎ IsRun setting name m text said s
+
+-- this may be said, with this status, by a run that nothing cuts off
+abbrev pub ShellComesTo : ℕ → List ℕ → List ℕ → Holding → List ℕ → Status → Type 0
+ShellComesTo setting name script m said s = ComesTo setting name script m (text_in name script m) said s
+
+-- ---- what is written
+
+-- such a text was written behind what was there
+abbrev pub ShellSaid : ℕ → List ℕ → List ℕ → Status → Option (List ℕ) → Option (List ℕ) → Holding → Type 0
+ShellSaid setting name script s old new m = (said : List ℕ) × ShellComesTo setting name script m said s × IfTold old (Appends said new)
+
+-- nothing was written, or a first part of such a text
+abbrev pub ShellSaidPart : ℕ → List ℕ → List ℕ → Option (List ℕ) → Option (List ℕ) → Holding → Type 0
+ShellSaidPart setting name script old new m = (new ≡ old) ⊎ ((said : List ℕ) × (s : Status) × ShellComesTo setting name script m said s × IfTold old (AppendsPart said new))
+
+-- by the status
+abbrev pub ShellSays : ℕ → List ℕ → List ℕ → Option (List ℕ) → Option (List ℕ) → Status → Holding → Type 0
+ShellSays setting name script old new s m = (IsFault s × ShellSaidPart setting name script old new m) ⊎ ((IsFault s → ⊥) × ShellSaid setting name script s old new m)
+
+-- ---- the files
+
+-- the two files of this name are a clean pair that stands for a state of a table
+pub record StandClean (name : List ℕ) (o : Opening) (s : TableState) (m : Holding) : Type 0 where
+  pub index : List ℕ
+  pub there : m (index_file name) ≡ Some index
+  pub stand : StandForTable (defs_with o.defs index) s (bytes_of (rows_file name) m) index
+  pub clean : IsClean (bytes_of (rows_file name) m) index
+
+-- the script was run: the pair of files stands for the replay of its history, and other files stay
+pub record ShellDone (setting : ℕ) (name script : List ℕ) (m n : Holding) : Type 0 where
+  pub text : List ℕ
+  pub read : text_in name script m ≡ Ok text
+  pub begin : Opening
+  pub begins : Begins setting name m text begin
+  pub pair : StandClean name begin (replay begin.defs begin.base (history begin)) n
+  pub others : KeepsOthers name m n
+
+-- The files at a status. Where no script is run nothing is changed; a run that is cut off leaves files of other names.
+abbrev pub ShellLeaves : ℕ → List ℕ → List ℕ → Status → Holding → Holding → Type 0
+ShellLeaves setting name script status.Ok m n = ShellDone setting name script m n
+ShellLeaves setting name script status.FileFault m n = KeepsOthers name m n
+ShellLeaves setting name script status.SinkFault m n = KeepsOthers name m n
+ShellLeaves setting name script status.Memory m n = KeepsOthers name m n
+ShellLeaves setting name script status.Findings m n = n ≡ m
+ShellLeaves setting name script status.Usage m n = n ≡ m
+ShellLeaves setting name script status.Refused m n = n ≡ m
+ShellLeaves setting name script status.Absent m n = n ≡ m
+
+-- ---- what the code finds of it
+
+-- what was found is this text of the script, or why it is not read
+abbrev pub IsRead : Result (List ℕ) Refusal → Found → Type 0
+IsRead r (found.Refused s line) = r ≡ Err (refusal (string_bytes line) s)
+IsRead r (found.Text text) = r ≡ Ok text.items
+
+abbrev pub IsFound : List ℕ → List ℕ → Found → Holding → Type 0
+IsFound name script f m = IsRead (text_in name script m) f
+
+-- what a check found, as a list
+abbrev pub looked_at : Result (Vec Finding Global) DefFault → Result (List Finding) DefFault
+looked_at (Ok found) = Ok found.items
+looked_at (Err f) = Err f
+
+-- a refusal has a status of its own
+abbrev pub IsPlain : Found → Type 0
+IsPlain (found.Refused s line) = (s ≡ status.Refused) ⊎ (s ≡ status.Absent)
+IsPlain (found.Text text) = Unit {0}
+
+-- this text of a table says these lines
+abbrev pub IsScriptOf : Defs → List ℕ → List Line → Type 0
+IsScriptOf d text said = IsScript false d text said
+
+-- nothing is wrong with the table that was loaded, and the text of the script says these lines
+pub record IsReady (name script : List ℕ) (t : OpenTable) (said : List Line) (m : Holding) : Type 0 where
+  pub text : List ℕ
+  pub read : text_in name script m ≡ Ok text
+  pub lines : IsScript false (defs_in t) text said
+  pub loaded : IsLoaded name t m

@@ -1,0 +1,278 @@
+//! Running a script on a table.
+ghost use Rattle.std.specs.Prelude.{◌≡◌, ◌≢◌, ◌≤◌, None, Some, Ok, Err, List, ℕ, false};
+ghost use Rattle.std.specs.Prelude.{option_map, string_bytes, IfOk, IfErr, OnOk, OnErr, IsTrue};
+ghost use Rattle.myi_base.specs.Holding.{IfTold, Told};
+ghost use Rattle.myi_base.specs.Output.{Appends, AppendsPart};
+ghost use Rattle.myi_base.specs.Causes.{HasCause};
+ghost use Rattle.myi_keycache.specs.Setup.{IsSetup};
+ghost use Rattle.myi_check.specs.Checking.{Finds, Refuses};
+ghost use Rattle.myi_table.specs.Loading.{IsLoaded};
+ghost use Rattle.myi_table.specs.Table.{defs_in};
+ghost use Rattle.myisamkit.specs.Stops.{status_of_stop};
+ghost use Rattle.myisamkit.specs.Statuses.{IsFault};
+ghost use Rattle.myisamkit.specs.Lines as spec;
+ghost use Rattle.myisamkit.specs.Shells as shells;
+
+use crate::dump::refusal;
+use crate::lines::{absent_line, damaged_line, no_file_line, reason_of, refused_line, text_line};
+use crate::say::say;
+use crate::shell_options::ShellOptions;
+use crate::status::{Status, Stop};
+use myi_check::check;
+use myi_defs::DefFault;
+use myi_history::scripts_may_run;
+use myi_io::{Files, Sink, read_front};
+use myi_keycache::CacheSetup;
+use myi_opening::TableFault;
+use myi_pair::{Finding, findings_are_none_where_clean};
+use myi_script::{Script, ScriptFault, parse_script};
+use myi_shell::{ShellFault, run_script};
+use myi_table::{LoadFault, Table};
+use myi_tablestate::clean_pairs_stand_for_tables;
+use std::alloc::{AllocError, Global};
+
+/// A script, the table that it is run on, and how.
+#[derive(Clone, Copy)]
+pub(crate) struct Job<'a> {
+    pub(crate) options: ShellOptions,
+    pub(crate) name: &'a str,
+    pub(crate) script: &'a str,
+}
+
+/// What is found before a script is read.
+#[derive(Drop)]
+pub(crate) enum Found {
+    /// The script is not read; this is said, with the status.
+    Refused(Status, String),
+    /// Nothing is wrong with the table, and this is the text of the script.
+    Text(Vec<u8>),
+}
+
+/// Runs a script on a table with which nothing is wrong; else says what is.
+pub(crate) fn run_shell<F: Files, O: Sink>(
+    alloc: Global,
+    files: &mut F,
+    out: &mut O,
+    job: &Job<'_>,
+) -> Result<Status, Stop>
+    requires writable { IsTrue F.writable }
+    requires setup { IsSetup job.now.options.setup }
+    requires setting { job.now.options.concurrent ≤ 2 }
+    ensures said { IfOk result (λ s. IfTold (F.holds files.old)
+        (shells.ShellSaid job.now.options.concurrent job.now.name.now job.now.script.now s
+        (O.written out.old) (O.written out.new))) }
+    ensures part { OnErr result (IfTold (F.holds files.old)
+        (shells.ShellSaidPart job.now.options.concurrent job.now.name.now job.now.script.now
+        (O.written out.old) (O.written out.new))) }
+    ensures done { IfOk result (λ s. Told (F.holds files.old) (F.holds files.new)
+        (shells.ShellLeaves job.now.options.concurrent job.now.name.now job.now.script.now s)) }
+    ensures stops { IfErr result (λ stop. Told (F.holds files.old) (F.holds files.new)
+        (shells.ShellLeaves job.now.options.concurrent job.now.name.now job.now.script.now
+        (status_of_stop stop))) }
+    ensures plain { IfOk result (λ s. IsFault s → ⊥) }
+    ensures usage { IfOk result (λ s. s ≢ Status.Usage) }
+    ensures findings { IfOk result (λ s. s ≢ Status.Findings) }
+    ensures file { HasCause Stop.File (F.faults files.old) (F.faults files.new) result }
+    ensures sink { HasCause Stop.Sink (O.faults out.old) (O.faults out.new) result }
+{
+    match find_text(alloc, files, job.name, job.script)? {
+        Found::Refused(status, line) => {
+            say(out, line.as_str())?;
+            Ok(status)
+        }
+        Found::Text(text) => run_text(alloc, files, out, job, &text),
+    }
+}
+
+// The text of a script, where nothing is wrong with its table.
+fn find_text<F: Files>(
+    alloc: Global,
+    files: &mut F,
+    name: &str,
+    script: &str,
+) -> Result<Found, Stop>
+    ensures found { IfOk result (λ f. IfTold (F.holds files.old)
+        (shells.IsFound name.now script.now f)) }
+    ensures plain { IfOk result shells.IsPlain }
+    ensures holds { F.holds files.new ≡ F.holds files.old }
+    ensures sink { IfErr result (λ stop. stop ≢ Stop.Sink) }
+    ensures cause { HasCause Stop.File (F.faults files.old) (F.faults files.new) result }
+{
+    match check(alloc, files, name) {
+        Ok(found) => with_text(alloc, files, name, script, Ok(found)),
+        Err(TableFault::Def(fault)) => with_text(alloc, files, name, script, Err(fault)),
+        Err(TableFault::Absent(file)) => {
+            let line = absent_line(alloc, name, file)?;
+            Ok(Found::Refused(Status::Absent, line))
+        }
+        Err(TableFault::File) => Err(Stop::File),
+        Err(TableFault::Memory) => Err(Stop::Memory),
+    }
+}
+
+// The same for a table whose two files are there, by what a check found.
+fn with_text<F: Files>(
+    alloc: Global,
+    files: &mut F,
+    name: &str,
+    script: &str,
+    looked: Result<Vec<Finding>, DefFault>,
+) -> Result<Found, Stop>
+    ensures found { IfOk result (λ f. IfTold (F.holds files.old) (λ m.
+        shells.IsRead (shells.text_by name.now script.now (shells.looked_at looked)
+        (m script.now)) f)) }
+    ensures plain { IfOk result shells.IsPlain }
+    ensures holds { F.holds files.new ≡ F.holds files.old }
+    ensures sink { IfErr result (λ stop. stop ≢ Stop.Sink) }
+    ensures cause { HasCause Stop.File (F.faults files.old) (F.faults files.new) result }
+{
+    let Some(length) = files.length(script)? else {
+        let line = no_file_line(alloc, script)?;
+        return Ok(Found::Refused(Status::Absent, line));
+    };
+    if let Some(said) = refusal_of(alloc, name, looked)? {
+        return Ok(Found::Refused(Status::Refused, said));
+    }
+    let text = read_front(alloc, files, script, length)?;
+    Ok(Found::Text(text))
+}
+
+// What is said of a table whose two files are there, if something is.
+fn refusal_of(
+    alloc: Global,
+    name: &str,
+    looked: Result<Vec<Finding>, DefFault>,
+) -> Result<Option<String>, AllocError>
+    ensures { IfOk result (λ said. option_map string_bytes said
+        ≡ shells.said_of name.now (shells.looked_at looked)) }
+{
+    match looked {
+        Ok(found) => match found.as_slice().split_first() {
+            None => Ok(None),
+            Some((finding, _)) => Ok(Some(refusal(alloc, name, *finding)?)),
+        },
+        Err(fault) => Ok(Some(refused_line(alloc, name, reason_of(fault))?)),
+    }
+}
+
+// Runs the script of a text on a table with which nothing is wrong.
+fn run_text<F: Files, O: Sink>(
+    alloc: Global,
+    files: &mut F,
+    out: &mut O,
+    job: &Job<'_>,
+    text: &[u8],
+) -> Result<Status, Stop>
+    requires writable { IsTrue F.writable }
+    requires setup { IsSetup job.now.options.setup }
+    requires setting { job.now.options.concurrent ≤ 2 }
+    requires text { IfTold (F.holds files.old) (λ m.
+        shells.text_in job.now.name.now job.now.script.now m ≡ Ok text.now) }
+    ensures said { IfOk result (λ s. IfTold (F.holds files.old)
+        (shells.ShellSaid job.now.options.concurrent job.now.name.now job.now.script.now s
+        (O.written out.old) (O.written out.new))) }
+    ensures part { OnErr result (IfTold (F.holds files.old)
+        (shells.ShellSaidPart job.now.options.concurrent job.now.name.now job.now.script.now
+        (O.written out.old) (O.written out.new))) }
+    ensures done { IfOk result (λ s. Told (F.holds files.old) (F.holds files.new)
+        (shells.ShellLeaves job.now.options.concurrent job.now.name.now job.now.script.now s)) }
+    ensures stops { IfErr result (λ stop. Told (F.holds files.old) (F.holds files.new)
+        (shells.ShellLeaves job.now.options.concurrent job.now.name.now job.now.script.now
+        (status_of_stop stop))) }
+    ensures plain { IfOk result (λ s. IsFault s → ⊥) }
+    ensures usage { IfOk result (λ s. s ≢ Status.Usage) }
+    ensures findings { IfOk result (λ s. s ≢ Status.Findings) }
+    ensures file { HasCause Stop.File (F.faults files.old) (F.faults files.new) result }
+    ensures sink { HasCause Stop.Sink (O.faults out.old) (O.faults out.new) result }
+{
+    let table = load_sound(alloc, files, job.name, job.options.setup)?;
+    match parse_script(alloc, text, table.defs(), false) {
+        Ok(script) => run_parsed(alloc, files, out, job, table, script),
+        Err(ScriptFault::Line(number)) => {
+            let line = text_line(alloc, job.script, number)?;
+            say(out, line.as_str())?;
+            Ok(Status::Refused)
+        }
+        Err(ScriptFault::Memory) => Err(Stop::Memory),
+    }
+}
+
+// Loads a table with which nothing is wrong.
+fn load_sound<F: Files>(
+    alloc: Global,
+    files: &mut F,
+    name: &str,
+    setup: CacheSetup,
+) -> Result<Table, Stop>
+    requires setup { IsSetup setup }
+    ensures loaded { IfOk result (λ t. IfTold (F.holds files.old) (IsLoaded name.now t)) }
+    ensures name { IfOk result (λ t. t.name ≡ name.now) }
+    ensures whole { IfOk result (λ t. t.broken ≡ None) }
+    ensures holds { F.holds files.new ≡ F.holds files.old }
+    ensures sink { IfErr result (λ stop. stop ≢ Stop.Sink) }
+    ensures cause { HasCause Stop.File (F.faults files.old) (F.faults files.new) result }
+{
+    match Table::load(alloc, files, name, setup) {
+        Ok(table) => Ok(table),
+        Err(LoadFault::File) => Err(Stop::File),
+        // It is refused for nothing else, but where somebody else writes its files meanwhile.
+        Err(_) => Err(Stop::Memory),
+    }
+}
+
+// Runs a script on a table that was loaded.
+fn run_parsed<F: Files, O: Sink>(
+    alloc: Global,
+    files: &mut F,
+    out: &mut O,
+    job: &Job<'_>,
+    table: Table,
+    script: Script,
+) -> Result<Status, Stop>
+    requires writable { IsTrue F.writable }
+    requires setting { job.now.options.concurrent ≤ 2 }
+    requires ready { IfTold (F.holds files.old)
+        (shells.IsReady job.now.name.now job.now.script.now table script.lines) }
+    requires name { table.name ≡ job.now.name.now }
+    requires whole { table.broken ≡ None }
+    requires lines { (text : List ℕ)
+        × shells.IsScriptOf (defs_in table) text script.lines }
+    ensures said { IfOk result (λ s. IfTold (F.holds files.old)
+        (shells.ShellSaid job.now.options.concurrent job.now.name.now job.now.script.now s
+        (O.written out.old) (O.written out.new))) }
+    ensures part { OnErr result (IfTold (F.holds files.old)
+        (shells.ShellSaidPart job.now.options.concurrent job.now.name.now job.now.script.now
+        (O.written out.old) (O.written out.new))) }
+    ensures done { IfOk result (λ s. Told (F.holds files.old) (F.holds files.new)
+        (shells.ShellLeaves job.now.options.concurrent job.now.name.now job.now.script.now s)) }
+    ensures stops { IfErr result (λ stop. Told (F.holds files.old) (F.holds files.new)
+        (shells.ShellLeaves job.now.options.concurrent job.now.name.now job.now.script.now
+        (status_of_stop stop))) }
+    ensures plain { IfOk result (λ s. IsFault s → ⊥) }
+    ensures usage { IfOk result (λ s. s ≢ Status.Usage) }
+    ensures findings { IfOk result (λ s. s ≢ Status.Findings) }
+    ensures file { HasCause Stop.File (F.faults files.old) (F.faults files.new) result }
+    ensures sink { HasCause Stop.Sink (O.faults out.old) (O.faults out.new) result }
+{
+    scripts_may_run();
+    clean_pairs_stand_for_tables();
+    findings_are_none_where_clean();
+    match run_script(alloc, table, &script, job.options.concurrent, files, out) {
+        Ok(()) => Ok(Status::Ok),
+        Err(ShellFault::Damaged { at }) => say_damaged(alloc, out, job.name, at),
+        Err(ShellFault::File) => Err(Stop::File),
+        Err(ShellFault::Sink) => Err(Stop::Sink),
+        Err(ShellFault::Memory) => Err(Stop::Memory),
+    }
+}
+
+// Says where a table is damaged, which is met in no table of files that tell what they hold.
+fn say_damaged<O: Sink>(alloc: Global, out: &mut O, name: &str, at: u64) -> Result<Status, Stop>
+    ensures status { IfOk result (λ s. s ≡ Status.Refused) }
+    ensures file { IfErr result (λ s. s ≢ Stop.File) }
+    ensures sink { HasCause Stop.Sink (O.faults out.old) (O.faults out.new) result }
+{
+    let line = damaged_line(alloc, name, at)?;
+    say(out, line.as_str())?;
+    Ok(Status::Refused)
+}
