@@ -15,7 +15,7 @@ use Rattle.myisamkit.specs.declared.status.Stop.{Stop}
 use Rattle.myisamkit.specs.declared.shell.Found.{Found}
 use Rattle.myisamkit.specs.declared.shell.Found.TheVariants as found
 use Rattle.myisamkit.specs.Lines.{absent_line}
-use Rattle.myisamkit.specs.Shells.{Refusal, refusal, text_by, text_in, IsRead, IsFound}
+use Rattle.myisamkit.specs.Shells.{Refusal, text_by, text_in, IsRead, IsFound}
 use Rattle.myisamkit.proofs.ShellLaws.{found_by, defs_by, absent_by}
 
 read_as : (f : Found) (r q : Result (List ℕ) Refusal) → q ≡ r → IsRead r f → IsRead q f

@@ -1,13 +1,11 @@
 -- What a script comes to, by what is found before it is read, and by how it ran.
-use Rattle.std.proofs.Common.{◌≡◌, ◌⊎◌, arith, ℕ, Bool, true, false, List, [], ◌∷◌, take, Option, Some, None, Result, Ok, Err, refl, sym, ap, subst, ◌∙◌, inl, inr}
-use Rattle.std.specs.Prelude.{IfOk, IfErr, OnOk, OnErr, unwrap_or}
+use Rattle.std.proofs.Common.{◌≡◌, arith, ℕ, Bool, true, false, List, [], ◌∷◌, take, Option, Some, None, Result, Ok, Err, refl, sym, ap, subst, ◌∙◌, inr}
+use Rattle.std.specs.Prelude.{unwrap_or}
 use Rattle.myi_base.specs.Numbers.{AreBytes}
 use Rattle.std.proofs.lemmas.List.{take_all}
 use Rattle.myi_base.specs.Holding.{Holding, IfTold, Told, HoldsBytes, Measures, IsFront, bytes_of}
-use Rattle.myi_base.specs.Output.{Appends, AppendsPart}
 use Rattle.myi_defs.specs.declared.types.Defs.{Defs}
 use Rattle.myi_defs.specs.declared.types.DefFault.{DefFault}
-use Rattle.myi_defs.specs.ReadDefs.{read_defs}
 use Rattle.myi_defs.specs.Sound.{IsSound}
 use Rattle.myi_defs.proofs.CallerLemmas.{sound, are_defs}
 use Rattle.myi_header.specs.StateOf.{has_mark}
@@ -30,7 +28,7 @@ use Rattle.myi_script.specs.declared.types.Line.{Line}
 use Rattle.myi_script.specs.Script.{IsScript}
 use Rattle.myi_history.specs.History.{Opening, history}
 use Rattle.myi_table.specs.declared.fault.LoadFault.{LoadFault}
-use Rattle.myi_table.specs.Table.{OpenTable, defs_in, HoldState, IsKept, IfHolds, IsSame, KeepsOthers, ChangesItsOwn}
+use Rattle.myi_table.specs.Table.{OpenTable, defs_in, HoldState, IsKept, IfHolds, KeepsOthers, ChangesItsOwn}
 use Rattle.myi_table.specs.Loading.{IsLoaded, marked_by, loaded_by}
 use Rattle.myi_table.specs.Loading as loading
 use Rattle.myi_shell.specs.Running.{opening_on, IsPrinted, IsPrintedPart, AreClosed}

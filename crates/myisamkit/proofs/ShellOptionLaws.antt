@@ -1,13 +1,11 @@
 -- Options of `shell` that are met one after the other, and what they ask for together.
-use Rattle.std.proofs.Common.{◌≡◌, ℕ, Bool, true, false, List, [], ◌∷◌, Option, Some, None, refl, sym, ap, ◌∙◌}
+use Rattle.std.proofs.Common.{◌≡◌, ℕ, Bool, true, false, List, [], ◌∷◌, Option, Some, None, refl, ap, ◌∙◌}
 use Rattle.std.specs.Prelude.{◌&&◌, ◌||◌, not, if◌then◌else◌, is_some, option_and_then, unwrap_or}
 use Rattle.std.specs.List.{list_all, list_any}
-use Rattle.std.proofs.lemmas.Bool.{cases_Bool}
 use Rattle.myisamkit.specs.declared.shell_options.ShellFlag.{ShellFlag}
 use Rattle.myisamkit.specs.declared.shell_options.ShellFlag.TheVariants as flag
 use Rattle.myisamkit.specs.declared.shell_options.ShellOptions.{ShellOptions}
 use Rattle.myisamkit.specs.declared.shell_options.ShellSeen.{ShellSeen}
-use Rattle.myisamkit.specs.Options.{at_most_one}
 use Rattle.myisamkit.specs.ShellOptions.{blocks_in, division_in, age_in, concurrent_in, is_once, are_once, or_number, number_or, shell_go_together, shell_options_in}
 use Rattle.myisamkit.specs.ShellReading.{shell_with, shell_seen, shell_after}
 

@@ -7,7 +7,7 @@ use Rattle.myisamkit.specs.declared.shell_options.ShellFlag.{ShellFlag}
 use Rattle.myisamkit.specs.declared.shell_options.ShellFlag.TheVariants as flag
 use Rattle.myisamkit.specs.declared.shell_options.ShellOptions.{ShellOptions}
 use Rattle.myisamkit.specs.Numbers.{number_in}
-use Rattle.myisamkit.specs.ShellOptions.{shell_flag, division_of, age_of, concurrent_of, blocks_flag, division_flag, age_flag, concurrent_flag, cache_blocks, division_limit, age_threshold, concurrent_insert, blocks_in, division_in, age_in, concurrent_in, or_number, number_or, shell_options_in}
+use Rattle.myisamkit.specs.ShellOptions.{shell_flag, division_of, age_of, concurrent_of, blocks_flag, division_flag, age_flag, concurrent_flag, cache_blocks, division_limit, age_threshold, concurrent_insert, blocks_in, division_in, age_in, concurrent_in, number_or, shell_options_in}
 use Rattle.myisamkit.specs.Words.{plan, shell, shell_flags_in, shell_spelled_out, is_option, before_end}
 use Rattle.myisamkit.proofs.AskedLaws.{words_scripted}
 use Rattle.myisamkit.proofs.MakeWordLaws.{within}

@@ -1,8 +1,7 @@
 -- The words behind `shell`, read one after the other.
-use Rattle.std.proofs.Common.{◌≡◌, ◌≤◌, ◌⊎◌, arith, ℕ, Bool, true, false, List, [], ◌∷◌, ◌++◌, length, map, Option, Some, None, refl, sym, ap, subst, ◌∙◌, filter, inl, inr}
-use Rattle.std.specs.Prelude.{◌&&◌, ◌||◌, not, if◌then◌else◌, is_some, is_none, option_and_then, option_map, codes}
+use Rattle.std.proofs.Common.{◌≡◌, ℕ, Bool, true, false, List, [], ◌∷◌, ◌++◌, length, map, Option, Some, None, refl, sym, ap, subst, ◌∙◌, filter}
+use Rattle.std.specs.Prelude.{◌&&◌, ◌||◌, not, if◌then◌else◌, is_some, option_and_then, option_map, codes}
 use Rattle.std.specs.Str.{bytes_eq}
-use Rattle.std.proofs.lemmas.Bool.{cases_Bool}
 use Rattle.std.proofs.lemmas.Slice.Eq.{bytes_eq-Decides}
 use Rattle.myisamkit.specs.declared.shell_options.ShellFlag.{ShellFlag}
 use Rattle.myisamkit.specs.declared.shell_options.ShellKind.{ShellKind}
@@ -10,9 +9,9 @@ use Rattle.myisamkit.specs.declared.shell_options.ShellKind.TheVariants as kind
 use Rattle.myisamkit.specs.declared.shell_options.ShellSeen.{ShellSeen}
 use Rattle.myisamkit.specs.declared.shell_words.ShellRead.{ShellRead}
 use Rattle.myisamkit.specs.ShellOptions.{shell_flag, kind_of, flag_of_kind, takes_value, shell_go_together, shell_options_in}
-use Rattle.myisamkit.specs.Words.{Request, usage, shell, shell_of, plan_shell, shell_flags_in, shell_spelled_out, value_joined, is_end, is_option, is_name, has_dash, names_table, names_in, before_end, after_end, table_name}
+use Rattle.myisamkit.specs.Words.{Request, usage, shell, shell_of, plan_shell, shell_flags_in, shell_spelled_out, value_joined, is_end, is_option, is_name, has_dash, names_in, before_end, table_name}
 use Rattle.myisamkit.specs.Reading.{both_names, one_name_more}
-use Rattle.myisamkit.specs.ShellReading.{shell_with, shell_seen, shell_after, read_option, read_waiting, read_shell_word, is_shell_name, shell_read, shell_left, shell_read_none}
+use Rattle.myisamkit.specs.ShellReading.{shell_with, shell_seen, shell_after, read_option, shell_left, shell_read_none}
 use Rattle.myisamkit.proofs.ValueLaws.{two_or_more, end_names, name_names, option_names}
 use Rattle.myisamkit.proofs.CreateWordLaws.{two}
 use Rattle.myisamkit.proofs.ShellOptionLaws.{seen_of, all_first, options_met, options_same}

@@ -1,6 +1,6 @@
 -- The options of `shell`: the setup of the key cache (MySQL Reference Manual, "The MyISAM Key Cache") and the setting of concurrent
 -- inserts (MySQL Reference Manual, "Concurrent Inserts"). Each has a number behind its name.
-use Rattle.std.specs.Prelude.{ℕ, Bool, true, false, List, [], ◌∷◌, ◌++◌, take, drop, length, map, filter, Option, None, Some, option_map, ◌&&◌, ◌||◌, if◌then◌else◌, codes, is_some}
+use Rattle.std.specs.Prelude.{ℕ, Bool, List, [], ◌∷◌, take, drop, Option, None, Some, option_map, ◌&&◌, if◌then◌else◌, codes, is_some}
 use Rattle.std.specs.List.{list_all}
 use Rattle.std.specs.Str.{bytes_eq}
 use Rattle.myisamkit.specs.Numbers.{number_in}

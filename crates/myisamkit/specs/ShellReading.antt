@@ -1,14 +1,13 @@
 -- How the words of `shell` are read, one after the other.
-use Rattle.std.specs.Prelude.{ℕ, Bool, ◌&&◌, ◌||◌, not, is_none, is_some, true, false, List, [], ◌∷◌, ◌++◌, Option, None, Some, option_and_then, option_map, unwrap_or, if◌then◌else◌}
+use Rattle.std.specs.Prelude.{ℕ, Bool, ◌&&◌, is_none, is_some, true, false, List, [], ◌∷◌, Option, None, Some, option_and_then, option_map, unwrap_or, if◌then◌else◌}
 use Rattle.myisamkit.specs.declared.shell_options.ShellFlag.{ShellFlag}
 use Rattle.myisamkit.specs.declared.shell_options.ShellFlag.TheVariants as flag
 use Rattle.myisamkit.specs.declared.shell_options.ShellKind.{ShellKind}
-use Rattle.myisamkit.specs.declared.shell_options.ShellKind.TheVariants as kind
 use Rattle.myisamkit.specs.declared.shell_options.ShellOptions.{ShellOptions}
 use Rattle.myisamkit.specs.declared.shell_options.ShellSeen.{ShellSeen}
 use Rattle.myisamkit.specs.declared.shell_words.ShellRead.{ShellRead}
 use Rattle.myisamkit.specs.ShellOptions.{shell_flag, kind_of, flag_of_kind}
-use Rattle.myisamkit.specs.Words.{is_end, is_option, has_dash, names_table}
+use Rattle.myisamkit.specs.Words.{is_end, has_dash, names_table}
 use Rattle.myisamkit.specs.Reading.{both_names, one_name_more}
 
 -- one option more, where it did not come before

@@ -1,4 +1,4 @@
-use Rattle.std.proofs.Common.{◌≡◌, sym, subst}
+use Rattle.std.proofs.Common.{sym, subst}
 use Rattle.std.specs.Prelude.{IfOk, OnErr, map, string_bytes}
 use Rattle.myi_base.specs.Holding.{IfTold}
 use Rattle.myisamkit.specs.Runs.{SaidText, SaidPart, HasStatus}
