@@ -63,7 +63,7 @@ pub fn shell(words: &Words, args: &[&str]) -> Result<String, Fault> {
         return Err(Fault::Unread);
     };
     let defs = words.definitions(*defs)?;
-    let setup = setup(words, *setup_word)?;
+    let setup = setup(*setup_word)?;
     let setting = one_byte(*setting)?;
     if setting > MOST_SETTING {
         return Err(Fault::Unread);

@@ -5,7 +5,7 @@ ghost use Rattle.myi_defs.specs.ReadDefs.{AreDefs};
 ghost use Rattle.myi_keycache.specs.Setup.{IsSetup};
 ghost use Rattle.myi_pack.specs.Spelling.{fits};
 
-use case_lines::{Fault, PlaceText, Untold, Words, four_bytes, number, push_file, size};
+use case_lines::{Fault, PlaceText, Untold, Words, four_bytes, number, push_file, sides, size};
 use myi_base::Sequence;
 use myi_check::check;
 use myi_defs::{Defs, definitions_are_sound, print_defs, read_defs};
@@ -34,23 +34,24 @@ fn of_change(fault: ChangeFault) -> Fault {
 fn is_setup(setup: CacheSetup) -> bool
     ensures { result ≡ true → IsSetup setup }
 {
-    let blocks = 1 <= setup.blocks && setup.blocks <= 65_536;
-    let division = 1 <= setup.division && setup.division <= 100;
-    blocks && division && 100 <= setup.age && setup.age <= 1_000_000
+    1 <= setup.blocks
+        && setup.blocks <= 65_536
+        && 1 <= setup.division
+        && setup.division <= 100
+        && 100 <= setup.age
+        && setup.age <= 1_000_000
 }
 
 /// A setup of a key cache, `BLOCKS,DIVISION,AGE`.
-pub fn setup(words: &Words, word: &str) -> Result<CacheSetup, Fault>
+pub fn setup(word: &str) -> Result<CacheSetup, Fault>
     ensures { IfOk result IsSetup }
 {
-    let parts: Vec<&str> = word.split(',').collect(words.alloc())?;
-    let [blocks, division, age] = parts.as_slice() else {
-        return Err(Fault::Unread);
-    };
+    let (blocks, others) = sides(word, ',')?;
+    let (division, age) = sides(others, ',')?;
     let setup = CacheSetup {
-        blocks: four_bytes(*blocks)?,
-        division: four_bytes(*division)?,
-        age: four_bytes(*age)?,
+        blocks: four_bytes(blocks)?,
+        division: four_bytes(division)?,
+        age: four_bytes(age)?,
     };
     if is_setup(setup) {
         Ok(setup)
