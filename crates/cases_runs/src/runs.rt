@@ -5,6 +5,7 @@ use crate::short::ShortFiles;
 use case_lines::{Fault, Words, halves, number, push_files};
 use myi_io::Files;
 use myi_memfiles::MemSink;
+use myi_shell::OpenGate;
 use myisamkit::{Status, kit};
 use std::str;
 use std::thread::Threads;
@@ -24,7 +25,7 @@ fn answered<R: Threads + Sync, F: Files>(
     let now = number(now)?;
     let mut sink = MemSink::new(words.alloc(), words.numbers(write_faults)?)?;
     let asked = words.texts(asked)?;
-    let status = kit(rt, words.alloc(), &asked, files, &mut sink, now);
+    let status = kit(rt, words.alloc(), &asked, files, &mut sink, &OpenGate, now);
     if status == Status::Memory {
         return Err(Fault::Memory);
     }

@@ -5,6 +5,7 @@
 #![tactic(auto)]
 
 mod changes;
+mod copies;
 mod keytrees;
 mod searches;
 mod trees;
@@ -12,12 +13,15 @@ mod trees;
 use case_lines::{Calls, Fault, Words};
 use std::io;
 
-/// The calls on trees: built, walked, searched and changed.
+/// The calls on trees: built, walked, copied, searched and changed.
 struct TheCalls;
 
 impl Calls for TheCalls {
     fn answer(&self, words: &Words, name: &str, args: &[&str]) -> Option<Result<String, Fault>> {
         if let Some(answer) = trees::answer(words, name, args) {
+            return Some(answer);
+        }
+        if let Some(answer) = copies::answer(words, name, args) {
             return Some(answer);
         }
         if let Some(answer) = searches::answer(words, name, args) {

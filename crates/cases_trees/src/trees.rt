@@ -17,7 +17,7 @@ use myi_memfiles::MemFiles;
 use std::alloc::{AllocError, Global};
 
 /// The name of the index file.
-const NAME: &str = "t.MYI";
+pub(crate) const NAME: &str = "t.MYI";
 
 /// Where the first page stands.
 pub(crate) const FIRST: u64 = 1024;
@@ -329,6 +329,27 @@ fn walk_bytes(alloc: Global, walked: &[(Pair, u64)]) -> Result<Vec<u8>, AllocErr
     Ok(bytes)
 }
 
+/// An index file with the tree of so many numbered keys of so many weights, whose rows are eight apart, and its root.
+pub(crate) fn built(
+    out: &mut String,
+    place: Place,
+    width: usize,
+    count: u32,
+) -> Result<(Index, Option<u64>), Fault>
+    requires placed { IsPlaced place }
+{
+    if width > MOST_WEIGHTS {
+        return Err(Fault::Unread);
+    }
+    let alloc = *out.allocator();
+    let pairs = numbered_pairs(alloc, width, count)?;
+    let header = vec![in alloc; 0u8; FIRST as usize]?;
+    let mut index = index_of(alloc, header, Vec::new(alloc))?;
+    let root = push_built(out, &mut index, place, &pairs)?;
+    push_flushed(out, &mut index)?;
+    Ok((index, root))
+}
+
 /// `laid LENGTH POINTER WIDTH COUNT`: the tree of so many numbered keys of so many weights, whose rows are
 /// eight apart: its root, the room's end, its pages, and its walk.
 fn laid(words: &Words, args: &[&str]) -> Result<String, Fault> {
@@ -337,16 +358,8 @@ fn laid(words: &Words, args: &[&str]) -> Result<String, Fault> {
     };
     let alloc = words.alloc();
     let place = unrooted(*block_length, *rec_ref)?;
-    let (width, count) = (size(*width)?, four_bytes(*count)?);
-    if width > MOST_WEIGHTS {
-        return Err(Fault::Unread);
-    }
-    let pairs = numbered_pairs(alloc, width, count)?;
-    let header = vec![in alloc; 0u8; FIRST as usize]?;
-    let mut index = index_of(alloc, header, Vec::new(alloc))?;
     let mut out = String::new(alloc);
-    let root = push_built(&mut out, &mut index, place, &pairs)?;
-    push_flushed(&mut out, &mut index)?;
+    let (mut index, root) = built(&mut out, place, size(*width)?, four_bytes(*count)?)?;
     write!(out, "end {} ", index.room.end)?;
     let bytes = index.files.get(NAME).unwrap_or_default();
     push_word(&mut out, bytes.get(FIRST as usize..).unwrap_or_default())?;

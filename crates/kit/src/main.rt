@@ -4,6 +4,7 @@
 use myi_adapters::Gathering;
 use myi_io::FileErr;
 use myi_realfiles::{RealFiles, RealSink};
+use myi_shell::OpenGate;
 use myisamkit::{Status, kit};
 use std::io::ErrorKind;
 use std::process::ExitCode;
@@ -34,7 +35,15 @@ fn main(rt: HostRuntime) -> ExitCode {
     };
     let mut files = Gathering::new(alloc, RealFiles::new(&rt));
     let mut out = RealSink::new(&rt);
-    let status = kit(&rt, alloc, &words, &mut files, &mut out, now(&rt));
+    let status = kit(
+        &rt,
+        alloc,
+        &words,
+        &mut files,
+        &mut out,
+        &OpenGate,
+        now(&rt),
+    );
     match files.flush() {
         Ok(()) => ExitCode::from(status.number()),
         Err(FileErr::Memory) => ExitCode::from(Status::Memory.number()),

@@ -1,7 +1,7 @@
 //! `RangeList`: used ranges in order, in little memory.
 //!
 //! They are kept as two lists of places, where each range begins and where it ends, so that a range takes
-//! four bytes and two thirds where they stand closely. The last one alone becomes longer: where it ends
+//! two bytes and three quarters where they stand closely. The last one alone becomes longer: where it ends
 //! is kept beside the lists.
 ghost use Rattle.std.specs.Prelude.{◌≡◌, max, ◌+◌, ◌<◌, ◌≤◌, ◌^◌, true, false, [], ◌∷◌, ◌++◌, length, OnOk, OnErr};
 ghost use Rattle.myi_chain.specs.Used.{listed, AreListed};

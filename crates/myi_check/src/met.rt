@@ -41,7 +41,7 @@ pub(crate) struct Met {
     pub(crate) together: bool,
     /// These pairs, a list for each key of the table. The lists are empty where none is noted.
     pub(crate) keys: RowKeys,
-    /// Of a dynamic table the places of the rows, in order, where their pairs are not noted.
+    /// Of a dynamic table with keys the places of the rows, in order, where their pairs are not noted.
     pub(crate) places: PlaceList,
     pub(crate) records: u64,
     /// How many blocks the rows have.
@@ -158,14 +158,21 @@ impl Met {
         Ok(())
     }
 
-    // Notes the place of a row of a dynamic table, where its pairs are not noted.
+    // Whether the places of rows are noted: those of a dynamic table, for keys of which no pairs are noted.
+    fn notes_places(&self, defs: &Defs) -> bool {
+        match defs.format {
+            RowFormat::Dynamic => !self.with_keys && !defs.keys.as_slice().is_empty(),
+            RowFormat::Static => false,
+        }
+    }
+
+    // Notes the place of a row, where it is wanted.
     fn note_place(&mut self, defs: &Defs, at: u64) -> Result<(), AllocError>
         ensures place { OnOk result (NotesPlace at self.old self.new) }
         ensures rest { self.new ≡ record self.old { places = self.new.places } }
     {
-        match defs.format {
-            RowFormat::Dynamic if !self.with_keys => self.places.push(at)?,
-            _ => {}
+        if self.notes_places(defs) {
+            self.places.push(at)?;
         }
         Ok(())
     }

@@ -38,7 +38,7 @@ pub(crate) struct RowsFound {
     /// The pairs of the readable rows, a list for each key of the table, in the order of the rows. The lists
     /// are empty where they were not wanted.
     pub(crate) keys: RowKeys,
-    /// The places of the rows of a dynamic table, in order, where the pairs were not wanted.
+    /// The places of the rows of a dynamic table with keys, in order, where the pairs were not wanted.
     pub(crate) places: PlaceList,
     pub(crate) records: u64,
     /// How many blocks the rows have.
@@ -59,7 +59,7 @@ pub(crate) struct ScannedFile<'a> {
     pub(crate) length: u64,
     /// How many readable rows it has.
     pub(crate) records: u64,
-    /// The places of these rows, in order, if they are dynamic.
+    /// The places of these rows, in order, if they are dynamic and the table has keys.
     pub(crate) places: &'a PlaceList,
 }
 

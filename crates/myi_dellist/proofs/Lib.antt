@@ -22,6 +22,7 @@ pub mod AppendedLemmas
 pub mod PutLemmas
 pub mod StandLemmas
 pub mod AtEndLemmas
+pub mod AddedLemmas
 pub mod TakeLemmas
 pub mod PlanningLemmas
 pub mod RestLemmas

@@ -36,7 +36,7 @@ other a b (inr le) = inl le
 took : (n size : ℕ) (f : FrameSpec) (row : List ℕ) → n ≤ length row → IsWritable f n size → IsWritable f (length (take n row)) size
 took n size f row le w = subst (λ (m : ℕ). IsWritable f m size) (sym (length-take-le n row le)) w
 
-block_long : (n size : ℕ) (f : FrameSpec) (row : List ℕ) → n ≤ length row → IsWritable f n size → length (block_bytes f (take n row) size) ≡ size
+pub block_long : (n size : ℕ) (f : FrameSpec) (row : List ℕ) → n ≤ length row → IsWritable f n size → length (block_bytes f (take n row) size) ≡ size
 block_long n size f row le w = length-block f (take n row) size (took n size f row le w)
 
 one_long : (p : Piece) (f : FrameSpec) (row d : List ℕ) → p.taken ≤ length row → IsWritable f p.taken p.size → length (overwritten p.at (block_bytes f (take p.taken row) p.size) d) ≡ p.at + p.size + (length d - (p.at + p.size))
@@ -58,7 +58,7 @@ one_keeps p f row d q n le w inside far =
 
 -- ---- all blocks
 
-left_long : (p : Piece) (ps : List Piece) (row : List ℕ) → taken_by (p ∷ ps) ≤ length row → (p.taken ≤ length row) × (taken_by ps ≤ length (drop p.taken row))
+pub left_long : (p : Piece) (ps : List Piece) (row : List ℕ) → taken_by (p ∷ ps) ≤ length row → (p.taken ≤ length row) × (taken_by ps ≤ length (drop p.taken row))
 left_long p ps row le = (omega (arith, le), omega (arith, le, length-drop p.taken row))
 
 pub rest_far : (fs : List FrameSpec) (ps : List Piece) (row d : List ℕ) (q : ℕ) (b : Block) → AreWritable fs ps → taken_by ps ≤ length row → AllByRecursion (IsApart (record { at = q; size = b.size })) (areas_of ps) → block_of d q ≡ Some b → block_of (blocks_written fs ps row d) q ≡ Some b

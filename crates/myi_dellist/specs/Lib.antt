@@ -19,6 +19,8 @@ pub mod Order
 -- the blocks of a placed row, and that they are one chain
 pub mod RowBlocks
 pub mod Rows
+-- what a row adds behind the end of a file
+pub mod Appending
 pub mod Taking
 pub mod Planning
 pub mod Putting

@@ -85,6 +85,7 @@ impl FreeList {
     ghost use Rattle.myi_dellist.specs.Replacing.{PutsAgain, RewritesRow, RewriteFindsBad, RewriteIsLong, TalliesReplaced};
     ghost use Rattle.myi_dellist.specs.Merging.{Merges, MergeFinds, MergeFindsBad};
     ghost use Rattle.myi_dellist.specs.Putting.{Puts, ends_of, PutFindsBad, PutIsLong};
+    ghost use Rattle.myi_dellist.specs.Appending.{Appends, AppendsNew};
     ghost use Rattle.myi_dellist.specs.Rows.{most_end, end_with, IfFull, IsNotDamaged, PutsAtEnd, PutsBehind, PutsNew, TalliesAtEnd, TalliesNew};
 
     /// The deleted list of the file of a name, by the place of its first block and the file's length.
@@ -152,6 +153,8 @@ impl FreeList {
         ensures tallies { IfOk result (TalliesAtEnd self.old (length packed.now)) }
         ensures puts { OnOk result (Told (F.holds files.old) (F.holds files.new)
             (PutsBehind self.old packed.now)) }
+        ensures appended { OnOk result (Told (F.holds files.old) (F.holds files.new)
+            (Appends self.old self.new packed.now)) }
         ensures others { Told (F.holds files.old) (F.holds files.new) (OthersStay self.old.name) }
         ensures place { IfOk result (λ put. put.at ≡ self.old.end) }
         ensures inside { IfOk result (λ put. put.at ≤ self.new.end) }
@@ -195,6 +198,8 @@ impl FreeList {
             (PutsAtEnd self.old self.new packed.now at)) }
         ensures puts { OnOk result (Told (F.holds files.old) (F.holds files.new)
             (PutsBehind self.old packed.now)) }
+        ensures appended { OnOk result (Told (F.holds files.old) (F.holds files.new)
+            (Appends self.old self.new packed.now)) }
         ensures others { Told (F.holds files.old) (F.holds files.new) (OthersStay self.old.name) }
         ensures place { IfOk result (λ at. at ≡ self.old.end) }
         ensures end { OnOk result
@@ -227,6 +232,8 @@ impl FreeList {
             (TalliesNew self.old (length packed.now) put)) }
         ensures puts { OnOk result (Told (F.holds files.old) (F.holds files.new)
             (Puts self.old.name (ends_of self.old) packed.now (ends_of self.new))) }
+        ensures appended { OnOk result (Told (F.holds files.old) (F.holds files.new)
+            (AppendsNew self.old self.new packed.now)) }
         ensures others { Told (F.holds files.old) (F.holds files.new) (OthersStay self.old.name) }
         ensures place { IfOk result (λ put. put.at ≡ (next_by self.old.head self.old.end).0) }
         ensures inside { IfOk result (λ put. put.at ≤ self.new.end) }
@@ -274,6 +281,8 @@ impl FreeList {
             (PutsNew self.old self.new packed.now at)) }
         ensures puts { OnOk result (Told (F.holds files.old) (F.holds files.new)
             (Puts self.old.name (ends_of self.old) packed.now (ends_of self.new))) }
+        ensures appended { OnOk result (Told (F.holds files.old) (F.holds files.new)
+            (AppendsNew self.old self.new packed.now)) }
         ensures others { Told (F.holds files.old) (F.holds files.new) (OthersStay self.old.name) }
         ensures place { IfOk result (λ at. at ≡ (next_by self.old.head self.old.end).0) }
         ensures state { self.new ≡ record self.old { head = self.new.head; end = self.new.end } }

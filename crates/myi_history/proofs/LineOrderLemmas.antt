@@ -1,5 +1,5 @@
 -- A list in order of a key that no two of its elements share is the one that puts each among the others by its key.
-use Rattle.std.proofs.Common.{◌≡◌, ℕ, suc, ◌+◌, ◌<◌, ◌≤◌, ◌==◌, List, [], ◌∷◌, ◌++◌, map, fold, Bool, true, false, cond, nat_lt, refl, ap, sym, ◌∙◌, arith, subst, inl, inr, IsPermutation}
+use Rattle.std.proofs.Common.{◌≡◌, ℕ, suc, ◌+◌, ◌<◌, ◌≤◌, ◌==◌, List, [], ◌∷◌, ◌++◌, Option, Some, map, fold, Bool, true, false, cond, nat_lt, refl, ap, sym, ◌∙◌, arith, subst, inl, inr, IsPermutation}
 use Rattle.std.specs.Prelude.{◌≢◌, ◌⊎◌}
 use Rattle.std.specs.List.{AllByRecursion, flat_map, sum_by}
 use Rattle.std.specs.List.Sorted.{IsNonDecreasingBy}
@@ -12,7 +12,7 @@ use Rattle.std.proofs.lemmas.List.Sorted.{All-permutation, IsPermutation-refl, I
 use Rattle.myi_history.specs.declared.round_texts.Said.{Said}
 use Rattle.myi_history.specs.Answers.{LineAnswer, said_text}
 use Rattle.myi_history.specs.Text.{put_line, put_lines}
-use Rattle.myi_history.specs.RoundTexts.{put_by, all_put_by, HaveOwnKeys, LineText, text_of, texts_of, in_line_order, joined, HaveOwnLines, part_of, said_in}
+use Rattle.myi_history.specs.RoundTexts.{put_by, all_put_by, HaveOwnKeys, LineText, text_of, texts_of, in_line_order, joined, HaveOwnLines, AreWritten, part_of, said_in}
 
 -- ---- elements of a list
 
@@ -206,6 +206,17 @@ pub written_in_order : (bytes shown : List ℕ) (xs ys parts : List Said) (texts
 written_in_order bytes shown xs ys parts texts p order is same all own =
     ap (λ b. flat_map (part_of b) parts) same ∙ ap (λ us. flat_map (part_of bytes) us) all
     ∙ parts_in_order bytes xs ys p order (subst HaveOwnLines (sym is) own) ∙ ap (λ ts. joined (in_line_order ts)) is
+
+-- whatever their lines are, each is written once
+pub written_each : (bytes shown : List ℕ) (xs ys parts : List Said) (texts : List LineText) (before : List ℕ) (new : Option (List ℕ)) → IsPermutation xs ys → map (said_in bytes) xs ≡ texts → shown ≡ bytes → parts ≡ ys
+    → new ≡ Some (before ++ flat_map (part_of shown) parts) → AreWritten texts new before
+written_each bytes shown xs ys parts texts before new p is same all said =
+    let ordered = map (said_in bytes) ys in (
+      ordered,
+      subst (λ ts. IsPermutation ts ordered) is (IsPermutation-map (said_in bytes) xs ys p),
+      said ∙ ap (λ b. Some (before ++ flat_map (part_of b) parts)) same ∙ ap (λ us. Some (before ++ flat_map (part_of bytes) us)) all
+          ∙ ap (λ t. Some (before ++ t)) (sym (flat_map-map (λ (t : LineText). t.1) (said_in bytes) ys)),
+    )
 
 put_text : (a : LineAnswer) (bs : List LineAnswer) → map text_of (put_line a bs) ≡ put_by (λ (t : LineText). t.0) (text_of a) (map text_of bs)
 put_text a [] = refl

@@ -62,6 +62,11 @@ row_line r = codes "  " ++ (row_text r.0 r.1 ++ 10 ∷ [])
 abbrev pub row_lines : List PlacedRow → List ℕ
 row_lines found = flat_map row_line found
 
+-- Where files tell nothing of what they hold, a step may meet a place of a file at which not that stands what the table needs. Then
+-- this is the script's last answer, and none of its text.
+abbrev pub damaged_text : ℕ → List ℕ
+damaged_text at = codes " damaged at " ++ decimal at
+
 -- the lines of an answer to line n
 abbrev pub answer_text : ℕ → Answer → List ℕ
 answer_text n (made at) = numbered n (codes " ok " ++ decimal at)

@@ -1,6 +1,7 @@
 -- The texts of what the steps of a round said, each with the number of its line, and their order.
-use Rattle.std.specs.Prelude.{◌≢◌, ◌≤◌, ℕ, nat_lt, map, fold, List, [], ◌∷◌, ◌++◌, if◌then◌else◌}
+use Rattle.std.specs.Prelude.{◌≡◌, ◌≢◌, ◌≤◌, ℕ, nat_lt, map, fold, List, [], ◌∷◌, ◌++◌, Option, Some, if◌then◌else◌}
 use Rattle.std.specs.List.{AllByRecursion, flat_map, slice_range}
+use Rattle.std.specs.List.Sorted.{IsPermutation}
 use Rattle.myi_state.specs.Changes.{Change}
 use Rattle.myi_tablestate.specs.Keyed.{lacks, duplicate, too_long}
 use Rattle.myi_locks.specs.Done.{steps_of}
@@ -66,6 +67,10 @@ joined texts = flat_map (λ (t : LineText). t.1) texts
 -- each line has one text
 abbrev pub HaveOwnLines : List LineText → Type 0
 HaveOwnLines texts = HaveOwnKeys (λ t. t.0) texts
+
+-- behind what was written before stands each of these texts once
+abbrev pub AreWritten : List LineText → Option (List ℕ) → List ℕ → Type 0
+AreWritten texts new before = (ordered : List LineText) × IsPermutation texts ordered × (new ≡ Some (before ++ joined ordered))
 
 -- ---- parts of a buffer
 

@@ -52,7 +52,7 @@ impl AnswerTexts {
     ghost use Rattle.myi_tablestate.specs.Keyed.{lacks, duplicate, too_long};
     ghost use Rattle.myi_history.specs.Answers.{answer_text, made, refused, locked_for_read};
     ghost use Rattle.myi_history.specs.Answers.{done, counted, rows, count_text, numbered};
-    ghost use Rattle.myi_history.specs.Answers.{row_line, row_lines};
+    ghost use Rattle.myi_history.specs.Answers.{row_line, row_lines, damaged_text};
     ghost use Rattle.myi_history.specs.RoundTexts.{answer_of};
 
     /// Empty buffers, for which no memory is taken.
@@ -157,6 +157,18 @@ impl AnswerTexts {
         self.words.clear();
         write!(self.words, "{line} full\n")?;
         out.extend_from_slice(self.words.as_bytes())
+    }
+
+    /// Appends the line of a step that met damage at a place of a file.
+    pub fn push_damaged(&mut self, out: &mut Vec<u8>, line: u32, at: u64) -> Result<(), AllocError>
+        ensures text { OnOk result (out.new.items
+            ≡ out.old.items ++ numbered line (damaged_text at)) }
+        ensures same { OnErr result (out.new.items ≡ out.old.items) }
+    {
+        self.words.clear();
+        write!(self.words, "{line} damaged at {at}\n")?;
+        out.extend_from_slice(self.words.as_bytes())?;
+        Ok(())
     }
 
     /// Appends the line of what a key cache counted.

@@ -62,8 +62,9 @@ impl RoundTexts {
     ghost use Rattle.myi_base.specs.Output.{Appends, AppendsPart};
     ghost use Rattle.myi_base.specs.Causes.{HasCause};
     ghost use Rattle.myi_io.specs.declared.sink.SinkErr.TheVariants.{Failed};
-    ghost use Rattle.myi_history.specs.Answers.{answer_text, rows};
+    ghost use Rattle.myi_history.specs.Answers.{answer_text, rows, numbered, damaged_text};
     ghost use Rattle.myi_history.specs.RoundTexts.{answer_of, in_line_order, joined, HaveOwnLines};
+    ghost use Rattle.myi_history.specs.RoundTexts.{AreWritten};
 
     /// No texts yet; no memory is taken.
     pub fn new(alloc: Global) -> RoundTexts
@@ -125,6 +126,17 @@ impl RoundTexts {
         note(&mut self.said, line, from, self.bytes.len())
     }
 
+    /// Adds that the step of a line met damage at a place of a file.
+    pub fn push_damaged(&mut self, line: u32, at: u64) -> Result<(), AllocError>
+        ensures text { OnOk result
+            (self.new ≡ self.old ++ (line, numbered line (damaged_text at)) ∷ []) }
+        ensures same { OnErr result (self.new ≡ self.old) }
+    {
+        let from = self.bytes.len();
+        self.answers.push_damaged(&mut self.bytes, line, at)?;
+        note(&mut self.said, line, from, self.bytes.len())
+    }
+
     /// The allocator of the texts.
     pub fn allocator(&self) -> Global {
         *self.bytes.allocator()
@@ -138,12 +150,15 @@ impl RoundTexts {
         self.bytes.clear();
     }
 
-    /// Writes the texts, where each line has one, in the order of the lines, and drops them.
+    /// Writes the texts, where each line has one, in the order of the lines, and drops them. Each is
+    /// written once, whatever its line is.
     pub fn write<O: Sink>(&mut self, out: &mut O) -> Result<(), SinkErr>
         ensures ok { OnOk result (HaveOwnLines self.old → IfTold (O.written out.old)
             (Appends (joined (in_line_order self.old)) (O.written out.new))) }
         ensures err { OnErr result (HaveOwnLines self.old → IfTold (O.written out.old)
             (AppendsPart (joined (in_line_order self.old)) (O.written out.new))) }
+        ensures each { OnOk result (IfTold (O.written out.old)
+            (AreWritten self.old (O.written out.new))) }
         ensures empty { self.new ≡ [] }
         ensures cause { HasCause Failed (O.faults out.old) (O.faults out.new) result }
     {

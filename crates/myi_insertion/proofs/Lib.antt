@@ -22,3 +22,5 @@ pub mod SameNode
 pub mod FilledLaws
 pub mod HalfLaws
 pub mod KeptLaws
+pub mod SpotLaws
+pub mod LeafLaws

@@ -16,7 +16,7 @@ use Rattle.myi_btree.specs.declared.place.Place.{Place}
 use Rattle.myi_btree.specs.declared.place.Room.{Room}
 use Rattle.myi_btree.specs.declared.fault.TreeFault.{TreeFault}
 use Rattle.myi_btree.specs.declared.fault.TreeFault.TheVariants.{Damaged}
-use Rattle.myi_btree.specs.Faults.{IsToldAs}
+use Rattle.myi_btree.specs.Faults.{IsToldAs, IsFileOrMemory}
 use Rattle.myi_btree.specs.Walk.{Node}
 use Rattle.myi_btree.specs.Nodes.{node_in}
 use Rattle.myi_btree.specs.Sizes.{IsPlaced}
@@ -48,6 +48,11 @@ short_only f x p (inr (at, e, t)) d = let k : Damaged at ≡ Damaged p = sym t �
 
 pub if_err : {T : Type 0} (r : Result T TreeFault) (x : TreeFault) (P : TreeFault → Type 0) → r ≡ Err x → P x → IfErr r P
 if_err r x P e h = rw e h
+
+-- a fault of files or want of memory is no damage
+pub not_damaged : (x y : TreeFault) (p : ℕ) → IsFileOrMemory x → x ≡ y → y ≡ Damaged p → ⊥
+not_damaged x y p (inl file) e d = let k = sym file ∙ e ∙ d in absurd cc
+not_damaged x y p (inr memory) e d = let k = sym memory ∙ e ∙ d in absurd cc
 
 pub can_get : (place : Place) (cache : Caching) (m : Holding) (pages : List ℕ) (room : Room) (at : ℕ) → CanChange place cache m pages room → Contains pages at → CanGet cache m at place.block_length
 can_get place cache m pages room at can here =

@@ -20,6 +20,8 @@ pub mod Damage
 
 -- where a pair goes
 pub mod Ordered
+-- where a pair goes on a page
+pub mod Spots
 -- pairs that are being written on pages
 pub mod Settling
 -- what can be written on pages

@@ -2,13 +2,16 @@
 //!
 //! `insert_at` goes down one path of pages to the leaf that the pair goes into, and writes that leaf; where it
 //! is cut, the page above it is written too, and so on up; `raise` puts pages above a root that became several.
-ghost use Rattle.std.specs.Prelude.{◌≡◌, ◌+◌, ◌^◌, ◌<◌, ◌≤◌, ◌∷◌, [], ℕ, List, Some, length, IfOk, IfErr, OnOk, IsTrue};
+ghost use Rattle.std.specs.Prelude.{◌≡◌, ◌+◌, ◌^◌, ◌<◌, ◌≤◌, ◌∷◌, [], ℕ, List, Some, None, false, length, IfOk, IfErr, IfSome, IfNone, OnOk, IsTrue};
 ghost use Rattle.std.specs.List.Sorted.{IsStrictlySortedBy};
 ghost use Rattle.myi_base.specs.Holding.{IfTold, Told, OthersStay};
 ghost use Rattle.myi_base.specs.Causes.{HasCause};
 ghost use Rattle.myi_keylist.specs.PairOrder.{pair_cmp, put_pair};
 ghost use Rattle.myi_btree.specs.declared.fault.TreeFault.TheVariants.{File};
-ghost use Rattle.myi_btree.specs.Walk.{Walked, walk_of, content};
+ghost use Rattle.myi_keypage.specs.Page.{IsPlace};
+ghost use Rattle.myi_keypage.specs.Fitting.{used_length};
+ghost use Rattle.myi_btree.specs.Nodes.{entries_of, node_in};
+ghost use Rattle.myi_btree.specs.Walk.{Walked, node_with, walk_of, content};
 ghost use Rattle.myi_btree.specs.Sizes.{IsPlaced};
 ghost use Rattle.myi_btree.specs.Faults.{DamagedAt, IsFileOrMemory};
 ghost use Rattle.myi_btree.specs.CachedTrees.{node_lent};
@@ -17,22 +20,23 @@ ghost use Rattle.myi_insertion.specs.Rooms.{IsWhole};
 ghost use Rattle.myi_insertion.specs.CachedChanges.{CanChange};
 ghost use Rattle.myi_insertion.specs.Written.{IsStripOf};
 ghost use Rattle.myi_keylist.specs.declared.pair.Pair.{Pair};
-ghost use Rattle.myi_insertion.specs.Strips.{IsStrip};
+ghost use Rattle.myi_insertion.specs.Spots.{IsSpot, with_pair};
+ghost use Rattle.myi_insertion.specs.Strips.{IsStrip, StandFor};
 ghost use Rattle.myi_insertion.specs.CachedTree.{IsTree, Inserted};
 ghost use Rattle.myi_insertion.specs.Filled.{KeepsFilled};
-ghost use Rattle.myi_insertion.specs.Steps.{PutsIn, Grafts, Rooted};
+ghost use Rattle.myi_insertion.specs.Steps.{PutsIn, Lays, Grafts, Rooted};
 ghost use Rattle.myi_insertion.specs.Damage.{IsInFile, LacksPage, goes_behind, IsMissing};
 
-use crate::load::load;
-use crate::page::{PageData, place_of};
+use crate::page::PageData;
+use crate::pass::{Passed, pass};
 use crate::room::take_page;
 use crate::settle::{Setup, Strip, settle};
-use myi_btree::{Place, Room, TreeFault};
+use myi_btree::{Place, Room, TreeFault, laid_pages_are_written};
 use myi_io::Files;
 use myi_keycache::KeyCache;
 use myi_keylist::{Pair, PairList};
-use myi_keypage::entries_fit;
-use std::alloc::Global;
+use myi_keypage::{LentEntry, entries_fit, write_with};
+use std::alloc::{AllocError, Global};
 
 /// The most levels that a tree has: one with more levels has more pairs than there are places for pages.
 pub(crate) const MOST_LEVELS: u64 = 64;
@@ -42,6 +46,99 @@ pub(crate) const MOST_LEVELS: u64 = 64;
 pub(crate) struct Task<'a> {
     pub(crate) setup: Setup,
     pub(crate) pair: &'a Pair,
+}
+
+// The bytes of a leaf that was passed with the pair in it, and None where it does not fit.
+fn leaf_bytes(task: &Task, page: &Passed) -> Result<Option<Vec<u8>>, AllocError>
+    requires placed { IsPlaced task.now.setup.place }
+    requires row { task.now.pair.now.row < 256 ^ task.now.setup.place.rec_ref }
+    requires spot { IsSpot task.now.setup.place.rec_ref page.now.bytes.items task.now.pair.now
+        page.now.spot }
+    requires leaf { page.now.spot.child ≡ None }
+    requires long { length page.now.bytes.items ≡ task.now.setup.place.block_length }
+    ensures bytes { IfOk result (λ made. IfSome made (λ bytes. (pairs : List Pair)
+        → node_in task.now.setup.place.rec_ref page.now.bytes.items ≡ Some (node_with pairs [])
+        → node_in task.now.setup.place.rec_ref bytes.items ≡ Some (node_with
+        (with_pair page.now.spot.index task.now.pair.now pairs) []))) }
+    ensures long { IfOk result (λ made. IfSome made (λ bytes. length bytes.items
+        ≡ task.now.setup.place.block_length)) }
+    ensures full { IfOk result (λ made. IfNone made ((pairs : List Pair)
+        → node_in task.now.setup.place.rec_ref page.now.bytes.items ≡ Some (node_with pairs [])
+        → task.now.setup.place.block_length < used_length task.now.setup.place.rec_ref false
+        (entries_of (with_pair page.now.spot.index task.now.pair.now pairs)))) }
+{
+    laid_pages_are_written();
+    let place = task.setup.place;
+    let entry = LentEntry {
+        key: task.pair.key.code(),
+        row: task.pair.row,
+    };
+    let mut bytes = vec![in task.setup.alloc; 0u8; place.block_length as usize]?;
+    let fits = write_with(
+        &page.bytes,
+        page.spot.index,
+        &entry,
+        place.rec_ref,
+        &mut bytes,
+    );
+    if !fits {
+        return Ok(None);
+    }
+    Ok(Some(bytes))
+}
+
+// Writes a leaf that was passed with the pair in it.
+fn put_leaf<F: Files>(
+    task: &Task,
+    files: &mut F,
+    cache: &mut KeyCache,
+    room: &mut Room,
+    at: u64,
+    page: &Passed,
+) -> Result<Strip, TreeFault>
+    requires writable { IsTrue F.writable }
+    requires placed { IsPlaced task.now.setup.place }
+    requires whole { IsWhole room.old }
+    requires at { IsPlace at }
+    requires row { task.now.pair.now.row < 256 ^ task.now.setup.place.rec_ref }
+    requires spot { IsSpot task.now.setup.place.rec_ref page.now.bytes.items task.now.pair.now
+        page.now.spot }
+    requires leaf { page.now.spot.child ≡ None }
+    requires long { length page.now.bytes.items ≡ task.now.setup.place.block_length }
+    ensures settles { IfOk result (λ strip. IfTold (F.holds files.old) (λ m. (pairs : List Pair)
+        → node_in task.now.setup.place.rec_ref page.now.bytes.items ≡ Some (node_with pairs [])
+        → (height : ℕ) (xs : List Pair) (below : List ℕ)
+        → StandFor (node_lent task.now.setup.place cache.old m) height
+        (with_pair page.now.spot.index task.now.pair.now pairs) [] xs below
+        → CanChange task.now.setup.place cache.old m (at ∷ below) room.old
+        → Lays task.now.setup.place cache.old m at below room.old (F.holds files.new) cache.new
+        room.new (node_with (with_pair page.now.spot.index task.now.pair.now pairs) []) height xs
+        strip.places.items strip.separators)) }
+    ensures shape { IfOk result (λ strip. IsStripOf task.now.setup.place.rec_ref at
+        strip.places.items strip.separators) }
+    ensures whole { IsWhole room.new }
+    ensures others { Told (F.holds files.old) (F.holds files.new) (OthersStay cache.old.name) }
+    ensures name { cache.new.name ≡ cache.old.name }
+    ensures counted { CountsOn cache.old cache.new }
+    ensures faults { IfErr result IsFileOrMemory }
+    ensures cause { HasCause File (F.faults files.old) (F.faults files.new) result }
+    ensures reads { F.reads files.old ≤ F.reads files.new }
+{
+    let setup = task.setup;
+    if let Some(bytes) = leaf_bytes(task, page)? {
+        cache.put(files, at, &bytes)?;
+        let same = Strip::of_page(setup.alloc, at)?;
+        return Ok(same);
+    }
+    let leaf = page.read(setup.alloc, setup.place.rec_ref)?;
+    let grown = leaf.with_pair(
+        setup.alloc,
+        page.spot.index,
+        task.pair.key.code(),
+        task.pair.row,
+    )?;
+    let strip = settle(setup, files, cache, room, at, &grown)?;
+    Ok(strip)
 }
 
 /// Puts the pair into the tree at a place, which has at most so many levels below its root.
@@ -82,24 +179,26 @@ pub(crate) fn insert_at<F: Files>(
 {
     entries_fit();
     let setup = task.setup;
-    let page = load(setup, files, cache, at)?;
-    let code = task.pair.key.code();
-    let i = place_of(&page.pairs, code, task.pair.row);
-    if page.children.is_empty() {
-        let grown = page.with_pair(setup.alloc, i, code, task.pair.row)?;
-        let strip = settle(setup, files, cache, room, at, &grown)?;
+    let page = pass(task, files, cache, at)?;
+    let Some(child) = page.spot.child else {
+        let strip = put_leaf(task, files, cache, room, at, &page)?;
         return Ok(strip);
-    }
+    };
     if levels == 0 {
         return Err(TreeFault::Memory);
     }
-    let child = page.children[i];
     let strip = insert_at(task, files, cache, room, child, levels - 1)?;
     if strip.places.len() == 1 {
         let same = Strip::of_page(setup.alloc, at)?;
         return Ok(same);
     }
-    let grown = page.with_strip(setup.alloc, i, &strip.places, &strip.separators)?;
+    let node = page.read(setup.alloc, setup.place.rec_ref)?;
+    let grown = node.with_strip(
+        setup.alloc,
+        page.spot.index,
+        &strip.places,
+        &strip.separators,
+    )?;
     let made = settle(setup, files, cache, room, at, &grown)?;
     Ok(made)
 }

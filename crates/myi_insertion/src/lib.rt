@@ -24,6 +24,7 @@ mod insertion;
 mod laws;
 mod load;
 mod page;
+mod pass;
 mod removal;
 mod room;
 mod settle;

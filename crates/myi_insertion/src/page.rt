@@ -35,8 +35,8 @@ impl Drop for PageData {
     }
 }
 
-// The code of the key after this one, of which it keeps a front.
-fn change_code(code: &mut Vec<u8>, prefix: usize, rest: &[u8]) -> Result<(), AllocError>
+/// The code of the key after this one, of which it keeps a front.
+pub(crate) fn change_code(code: &mut Vec<u8>, prefix: usize, rest: &[u8]) -> Result<(), AllocError>
     ensures { OnOk result (code.new.items ≡ take prefix code.old.items ++ rest.now) }
 {
     code.truncate(prefix);

@@ -9,3 +9,5 @@ pub mod ShownIn
 pub mod WriteLaws
 pub mod FitLaws
 pub mod ShiftLaws
+pub mod PutInLaws
+pub mod ChildrenLaws

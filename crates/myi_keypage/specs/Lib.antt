@@ -10,6 +10,10 @@ pub mod Views
 pub mod Writing
 -- a page whose children stand further on
 pub mod Shifting
+-- a leaf with an entry put in
+pub mod PuttingIn
+-- a page with other children
+pub mod Children
 -- what serves private contracts
 
 -- items read from left to right

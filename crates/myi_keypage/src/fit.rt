@@ -15,9 +15,9 @@ fn number_length(number: usize) -> usize
     if number < WIDE as usize { 1 } else { 3 }
 }
 
-// How long an entry with this key is.
+/// How long an entry with this key is.
 #[tactic(auto, using(crate::proofs::WriteLaws::length_packed))]
-fn entry_length(rec_ref: usize, before: &[u8], key: &[u8]) -> usize
+pub(crate) fn entry_length(rec_ref: usize, before: &[u8], key: &[u8]) -> usize
     requires { rec_ref ≤ 8 }
     ensures value { (row : ℕ)
         → result ≡ length (entry_bytes rec_ref before.now (entry_with key.now row)) }

@@ -31,8 +31,8 @@ fn is_longest_prefix(before: &[u8], item: &PageItem) -> bool
     item.prefix <= before.len() && none_shared(&before[item.prefix..], item.rest)
 }
 
-// Makes the key of `item` out of the key before it, and answers its length.
-fn keep_key(key: &mut [u8], len: usize, item: &PageItem) -> usize
+/// Makes the key of `item` out of the key before it, and answers its length.
+pub(crate) fn keep_key(key: &mut [u8], len: usize, item: &PageItem) -> usize
     requires len { len ≤ length key.old }
     requires prefix { item.now.prefix ≤ len }
     requires room { item.now.prefix + length item.now.rest.now ≤ length key.old }

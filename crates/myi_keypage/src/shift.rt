@@ -27,7 +27,7 @@ fn shift_child(page: &mut [u8], at: usize, by: u64) -> usize
 }
 
 // How long the entry is that stands at the front of the bytes.
-fn entry_size(bytes: &[u8], rec_ref: usize) -> usize
+pub(crate) fn entry_size(bytes: &[u8], rec_ref: usize) -> usize
     requires { rec_ref ≤ 8 }
     ensures value { (prefix row : ℕ) (rest more : List ℕ) → prefix < 65536 → length rest < 65536
         → row < 256 ^ rec_ref → bytes.now ≡ packed_bytes rec_ref prefix rest row ++ more

@@ -17,7 +17,8 @@ use crate::entry::{Entry, shared_length};
 use crate::item::{CHILD_LENGTH, HEAD_LENGTH, NODE_BIT, PLACE_UNIT, WIDE};
 use crate::list::EntryList;
 
-fn put(into: &mut [u8], at: usize, bytes: &[u8]) -> usize
+/// Puts bytes at a place, and answers the place behind them.
+pub(crate) fn put(into: &mut [u8], at: usize, bytes: &[u8]) -> usize
     requires { at + length bytes.now ≤ length into.old }
     ensures { Puts into.old at into.new result bytes.now }
 {
@@ -54,9 +55,9 @@ fn put_pointer(into: &mut [u8], at: usize, count: usize, number: u64) -> usize
     at + count
 }
 
-// An entry behind the key before it.
+/// An entry behind the key before it.
 #[tactic(auto, using(crate::proofs::WriteLaws::lengths))]
-fn put_entry(
+pub(crate) fn put_entry(
     into: &mut [u8],
     at: usize,
     rec_ref: usize,
@@ -118,8 +119,8 @@ fn put_entries<L: EntryList>(
     at
 }
 
-// The first two bytes. Those behind them stay.
-fn put_head(into: &mut [u8], node: bool, used: usize)
+/// The first two bytes. Those behind them stay.
+pub(crate) fn put_head(into: &mut [u8], node: bool, used: usize)
     requires small { used < 32768 }
     requires room { 2 ≤ length into.old }
     ensures { into.new ≡ head_bytes node used ++ drop 2 into.old }
@@ -155,7 +156,8 @@ fn put_body<L: EntryList>(
     }
 }
 
-fn put_zeros(into: &mut [u8], at: usize)
+/// Zeros from a place on.
+pub(crate) fn put_zeros(into: &mut [u8], at: usize)
     requires { at ≤ length into.old }
     ensures { into.new ≡ take at into.old ++ replicate (length into.old - at) 0 }
 {

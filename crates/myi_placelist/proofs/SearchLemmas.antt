@@ -1,8 +1,12 @@
 -- A binary search for a place among places that rise.
-use Rattle.std.proofs.Common.{◌≡◌, ◌≢◌, ◌⊎◌, inl, inr, ℕ, zero, suc, ◌+◌, ◌<◌, ◌≤◌, List, [], ◌∷◌, length, get_or, subst, arith}
+use Rattle.std.proofs.Common.{◌≡◌, ◌≢◌, ◌⊎◌, inl, inr, ℕ, zero, suc, ◌+◌, ◌-◌, ◌*◌, ◌<◌, ◌≤◌, List, [], ◌∷◌, ◌++◌, length, take, drop, get_or, ap, sym, ◌∙◌, subst, arith}
 use Rattle.std.specs.List.{AllByRecursion}
 use Rattle.std.proofs.lemmas.Bool.{cases_lt}
+use Rattle.myi_placelist.specs.declared.groups.Group.{Group}
+use Rattle.myi_placelist.specs.declared.groups.Group.TheVariants.{Close}
+use Rattle.myi_placelist.specs.Groups.{places_behind, places_at, places_in, IsWithin, IsBetween}
 use Rattle.myi_placelist.specs.Places.{IsRising, IsCountBelow}
+use Rattle.myi_placelist.proofs.GroupLemmas.{grouped_at}
 
 reach : (p : ℕ) (ps : List ℕ) (j : ℕ) → AllByRecursion (λ q. p < q) ps → j < length ps → p < get_or ps j 0
 reach p [] j all lt = absurd (omega (arith, lt))
@@ -30,6 +34,35 @@ above_more x ps m more up k le inside = by (cases_lt m k)
     by : (m < k) ⊎ (k ≤ m) → x ≤ get_or ps k 0
     by (inl far) = omega (arith, rising_at ps m k up far inside, more)
     by (inr at) = let same : m ≡ k = omega (arith, at, le) in subst (λ (n : ℕ). x ≤ get_or ps n 0) same more
+
+-- a group in the list of steps was gone through
+pub group_counted : (x base start q from to n : ℕ) (steps near far latest part : List ℕ) (gs : List Group) (g : Group) → AllByRecursion (IsWithin steps near far) gs → q < length gs → g ≡ get_or gs q g → g ≡ Close base start → from ≡ 64 * q → to ≤ from + 64 → part ≡ take 64 (drop start steps)
+    → ((k : ℕ) → k < n → get_or (places_behind base part) k 0 < x) → (n < 64 → x ≤ get_or (places_behind base part) n 0) → n ≤ 64
+    → IsRising (places_in steps near far gs ++ latest) → IsBetween x (places_in steps near far gs ++ latest) from to → IsCountBelow x (places_in steps near far gs ++ latest) (from + n)
+group_counted x base start q from to n steps near far latest part gs g all inside at close first near_to is under over few up between = record {
+  below = λ k lt. by k lt (cases_lt k from);
+  above = λ k le lt. behind k le lt (cases_lt n 64);
+}
+  where
+    list : List ℕ
+    list = places_in steps near far gs ++ latest
+
+    here : (r : ℕ) → r < 64 → get_or (places_behind base part) r 0 ≡ get_or list (from + r) 0
+    here r small = grouped_at steps near far latest gs q r (from + r) g (get_or (places_behind base part) r 0) all inside small (omega (arith, first)) at
+        (ap (λ (ss : List ℕ). get_or (places_behind base ss) r 0) is ∙ sym (ap (λ (h : Group). get_or (places_at steps near far h) r 0) close))
+
+    by : (k : ℕ) → k < from + n → (k < from) ⊎ (from ≤ k) → get_or list k 0 < x
+    by k lt (inl before) = between.below k before
+    by k lt (inr le) =
+        let r : ℕ = k - from in
+        let same : from + r ≡ k = omega (arith, le) in
+        let low = under r (omega (arith, lt, le)) in
+        let place = here r (omega (arith, lt, le, few)) ∙ ap (λ (j : ℕ). get_or list j 0) same in
+        omega (arith, low, place)
+
+    behind : (k : ℕ) → from + n ≤ k → k < length list → (n < 64) ⊎ (64 ≤ n) → x ≤ get_or list k 0
+    behind k le lt (inl less) = above_more x list (from + n) (omega (arith, over less, here n less)) up k le lt
+    behind k le lt (inr most) = between.above k (omega (arith, le, most, near_to)) lt
 
 -- the last place is below, so all are
 pub all_below : (x : ℕ) (ps : List ℕ) (m : ℕ) → m + 1 ≡ length ps → get_or ps m 0 < x → IsRising ps → IsCountBelow x ps (length ps)

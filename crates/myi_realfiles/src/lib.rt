@@ -6,7 +6,7 @@
 //! ```
 //! let mut files = Gathering::new(alloc, RealFiles::new(&rt));
 //! let mut out = RealSink::new(&rt);
-//! let status = kit(&rt, alloc, &words, &mut files, &mut out, now(&rt));
+//! let status = kit(&rt, alloc, &words, &mut files, &mut out, &OpenGate, now(&rt));
 //! match files.flush() {
 //!     Ok(()) => ExitCode::from(status.number()),
 //!     Err(FileErr::Memory) => ExitCode::from(Status::Memory.number()),

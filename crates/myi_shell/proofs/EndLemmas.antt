@@ -12,6 +12,7 @@ use Rattle.myi_table.specs.Table.{OpenTable, IfHolds, IsSame}
 use Rattle.myi_table.specs.Closing.{IsClosed}
 use Rattle.myi_shell.specs.declared.fault.ShellFault.{ShellFault}
 use Rattle.myi_shell.specs.declared.fault.ShellFault.TheVariants as fault
+use Rattle.myi_shell.specs.Damage.{IsPrintedDamage}
 use Rattle.myi_shell.specs.Running.{HasEnded, IsPrinted, IsPrintedPart, AreClosed, StandsBehind, AreClosedBehind, IfSink, ended}
 
 both : (P Q : Type 0) (ran : Result (Unit {0}) ShellFault) (closed : Result (Unit {0}) ChangeFault) → OnOk ran P → OnOk closed Q → OnOk (ended ran closed) (P × Q)
@@ -115,3 +116,29 @@ closed_behind told start mid next printed old t o result ran closed is same stan
     let done = subst (λ r. OnOk r (IfHolds mid t (λ m s. IfTold next (IsClosed t s)))) both.1 shut in
     let k = stands both.0 m held s h in
     λ n shown. record { front = k.front; last = k.last; cut = k.cut; closed = record { last = t; same = same; closed = done k.table.0 k.table.1 _ k.table.2 n shown } }
+
+-- ---- damage
+
+damage_ended : (P : ShellFault → Type 0) (ran : Result (Unit {0}) ShellFault) (closed : Result (Unit {0}) ChangeFault) → P fault.File → P fault.Sink → P fault.Memory → IfErr ran P → IfErr (ended ran closed) P
+damage_ended P (Err (fault.Damaged at)) closed file sink memory h = h
+damage_ended P (Err fault.File) closed file sink memory h = file
+damage_ended P (Err fault.Memory) closed file sink memory h = memory
+damage_ended P (Err fault.Sink) (Ok over) file sink memory h = sink
+damage_ended P (Err fault.Sink) (Err (change.Broken by)) file sink memory h = memory
+damage_ended P (Err fault.Sink) (Err (change.NoRow at)) file sink memory h = memory
+damage_ended P (Err fault.Sink) (Err (change.Duplicate key at)) file sink memory h = memory
+damage_ended P (Err fault.Sink) (Err change.Full) file sink memory h = memory
+damage_ended P (Err fault.Sink) (Err (change.Damaged at)) file sink memory h = memory
+damage_ended P (Err fault.Sink) (Err change.File) file sink memory h = file
+damage_ended P (Err fault.Sink) (Err change.Memory) file sink memory h = memory
+damage_ended P (Ok done) (Ok over) file sink memory h = tt
+damage_ended P (Ok done) (Err (change.Broken by)) file sink memory h = memory
+damage_ended P (Ok done) (Err (change.NoRow at)) file sink memory h = memory
+damage_ended P (Ok done) (Err (change.Duplicate key at)) file sink memory h = memory
+damage_ended P (Ok done) (Err change.Full) file sink memory h = memory
+damage_ended P (Ok done) (Err (change.Damaged at)) file sink memory h = memory
+damage_ended P (Ok done) (Err change.File) file sink memory h = file
+damage_ended P (Ok done) (Err change.Memory) file sink memory h = memory
+
+pub damage_of_end : (start printed : Option (List ℕ)) (result ran : Result (Unit {0}) ShellFault) (closed : Result (Unit {0}) ChangeFault) → result ≡ ended ran closed → IfErr ran (IsPrintedDamage start printed) → IfErr result (IsPrintedDamage start printed)
+damage_of_end start printed result ran closed is h = subst (λ r. IfErr r (IsPrintedDamage start printed)) (sym is) (damage_ended (IsPrintedDamage start printed) ran closed tt tt tt h)

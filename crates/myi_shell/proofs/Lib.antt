@@ -6,6 +6,7 @@ mod KindLemmas
 mod DoneLemmas
 mod StepLemmas
 mod LoopLemmas
+mod DamageLemmas
 mod RoundLemmas
 mod RoundsLemmas
 mod RunLemmas

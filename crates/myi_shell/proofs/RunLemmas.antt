@@ -80,7 +80,7 @@ stands_by told mid next old half table ls setting start out printed p same so_fa
     let all = subst (λ (d : Defs). ForOpening d ls (λ o from. HasDone o from mid p half out → StandsBehind o from next table printed)) same stands in
     all setting s start h.files.table.table.state (so_far m held s h)
 
-err_is : {T : Type 0} {f g : ShellFault} → ◌≡◌ {A = Result T ShellFault} (Err f) (Err g) → f ≡ g
+pub err_is : {T : Type 0} {f g : ShellFault} → ◌≡◌ {A = Result T ShellFault} (Err f) (Err g) → f ≡ g
 err_is e = cc
 
 -- a call failed for the output, where the whole did for it

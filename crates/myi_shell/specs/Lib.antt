@@ -2,6 +2,8 @@
 
 -- how a script begins on a table; what was printed of it, and what the closed files are; how the answers are told
 pub mod Running
+-- damage, and the line on it
+pub mod Damage
 -- ---- what serves the contracts of the crate's own calls
 
 -- a statement that changes a table

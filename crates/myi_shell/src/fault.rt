@@ -1,4 +1,9 @@
 //! What cuts a script off.
+ghost use Rattle.std.specs.Prelude.{◌≡◌, ◌⊎◌};
+ghost use Rattle.myi_shell.specs.Damage.{IsNoted};
+ghost use Rattle.myi_shell.specs.declared.fault.ShellFault.TheVariants.{Memory};
+
+use myi_history::RoundTexts;
 use myi_io::SinkErr;
 use myi_table::ReadFault;
 use std::alloc::{AllocError, AllocFailed};
@@ -7,7 +12,8 @@ use thiserror::Error;
 /// Why a script did not run to its end.
 #[derive(Clone, Copy, Debug, PartialEq, Eq, Error)]
 pub enum ShellFault {
-    /// What stands at this place of a file is not what the table needs there.
+    /// What stands at this place of a file is not what the table needs there. The line on it was
+    /// printed. Files that tell what they hold give no cause for it.
     #[error("the table is damaged at {at}")]
     Damaged { at: u64 },
     /// A file call failed. The files' count of faults rose.
@@ -70,5 +76,20 @@ impl From<SinkErr> for ShellFault {
             SinkErr::Failed => ShellFault::Sink,
             SinkErr::Memory => ShellFault::Memory,
         }
+    }
+}
+
+/// Notes the line of a step that met damage. The answer is the fault, or that there is no memory
+/// for the line.
+pub(crate) fn note_damage(texts: &mut RoundTexts, line: u32, fault: ShellFault) -> ShellFault
+    ensures same { (result ≡ fault) ⊎ (result ≡ Memory) }
+    ensures noted { IsNoted texts.new result }
+{
+    let ShellFault::Damaged { at } = fault else {
+        return fault;
+    };
+    match texts.push_damaged(line, at) {
+        Ok(()) => fault,
+        Err(_) => ShellFault::Memory,
     }
 }

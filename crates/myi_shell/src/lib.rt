@@ -17,16 +17,18 @@
 //!
 //! ```
 //! let script = myi_script::parse_script(alloc, text, table.defs(), false)?;
-//! run_script(alloc, table, &script, 1, files, out)?;
+//! run_script(alloc, table, &script, 1, files, out, &OpenGate)?;
 //! ```
 #![tactic(auto)]
 
 mod changes;
 mod fault;
+mod gate;
 mod reading;
 mod run;
 mod script_run;
 mod statements;
 
 pub use fault::ShellFault;
+pub use gate::{Gate, OpenGate};
 pub use run::run_script;

@@ -9,6 +9,7 @@ ghost use Rattle.myi_locks.specs.Script.{IsScript};
 ghost use Rattle.myi_history.specs.Lines.{MayRun, script_steps};
 ghost use Rattle.myi_table.specs.Table.{defs_in, IsKept, IfHolds, ChangesItsOwn};
 ghost use Rattle.myi_shell.specs.Carrying.{IsCarried};
+ghost use Rattle.myi_shell.specs.Damage.{IsPrintedDamage};
 ghost use Rattle.myi_shell.specs.Stepping.{begun, state_of};
 ghost use Rattle.myi_shell.specs.Running.{opening_on, HasEnded, IsPrinted, IsPrintedPart};
 ghost use Rattle.myi_shell.specs.Running.{IsStopped, AreClosed, ended};
@@ -16,6 +17,7 @@ ghost use Rattle.myi_shell.specs.Running.{IfSink, StandsBehind, AreClosedBehind}
 ghost use Rattle.myi_shell.specs.declared.fault.ShellFault.TheVariants.{File, Sink};
 
 use crate::fault::ShellFault;
+use crate::gate::Gate;
 use crate::script_run::ScriptRun;
 use myi_history::{script_steps, scripts_may_run};
 use myi_io::{Files, Sink};
@@ -29,14 +31,17 @@ use std::alloc::{AllocError, Global};
 /// printed is the text of the script, with numbers within their bounds, and the files are a clean
 /// pair that stands for the table that the history leads to. A run that is cut off has printed a
 /// first part of such a text. Where the output failed, the table is closed too, behind the round
-/// whose lines were being printed; where closing it fails, its fault is the answer.
-pub fn run_script<F: Files, O: Sink>(
+/// whose lines were being printed; where closing it fails, its fault is the answer. `gate` is told
+/// before and after each step. Over files that tell nothing of what they hold a step may meet
+/// damage; its line says so, with those of its round so far, and nothing follows.
+pub fn run_script<F: Files, O: Sink, G: Gate>(
     alloc: Global,
     table: Table,
     script: &Script,
     setting: u8,
     files: &mut F,
     out: &mut O,
+    gate: &G,
 ) -> Result<(), ShellFault>
     requires writable { IsTrue F.writable }
     requires setting { setting ≤ 2 }
@@ -57,21 +62,24 @@ pub fn run_script<F: Files, O: Sink>(
         (opening_on (defs_in table) script.now.lines setting s) table
         (O.written out.old) (O.written out.new)))) }
     ensures refused { IfErr result (IsStopped (F.holds files.old) table) }
+    ensures damaged { IfErr result (IsPrintedDamage (O.written out.old) (O.written out.new)) }
     ensures others { ChangesItsOwn (F.holds files.old) (F.holds files.new) table }
     ensures file { HasCause File (F.faults files.old) (F.faults files.new) result }
     ensures sink { HasCause Sink (O.faults out.old) (O.faults out.new) result }
 {
     let mut table = table;
-    let ran = run(
-        alloc,
-        &mut table,
-        script.lines.as_slice(),
-        setting,
-        files,
-        out,
-    );
+    let lines = script.lines.as_slice();
+    let host = Host { alloc, gate };
+    let ran = run(&host, &mut table, lines, setting, files, out);
     let closed = table.close(files);
     ended(ran, closed)
+}
+
+// The memory of a run, and what is told of its steps.
+#[derive(Drop)]
+struct Host<'a, G> {
+    alloc: Global,
+    gate: &'a G,
 }
 
 // The answer of a script, by how it ran and how its table was closed.
@@ -110,8 +118,8 @@ fn length_of(table: &Table) -> u64
 }
 
 // Does the rounds of a script one after the other.
-fn run<F: Files, O: Sink>(
-    alloc: Global,
+fn run<F: Files, O: Sink, G: Gate>(
+    host: &Host<'_, G>,
     table: &mut Table,
     lines: &[Line],
     setting: u8,
@@ -135,11 +143,12 @@ fn run<F: Files, O: Sink>(
     ensures carried { IsCarried (F.holds files.old) (F.holds files.new) table.old table.new }
     ensures whole { OnOk result (table.new.broken ≡ None) }
     ensures refused { IfErr result (IsStopped (F.holds files.old) table.old) }
+    ensures damaged { IfErr result (IsPrintedDamage (O.written out.old) (O.written out.new)) }
     ensures file { HasCause File (F.faults files.old) (F.faults files.new) result }
     ensures sink { HasCause Sink (O.faults out.old) (O.faults out.new) result }
 {
     scripts_may_run();
-    let mut state = begin(alloc, lines, setting, length_of(table))?;
-    while state.next_round(table, files, lines, out)? {}
+    let mut state = begin(host.alloc, lines, setting, length_of(table))?;
+    while state.next_round(host.gate, table, files, lines, out)? {}
     Ok(())
 }

@@ -5,7 +5,8 @@
 //! the lines.
 
 use crate::changes::{Reply, change, push_reply};
-use crate::fault::ShellFault;
+use crate::fault::{ShellFault, note_damage};
+use crate::gate::{Gate, end_step, pass_step};
 use crate::reading::{Snapshot, push_found, read};
 use crate::statements::act_of;
 use myi_history::{RoundTexts, StepAnswer};
@@ -38,7 +39,7 @@ pub(crate) struct ScriptRun {
 }
 
 impl ScriptRun {
-    ghost use Rattle.std.specs.Prelude.{◌≡◌, ◌==◌, ◌&&◌, ◌+◌, ◌<◌, ◌++◌, [], ◌∷◌, ℕ, true, false};
+    ghost use Rattle.std.specs.Prelude.{◌≡◌, ◌==◌, ◌&&◌, ◌+◌, ◌<◌, ◌≤◌, ◌++◌, [], ◌∷◌, ℕ, true, false};
     ghost use Rattle.std.specs.Prelude.{None, is_some, map, OnOk, OnErr, IfOk, IfErr, IsTrue};
     ghost use Rattle.std.specs.Prelude.{if◌then◌else◌};
     ghost use Rattle.std.specs.List.{AllByRecursion, flat_map};
@@ -57,7 +58,10 @@ impl ScriptRun {
     ghost use Rattle.myi_history.specs.Text.{done_said};
     ghost use Rattle.myi_table.specs.Table.{defs_in, IsKept, IfHolds, StillHolds};
     ghost use Rattle.myi_shell.specs.declared.fault.ShellFault.TheVariants.{File, Memory, Sink};
+    ghost use Rattle.myi_base.specs.Holding.{IfTold};
+    ghost use Rattle.myi_base.specs.Causes.{Rose};
     ghost use Rattle.myi_shell.specs.Carrying.{IsCarried};
+    ghost use Rattle.myi_shell.specs.Damage.{IsDamage, IsNoted, IsToldFor, IsPrintedDamage, Extends};
     ghost use Rattle.myi_shell.specs.Changing.{NeverDamaged, count_of};
     ghost use Rattle.myi_shell.specs.Stepping.{state_of, seen_by, read_by, writes_by, round_by};
     ghost use Rattle.myi_shell.specs.Stepping.{HasItsKinds, AreDone};
@@ -139,6 +143,7 @@ impl ScriptRun {
         ensures carried { IsCarried (F.holds files.old) (F.holds files.new) table.old table.new }
         ensures whole { table.new.broken ≡ None }
         ensures refused { IfErr result (NeverDamaged (F.holds files.old) table.old) }
+        ensures noted { IfErr result (IsNoted self.new.texts) }
         ensures cause { HasCause File (F.faults files.old) (F.faults files.new) result }
     {
         let view = self.snapshot(step.session);
@@ -146,12 +151,16 @@ impl ScriptRun {
             push_found(&mut self.texts, step.line, &[], view)?;
             return Ok(());
         };
-        read(table, files, &mut self.texts, act, step.line, view)
+        match read(table, files, &mut self.texts, act, step.line, view) {
+            Ok(()) => Ok(()),
+            Err(fault) => Err(note_damage(&mut self.texts, step.line, fault)),
+        }
     }
 
     // Steps that read.
-    fn read_run<F: Files>(
+    fn read_run<F: Files, G: Gate>(
         &mut self,
+        gate: &G,
         table: &mut Table,
         files: &mut F,
         lines: &[Line],
@@ -169,17 +178,22 @@ impl ScriptRun {
         ensures carried { IsCarried (F.holds files.old) (F.holds files.new) table.old table.new }
         ensures whole { table.new.broken ≡ None }
         ensures refused { IfErr result (NeverDamaged (F.holds files.old) table.old) }
+        ensures noted { IfErr result (IsNoted self.new.texts) }
         ensures cause { HasCause File (F.faults files.old) (F.faults files.new) result }
     {
         for step in steps {
-            self.read(table, files, lines, step)?;
+            pass_step(gate, step);
+            let read = self.read(table, files, lines, step);
+            end_step(gate, step);
+            read?;
         }
         Ok(())
     }
 
     // Runs of steps that read.
-    fn read_runs<F: Files>(
+    fn read_runs<F: Files, G: Gate>(
         &mut self,
+        gate: &G,
         table: &mut Table,
         files: &mut F,
         lines: &[Line],
@@ -198,10 +212,11 @@ impl ScriptRun {
         ensures carried { IsCarried (F.holds files.old) (F.holds files.new) table.old table.new }
         ensures whole { table.new.broken ≡ None }
         ensures refused { IfErr result (NeverDamaged (F.holds files.old) table.old) }
+        ensures noted { IfErr result (IsNoted self.new.texts) }
         ensures cause { HasCause File (F.faults files.old) (F.faults files.new) result }
     {
         for run in runs {
-            self.read_run(table, files, lines, run.steps.as_slice())?;
+            self.read_run(gate, table, files, lines, run.steps.as_slice())?;
         }
         Ok(())
     }
@@ -229,6 +244,7 @@ impl ScriptRun {
         ensures carried { IsCarried (F.holds files.old) (F.holds files.new) table.old table.new }
         ensures whole { OnOk result (table.new.broken ≡ None) }
         ensures refused { IfErr result (NeverDamaged (F.holds files.old) table.old) }
+        ensures noted { IfErr result (IsNoted self.new.texts) }
         ensures cause { HasCause File (F.faults files.old) (F.faults files.new) result }
     {
         if self.reads_only(step.session) {
@@ -237,7 +253,11 @@ impl ScriptRun {
         let Some(act) = act_of(lines, step.line) else {
             return Ok(());
         };
-        let Some(reply) = change(table, files, together, act)? else {
+        let changed = match change(table, files, together, act) {
+            Ok(changed) => changed,
+            Err(fault) => return Err(note_damage(&mut self.texts, step.line, fault)),
+        };
+        let Some(reply) = changed else {
             return Ok(());
         };
         push_reply(&mut self.texts, step.line, reply)?;
@@ -260,8 +280,9 @@ impl ScriptRun {
     }
 
     // The inserts of a round of kind Together.
-    fn insert_run<F: Files>(
+    fn insert_run<F: Files, G: Gate>(
         &mut self,
+        gate: &G,
         table: &mut Table,
         files: &mut F,
         lines: &[Line],
@@ -281,10 +302,14 @@ impl ScriptRun {
         ensures carried { IsCarried (F.holds files.old) (F.holds files.new) table.old table.new }
         ensures whole { OnOk result (table.new.broken ≡ None) }
         ensures refused { IfErr result (NeverDamaged (F.holds files.old) table.old) }
+        ensures noted { IfErr result (IsNoted self.new.texts) }
         ensures cause { HasCause File (F.faults files.old) (F.faults files.new) result }
     {
         for step in steps {
-            self.write(table, files, lines, step, true)?;
+            pass_step(gate, step);
+            let written = self.write(table, files, lines, step, true);
+            end_step(gate, step);
+            written?;
         }
         Ok(())
     }
@@ -313,6 +338,7 @@ impl ScriptRun {
         ensures carried { IsCarried (F.holds files.old) (F.holds files.new) table.old table.new }
         ensures whole { OnOk result (table.new.broken ≡ None) }
         ensures refused { IfErr result (NeverDamaged (F.holds files.old) table.old) }
+        ensures noted { IfErr result (IsNoted self.new.texts) }
         ensures cause { HasCause File (F.faults files.old) (F.faults files.new) result }
     {
         match step.kind {
@@ -373,8 +399,9 @@ impl ScriptRun {
     }
 
     // The steps of a round, before which this was counted.
-    fn round<F: Files>(
+    fn round<F: Files, G: Gate>(
         &mut self,
+        gate: &G,
         table: &mut Table,
         files: &mut F,
         lines: &[Line],
@@ -398,15 +425,21 @@ impl ScriptRun {
         ensures carried { IsCarried (F.holds files.old) (F.holds files.new) table.old table.new }
         ensures whole { OnOk result (table.new.broken ≡ None) }
         ensures refused { IfErr result (NeverDamaged (F.holds files.old) table.old) }
+        ensures noted { IfErr result (IsNoted self.new.texts) }
         ensures cause { HasCause File (F.faults files.old) (F.faults files.new) result }
     {
         match round {
             Round::Finished => Ok(()),
-            Round::Alone(step) => self.step(table, files, lines, step, counters),
+            Round::Alone(step) => {
+                pass_step(gate, step);
+                let stepped = self.step(table, files, lines, step, counters);
+                end_step(gate, step);
+                stepped
+            }
             Round::Together { inserter, readers } => {
-                self.read_runs(table, files, lines, readers.runs.as_slice())?;
+                self.read_runs(gate, table, files, lines, readers.runs.as_slice())?;
                 match inserter {
-                    Some(run) => self.insert_run(table, files, lines, run.steps.as_slice()),
+                    Some(run) => self.insert_run(gate, table, files, lines, run.steps.as_slice()),
                     None => Ok(()),
                 }
             }
@@ -414,8 +447,9 @@ impl ScriptRun {
     }
 
     // Does a round, prints its lines, and goes on in the locks.
-    fn do_round<F: Files, O: Sink>(
+    fn do_round<F: Files, O: Sink, G: Gate>(
         &mut self,
+        gate: &G,
         table: &mut Table,
         files: &mut F,
         lines: &[Line],
@@ -447,19 +481,44 @@ impl ScriptRun {
         ensures carried { IsCarried (F.holds files.old) (F.holds files.new) table.old table.new }
         ensures whole { OnOk result (table.new.broken ≡ None) }
         ensures refused { IfErr result (IsStopped (F.holds files.old) table.old) }
+        ensures noted { IfErr result (IsNoted self.new.texts) }
+        ensures unsaid { IfErr result (λ f. IsDamage f → O.written out.new ≡ O.written out.old) }
+        ensures extends { OnOk result (IfTold (O.written out.old) (Extends (O.written out.new))) }
         ensures file { HasCause File (F.faults files.old) (F.faults files.new) result }
         ensures sink { HasCause Sink (O.faults out.old) (O.faults out.new) result }
     {
         let counters = table.counters();
-        self.round(table, files, lines, round, counters)?;
+        self.round(gate, table, files, lines, round, counters)?;
         self.texts.write(out)?;
         self.locks.advance(round);
         Ok(())
     }
 
+    // What a round answers that a fault cut off. Where a step met damage, the lines of the round so
+    // far are printed, with the one on it.
+    fn cut_off<O: Sink>(&mut self, out: &mut O, fault: ShellFault) -> ShellFault
+        requires noted { IsNoted self.old.texts fault }
+        ensures told { IsToldFor fault result }
+        ensures unsaid { (IsDamage fault → ⊥) → O.written out.new ≡ O.written out.old }
+        ensures printed { IsPrintedDamage (O.written out.old) (O.written out.new) result }
+        ensures only { self.new ≡ record self.old { texts = self.new.texts } }
+        ensures later { O.faults out.old ≤ O.faults out.new }
+        ensures sink { IsDamage fault → result ≡ Sink
+            → Rose (O.faults out.old) (O.faults out.new) }
+    {
+        let ShellFault::Damaged { .. } = fault else {
+            return fault;
+        };
+        match self.texts.write(out) {
+            Ok(()) => fault,
+            Err(failed) => failed.into(),
+        }
+    }
+
     /// Does the next round, and prints its lines. There was none where the answer is false.
-    pub(crate) fn next_round<F: Files, O: Sink>(
+    pub(crate) fn next_round<F: Files, O: Sink, G: Gate>(
         &mut self,
+        gate: &G,
         table: &mut Table,
         files: &mut F,
         lines: &[Line],
@@ -487,6 +546,9 @@ impl ScriptRun {
         ensures carried { IsCarried (F.holds files.old) (F.holds files.new) table.old table.new }
         ensures whole { OnOk result (table.new.broken ≡ None) }
         ensures refused { IfErr result (IsStopped (F.holds files.old) table.old) }
+        ensures damaged { IfErr result
+            (IsPrintedDamage (O.written out.old) (O.written out.new)) }
+        ensures extends { OnOk result (IfTold (O.written out.old) (Extends (O.written out.new))) }
         ensures file { HasCause File (F.faults files.old) (F.faults files.new) result }
         ensures sink { HasCause Sink (O.faults out.old) (O.faults out.new) result }
     {
@@ -494,7 +556,10 @@ impl ScriptRun {
         if let Round::Finished = round {
             return Ok(false);
         }
-        self.do_round(table, files, lines, out, &round)?;
+        match self.do_round(gate, table, files, lines, out, &round) {
+            Ok(()) => {}
+            Err(fault) => return Err(self.cut_off(out, fault)),
+        }
         Ok(true)
     }
 }

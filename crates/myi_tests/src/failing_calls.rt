@@ -2,6 +2,7 @@
 use myi_deftext::parse_text;
 use myi_io::Files;
 use myi_memfiles::{MemFiles, MemSink};
+use myi_shell::OpenGate;
 use myisamkit::{Status, kit};
 use std::alloc::{AllocError, Global};
 use std::process::Abort;
@@ -124,7 +125,7 @@ fn run<R: Threads + Sync>(
         words.push(String::from_str(alloc, word)?)?;
     }
     let mut out = MemSink::new(alloc, Vec::new(alloc))?;
-    let status = kit(rt, alloc, &words, files, &mut out, MOMENT);
+    let status = kit(rt, alloc, &words, files, &mut out, &OpenGate, MOMENT);
     Ok((status, !out.written().is_empty()))
 }
 

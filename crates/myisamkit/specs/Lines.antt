@@ -75,10 +75,6 @@ made_line name count damaged kept =
 abbrev pub text_line : List ℕ → ℕ → List ℕ
 text_line file n = file ++ (codes ": line " ++ (decimal n ++ codes "\n"))
 
--- what stands at this place of a file is not what the table needs there
-abbrev pub damaged_line : List ℕ → ℕ → List ℕ
-damaged_line name at = name ++ (codes ": damaged at " ++ (decimal at ++ codes "\n"))
-
 -- nothing was found wrong with a table
 abbrev pub ok_line : List ℕ → List ℕ
 ok_line name = name ++ codes ": ok\n"

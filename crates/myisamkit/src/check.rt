@@ -17,13 +17,14 @@ use crate::say::say;
 use crate::status::{Status, Stop};
 use myi_check::check;
 use myi_io::{Files, Sink};
+use myi_shell::Gate;
 use std::alloc::{AllocError, Global};
 use std::thread::Threads;
 
 /// Checks a table and says what was found. Where something was, and a repair is forced, the table is
 /// repaired then.
-pub(crate) fn check_table<R: Threads + Sync, F: Files, O: Sink>(
-    host: &Host<'_, R>,
+pub(crate) fn check_table<R: Threads + Sync, G: Gate, F: Files, O: Sink>(
+    host: &Host<'_, R, G>,
     files: &mut F,
     out: &mut O,
     options: &Options,

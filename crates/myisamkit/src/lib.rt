@@ -6,7 +6,7 @@
 //! run say, answer and do is defined over what the files hold before (`Turns`, `Runs`), and the files
 //! that a repair leaves over the bytes of the two files before it (`Rattle.myi_pair.specs`,
 //! `RecoveredBytes` and `Recovered`), what a check finds over the same bytes (`Findings`); analysis and sorting are those of `myi_order`. The commands are
-//! `chk`, `create`, `dump`, `make` and `shell`.
+//! `chk`, `create`, `dump`, `make` and `shell`. A `Gate` of `myi_shell` is told of the steps of a script.
 //!
 //! ```
 //! let mut words = Vec::new(alloc);
@@ -14,7 +14,7 @@
 //!     words.push(String::from_str(alloc, word)?)?;
 //! }
 //! let mut out = MemSink::new(alloc, Vec::new(alloc))?;
-//! let status = kit(rt, alloc, &words, &mut files, &mut out, MOMENT);
+//! let status = kit(rt, alloc, &words, &mut files, &mut out, &OpenGate, MOMENT);
 //! ```
 //!
 //! `crates/myi_tests/src/failing_calls.rt` runs it, over `MemFiles`.

@@ -107,13 +107,6 @@ pub(crate) fn no_file_line(alloc: Global, file: &str) -> Result<String, AllocErr
     format!(in alloc; "{file}: absent\n")
 }
 
-/// What stands at this place of a file is not what the table needs there.
-pub(crate) fn damaged_line(alloc: Global, name: &str, at: u64) -> Result<String, AllocError>
-    ensures { IfOk result (λ line. string_bytes line ≡ spec.damaged_line name.now at) }
-{
-    format!(in alloc; "{name}: damaged at {at}\n")
-}
-
 pub(crate) fn ok_line(alloc: Global, name: &str) -> Result<String, AllocError>
     ensures { IfOk result (λ line. string_bytes line ≡ spec.ok_line name.now) }
 {

@@ -22,6 +22,7 @@ use crate::status::{Status, Stop};
 use myi_io::{Files, Sink};
 use myi_parallel::{OpenGate, Workers, parallel_recover};
 use myi_repair::{RepairFault, Report, recover};
+use myi_shell::Gate;
 use std::alloc::{AllocError, Global};
 use std::thread::Threads;
 
@@ -29,8 +30,8 @@ use std::thread::Threads;
 const WORKERS: u8 = 4;
 
 /// Repairs a table, if it can be repaired, and says so.
-pub(crate) fn recover_table<R: Threads + Sync, F: Files, O: Sink>(
-    host: &Host<'_, R>,
+pub(crate) fn recover_table<R: Threads + Sync, G: Gate, F: Files, O: Sink>(
+    host: &Host<'_, R, G>,
     files: &mut F,
     out: &mut O,
     options: &Options,
@@ -60,8 +61,8 @@ pub(crate) fn recover_table<R: Threads + Sync, F: Files, O: Sink>(
 }
 
 // Repairs a table, if it can be repaired, and answers the status and the line.
-fn repair<R: Threads + Sync, F: Files>(
-    host: &Host<'_, R>,
+fn repair<R: Threads + Sync, G: Gate, F: Files>(
+    host: &Host<'_, R, G>,
     files: &mut F,
     options: &Options,
     name: &str,
@@ -95,8 +96,8 @@ fn repair<R: Threads + Sync, F: Files>(
 }
 
 // Repairs a table with its trees laid side by side where that is asked for, and else one after the other.
-fn recover_as_asked<R: Threads + Sync, F: Files>(
-    host: &Host<'_, R>,
+fn recover_as_asked<R: Threads + Sync, G: Gate, F: Files>(
+    host: &Host<'_, R, G>,
     files: &mut F,
     options: &Options,
     name: &str,

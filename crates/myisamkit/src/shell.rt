@@ -14,7 +14,8 @@ ghost use Rattle.myisamkit.specs.Lines as spec;
 ghost use Rattle.myisamkit.specs.Shells as shells;
 
 use crate::dump::refusal;
-use crate::lines::{absent_line, damaged_line, no_file_line, reason_of, refused_line, text_line};
+use crate::host::Host;
+use crate::lines::{absent_line, no_file_line, reason_of, refused_line, text_line};
 use crate::say::say;
 use crate::shell_options::ShellOptions;
 use crate::status::{Status, Stop};
@@ -26,7 +27,7 @@ use myi_keycache::CacheSetup;
 use myi_opening::TableFault;
 use myi_pair::{Finding, findings_are_none_where_clean};
 use myi_script::{Script, ScriptFault, parse_script};
-use myi_shell::{ShellFault, run_script};
+use myi_shell::{Gate, ShellFault, run_script};
 use myi_table::{LoadFault, Table};
 use myi_tablestate::clean_pairs_stand_for_tables;
 use std::alloc::{AllocError, Global};
@@ -49,8 +50,8 @@ pub(crate) enum Found {
 }
 
 /// Runs a script on a table with which nothing is wrong; else says what is.
-pub(crate) fn run_shell<F: Files, O: Sink>(
-    alloc: Global,
+pub(crate) fn run_shell<R, G: Gate, F: Files, O: Sink>(
+    host: &Host<'_, R, G>,
     files: &mut F,
     out: &mut O,
     job: &Job<'_>,
@@ -75,12 +76,12 @@ pub(crate) fn run_shell<F: Files, O: Sink>(
     ensures file { HasCause Stop.File (F.faults files.old) (F.faults files.new) result }
     ensures sink { HasCause Stop.Sink (O.faults out.old) (O.faults out.new) result }
 {
-    match find_text(alloc, files, job.name, job.script)? {
+    match find_text(host.alloc, files, job.name, job.script)? {
         Found::Refused(status, line) => {
             say(out, line.as_str())?;
             Ok(status)
         }
-        Found::Text(text) => run_text(alloc, files, out, job, &text),
+        Found::Text(text) => run_text(host, files, out, job, &text),
     }
 }
 
@@ -156,8 +157,8 @@ fn refusal_of(
 }
 
 // Runs the script of a text on a table with which nothing is wrong.
-fn run_text<F: Files, O: Sink>(
-    alloc: Global,
+fn run_text<R, G: Gate, F: Files, O: Sink>(
+    host: &Host<'_, R, G>,
     files: &mut F,
     out: &mut O,
     job: &Job<'_>,
@@ -185,11 +186,11 @@ fn run_text<F: Files, O: Sink>(
     ensures file { HasCause Stop.File (F.faults files.old) (F.faults files.new) result }
     ensures sink { HasCause Stop.Sink (O.faults out.old) (O.faults out.new) result }
 {
-    let table = load_sound(alloc, files, job.name, job.options.setup)?;
-    match parse_script(alloc, text, table.defs(), false) {
-        Ok(script) => run_parsed(alloc, files, out, job, table, script),
+    let table = load_sound(host.alloc, files, job.name, job.options.setup)?;
+    match parse_script(host.alloc, text, table.defs(), false) {
+        Ok(script) => run_parsed(host, files, out, job, table, script),
         Err(ScriptFault::Line(number)) => {
-            let line = text_line(alloc, job.script, number)?;
+            let line = text_line(host.alloc, job.script, number)?;
             say(out, line.as_str())?;
             Ok(Status::Refused)
         }
@@ -221,8 +222,8 @@ fn load_sound<F: Files>(
 }
 
 // Runs a script on a table that was loaded.
-fn run_parsed<F: Files, O: Sink>(
-    alloc: Global,
+fn run_parsed<R, G: Gate, F: Files, O: Sink>(
+    host: &Host<'_, R, G>,
     files: &mut F,
     out: &mut O,
     job: &Job<'_>,
@@ -257,22 +258,13 @@ fn run_parsed<F: Files, O: Sink>(
     scripts_may_run();
     clean_pairs_stand_for_tables();
     findings_are_none_where_clean();
-    match run_script(alloc, table, &script, job.options.concurrent, files, out) {
+    let setting = job.options.concurrent;
+    match run_script(host.alloc, table, &script, setting, files, out, host.gate) {
         Ok(()) => Ok(Status::Ok),
-        Err(ShellFault::Damaged { at }) => say_damaged(alloc, out, job.name, at),
+        // Its line was printed. Files that tell what they hold give no cause for it.
+        Err(ShellFault::Damaged { .. }) => Ok(Status::Refused),
         Err(ShellFault::File) => Err(Stop::File),
         Err(ShellFault::Sink) => Err(Stop::Sink),
         Err(ShellFault::Memory) => Err(Stop::Memory),
     }
-}
-
-// Says where a table is damaged, which is met in no table of files that tell what they hold.
-fn say_damaged<O: Sink>(alloc: Global, out: &mut O, name: &str, at: u64) -> Result<Status, Stop>
-    ensures status { IfOk result (λ s. s ≡ Status.Refused) }
-    ensures file { IfErr result (λ s. s ≢ Stop.File) }
-    ensures sink { HasCause Stop.Sink (O.faults out.old) (O.faults out.new) result }
-{
-    let line = damaged_line(alloc, name, at)?;
-    say(out, line.as_str())?;
-    Ok(Status::Refused)
 }

@@ -14,11 +14,12 @@ use crate::status::{Status, Stop};
 use crate::turn::run_table;
 use crate::words::{Names, table_name};
 use myi_io::{Files, Sink};
+use myi_shell::Gate;
 use std::thread::Threads;
 
 /// Gives each table that the words name its turn, and answers the greatest status.
-pub(crate) fn run_tables<R: Threads + Sync, F: Files, O: Sink>(
-    host: &Host<'_, R>,
+pub(crate) fn run_tables<R: Threads + Sync, G: Gate, F: Files, O: Sink>(
+    host: &Host<'_, R, G>,
     files: &mut F,
     out: &mut O,
     options: &Options,

@@ -22,17 +22,20 @@ use crate::status::{Status, Stop};
 use crate::tables::run_tables;
 use crate::words::{Plan, read_words};
 use myi_io::{Files, Sink};
+use myi_shell::Gate;
 use std::alloc::Global;
 use std::thread::Threads;
 
 /// Does what the words ask for, prints what it did, and answers how it went. `words` are the words
-/// after the program's name; `now` is the moment, in seconds since 1970. Workers run on threads of `rt`.
-pub fn kit<R: Threads + Sync, F: Files, O: Sink>(
+/// after the program's name; `now` is the moment, in seconds since 1970. Workers run on threads of `rt`;
+/// `gate` is told before and after each step of a script.
+pub fn kit<R: Threads + Sync, F: Files, O: Sink, G: Gate>(
     rt: &R,
     alloc: Global,
     words: &[String],
     files: &mut F,
     out: &mut O,
+    gate: &G,
     now: u64,
 ) -> Status
     requires { IsTrue F.writable }
@@ -74,15 +77,15 @@ pub fn kit<R: Threads + Sync, F: Files, O: Sink>(
     ensures file { result ≡ Status.FileFault → Rose (F.faults files.old) (F.faults files.new) }
     ensures sink { result ≡ Status.SinkFault → Rose (O.faults out.old) (O.faults out.new) }
 {
-    let host = Host { rt, alloc };
+    let host = Host { rt, alloc, gate };
     match run(&host, words, files, out, now) {
         Ok(status) => status,
         Err(stop) => stop.into(),
     }
 }
 
-fn run<R: Threads + Sync, F: Files, O: Sink>(
-    host: &Host<'_, R>,
+fn run<R: Threads + Sync, G: Gate, F: Files, O: Sink>(
+    host: &Host<'_, R, G>,
     words: &[String],
     files: &mut F,
     out: &mut O,
@@ -119,6 +122,6 @@ fn run<R: Threads + Sync, F: Files, O: Sink>(
         Plan::Create(name, text) => create_from_text(host.alloc, files, out, name, text),
         Plan::Dump(name) => dump_table(host.alloc, files, out, name),
         Plan::Make(rows, name) => make_of_rows(host.alloc, files, out, rows, name, now),
-        Plan::Shell(job) => run_shell(host.alloc, files, out, &job),
+        Plan::Shell(job) => run_shell(host, files, out, &job),
     }
 }

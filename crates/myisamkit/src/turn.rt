@@ -15,12 +15,13 @@ use crate::recover::recover_table;
 use crate::sort::{Order, sort_table};
 use crate::status::{Status, Stop};
 use myi_io::{Files, Sink};
+use myi_shell::Gate;
 use std::thread::Threads;
 
 /// Gives a table its turn.
 #[tactic(auto, unfolding(crate::specs::Turns::turn, crate::specs::Turns::TurnRecovers, crate::specs::Turns::CutsTurnOff, crate::specs::Turns::FailsInTurn))]
-pub(crate) fn run_table<R: Threads + Sync, F: Files, O: Sink>(
-    host: &Host<'_, R>,
+pub(crate) fn run_table<R: Threads + Sync, G: Gate, F: Files, O: Sink>(
+    host: &Host<'_, R, G>,
     files: &mut F,
     out: &mut O,
     options: &Options,

@@ -7,6 +7,8 @@ use Rattle.myi_shell.specs.Stepping.{state_of, begun}
 use Rattle.myi_shell.specs.Running.{opening_on, HasGoneOn, IsStopped}
 use Rattle.myi_shell.proofs.CarryLemmas.{carried_none, carried_then, if_err}
 use Rattle.myi_shell.proofs.RunLemmas.{nothing_printed, begins, begun_lawful, goes_on_by, stops_by, stands_by, sink_again, stopped_before}
+use Rattle.myi_shell.specs.Damage.{IsPrintedDamage}
+use Rattle.myi_shell.proofs.DamageLemmas.{extends_none, extends_then, damage_behind, if_err_by}
 use Rattle.myi_shell.proofs.run.run.Goals as goal
 
 pub returns-in_err-state-clause-part : goal.returns-in_err-state-clause-part
@@ -19,6 +21,7 @@ loop-state-init g c = record {
   whole = c.requires.whole;
   sound = c.length_of.ensures.sound;
   lawful = begun_lawful (defs_in c.args.table.now) c.args.lines.now c.args.setting c.length_of.result (state_of c.in_ok-state.state) c.requires.lines c.in_ok-state.ensures;
+  printed = extends_none (g.O.Sink.written c.args.out.now);
   file = omega arith;
   sink = omega arith;
 }
@@ -54,6 +57,7 @@ loop-state-preserved g c =
       whole = c.in_ok-next_round.ensures.whole;
       sound = subst (λ (d : Defs). IsSound d) (sym c.next_round.ensures.carried.same.defs) was.sound;
       lawful = c.in_ok-next_round.ensures.lawful;
+      printed = extends_then start (g.O.Sink.written c.loop-state.out) printed was.printed c.in_ok-next_round.ensures.extends;
       file = omega (arith, was.file, c.next_round.ensures.file.later);
       sink = omega (arith, was.sink, c.next_round.ensures.sink.later);
     }
@@ -73,3 +77,10 @@ returns-in_err-next_round-clause-stands g c =
     let e = err_from_is_err_and c.from_residual-in_err-next_round.result c.from_residual-in_err-next_round.ensures.1 in
     λ failed. stands_by (g.F.Files.holds c.args.files.now) (g.F.Files.holds c.loop-state.files) (g.F.Files.holds c.next_round.new.files) c.args.table.now c.loop-state.table c.next_round.new.table c.args.lines.now c.args.setting (g.O.Sink.written c.args.out.now) (g.O.Sink.written c.loop-state.out) (g.O.Sink.written c.next_round.new.out) (state_of c.loop-state.state)
     c.loop-state.invariant.carried.same.defs c.loop-state.invariant.done (c.next_round.ensures.stands (sink_again e.1 e.2 c.in_err-next_round.was failed))
+
+pub returns-in_err-next_round-clause-damaged : goal.returns-in_err-next_round-clause-damaged
+returns-in_err-next_round-clause-damaged g c =
+    let e = err_from_is_err_and c.from_residual-in_err-next_round.result c.from_residual-in_err-next_round.ensures.1 in
+    let start = g.O.Sink.written c.args.out.now in
+    let printed = g.O.Sink.written c.next_round.new.out in
+    if_err_by (IsPrintedDamage start printed) _ c.in_err-next_round.field-0.0 e.0 e.1 e.2 (damage_behind start (g.O.Sink.written c.loop-state.out) printed c.in_err-next_round.field-0.0 c.loop-state.invariant.printed c.in_err-next_round.ensures.damaged)

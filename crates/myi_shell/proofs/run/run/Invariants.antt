@@ -1,8 +1,10 @@
 use Rattle.std.proofs.Common.{◌≡◌, ◌≤◌, None}
+use Rattle.myi_base.specs.Holding.{IfTold}
 use Rattle.myi_defs.specs.Sound.{IsSound}
 use Rattle.myi_locks.specs.Laws.{steps_left, IsLawful}
 use Rattle.myi_table.specs.Table.{defs_in, IfHolds}
 use Rattle.myi_shell.specs.Carrying.{IsCarried}
+use Rattle.myi_shell.specs.Damage.{Extends}
 use Rattle.myi_shell.specs.Stepping.{state_of}
 use Rattle.myi_shell.specs.Running.{opening_on, HasDone}
 use Rattle.myi_shell.proofs.run.run.Given as goal
@@ -15,6 +17,7 @@ invariant-loop-state g l = record {
   whole : l.table.broken ≡ None;
   sound : IsSound (defs_in l.table);
   lawful : IsLawful l.state.locks.sessions;
+  printed : IfTold (g.O.Sink.written l.fn.out) (Extends (g.O.Sink.written l.out));
   file : g.F.Files.faults l.fn.files ≤ g.F.Files.faults l.files;
   sink : g.O.Sink.faults l.fn.out ≤ g.O.Sink.faults l.out;
 }

@@ -8,8 +8,24 @@ use Rattle.myisamkit.specs.Reading.{is_table, tables_left, names_none, names_beh
 use Rattle.myisamkit.specs.Statuses.{IsFault}
 use Rattle.myisamkit.specs.Runs.{tables_run, TablesStop}
 use Rattle.myisamkit.specs.Turns.{MayFind}
-use Rattle.myisamkit.proofs.TableLaws.{Reached, reached_next, worse_keeps, left_here, stops_told, part_told}
+use Rattle.myisamkit.proofs.TableLaws.{Reached, reached_none, reached_next, worse_keeps, left_here, stops_told, part_told}
 use Rattle.myisamkit.proofs.tables.run_tables.Goals as goal
+
+pub loop-word-init : goal.loop-word-init
+loop-word-init g c = record {
+  plain = λ e. e;
+  usage = λ e. absurd cc;
+  findings = λ e. absurd cc;
+  later = omega arith;
+  sink_later = omega arith;
+  untold = λ e. e;
+  so_far = λ m held. (
+    m,
+    held,
+    subst (λ k. Reached c.args.options.now c.args.now (tables_left names_none (map (λ w. string_bytes w) c.args.words.now)) (tables_left k (map (λ w. string_bytes w) c.args.words.now)) status.Ok m m (g.O.Sink.written c.args.out.now) (g.O.Sink.written c.args.out.now)) (sym c.new-names.ensures)
+        (reached_none c.args.options.now c.args.now (tables_left names_none (map (λ w. string_bytes w) c.args.words.now)) m (g.O.Sink.written c.args.out.now)),
+  );
+}
 
 pub returns-in_err-table-clause-part : goal.returns-in_err-table-clause-part
 returns-in_err-table-clause-part g c =

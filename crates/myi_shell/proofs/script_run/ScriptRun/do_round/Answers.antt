@@ -7,7 +7,11 @@ use Rattle.myi_locks.specs.Done.{advanced}
 use Rattle.myi_locks.specs.Laws.{IsLawful, steps_left}
 use Rattle.myi_locks.proofs.CallerLemmas.{kept, fewer}
 use Rattle.myi_shell.specs.Stepping.{state_of, HasItsKinds}
+use Rattle.myi_shell.specs.declared.fault.ShellFault.{ShellFault}
+use Rattle.myi_shell.specs.Running.{of_sink}
+use Rattle.myi_shell.specs.Damage.{IsDamage, IsNoted}
 use Rattle.myi_shell.proofs.KindLemmas.{has_its_kinds}
+use Rattle.myi_shell.proofs.DamageLemmas.{if_err_by, sink_noted, sink_no_damage, written_extends}
 use Rattle.myi_shell.proofs.CarryLemmas.{sink_cause, on_err}
 use Rattle.myi_shell.proofs.RoundsLemmas.{round_on, round_part, round_behind, stops_between}
 use Rattle.myi_shell.proofs.script_run.ScriptRun.do_round.Goals as goal
@@ -57,3 +61,26 @@ pub returns-in_err-write-clause-stands : goal.returns-in_err-write-clause-stands
 returns-in_err-write-clause-stands g c = λ failed setting base start state w.
     round_behind c.args.table.now c.round.new.table c.args.lines.now setting base start (g.F.Files.holds c.args.files.now) (g.F.Files.holds c.round.new.files) (g.O.Sink.written c.args.out.now) (g.O.Sink.written c.write.new.out) (state_of c.args.self.now) (state_of c.round.new.self) c.args.round.now c.counters-counters.result
     c.requires.lines c.requires.sound state c.requires.left c.counters-counters.ensures.sum c.counters-counters.ensures.fewer c.requires.next c.in_ok-round.ensures.done c.in_ok-round.ensures.taken c.round.ensures.carried c.in_err-write.ensures.err w
+
+pub returns-in_err-round-clause-noted : goal.returns-in_err-round-clause-noted
+returns-in_err-round-clause-noted g c =
+    let e = err_from_is_err_and c.from_residual.result c.from_residual.ensures.1 in
+    if_err_by (IsNoted c.round.new.self.texts) _ c.in_err-round.field-0.0 e.0 e.1 e.2 c.in_err-round.ensures.noted
+
+pub returns-in_err-round-clause-unsaid : goal.returns-in_err-round-clause-unsaid
+returns-in_err-round-clause-unsaid g c =
+    let e = err_from_is_err_and c.from_residual.result c.from_residual.ensures.1 in
+    if_err_by (λ (f : ShellFault). IsDamage f → g.O.Sink.written c.args.out.now ≡ g.O.Sink.written c.args.out.now) _ e.0 e.0 e.1 refl (λ damage. refl)
+
+pub returns-in_err-write-clause-noted : goal.returns-in_err-write-clause-noted
+returns-in_err-write-clause-noted g c =
+    let e = err_from_is_err_and c.from_residual-in_err-write.result c.from_residual-in_err-write.ensures.1 in
+    if_err_by (IsNoted c.write.new.self) _ (of_sink c.in_err-write.field-0.0) e.0 e.1 e.2 (sink_noted c.write.new.self c.in_err-write.field-0.0)
+
+pub returns-in_err-write-clause-unsaid : goal.returns-in_err-write-clause-unsaid
+returns-in_err-write-clause-unsaid g c =
+    let e = err_from_is_err_and c.from_residual-in_err-write.result c.from_residual-in_err-write.ensures.1 in
+    if_err_by (λ (f : ShellFault). IsDamage f → g.O.Sink.written c.write.new.out ≡ g.O.Sink.written c.args.out.now) _ (of_sink c.in_err-write.field-0.0) e.0 e.1 e.2 (λ damage. absurd (sink_no_damage c.in_err-write.field-0.0 damage))
+
+pub returns-clause-extends : goal.returns-clause-extends
+returns-clause-extends g c = written_extends (g.O.Sink.written c.args.out.now) (g.O.Sink.written c.write.new.out) c.round.new.self.texts c.in_ok-write.ensures.each

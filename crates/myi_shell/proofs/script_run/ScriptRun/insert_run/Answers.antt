@@ -4,6 +4,8 @@ use Rattle.myi_defs.specs.declared.types.Defs.{Defs}
 use Rattle.myi_history.specs.Lines.{MayRun}
 use Rattle.myi_table.specs.Table.{defs_in}
 use Rattle.myi_shell.specs.Changing.{NeverDamaged}
+use Rattle.myi_shell.specs.Damage.{IsNoted}
+use Rattle.myi_shell.proofs.DamageLemmas.{if_err_by}
 use Rattle.myi_shell.specs.declared.script_run.ScriptRun.{ScriptRun}
 use Rattle.myi_shell.specs.Stepping.{state_of}
 use Rattle.myi_shell.proofs.CarryLemmas.{carried_none, carried_then, never_before, cause_then}
@@ -19,47 +21,47 @@ loop-step-init g c = record {
   later = omega arith;
 }
 
-pub write-requires-clause-lines : goal.write-requires-clause-lines
-write-requires-clause-lines g c κs within = subst (λ (d : Defs). MayRun d c.args.lines.now) (sym c.loop-step.invariant.carried.same.defs) c.requires.lines
+pub write-written-requires-clause-lines : goal.write-written-requires-clause-lines
+write-written-requires-clause-lines g c κs within = subst (λ (d : Defs). MayRun d c.args.lines.now) (sym c.loop-step.invariant.carried.same.defs) c.requires.lines
 
-pub write-requires-clause-kept : goal.write-requires-clause-kept
-write-requires-clause-kept g c κs within = c.loop-step.invariant.carried.kept
+pub write-written-requires-clause-kept : goal.write-written-requires-clause-kept
+write-written-requires-clause-kept g c κs within = c.loop-step.invariant.carried.kept
 
-pub write-requires-clause-whole : goal.write-requires-clause-whole
-write-requires-clause-whole g c κs within = c.loop-step.invariant.whole
+pub write-written-requires-clause-whole : goal.write-written-requires-clause-whole
+write-written-requires-clause-whole g c κs within = c.loop-step.invariant.whole
 
-pub returns-in_err-write-clause-only : goal.returns-in_err-write-clause-only
-returns-in_err-write-clause-only g c = c.write.ensures.only ∙ ap (λ (p : ScriptRun). record p { number = c.write.new.self.number; texts = c.write.new.self.texts }) c.loop-step.invariant.only
+pub returns-in_err-written-clause-only : goal.returns-in_err-written-clause-only
+returns-in_err-written-clause-only g c = c.write-written.ensures.only ∙ ap (λ (p : ScriptRun). record p { number = c.write-written.new.self.number; texts = c.write-written.new.self.texts }) c.loop-step.invariant.only
 
-pub returns-in_err-write-clause-carried : goal.returns-in_err-write-clause-carried
-returns-in_err-write-clause-carried g c = carried_then (g.F.Files.holds c.args.files.now) (g.F.Files.holds c.loop-step.files) (g.F.Files.holds c.write.new.files) c.args.table.now c.loop-step.table c.write.new.table c.loop-step.invariant.carried c.write.ensures.carried
+pub returns-in_err-written-clause-carried : goal.returns-in_err-written-clause-carried
+returns-in_err-written-clause-carried g c = carried_then (g.F.Files.holds c.args.files.now) (g.F.Files.holds c.loop-step.files) (g.F.Files.holds c.write-written.new.files) c.args.table.now c.loop-step.table c.write-written.new.table c.loop-step.invariant.carried c.write-written.ensures.carried
 
-pub returns-in_err-write-clause-refused : goal.returns-in_err-write-clause-refused
-returns-in_err-write-clause-refused g c =
+pub returns-in_err-written-clause-refused : goal.returns-in_err-written-clause-refused
+returns-in_err-written-clause-refused g c =
     let e = err_from_is_err_and c.from_residual.result c.from_residual.ensures.1 in
     let told = g.F.Files.holds c.args.files.now in
     let t = c.args.table.now in
-    subst (λ r. IfErr r (NeverDamaged told t)) (sym e.1) (subst (NeverDamaged told t) (sym e.2) (never_before told (g.F.Files.holds c.loop-step.files) t c.loop-step.table c.in_err-write.field-0.0 c.loop-step.invariant.carried c.loop-step.invariant.whole c.in_err-write.ensures.refused))
+    subst (λ r. IfErr r (NeverDamaged told t)) (sym e.1) (subst (NeverDamaged told t) (sym e.2) (never_before told (g.F.Files.holds c.loop-step.files) t c.loop-step.table c.in_err-written.field-0.0 c.loop-step.invariant.carried c.loop-step.invariant.whole c.in_err-written.ensures.refused))
 
-pub returns-in_err-write-clause-cause : goal.returns-in_err-write-clause-cause
-returns-in_err-write-clause-cause g c =
+pub returns-in_err-written-clause-cause : goal.returns-in_err-written-clause-cause
+returns-in_err-written-clause-cause g c =
     let e = err_from_is_err_and c.from_residual.result c.from_residual.ensures.1 in
-    cause_then _ _ _ _ _ _ c.loop-step.invariant.later e.1 e.2 c.in_err-write.was c.write.ensures.cause
+    cause_then _ _ _ _ _ _ c.loop-step.invariant.later e.1 e.2 c.in_err-written.was c.write-written.ensures.cause
 
 pub loop-step-preserved : goal.loop-step-preserved
 loop-step-preserved g c =
     let was = c.loop-step.invariant in
     let told = g.F.Files.holds c.args.files.now in
     let mid = g.F.Files.holds c.loop-step.files in
-    let next = g.F.Files.holds c.write.new.files in
+    let next = g.F.Files.holds c.write-written.new.files in
     let old = c.args.table.now in
     let half = c.loop-step.table in
     record {
-      only = c.write.ensures.only ∙ ap (λ (p : ScriptRun). record p { number = c.write.new.self.number; texts = c.write.new.self.texts }) was.only;
-      so_far = half_steps told mid next old half c.write.new.table c.args.lines.now (state_of c.args.self.now) (state_of c.loop-step.self) (state_of c.write.new.self) c.args.steps.now c.loop-step.step-index _ c.loop-step-test.true (ap (λ (p : ScriptRun). p.locks) was.only) was.carried.same.defs was.so_far c.in_ok-write.ensures.done;
-      carried = carried_then told mid next old half c.write.new.table was.carried c.write.ensures.carried;
-      whole = c.in_ok-write.ensures.whole;
-      later = omega (arith, was.later, c.write.ensures.cause.later);
+      only = c.write-written.ensures.only ∙ ap (λ (p : ScriptRun). record p { number = c.write-written.new.self.number; texts = c.write-written.new.self.texts }) was.only;
+      so_far = half_steps told mid next old half c.write-written.new.table c.args.lines.now (state_of c.args.self.now) (state_of c.loop-step.self) (state_of c.write-written.new.self) c.args.steps.now c.loop-step.step-index _ c.loop-step-test.true (ap (λ (p : ScriptRun). p.locks) was.only) was.carried.same.defs was.so_far c.in_ok-written.ensures.done;
+      carried = carried_then told mid next old half c.write-written.new.table was.carried c.write-written.ensures.carried;
+      whole = c.in_ok-written.ensures.whole;
+      later = omega (arith, was.later, c.write-written.ensures.cause.later);
     }
 
 pub returns-clause-done : goal.returns-clause-done
@@ -77,3 +79,8 @@ returns-clause-whole g c = c.loop-step.invariant.whole
 
 pub returns-clause-cause : goal.returns-clause-cause
 returns-clause-cause g c = record { later = c.loop-step.invariant.later; cause = λ e. cc }
+
+pub returns-in_err-written-clause-noted : goal.returns-in_err-written-clause-noted
+returns-in_err-written-clause-noted g c =
+    let e = err_from_is_err_and c.from_residual.result c.from_residual.ensures.1 in
+    if_err_by (IsNoted c.write-written.new.self.texts) _ c.in_err-written.field-0.0 e.0 e.1 e.2 c.in_err-written.ensures.noted

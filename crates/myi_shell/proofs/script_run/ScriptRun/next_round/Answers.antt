@@ -1,13 +1,9 @@
-use Rattle.std.proofs.Common.{◌≡◌, ◌<◌, None, Bool, true, sym, subst, refl, arith}
+use Rattle.std.proofs.Common.{Err, ap, refl, ◌∙◌}
 use Rattle.myi_shell.specs.Stepping.{state_of}
-use Rattle.std.specs.Prelude.{IfErr}
-use Rattle.std.proofs.lemmas.Result.{err_from_is_err_and}
-use Rattle.myi_locks.specs.Laws.{IsLawful, steps_left}
-use Rattle.myi_table.specs.Table.{defs_in}
-use Rattle.myi_shell.specs.Running.{ForOpening, HasDone, HasGoneOn, IsStopped}
-use Rattle.myi_shell.proofs.CarryLemmas.{on_err, not_ok, not_on_ok, cause_then}
-use Rattle.myi_shell.proofs.RunLemmas.{sink_again}
+use Rattle.myi_shell.proofs.CarryLemmas.{on_err}
+use Rattle.myi_shell.proofs.RunLemmas.{err_is}
 use Rattle.myi_shell.proofs.RoundsLemmas.{ends_run, stops_between, is_over, is_left}
+use Rattle.myi_shell.proofs.DamageLemmas.{cut_stopped, cut_stands, cut_never, cut_damage, cut_file, cut_sink, extends_none}
 use Rattle.myi_shell.proofs.script_run.ScriptRun.next_round.Goals as goal
 
 pub returns-in_err-round-clause-stopped : goal.returns-in_err-round-clause-stopped
@@ -21,23 +17,26 @@ returns-in-Finished-clause-gone_on g c = λ setting base start state w.
 pub do_round-requires-clause-left : goal.do_round-requires-clause-left
 do_round-requires-clause-left g c κs within = is_left c.args.self.now.locks _ c.in_ok-round.round c.in_ok-round.ensures.rule c.in_default.not-Finished
 
-pub returns-in_err-do_round : goal.returns-in_err-do_round
-returns-in_err-do_round g c =
-    let e = err_from_is_err_and c.from_residual-in_err-do_round.result c.from_residual-in_err-do_round.ensures.1 in
-    let result = c.from_residual-in_err-do_round.result in
-    let call = c.do_round.ensures in
-    let told = g.F.Files.holds c.args.files.now in
-    let t = c.args.table.now in
-    record {
-      gone_on = not_ok (λ (more : Bool). ForOpening (defs_in t) c.args.lines.now (λ o start. HasDone o start told (state_of c.args.self.now) t (g.O.Sink.written c.args.out.now)
-          → HasGoneOn more o start (g.F.Files.holds c.do_round.new.files) (state_of c.do_round.new.self) c.do_round.new.table (g.O.Sink.written c.do_round.new.out))) result e.1;
-      stopped = on_err result c.in_err-do_round.ensures.stopped;
-      stands = λ failed. call.stands (sink_again e.1 e.2 c.in_err-do_round.was failed);
-      lawful = not_on_ok (IsLawful c.do_round.new.self.locks.sessions) result e.1;
-      fewer = not_ok (λ (more : Bool). more ≡ true → steps_left c.do_round.new.self.locks.sessions < steps_left c.args.self.now.locks.sessions) result e.1;
-      carried = call.carried;
-      whole = not_on_ok (c.do_round.new.table.broken ≡ None) result e.1;
-      refused = subst (λ r. IfErr r (IsStopped told t)) (sym e.1) (subst (IsStopped told t) (sym e.2) c.in_err-do_round.ensures.refused);
-      file = cause_then _ _ _ _ _ _ (omega arith) e.1 e.2 c.in_err-do_round.was call.file;
-      sink = cause_then _ _ _ _ _ _ (omega arith) e.1 e.2 c.in_err-do_round.was call.sink;
-    }
+pub returns-in-Err-clause-stopped : goal.returns-in-Err-clause-stopped
+returns-in-Err-clause-stopped g c = λ setting base start state w.
+    cut_stopped _ start (g.F.Files.holds c.args.files.now) (g.O.Sink.written c.args.out.now) (g.O.Sink.written c.do_round.new.out) (g.O.Sink.written c.cut_off.new.out) (state_of c.args.self.now) c.args.table.now c.in-Err.fault c.in-Err.ensures.refused c.cut_off.ensures.unsaid w (c.in-Err.ensures.stopped setting base start state w)
+
+pub returns-in-Err-clause-stands : goal.returns-in-Err-clause-stands
+returns-in-Err-clause-stands g c = λ failed setting base start state w.
+    cut_stands _ start (g.F.Files.holds c.args.files.now) (g.F.Files.holds c.do_round.new.files) (g.O.Sink.written c.args.out.now) (g.O.Sink.written c.do_round.new.out) (g.O.Sink.written c.cut_off.new.out) (state_of c.args.self.now) c.args.table.now c.do_round.new.table c.in-Err.fault c.cut_off.result
+    (err_is failed) c.cut_off.ensures.told c.in-Err.ensures.refused c.cut_off.ensures.unsaid w (λ sank. c.do_round.ensures.stands (c.in-Err.is ∙ ap Err sank) setting base start state w)
+
+pub returns-in-Err-clause-refused : goal.returns-in-Err-clause-refused
+returns-in-Err-clause-refused g c = cut_never (g.F.Files.holds c.args.files.now) c.args.table.now c.in-Err.fault c.cut_off.result c.cut_off.ensures.told c.in-Err.ensures.refused
+
+pub returns-in-Err-clause-damaged : goal.returns-in-Err-clause-damaged
+returns-in-Err-clause-damaged g c = cut_damage (g.O.Sink.written c.args.out.now) (g.O.Sink.written c.do_round.new.out) (g.O.Sink.written c.cut_off.new.out) c.in-Err.fault c.cut_off.result c.cut_off.ensures.told c.in-Err.ensures.unsaid c.cut_off.ensures.printed
+
+pub returns-in-Err-clause-file : goal.returns-in-Err-clause-file
+returns-in-Err-clause-file g c = cut_file _ _ _ c.do_round.result c.in-Err.fault c.cut_off.result refl c.in-Err.is c.cut_off.ensures.told c.do_round.ensures.file
+
+pub returns-in-Err-clause-sink : goal.returns-in-Err-clause-sink
+returns-in-Err-clause-sink g c = cut_sink _ (g.O.Sink.faults c.do_round.new.out) _ _ c.do_round.result c.in-Err.fault c.cut_off.result refl c.in-Err.is c.cut_off.ensures.told c.cut_off.ensures.later c.cut_off.ensures.sink c.do_round.ensures.sink
+
+pub returns-in-Finished-clause-extends : goal.returns-in-Finished-clause-extends
+returns-in-Finished-clause-extends g c = extends_none (g.O.Sink.written c.args.out.now)

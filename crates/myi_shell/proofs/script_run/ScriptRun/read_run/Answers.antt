@@ -6,6 +6,8 @@ use Rattle.myi_history.specs.Lines.{MayRun}
 use Rattle.myi_history.specs.RoundTexts.{texts_of}
 use Rattle.myi_table.specs.Table.{defs_in}
 use Rattle.myi_shell.specs.Changing.{NeverDamaged}
+use Rattle.myi_shell.specs.Damage.{IsNoted}
+use Rattle.myi_shell.proofs.DamageLemmas.{if_err_by}
 use Rattle.myi_shell.specs.declared.script_run.ScriptRun.{ScriptRun}
 use Rattle.myi_shell.specs.Stepping.{state_of, seen_by, read_by}
 use Rattle.myi_shell.proofs.CarryLemmas.{carried_none, carried_then, still_none, still_then, never_before, cause_then}
@@ -22,23 +24,23 @@ loop-step-init g c = record {
   later = omega arith;
 }
 
-pub read-requires-clause-lines : goal.read-requires-clause-lines
-read-requires-clause-lines g c κs within = subst (λ (d : Defs). MayRun d c.args.lines.now) (sym c.loop-step.invariant.carried.same.defs) c.requires.lines
+pub read-read-requires-clause-lines : goal.read-read-requires-clause-lines
+read-read-requires-clause-lines g c κs within = subst (λ (d : Defs). MayRun d c.args.lines.now) (sym c.loop-step.invariant.carried.same.defs) c.requires.lines
 
-pub read-requires-clause-kept : goal.read-requires-clause-kept
-read-requires-clause-kept g c κs within = c.loop-step.invariant.carried.kept
+pub read-read-requires-clause-kept : goal.read-read-requires-clause-kept
+read-read-requires-clause-kept g c κs within = c.loop-step.invariant.carried.kept
 
-pub read-requires-clause-whole : goal.read-requires-clause-whole
-read-requires-clause-whole g c κs within = c.loop-step.invariant.whole
+pub read-read-requires-clause-whole : goal.read-read-requires-clause-whole
+read-read-requires-clause-whole g c κs within = c.loop-step.invariant.whole
 
 pub returns-in_err-read-clause-only : goal.returns-in_err-read-clause-only
-returns-in_err-read-clause-only g c = c.read.ensures.only ∙ ap (λ (p : ScriptRun). record p { texts = c.read.new.self.texts }) c.loop-step.invariant.only
+returns-in_err-read-clause-only g c = c.read-read.ensures.only ∙ ap (λ (p : ScriptRun). record p { texts = c.read-read.new.self.texts }) c.loop-step.invariant.only
 
 pub returns-in_err-read-clause-still : goal.returns-in_err-read-clause-still
-returns-in_err-read-clause-still g c = still_then (g.F.Files.holds c.args.files.now) (g.F.Files.holds c.loop-step.files) (g.F.Files.holds c.read.new.files) c.args.table.now c.loop-step.table c.read.new.table c.loop-step.invariant.still c.read.ensures.still
+returns-in_err-read-clause-still g c = still_then (g.F.Files.holds c.args.files.now) (g.F.Files.holds c.loop-step.files) (g.F.Files.holds c.read-read.new.files) c.args.table.now c.loop-step.table c.read-read.new.table c.loop-step.invariant.still c.read-read.ensures.still
 
 pub returns-in_err-read-clause-carried : goal.returns-in_err-read-clause-carried
-returns-in_err-read-clause-carried g c = carried_then (g.F.Files.holds c.args.files.now) (g.F.Files.holds c.loop-step.files) (g.F.Files.holds c.read.new.files) c.args.table.now c.loop-step.table c.read.new.table c.loop-step.invariant.carried c.read.ensures.carried
+returns-in_err-read-clause-carried g c = carried_then (g.F.Files.holds c.args.files.now) (g.F.Files.holds c.loop-step.files) (g.F.Files.holds c.read-read.new.files) c.args.table.now c.loop-step.table c.read-read.new.table c.loop-step.invariant.carried c.read-read.ensures.carried
 
 pub returns-in_err-read-clause-refused : goal.returns-in_err-read-clause-refused
 returns-in_err-read-clause-refused g c =
@@ -50,23 +52,23 @@ returns-in_err-read-clause-refused g c =
 pub returns-in_err-read-clause-cause : goal.returns-in_err-read-clause-cause
 returns-in_err-read-clause-cause g c =
     let e = err_from_is_err_and c.from_residual.result c.from_residual.ensures.1 in
-    cause_then _ _ _ _ _ _ c.loop-step.invariant.later e.1 e.2 c.in_err-read.was c.read.ensures.cause
+    cause_then _ _ _ _ _ _ c.loop-step.invariant.later e.1 e.2 c.in_err-read.was c.read-read.ensures.cause
 
 pub loop-step-preserved : goal.loop-step-preserved
 loop-step-preserved g c =
     let was = c.loop-step.invariant in
     let told = g.F.Files.holds c.args.files.now in
     let mid = g.F.Files.holds c.loop-step.files in
-    let next = g.F.Files.holds c.read.new.files in
+    let next = g.F.Files.holds c.read-read.new.files in
     let old = c.args.table.now in
     let half = c.loop-step.table in
     record {
-      only = c.read.ensures.only ∙ ap (λ (p : ScriptRun). record p { texts = c.read.new.self.texts }) was.only;
-      so_far = read_more told mid old half c.args.lines.now (state_of c.args.self.now) (state_of c.loop-step.self) c.read.new.self.texts c.args.steps.now c.loop-step.step-index _ c.loop-step-test.true (ap state_of was.only) was.carried.same was.still was.so_far c.in_ok-read.ensures.said;
-      still = still_then told mid next old half c.read.new.table was.still c.read.ensures.still;
-      carried = carried_then told mid next old half c.read.new.table was.carried c.read.ensures.carried;
-      whole = c.read.ensures.whole;
-      later = omega (arith, was.later, c.read.ensures.cause.later);
+      only = c.read-read.ensures.only ∙ ap (λ (p : ScriptRun). record p { texts = c.read-read.new.self.texts }) was.only;
+      so_far = read_more told mid old half c.args.lines.now (state_of c.args.self.now) (state_of c.loop-step.self) c.read-read.new.self.texts c.args.steps.now c.loop-step.step-index _ c.loop-step-test.true (ap state_of was.only) was.carried.same was.still was.so_far c.in_ok-read.ensures.said;
+      still = still_then told mid next old half c.read-read.new.table was.still c.read-read.ensures.still;
+      carried = carried_then told mid next old half c.read-read.new.table was.carried c.read-read.ensures.carried;
+      whole = c.read-read.ensures.whole;
+      later = omega (arith, was.later, c.read-read.ensures.cause.later);
     }
 
 pub returns-clause-said : goal.returns-clause-said
@@ -88,3 +90,8 @@ returns-clause-whole g c = c.loop-step.invariant.whole
 
 pub returns-clause-cause : goal.returns-clause-cause
 returns-clause-cause g c = record { later = c.loop-step.invariant.later; cause = λ e. cc }
+
+pub returns-in_err-read-clause-noted : goal.returns-in_err-read-clause-noted
+returns-in_err-read-clause-noted g c =
+    let e = err_from_is_err_and c.from_residual.result c.from_residual.ensures.1 in
+    if_err_by (IsNoted c.read-read.new.self.texts) _ c.in_err-read.field-0.0 e.0 e.1 e.2 c.in_err-read.ensures.noted

@@ -6,6 +6,8 @@ use Rattle.myi_locks.specs.declared.steps.Step.{Step}
 use Rattle.myi_history.specs.RoundTexts.{texts_of}
 use Rattle.myi_table.specs.Table.{defs_in, IfHolds}
 use Rattle.myi_shell.specs.Changing.{NeverDamaged}
+use Rattle.myi_shell.specs.Damage.{IsNoted}
+use Rattle.myi_shell.proofs.DamageLemmas.{if_err_by}
 use Rattle.myi_shell.specs.declared.script_run.ScriptRun.{ScriptRun}
 use Rattle.myi_shell.specs.Stepping.{state_of, seen_by, read_by}
 use Rattle.myi_shell.proofs.CarryLemmas.{carried_then, still_then, never_before}
@@ -45,3 +47,8 @@ pub returns-clause-said : goal.returns-clause-said
 returns-clause-said g c = λ m held s h.
     texts_end (λ (rs : List Run). texts_of (map (read_by (defs_in c.args.table.now) c.args.lines.now (seen_by (state_of c.args.self.now)) s) (flat_map (λ (r : Run). r.steps) rs))) c.args.self.now.texts c.loop-run.self.texts c.args.runs.now c.loop-run.run-index refl
     (drop_none c.args.runs.now c.loop-run.run-index c.loop-run-test.false) (c.loop-run.invariant.so_far m held s h)
+
+pub returns-in_err-read_run-clause-noted : goal.returns-in_err-read_run-clause-noted
+returns-in_err-read_run-clause-noted g c =
+    let e = err_from_is_err_and c.from_residual.result c.from_residual.ensures.1 in
+    if_err_by (IsNoted c.read_run.new.self.texts) _ c.in_err-read_run.field-0.0 e.0 e.1 e.2 c.in_err-read_run.ensures.noted

@@ -13,7 +13,7 @@ use Rattle.myi_shell.proofs.script_run.ScriptRun.round.Goals as goal
 
 pub returns-in-Alone-clause-done : goal.returns-in-Alone-clause-done
 returns-in-Alone-clause-done g c =
-    subst (λ (r : Round). OnOk c.step.result (AreRounds (g.F.Files.holds c.args.files.now) c.args.table.now c.args.lines.now (state_of c.args.self.now) c.args.counters r (g.F.Files.holds c.step.new.files) c.step.new.table (state_of c.step.new.self))) (sym c.in-Alone.is) c.step.ensures.done
+    subst (λ (r : Round). OnOk c.step-stepped.result (AreRounds (g.F.Files.holds c.args.files.now) c.args.table.now c.args.lines.now (state_of c.args.self.now) c.args.counters r (g.F.Files.holds c.step-stepped.new.files) c.step-stepped.new.table (state_of c.step-stepped.new.self))) (sym c.in-Alone.is) c.step-stepped.ensures.done
 
 pub returns-in-Some-clause-done : goal.returns-in-Some-clause-done
 returns-in-Some-clause-done g c =

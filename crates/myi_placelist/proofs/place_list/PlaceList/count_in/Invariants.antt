@@ -1,6 +1,6 @@
 use Rattle.std.proofs.Common.{ℕ, ◌≤◌, ◌<◌, ◌-◌, length, get_or}
 use Rattle.myi_placelist.specs.Places.{IsRising}
-use Rattle.myi_placelist.proofs.place_list.PlaceList.count_below.Given as goal
+use Rattle.myi_placelist.proofs.place_list.PlaceList.count_in.Given as goal
 
 abbrev pub invariant-loop-from : goal.invariant-loop-from
 invariant-loop-from l = record {

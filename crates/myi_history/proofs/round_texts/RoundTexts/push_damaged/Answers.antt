@@ -1,0 +1,12 @@
+use Rattle.std.proofs.Common.{◌∙◌}
+use Rattle.myi_history.proofs.PartLemmas.{noted_within, noted_texts, noted_none}
+use Rattle.myi_history.proofs.round_texts.RoundTexts.push_damaged.Goals as goal
+
+pub invariant_of-self-2 : goal.invariant_of-self-2
+invariant_of-self-2 c = noted_within c.note.result c.args.line c.len-from.result c.len.result c.self.inside.bytes.items c.push_damaged.new.out.items _ c.self.inside.said.items c.note.new.said.items c.self.invariant c.in_ok-push_damaged.ensures.text (c.len-from.ensures ∙ c.self.inside.bytes.ok.0) (c.len.ensures ∙ c.push_damaged.new.out.ok.0) c.note.ensures.ok c.note.ensures.err
+
+pub returns-clause-text : goal.returns-clause-text
+returns-clause-text c = noted_texts c.note.result c.args.line c.len-from.result c.len.result c.self.inside.bytes.items c.push_damaged.new.out.items _ c.self.inside.said.items c.note.new.said.items c.args.self.now c.self.invariant c.in_ok-push_damaged.ensures.text (c.len-from.ensures ∙ c.self.inside.bytes.ok.0) (c.len.ensures ∙ c.push_damaged.new.out.ok.0) c.self.view_is c.note.ensures.ok
+
+pub returns-clause-same : goal.returns-clause-same
+returns-clause-same c = noted_none c.note.result c.self.inside.bytes.items c.push_damaged.new.out.items _ c.self.inside.said.items c.note.new.said.items c.args.self.now c.self.invariant c.in_ok-push_damaged.ensures.text c.self.view_is c.note.ensures.err

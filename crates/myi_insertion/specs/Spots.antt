@@ -1,0 +1,32 @@
+-- Where a pair goes on a page.
+use Rattle.std.specs.Prelude.{◌≡◌, ◌≤◌, ℕ, List, [], ◌∷◌, ◌++◌, length, take, drop, Some}
+use Rattle.std.specs.List.{slice_get, AllByRecursion}
+use Rattle.myi_keys.specs.Comparing.{IsCode}
+use Rattle.myi_keypage.specs.declared.entry.Entry.{Entry}
+use Rattle.myi_keypage.specs.Page.{page_with, IsPage}
+use Rattle.myi_keylist.specs.declared.pair.Pair.{Pair}
+use Rattle.myi_btree.specs.Walk.{node_with}
+use Rattle.myi_btree.specs.Nodes.{entries_of, node_in}
+use Rattle.myi_insertion.specs.declared.pass.Spot.{Spot}
+use Rattle.myi_insertion.specs.Written.{CanWrite}
+use Rattle.myi_insertion.specs.Ordered.{AreBefore, BeginsBehind}
+
+-- the key of each entry is the code of one
+abbrev pub HaveCodes : List Entry → Type 0
+HaveCodes es = AllByRecursion (λ (e : Entry). IsCode e.key) es
+
+-- on the page that bytes are, so many pairs stand before a pair, and the others do not; in a node the child between them is next
+pub record IsSpot (rec_ref : ℕ) (bytes : List ℕ) (p : Pair) (spot : Spot) : Type 0 where
+  pub pairs : List Pair
+  pub children : List ℕ
+  pub stands : node_in rec_ref bytes ≡ Some (node_with pairs children)
+  pub page : IsPage rec_ref bytes (page_with (entries_of pairs) children)
+  pub written : CanWrite rec_ref pairs children
+  pub inside : spot.index ≤ length pairs
+  pub before : AreBefore p (take spot.index pairs)
+  pub behind : BeginsBehind p (drop spot.index pairs)
+  pub next : slice_get children spot.index ≡ spot.child
+
+-- pairs with another one behind so many of them
+abbrev pub with_pair : ℕ → Pair → List Pair → List Pair
+with_pair i p pairs = (take i pairs ++ p ∷ []) ++ drop i pairs

@@ -1,0 +1,195 @@
+//! A page on the way of a pair: where the pair goes on it.
+//!
+//! `spot_in` goes over the bytes of a page once, and `pass` asks a key cache for the page at a place. The bytes are
+//! kept, and are read as lists (`Passed::read`) only where something is to be changed on the page.
+ghost use Rattle.std.specs.Prelude.{◌≡◌, ◌≤◌, ℕ, Bool, true, false, Some, None, is_some, IfOk, IfErr, IfSome, IfNone, OnOk, IsTrue, length};
+ghost use Rattle.std.specs.Ordering.{is_gt};
+ghost use Rattle.myi_base.specs.Holding.{IfTold, Told, OthersStay};
+ghost use Rattle.myi_base.specs.Causes.{HasCause};
+ghost use Rattle.myi_keys.specs.Comparing.{key_front, IsCode};
+ghost use Rattle.myi_keypage.specs.Page.{IsPlace};
+ghost use Rattle.myi_keypage.specs.Views.{entries_after};
+ghost use Rattle.myi_keycache.specs.Kept.{AddsOnly};
+ghost use Rattle.myi_keycache.specs.Caching.{pages_of, CanGet, Stays};
+ghost use Rattle.myi_keylist.specs.PairOrder.{pair_with, pair_cmp};
+ghost use Rattle.myi_btree.specs.declared.fault.TreeFault.TheVariants.{File};
+ghost use Rattle.myi_btree.specs.Walk.{each};
+ghost use Rattle.myi_btree.specs.Nodes.{pair_in, node_in};
+ghost use Rattle.myi_btree.specs.Sizes.{IsPlaced};
+ghost use Rattle.myi_btree.specs.Faults.{DamagedAt};
+ghost use Rattle.myi_btree.specs.CachedTrees.{node_lent, ReadsOnly};
+ghost use Rattle.myi_search.specs.Counting.{CountsOn};
+ghost use Rattle.myi_insertion.specs.Written.{page_node, CanWrite};
+ghost use Rattle.myi_insertion.specs.Damage.{IsInFile, ShowsSame};
+ghost use Rattle.myi_insertion.specs.Spots.{HaveCodes, IsSpot};
+
+use crate::insertion::Task;
+use crate::page::{PageData, change_code, read_pairs};
+use myi_btree::TreeFault;
+use myi_io::Files;
+use myi_keycache::KeyCache;
+use myi_keypage::{PageWalk, read_page};
+use myi_keys::compare_codes;
+use myi_search::is_code;
+use std::alloc::{AllocError, Global};
+
+/// Where a pair goes on a page: how many of its pairs stand before it, and in a node the child that is next.
+#[derive(Clone, Copy)]
+pub(crate) struct Spot {
+    pub(crate) index: usize,
+    pub(crate) child: Option<u64>,
+}
+
+/// The bytes of a page, and where the pair goes on it.
+pub(crate) struct Passed {
+    pub(crate) bytes: Vec<u8>,
+    pub(crate) spot: Spot,
+}
+
+impl Drop for Passed {
+    fn drop(self) {
+        let Passed { bytes: _, spot: _ } = self;
+    }
+}
+
+// Whether a pair stands behind another one, both by a code and a row.
+fn is_behind(code: &[u8], row: u64, other: &[u8], other_row: u64) -> bool
+    ensures { result ≡ is_gt (pair_cmp (pair_with (key_front code.now) row)
+        (pair_with (key_front other.now) other_row)) }
+{
+    compare_codes(code, other).then(row.cmp(&other_row)).is_gt()
+}
+
+// Whether each item that is left has the code of a key.
+fn are_codes(walk: &mut PageWalk, code: &mut Vec<u8>) -> Result<bool, AllocError>
+    ensures all { IfOk result (λ all. all
+        ≡ is_some (each pair_in (entries_after code.old.items walk.old))) }
+    ensures codes { IfOk result (λ all. all ≡ true
+        → HaveCodes (entries_after code.old.items walk.old)) }
+{
+    while let Some(item) = walk.next_item() {
+        change_code(code, item.prefix, item.rest)?;
+        if !is_code(code) {
+            return Ok(false);
+        }
+    }
+    Ok(true)
+}
+
+/// Where the pair of a code and a row goes on the page that bytes are, with row pointers of `rec_ref` bytes, and None
+/// where they are no page or a key of it is no key's code.
+pub(crate) fn spot_in(
+    alloc: Global,
+    bytes: &[u8],
+    rec_ref: u8,
+    key: &[u8],
+    row: u64,
+) -> Result<Option<Spot>, AllocError>
+    requires wide { 2 ≤ rec_ref }
+    requires narrow { rec_ref ≤ 8 }
+    ensures spot { IfOk result (λ spot. IfSome spot
+        (IsSpot rec_ref bytes.now (pair_with (key_front key.now) row))) }
+    ensures none { IfOk result (λ spot. IfNone spot (node_in rec_ref bytes.now ≡ None)) }
+{
+    let Some(view) = read_page(bytes, rec_ref) else {
+        return Ok(None);
+    };
+    let mut walk = view.walk();
+    let mut code: Vec<u8> = Vec::new(alloc);
+    let mut index = 0;
+    let mut child = view.first_child();
+    while let Some(item) = walk.next_item() {
+        change_code(&mut code, item.prefix, item.rest)?;
+        if !is_code(&code) {
+            return Ok(None);
+        }
+        if !is_behind(key, row, &code, item.row) {
+            let all = are_codes(&mut walk, &mut code)?;
+            if !all {
+                return Ok(None);
+            }
+            return Ok(Some(Spot { index, child }));
+        }
+        index += 1;
+        child = item.child;
+    }
+    Ok(Some(Spot { index, child }))
+}
+
+fn copy_of(alloc: Global, bytes: &[u8]) -> Result<Vec<u8>, AllocError>
+    ensures { IfOk result (λ copy. copy.items ≡ bytes.now) }
+{
+    Vec::from_slice(alloc, bytes)
+}
+
+/// The page at a place, and where the pair goes on it.
+pub(crate) fn pass<F: Files>(
+    task: &Task,
+    files: &mut F,
+    cache: &mut KeyCache,
+    at: u64,
+) -> Result<Passed, TreeFault>
+    requires writable { IsTrue F.writable }
+    requires placed { IsPlaced task.now.setup.place }
+    ensures node { IfOk result (λ page. IfTold (F.holds files.old) (λ m.
+        CanGet cache.old m at task.now.setup.place.block_length
+        → node_lent task.now.setup.place cache.old m at
+        ≡ node_in task.now.setup.place.rec_ref page.bytes.items)) }
+    ensures spot { IfOk result (λ page. IsSpot task.now.setup.place.rec_ref page.bytes.items
+        task.now.pair.now page.spot) }
+    ensures long { IfOk result (λ page. length page.bytes.items
+        ≡ task.now.setup.place.block_length) }
+    ensures at { OnOk result (IsPlace at) }
+    ensures damaged { IfErr result (DamagedAt (λ p. (p ≡ at) × IfTold (F.holds files.old) (λ m.
+        CanGet cache.old m at task.now.setup.place.block_length
+        → node_lent task.now.setup.place cache.old m at ≡ None))) }
+    ensures stays { Told (F.holds files.old) (F.holds files.new)
+        (λ m n. CanGet cache.old m at task.now.setup.place.block_length
+        → Stays cache.old cache.new m n) }
+    ensures shown { Told (F.holds files.old) (F.holds files.new)
+        (λ m n. IsInFile cache.old m → ShowsSame task.now.setup.place cache.old m cache.new n) }
+    ensures added { AddsOnly at task.now.setup.place.block_length (pages_of cache.old)
+        (pages_of cache.new) }
+    ensures others { Told (F.holds files.old) (F.holds files.new) (OthersStay cache.old.name) }
+    ensures name { cache.new.name ≡ cache.old.name }
+    ensures cache { ReadsOnly (F.holds files.old) (F.holds files.new) cache.old cache.new }
+    ensures counted { CountsOn cache.old cache.new }
+    ensures cause { HasCause File (F.faults files.old) (F.faults files.new) result }
+    ensures reads { F.reads files.old ≤ F.reads files.new }
+{
+    let setup = task.setup;
+    let pair = task.pair;
+    if at % 1024 != 0 {
+        return Err(TreeFault::Damaged { at });
+    }
+    let bytes = cache.get(files, at, setup.place.block_length as usize)?;
+    let found = spot_in(
+        setup.alloc,
+        bytes,
+        setup.place.rec_ref,
+        pair.key.code(),
+        pair.row,
+    )?;
+    let Some(spot) = found else {
+        return Err(TreeFault::Damaged { at });
+    };
+    let kept = copy_of(setup.alloc, bytes)?;
+    Ok(Passed { bytes: kept, spot })
+}
+
+impl Passed {
+    /// The page as lists.
+    pub(crate) fn read(&self, alloc: Global, rec_ref: u8) -> Result<PageData, AllocError>
+        requires wide { 2 ≤ rec_ref }
+        requires narrow { rec_ref ≤ 8 }
+        requires page { IsTrue (is_some (node_in rec_ref self.now.bytes.items)) }
+        ensures node { IfOk result (λ page. Some (page_node page)
+            ≡ node_in rec_ref self.now.bytes.items) }
+        ensures written { IfOk result (λ page. CanWrite rec_ref page.pairs page.children.items) }
+    {
+        match read_pairs(alloc, &self.bytes, rec_ref)? {
+            Some(page) => Ok(page),
+            None => unreachable!(),
+        }
+    }
+}

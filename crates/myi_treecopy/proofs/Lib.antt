@@ -1,0 +1,4 @@
+pub mod PageLaws
+pub mod RowLaws
+pub mod FileLaws
+pub mod StepLaws
