@@ -1,14 +1,15 @@
-//! `Gate`: what is told when a step of a script begins and ends.
+//! `Gate`: what is called when a step of a script begins and when it ends.
 use myi_locks::Step;
 
-/// What is told before and after each step of a script, by its session and line, on the thread that
-/// does the step. A line that takes a lock is two steps; the end of a session that no line ends is
-/// not told. It may wait, and changes nothing of what a script prints.
+/// What is called before and after each step of a script, with its session and line, on the thread
+/// that does the step. A line that takes a lock is two steps; for the end of a session that no line
+/// ends there is no call. A gate changes nothing of what a script prints. It may wait, but for no
+/// other step, as one thread does them all.
 pub trait Gate: Sync {
     /// A session is about to do a step of a line.
     fn pass(&self, session: u32, line: u32);
 
-    /// The step is done, or it was cut off.
+    /// The step is done, or a fault cut it off.
     fn done(&self, session: u32, line: u32);
 }
 
@@ -21,14 +22,14 @@ impl Gate for OpenGate {
     fn done(&self, _session: u32, _line: u32) {}
 }
 
-/// Tells that a step begins.
+/// Calls the gate before a step.
 pub(crate) fn pass_step<G: Gate>(gate: &G, step: &Step) {
     if step.line != 0 {
         gate.pass(step.session, step.line);
     }
 }
 
-/// Tells that a step is done.
+/// Calls the gate behind a step.
 pub(crate) fn end_step<G: Gate>(gate: &G, step: &Step) {
     if step.line != 0 {
         gate.done(step.session, step.line);

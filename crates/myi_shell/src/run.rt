@@ -31,9 +31,9 @@ use std::alloc::{AllocError, Global};
 /// printed is the text of the script, with numbers within their bounds, and the files are a clean
 /// pair that stands for the table that the history leads to. A run that is cut off has printed a
 /// first part of such a text. Where the output failed, the table is closed too, behind the round
-/// whose lines were being printed; where closing it fails, its fault is the answer. `gate` is told
+/// whose lines were being printed; where closing it fails, its fault is the answer. `gate` is called
 /// before and after each step. Over files that tell nothing of what they hold a step may meet
-/// damage; its line says so, with those of its round so far, and nothing follows.
+/// damage: the lines of its round so far are printed then, one of which says so, and nothing follows.
 pub fn run_script<F: Files, O: Sink, G: Gate>(
     alloc: Global,
     table: Table,
@@ -75,7 +75,7 @@ pub fn run_script<F: Files, O: Sink, G: Gate>(
     ended(ran, closed)
 }
 
-// The memory of a run, and what is told of its steps.
+// The memory of a run, and its gate.
 #[derive(Drop)]
 struct Host<'a, G> {
     alloc: Global,

@@ -17,6 +17,9 @@ const TEXT: &[u8] = b"rows static\nfield normal 1\nfield normal 4\nfield normal 
 const SCRIPT: &[u8] =
     b"S1 lock read local\n; a comment\nS2 insert FF #1 'aaa'\nS1 scan\nS1 insert FF #2 'bbb'\nS1 unlock\nS1 end\nS2 scan\nS2 stats\n";
 
+/// More file calls than the run makes.
+const MOST_CALLS: u64 = 60;
+
 const PRINTED: &[u8] =
     b"1 ok\n3 ok 0\n4 rows 0 at 0\n5 locked for read\n6 ok\n7 ok\n8 rows 1 at 1\n  0 FF 01000000 616161\n9 requests 0 reads 0 write_requests 0 writes 0\n";
 
@@ -60,6 +63,13 @@ impl Gate for Counting {
     }
 }
 
+fn new_gate() -> Counting {
+    Counting {
+        calls: AtomicUsize::new(0),
+        wrong: AtomicUsize::new(0),
+    }
+}
+
 // The creating text `t` of a table, and the script `s`.
 fn files(alloc: Global) -> Result<MemFiles, AllocError> {
     let given = vec![in alloc;
@@ -70,6 +80,19 @@ fn files(alloc: Global) -> Result<MemFiles, AllocError> {
         ),
     ]?;
     MemFiles::new(alloc, given, Vec::new(alloc))
+}
+
+// A copy of the table `a` and the script `s`, of which this call fails.
+fn failing(alloc: Global, files: &MemFiles, call: u64) -> Result<MemFiles, AllocError> {
+    let mut given = Vec::new(alloc);
+    for name in ["a.MYI", "a.MYD", "s"] {
+        let bytes = files.get(name).unwrap_or(&[]);
+        given.push((
+            String::from_str(alloc, name)?,
+            Vec::from_slice(alloc, bytes)?,
+        ))?;
+    }
+    MemFiles::new(alloc, given, Vec::from_slice(alloc, &[call])?)
 }
 
 // Runs these words; the status, and what was printed.
@@ -92,10 +115,7 @@ fn run<R: Threads + Sync>(
 #[test]
 fn each_step_passes_the_gate(rt: HostRuntime) -> Result<(), Fail> {
     let alloc = rt.alloc();
-    let gate = Counting {
-        calls: AtomicUsize::new(0),
-        wrong: AtomicUsize::new(0),
-    };
+    let gate = new_gate();
     let mut files = files(alloc)?;
     let (created, _) = run(&rt, alloc, &["create", "a", "t"], &mut files, &gate)?;
     assert_eq!(rt; created, Status::Ok);
@@ -104,5 +124,29 @@ fn each_step_passes_the_gate(rt: HostRuntime) -> Result<(), Fail> {
     assert!(rt; out.written() == PRINTED);
     assert_eq!(rt; gate.calls.load(Ordering::SeqCst), 2 * STEPS.len());
     assert_eq!(rt; gate.wrong.load(Ordering::SeqCst), 0);
+    Ok(())
+}
+
+#[test]
+fn a_step_that_is_cut_off_is_told_as_done(rt: HostRuntime) -> Result<(), Fail> {
+    let alloc = rt.alloc();
+    let mut made = files(alloc)?;
+    let (created, _) = run(&rt, alloc, &["create", "a", "t"], &mut made, &new_gate())?;
+    assert_eq!(rt; created, Status::Ok);
+    // Of the runs that a file call cuts off, some end in a step.
+    let mut in_a_step = 0;
+    for call in 1..=MOST_CALLS {
+        let gate = new_gate();
+        let mut files = failing(alloc, &made, call)?;
+        let (status, _) = run(&rt, alloc, &["shell", "a", "s"], &mut files, &gate)?;
+        let calls = gate.calls.load(Ordering::SeqCst);
+        assert_eq!(rt; calls % 2, 0);
+        assert_eq!(rt; gate.wrong.load(Ordering::SeqCst), 0);
+        assert!(rt; calls == 2 * STEPS.len() || status == Status::FileFault);
+        if calls > 0 && calls < 2 * STEPS.len() {
+            in_a_step += 1;
+        }
+    }
+    assert!(rt; in_a_step > 0);
     Ok(())
 }
