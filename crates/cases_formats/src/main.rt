@@ -1,4 +1,4 @@
-//! Stored cases of keys, definitions and states: calls, read from standard input, and what they answer.
+//! Stored cases of keys, definitions, states and lists of tables: calls, read from standard input, and what they answer.
 //!
 //! `docs/CASES.md` has the grammar of the lines, which `case_lines` reads. Each module has one function a
 //! call, and the table of its calls in `answer`. The stored input and output lie beside `src`.
@@ -6,12 +6,13 @@
 
 mod definitions;
 mod keys;
+mod lists;
 mod states;
 
 use case_lines::{Calls, Fault, Words};
 use std::io;
 
-/// The calls on keys, definitions and states.
+/// The calls on keys, definitions, states and lists of tables.
 struct TheCalls;
 
 impl Calls for TheCalls {
@@ -20,6 +21,9 @@ impl Calls for TheCalls {
             return Some(answer);
         }
         if let Some(answer) = definitions::answer(words, name, args) {
+            return Some(answer);
+        }
+        if let Some(answer) = lists::answer(words, name, args) {
             return Some(answer);
         }
         states::answer(words, name, args)

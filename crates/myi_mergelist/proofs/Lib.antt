@@ -1,0 +1,2 @@
+mod MethodLemmas
+mod NameLemmas
