@@ -4,3 +4,4 @@ pub mod CountLemmas
 pub mod FitLemmas
 pub mod HeaderLemmas
 pub mod SaidLaws
+pub mod OnceLaws

@@ -1,4 +1,5 @@
--- The definitions that a table has which a creating text describes. The numbers of a text are taken as they are.
+-- The definitions of a table that a creating text describes. Each number of the text is taken as it is, also the
+-- collation of a segment, whose two bytes stand apart in the header.
 use Rattle.std.specs.Prelude.{◌≡◌, ℕ, map, sum_by, unwrap_or, Some}
 use Rattle.myi_defs.specs.declared.types.Field.{Field}
 use Rattle.myi_defs.specs.declared.types.Segment.{Segment}
@@ -51,7 +52,7 @@ pub record AreSaid (t : TableSaid) (d : Defs) : Type 0 where
   pub keys : map said_key d.keys ≡ t.keys
   -- the length of an unpacked row
   pub row : d.row_length ≡ row_of t
-  -- the length of a slot: of a static table at least that of a row pointer and one byte more
+  -- the length of a slot: that of a row, but of a static table at least a byte more than a row pointer
   pub slot : d.slot_length ≡ slot_as t.format (row_of t) (pointer_of t)
   -- the length of a page pointer, which no text says
   pub page_pointer : d.key_ref ≡ 6
