@@ -53,6 +53,10 @@ pub record Copies (t : TreeCopy) (at start end : ℕ) (m n : Holding) : Type 0 w
 abbrev pub NoTree : TreeCopy → ℕ → ℕ → Holding → Type 0
 NoTree t at start m = (height : ℕ) (w : Walked) → walk_of (old_nodes t m) height at ≡ Some w → start + t.place.block_length * length w.pages ≤ t.limit → ⊥
 
+-- no such tree stands there whose leaves are at most so many levels below the place
+abbrev pub NoTreeWithin : TreeCopy → ℕ → ℕ → ℕ → Holding → Type 0
+NoTreeWithin t levels at start m = (height : ℕ) (w : Walked) → height ≤ levels → walk_of (old_nodes t m) height at ≡ Some w → start + t.place.block_length * length w.pages ≤ t.limit → ⊥
+
 -- the fault says that no page of the tree stands at that place
 abbrev pub IsDamage : ℕ → CopyFault → Type 0
 IsDamage at fault = fault ≡ copy.Damaged at

@@ -5,4 +5,4 @@ pub mod Copying
 -- what serves private contracts
 
 -- trees that are laid one behind the other
-pub mod Rows
+pub mod Turns

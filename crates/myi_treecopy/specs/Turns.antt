@@ -12,7 +12,7 @@ abbrev pub pages_of : List Walked → List ℕ
 pages_of ws = flat_map (λ (w : Walked). w.pages) ws
 
 -- trees of this height with these walks stand anew at these places, one behind the other from a place on
-pub record StandInRow (block : ℕ) (old new : Places) (height first : ℕ) (places : List ℕ) (ws : List Walked) : Type 0 where
+pub record StandInTurn (block : ℕ) (old new : Places) (height first : ℕ) (places : List ℕ) (ws : List Walked) : Type 0 where
   pub walked : List Walked
   pub walks : each (walk_of new height) places ≡ Some walked
   pub laid : pages_of walked ≡ places_from (length (pages_of ws)) block first
@@ -26,4 +26,4 @@ pub record CopiesChildren (t : TreeCopy) (first end : ℕ) (former places : List
   pub kept : take (length (bytes_of t.new.now m)) (bytes_of t.new.now n) ≡ bytes_of t.new.now m
   pub others : OthersStay t.new.now m n
   pub ends : (height : ℕ) (ws : List Walked) → each (walk_of (old_nodes t m) height) former ≡ Some ws → end ≡ first + t.place.block_length * length (pages_of ws)
-  pub anew : (height : ℕ) (ws : List Walked) → each (walk_of (old_nodes t m) height) former ≡ Some ws → StandInRow t.place.block_length (old_nodes t m) (new_nodes t n) height first places ws
+  pub anew : (height : ℕ) (ws : List Walked) → each (walk_of (old_nodes t m) height) former ≡ Some ws → StandInTurn t.place.block_length (old_nodes t m) (new_nodes t n) height first places ws
