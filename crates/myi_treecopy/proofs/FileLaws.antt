@@ -75,11 +75,14 @@ written_kept start page x xs kept few =
     same_front (suc a) (suc b) [] low = refl
     same_front (suc a) (suc b) (y ∷ ys) low = ap (λ zs. y ∷ zs) (same_front a b ys (omega (arith, low)))
 
--- the page is there
+-- the page is there, and behind it what stood there
+pub written_from : (start : ℕ) (page xs : List ℕ) → drop start (overwritten start page xs) ≡ page ++ drop (start + length page) xs
+written_from start page xs = ap (drop start) (append_assoc (resized start xs) page (drop (start + length page) xs)) ∙ drop_at (resized start xs) (page ++ drop (start + length page) xs) start (zeros_long start xs)
+
 pub written_there : (start block : ℕ) (page xs : List ℕ) → length page ≡ block → bytes_at (overwritten start page xs) start block ≡ Some page
 unfolding bytes_at
 written_there start block page xs long =
-    let there : drop start (overwritten start page xs) ≡ page ++ drop (start + length page) xs = ap (drop start) (append_assoc (resized start xs) page (drop (start + length page) xs)) ∙ drop_at (resized start xs) (page ++ drop (start + length page) xs) start (zeros_long start xs) in
+    let there = written_from start page xs in
     ap (λ (ys : List ℕ). cond (nat_le block (length ys)) (Some (take block ys)) None) there
     ∙ ap (λ (b : Bool). cond b (Some (take block (page ++ drop (start + length page) xs))) None) (le-leb block (length (page ++ drop (start + length page) xs)) (omega (arith, length-append page (drop (start + length page) xs), long)))
     ∙ ap (λ ys. Some ys) (take-append-le block page (drop (start + length page) xs) (omega (arith, long)) ∙ take_all block page (omega (arith, long)))

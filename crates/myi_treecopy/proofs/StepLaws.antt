@@ -7,7 +7,7 @@ use Rattle.myi_keypage.specs.Page.{Page, IsPlace}
 use Rattle.myi_treecopy.specs.declared.fault.CopyFault.{CopyFault}
 use Rattle.std.specs.List.{AllByRecursion}
 use Rattle.std.proofs.lemmas.Bool.{cases_lt}
-use Rattle.std.proofs.lemmas.List.{take_all, drop_more, take_more, take-append-drop}
+use Rattle.std.proofs.lemmas.List.{take_all, drop_all, drop_more, take_more, take-append-drop}
 use Rattle.std.proofs.lemmas.Option.{same_Some}
 use Rattle.myi_base.specs.Holding.{Holding, bytes_of, overwritten, OthersStay, Sets, WritesPart}
 use Rattle.myi_keycache.specs.Lent.{bytes_at}
@@ -17,9 +17,11 @@ use Rattle.myi_btree.specs.Nodes.{node_at, node_in}
 use Rattle.myi_btree.specs.Sizes.{IsPlaced}
 use Rattle.myi_treecopy.specs.declared.page.TreeCopy.{TreeCopy}
 use Rattle.myi_treecopy.specs.Copying.{StandsAnew}
-use Rattle.myi_treecopy.specs.Copying.{old_nodes, new_nodes, Copies, EndsBefore, NoTree, NoTreeWithin, IsDamage, CutsOff, CutsOrLacks}
+use Rattle.myi_treecopy.specs.LaidBytes.{all_laid, beginnings, tree_laid}
+use Rattle.myi_treecopy.specs.Copying.{old_nodes, new_nodes, laying, Copies, EndsBefore, NoTree, NoTreeWithin, IsDamage, CutsOff, CutsOrLacks}
 use Rattle.myi_treecopy.specs.Turns.{pages_of, StandInTurn, CopiesChildren}
 use Rattle.myi_treecopy.proofs.TurnLaws.{Frame, no_tree, one_more, above_trees, alone, of_node, of_leaf, some_node, some_pages, leaf_pages, each_parts, each_long, trees_stay, many_pages}
+use Rattle.myi_treecopy.proofs.BytesLaws.{all_laid_more, beginnings_more, dropped_more, reached}
 use Rattle.myi_treecopy.proofs.FileLaws.{places_kept, places_behind, kept_on, written_long, written_kept, written_there}
 
 -- the old file stays, so its nodes do
@@ -35,6 +37,8 @@ begin t start first m n same low short =
       kept = take_all (length (bytes_of t.new.now m)) (bytes_of t.new.now m) (omega arith);
       others = λ q other. refl;
       ends = λ height ws e. subst (λ (vs : List Walked). first ≡ first + t.place.block_length * length (pages_of vs)) (same_Some [] ws e) (let z : first ≡ first + t.place.block_length * 0 = omega arith in z);
+      bytes = λ height ws e. drop_all first (bytes_of t.new.now m) (omega (arith, short, low));
+      begins = λ height ws e. refl;
       anew = λ height ws e. subst (λ (vs : List Walked). StandInTurn t.place.block_length (old_nodes t m) (new_nodes t m) height first [] vs) (same_Some [] ws e) (no_tree t.place.block_length (old_nodes t m) (new_nodes t m) height first);
     }
 
@@ -65,6 +69,12 @@ step frame t first end last child former places m n k apart l s = record {
       let none : p.2 ≡ [] = nil_walks (old_nodes t m) height [] p.2 refl p.5 in
       let rest = ap (λ (vs : List Walked). length (pages_of vs)) none in
       two ∙ sum t.place.block_length first end (length (pages_of p.0)) (length p.1.pages) (length (pages_of p.2)) (length (pages_of ws)) one count rest;
+  bytes = λ height ws e.
+      let p = each_parts (walk_of (old_nodes t m) height) former child [] ws e in
+      (more height p.0 p.1 p.3 p.4).0;
+  begins = λ height ws e.
+      let p = each_parts (walk_of (old_nodes t m) height) former child [] ws e in
+      (more height p.0 p.1 p.3 p.4).1;
   anew = λ height ws e.
       let p = each_parts (walk_of (old_nodes t m) height) former child [] ws e in
       let none : p.2 ≡ [] = nil_walks (old_nodes t m) height [] p.2 refl p.5 in
@@ -77,6 +87,35 @@ step frame t first end last child former places m n k apart l s = record {
       (one_more frame t.place.block_length (old_nodes t m) (new_nodes t n) (new_nodes t k) height first end places p.0 p.1 before agree (l.ends height p.0 p.3) one);
 }
   where
+    same_laying : (height : ℕ) → laying t n height ≡ laying t m height
+    same_laying height = ap (λ (o : Option (List ℕ)). tree_laid t.place.rec_ref t.place.block_length (unwrap_or o []) height) (l.others t.old.now apart)
+
+    more : (height : ℕ) (ws : List Walked) (w : Walked) → each (walk_of (old_nodes t m) height) former ≡ Some ws → walk_of (old_nodes t m) height child ≡ Some w
+        → (drop first (bytes_of t.new.now k) ≡ all_laid (laying t m height) (former ++ child ∷ []) first) × (places ++ end ∷ [] ≡ beginnings (laying t m height) (former ++ child ∷ []) first)
+    more height ws w walks walk =
+        let lay = laying t m height in
+        let here = subst (λ (read : Places). walk_of read height child ≡ Some w) (sym (same_old t m n apart l.others)) walk in
+        let one : drop end (bytes_of t.new.now k) ≡ lay child end = s.bytes height w here ∙ ap (λ (f : ℕ → ℕ → List ℕ). f child end) (same_laying height) in
+        let at : end ≡ first + length (all_laid lay former first) = from_here height ws walks in
+        let whole = dropped height ws walks in (
+          whole ∙ ap (λ ys. all_laid lay former first ++ ys) (one ∙ ap (lay child) at) ∙ sym (all_laid_more lay former child first),
+          ap (λ ns. ns ++ end ∷ []) (l.begins height ws walks) ∙ ap (λ e. beginnings lay former first ++ e ∷ []) at ∙ sym (beginnings_more lay former child first),
+        )
+      where
+        from_here : (height : ℕ) (ws : List Walked) → each (walk_of (old_nodes t m) height) former ≡ Some ws → end ≡ first + length (all_laid (laying t m height) former first)
+        from_here height ws walks = by l.long
+          where
+            by : (length (bytes_of t.new.now n) ≡ end) ⊎ ((former ≡ []) × (end ≡ first) × (length (bytes_of t.new.now n) ≤ end)) → end ≡ first + length (all_laid (laying t m height) former first)
+            by (inl long) = reached first end (bytes_of t.new.now n) (all_laid (laying t m height) former first) long (omega (arith, l.ends height ws walks)) (l.bytes height ws walks)
+            by (inr few) = few.1 ∙ (let e : first ≡ first + 0 = omega arith in e) ∙ ap (λ cs. first + length (all_laid (laying t m height) cs first)) (sym few.0)
+
+        dropped : (height : ℕ) (ws : List Walked) → each (walk_of (old_nodes t m) height) former ≡ Some ws → drop first (bytes_of t.new.now k) ≡ all_laid (laying t m height) former first ++ drop end (bytes_of t.new.now k)
+        dropped height ws walks = by l.long
+          where
+            by : (length (bytes_of t.new.now n) ≡ end) ⊎ ((former ≡ []) × (end ≡ first) × (length (bytes_of t.new.now n) ≤ end)) → drop first (bytes_of t.new.now k) ≡ all_laid (laying t m height) former first ++ drop end (bytes_of t.new.now k)
+            by (inl long) = dropped_more first end (bytes_of t.new.now n) (bytes_of t.new.now k) s.kept long (omega (arith, l.ends height ws walks)) ∙ ap (λ ys. ys ++ drop end (bytes_of t.new.now k)) (l.bytes height ws walks)
+            by (inr few) = ap (λ e. drop e (bytes_of t.new.now k)) (sym few.1) ∙ ap (λ cs. all_laid (laying t m height) cs first ++ drop end (bytes_of t.new.now k)) (sym few.0)
+
     sum : (block first end a b c d : ℕ) → end ≡ first + block * a → d ≡ a + b + c → c ≡ 0 → end + block * b ≡ first + block * d
     sum block first end a b c d one count rest = let e : d ≡ a + b = omega (arith, count, rest) in ap (λ n. n + block * b) one ∙ (let f : first + block * a + block * b ≡ first + block * (a + b) = omega arith in f) ∙ ap (λ n. first + block * n) (sym e)
 
@@ -117,12 +156,13 @@ node_page t start x page node whole long is =
 
 pub whole_tree : Frame → (t : TreeCopy) (at start first end : ℕ) (kids places page : List ℕ) (m n k : Holding) → first ≡ start + t.place.block_length → start % 1024 ≡ 0 → length page ≡ t.place.block_length
     → ((node : Node) → old_nodes t m at ≡ Some node → (node.children ≡ kids) × (node_in t.place.rec_ref page ≡ Some (node_with node.pairs places))) → length places ≡ length kids → EndsBefore t start m → first ≤ end
-    → CopiesChildren t first end kids places m n → Sets t.new.now (overwritten start page (bytes_of t.new.now n)) n k → Copies t at start end m k
-whole_tree frame t at start first end kids places page m n k is whole pagelong has same short low l sets = record {
+    → CopiesChildren t first end kids places m n → ((height : ℕ) (w : Walked) → walk_of (old_nodes t m) height at ≡ Some w → drop start (bytes_of t.new.now k) ≡ laying t m height at start) → Sets t.new.now (overwritten start page (bytes_of t.new.now n)) n k → Copies t at start end m k
+whole_tree frame t at start first end kids places page m n k is whole pagelong has same short low l bytes sets = record {
   long = long;
   kept = ap (take (length (bytes_of t.new.now m))) now ∙ written_kept start page (bytes_of t.new.now m) (bytes_of t.new.now n) l.kept (omega (arith, short));
   others = λ q other. sets.others q other ∙ l.others q other;
   ends = ends;
+  bytes = bytes;
   anew = anew;
 }
   where

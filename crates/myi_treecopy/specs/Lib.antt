@@ -1,5 +1,7 @@
 -- what a reader of the contracts must believe
 
+-- the bytes of a tree that is laid anew
+pub mod LaidBytes
 -- a tree that is laid anew into another file
 pub mod Copying
 -- what serves private contracts

@@ -1,5 +1,5 @@
-use Rattle.std.proofs.Common.{Vec, Global, ◌≡◌, ◌+◌, ◌-◌, ◌<◌, ◌≤◌, ℕ, Some, None, List, [], ◌∷◌, ◌++◌, length, take, drop, get_or, set, refl, sym, ap, subst, ◌∙◌, inr, arith}
-use Rattle.std.specs.Prelude.{option_map}
+use Rattle.std.proofs.Common.{Vec, Global, Option, ◌≡◌, ◌+◌, ◌-◌, ◌<◌, ◌≤◌, ℕ, Some, None, List, [], ◌∷◌, ◌++◌, length, take, drop, get_or, set, refl, sym, ap, subst, ◌∙◌, inr, arith}
+use Rattle.std.specs.Prelude.{option_map, unwrap_or}
 use Rattle.std.specs.List.{AllByRecursion}
 use Rattle.std.proofs.lemmas.Bool.{eqb-true, eqb-false}
 use Rattle.std.proofs.lemmas.List.{length-set, take_more_set, drop-set-lt, take_all}
@@ -15,6 +15,7 @@ use Rattle.myi_treecopy.specs.declared.fault.CopyFault.TheVariants.{File}
 use Rattle.myi_treecopy.specs.Copying.{old_nodes, NoTreeWithin}
 use Rattle.myi_treecopy.specs.Turns.{CopiesChildren}
 use Rattle.myi_treecopy.proofs.PageLaws.{can_take, changed_page, node_changed, children_there, nothing_there, whole_buffer}
+use Rattle.myi_treecopy.proofs.BytesLaws.{whole_bytes}
 use Rattle.myi_treecopy.proofs.StepLaws.{begin, step, no_child, whole_tree, no_page, no_room, no_level, ends_before, if_err, cause_on, lacks, lacks_on, some_page, none_page, next_same, parts_at, one_more_taken, all_more, part_others}
 use Rattle.myi_treecopy.proofs.copy.+lay.Goals.{else-levels-eq0-via-then-levels-eq0+else-not-is_empty, else-levels-eq0-via-else-levels-eq0}
 use Rattle.myi_treecopy.proofs.copy.+lay.Goals as goal
@@ -181,7 +182,12 @@ returns-clause-copies g t c =
             b.1,
             whole_tree c.walks_depend_on_their_pages.ensures tree c.args.at c.args.start first c.loop-i.end cs c.loop-i.children.items c.deref-4.result.now m a.0 b.0 refl c.requires.whole (ap length newis ∙ newlen ∙ sym plen ∙ long)
                 (λ node there. (children_there tree.place.rec_ref tree.place.block_length c.args.at (bytes_of tree.old.now m) page p.0 node c.in_ok-page.ensures.whole (c.in_ok-page.ensures.bytes m held) p.1 there ∙ p.2, ap (node_in tree.place.rec_ref) newis ∙ node_changed tree.place.rec_ref tree.place.block_length c.args.at (bytes_of tree.old.now m) page new c.loop-i.children.items p.0 node c.in_ok-page.ensures.whole (c.in_ok-page.ensures.bytes m held) p.1 there changed))
-                inv.count (c.requires.short m held) inv.low l b.2,
+                inv.count (c.requires.short m held) inv.low l
+                (whole_bytes tree c.args.at c.args.start first c.loop-i.end cs c.loop-i.children.items page c.deref-4.result.now is.text.0 p.0 m a.0 b.0 refl (ap length newis ∙ newlen ∙ sym plen ∙ long) record { there = c.in_ok-page.ensures.bytes m held; is = p.1; text = is.text.1 } p.2 inv.count
+                (newis ∙ text ∙ ap (λ ns. page_bytes tree.place.rec_ref (with_children ns p.0) ++ is.text.0) c.deref-3.ensures.value)
+                (λ node there. children_there tree.place.rec_ref tree.place.block_length c.args.at (bytes_of tree.old.now m) page p.0 node c.in_ok-page.ensures.whole (c.in_ok-page.ensures.bytes m held) p.1 there ∙ p.2)
+                l (ap (λ (o : Option (List ℕ)). unwrap_or o []) b.2.here))
+                b.2,
           );
       untold = λ none. c.in_ok-write_at.ensures.ok.untold (inv.laid.untold none);
     }
