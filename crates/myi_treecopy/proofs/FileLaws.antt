@@ -35,10 +35,10 @@ kept_is x y kept = ap (λ ys. ys ++ drop (length x) y) (sym kept) ∙ take-appen
 pub node_kept : (rec_ref block p : ℕ) (x y : List ℕ) → take (length x) y ≡ x → p + block ≤ length x → node_at rec_ref block x p ≡ node_at rec_ref block y p
 node_kept rec_ref block p x y kept few = node_by rec_ref block p x y (behind_kept block p x (drop (length x) y) few ∙ ap (λ (ys : List ℕ). bytes_at ys p block) (kept_is x y kept))
 
-pub row_kept : (rec_ref block n first : ℕ) (x y : List ℕ) → take (length x) y ≡ x → first + block * n ≤ length x → Agree (node_at rec_ref block x) (node_at rec_ref block y) (places_from n block first)
-row_kept rec_ref block zero first x y kept few = tt
-row_kept rec_ref block (suc n) first x y kept few =
-    (node_kept rec_ref block first x y kept (let e : block * suc n ≡ block + block * n = omega arith in omega (arith, few, e)), row_kept rec_ref block n (first + block) x y kept (let e : block * suc n ≡ block + block * n = omega arith in omega (arith, few, e)))
+pub places_kept : (rec_ref block n first : ℕ) (x y : List ℕ) → take (length x) y ≡ x → first + block * n ≤ length x → Agree (node_at rec_ref block x) (node_at rec_ref block y) (places_from n block first)
+places_kept rec_ref block zero first x y kept few = tt
+places_kept rec_ref block (suc n) first x y kept few =
+    (node_kept rec_ref block first x y kept (let e : block * suc n ≡ block + block * n = omega arith in omega (arith, few, e)), places_kept rec_ref block n (first + block) x y kept (let e : block * suc n ≡ block + block * n = omega arith in omega (arith, few, e)))
 
 pub kept_on : (x y z : List ℕ) → take (length x) y ≡ x → take (length y) z ≡ y → take (length x) z ≡ x
 kept_on x y z one two =
@@ -75,11 +75,14 @@ written_kept start page x xs kept few =
     same_front (suc a) (suc b) [] low = refl
     same_front (suc a) (suc b) (y ∷ ys) low = ap (λ zs. y ∷ zs) (same_front a b ys (omega (arith, low)))
 
--- the page is there
+-- the page is there, and behind it what stood there
+pub written_from : (start : ℕ) (page xs : List ℕ) → drop start (overwritten start page xs) ≡ page ++ drop (start + length page) xs
+written_from start page xs = ap (drop start) (append_assoc (resized start xs) page (drop (start + length page) xs)) ∙ drop_at (resized start xs) (page ++ drop (start + length page) xs) start (zeros_long start xs)
+
 pub written_there : (start block : ℕ) (page xs : List ℕ) → length page ≡ block → bytes_at (overwritten start page xs) start block ≡ Some page
 unfolding bytes_at
 written_there start block page xs long =
-    let there : drop start (overwritten start page xs) ≡ page ++ drop (start + length page) xs = ap (drop start) (append_assoc (resized start xs) page (drop (start + length page) xs)) ∙ drop_at (resized start xs) (page ++ drop (start + length page) xs) start (zeros_long start xs) in
+    let there = written_from start page xs in
     ap (λ (ys : List ℕ). cond (nat_le block (length ys)) (Some (take block ys)) None) there
     ∙ ap (λ (b : Bool). cond b (Some (take block (page ++ drop (start + length page) xs))) None) (le-leb block (length (page ++ drop (start + length page) xs)) (omega (arith, length-append page (drop (start + length page) xs), long)))
     ∙ ap (λ ys. Some ys) (take-append-le block page (drop (start + length page) xs) (omega (arith, long)) ∙ take_all block page (omega (arith, long)))
@@ -96,6 +99,6 @@ bytes_by block p x y same = ap (λ (ys : List ℕ). cond (nat_le block (length y
 node_behind : (rec_ref block start p : ℕ) (page xs : List ℕ) → start + length page ≤ p → node_at rec_ref block xs p ≡ node_at rec_ref block (overwritten start page xs) p
 node_behind rec_ref block start p page xs low = node_by rec_ref block p xs (overwritten start page xs) (bytes_by block p xs (overwritten start page xs) (behind_same start p page xs low))
 
-pub row_behind : (rec_ref block n first start : ℕ) (page xs : List ℕ) → start + length page ≤ first → Agree (node_at rec_ref block xs) (node_at rec_ref block (overwritten start page xs)) (places_from n block first)
-row_behind rec_ref block zero first start page xs low = tt
-row_behind rec_ref block (suc n) first start page xs low = (node_behind rec_ref block start first page xs low, row_behind rec_ref block n (first + block) start page xs (omega (arith, low)))
+pub places_behind : (rec_ref block n first start : ℕ) (page xs : List ℕ) → start + length page ≤ first → Agree (node_at rec_ref block xs) (node_at rec_ref block (overwritten start page xs)) (places_from n block first)
+places_behind rec_ref block zero first start page xs low = tt
+places_behind rec_ref block (suc n) first start page xs low = (node_behind rec_ref block start first page xs low, places_behind rec_ref block n (first + block) start page xs (omega (arith, low)))

@@ -1,4 +1,6 @@
+pub mod CallerLemmas
 pub mod PageLaws
-pub mod RowLaws
+pub mod TurnLaws
 pub mod FileLaws
+pub mod BytesLaws
 pub mod StepLaws

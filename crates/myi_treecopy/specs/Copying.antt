@@ -1,12 +1,13 @@
 -- A tree that stands anew in another file, each page before those below it and one page behind the other (as myisamchk lays an index
 -- with --sort-index: MySQL Reference Manual, "Other myisamchk Options").
-use Rattle.std.specs.Prelude.{◌≡◌, ◌≢◌, ◌⊎◌, ℕ, ◌+◌, ◌*◌, ◌≤◌, List, length, map, take, option_map, Option, Some}
+use Rattle.std.specs.Prelude.{◌≡◌, ◌≢◌, ◌⊎◌, ℕ, ◌+◌, ◌*◌, ◌≤◌, List, length, map, take, drop, option_map, Option, Some}
 use Rattle.myi_base.specs.Holding.{Holding, bytes_of, OthersStay}
 use Rattle.myi_keylist.specs.declared.pair.Pair.{Pair}
 use Rattle.myi_btree.specs.Sizes.{IsPlaced}
 use Rattle.myi_btree.specs.Walk.{Node, Places, Walked, walk_of, content}
 use Rattle.myi_btree.specs.LaidPages.{places_from}
 use Rattle.myi_btree.specs.Nodes.{node_at}
+use Rattle.myi_treecopy.specs.LaidBytes.{Laying, tree_laid}
 use Rattle.myi_treecopy.specs.declared.fault.CopyFault.{CopyFault}
 use Rattle.myi_treecopy.specs.declared.fault.CopyFault.TheVariants as copy
 use Rattle.myi_treecopy.specs.declared.page.TreeCopy.{TreeCopy}
@@ -36,6 +37,10 @@ old_nodes t m = node_at t.place.rec_ref t.place.block_length (bytes_of t.old.now
 abbrev pub new_nodes : TreeCopy → Holding → Places
 new_nodes t m = node_at t.place.rec_ref t.place.block_length (bytes_of t.new.now m)
 
+-- how trees of this height of the old file are laid
+abbrev pub laying : TreeCopy → Holding → ℕ → Laying
+laying t m height = tree_laid t.place.rec_ref t.place.block_length (bytes_of t.old.now m) height
+
 -- the new file reaches no further than to a place
 abbrev pub EndsBefore : TreeCopy → ℕ → Holding → Type 0
 EndsBefore t start m = length (bytes_of t.new.now m) ≤ start
@@ -47,11 +52,16 @@ pub record Copies (t : TreeCopy) (at start end : ℕ) (m n : Holding) : Type 0 w
   pub kept : take (length (bytes_of t.new.now m)) (bytes_of t.new.now n) ≡ bytes_of t.new.now m
   pub others : OthersStay t.new.now m n
   pub ends : (height : ℕ) (w : Walked) → walk_of (old_nodes t m) height at ≡ Some w → end ≡ start + t.place.block_length * length w.pages
+  pub bytes : (height : ℕ) (w : Walked) → walk_of (old_nodes t m) height at ≡ Some w → drop start (bytes_of t.new.now n) ≡ laying t m height at start
   pub anew : (height : ℕ) (w : Walked) → walk_of (old_nodes t m) height at ≡ Some w → StandsAnew t.place.block_length (old_nodes t m) (new_nodes t n) height start w
 
 -- no tree stands below the place whose pages all have room before the limit
 abbrev pub NoTree : TreeCopy → ℕ → ℕ → Holding → Type 0
 NoTree t at start m = (height : ℕ) (w : Walked) → walk_of (old_nodes t m) height at ≡ Some w → start + t.place.block_length * length w.pages ≤ t.limit → ⊥
+
+-- no such tree stands there whose leaves are at most so many levels below the place
+abbrev pub NoTreeWithin : TreeCopy → ℕ → ℕ → ℕ → Holding → Type 0
+NoTreeWithin t levels at start m = (height : ℕ) (w : Walked) → height ≤ levels → walk_of (old_nodes t m) height at ≡ Some w → start + t.place.block_length * length w.pages ≤ t.limit → ⊥
 
 -- the fault says that no page of the tree stands at that place
 abbrev pub IsDamage : ℕ → CopyFault → Type 0

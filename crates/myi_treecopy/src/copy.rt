@@ -4,20 +4,21 @@ ghost use Rattle.std.specs.Prelude.{◌≡◌, ◌+◌, ◌%◌, ◌≤◌, Some
 ghost use Rattle.myi_base.specs.Holding.{IfTold, Told, OthersStay};
 ghost use Rattle.myi_base.specs.Causes.{HasCause};
 ghost use Rattle.myi_treecopy.specs.declared.fault.CopyFault.TheVariants.{File};
-ghost use Rattle.myi_treecopy.specs.Copying.{IsMade, CutsOrLacks, EndsBefore, Copies, NoTree};
+ghost use Rattle.myi_treecopy.specs.Copying.{IsMade, CutsOrLacks, EndsBefore, Copies, NoTree, NoTreeWithin};
 
 use crate::fault::CopyFault;
 use crate::page::{TreeCopy, children_of};
 use myi_base::slices_are_bytes;
-use myi_btree::walks_depend_on_their_pages;
+use myi_btree::{index_pages_are_nodes, walks_depend_on_their_pages};
 use myi_io::Files;
 use myi_keypage::{entries_fit, pages_read_back, put_children};
 
-// The most levels that a tree has below its root: one with more levels has more pages than there are places for.
+// The most levels that a tree has below its root: one with more levels has more pages than there are places, since
+// each page that is no leaf has two children at least.
 const MOST_LEVELS: u64 = 64;
 
 // Lays the tree below the page at a place of the old file from a place of the new one on, and answers where it ends
-// there. A tree of more than so many levels below its root is answered by `Memory`.
+// there. Of a tree of more than so many levels below its root a page that stands too deep is answered by `Damaged`.
 fn lay<F: Files>(
     tree: &TreeCopy,
     files: &mut F,
@@ -36,7 +37,7 @@ fn lay<F: Files>(
     ensures place { IfOk result (λ end. end % 1024 ≡ 0) }
     ensures others { Told (F.holds files.old) (F.holds files.new) (OthersStay tree.now.new.now) }
     ensures never { IfErr result (CutsOrLacks (λ m. F.holds files.old ≡ Some m
-        → NoTree tree.now at start m)) }
+        → NoTreeWithin tree.now levels at start m)) }
     ensures cause { HasCause File (F.faults files.old) (F.faults files.new) result }
 {
     pages_read_back();
@@ -49,7 +50,7 @@ fn lay<F: Files>(
     };
     let mut end = tree.behind(at, start)?;
     if levels == 0 && !children.is_empty() {
-        return Err(CopyFault::Memory);
+        return Err(CopyFault::Damaged { at });
     }
     for i in 0..children.len() {
         let child = children[i];
@@ -63,8 +64,10 @@ fn lay<F: Files>(
 
 /// Lays the tree whose root stands at a place of the old file into the new file, from a place on that is a multiple
 /// of 1024 and behind which the new file has nothing, and answers where it ends there: `start` and the length of a
-/// page for each of its pages. `Damaged` comes only where no such tree is there, or no room for it before the limit.
-/// After an error the new file may have some of the pages.
+/// page for each of its pages. `Damaged` comes only where no such tree is there, or no room for it before the limit;
+/// its place is that of the first page, in the order of the walk, that is none, has no room, or stands deeper than a
+/// tree can reach, as a page that names itself does. After an error the new file may have pages of the tree from
+/// `start` on, each with what stands below it, but never the root.
 pub fn copy_tree<F: Files>(
     tree: &TreeCopy,
     files: &mut F,
@@ -85,5 +88,7 @@ pub fn copy_tree<F: Files>(
         → NoTree tree.now root start m)) }
     ensures cause { HasCause File (F.faults files.old) (F.faults files.new) result }
 {
+    index_pages_are_nodes();
+    let _limit = tree.limit;
     lay(tree, files, root, start, MOST_LEVELS)
 }

@@ -1,6 +1,7 @@
-use Rattle.std.proofs.Common.{Vec, Global, ◌≡◌, ◌+◌, ◌<◌, ◌≤◌, ℕ, Some, None, List, [], ◌∷◌, ◌++◌, length, take, drop, get_or, set, refl, sym, ap, subst, ◌∙◌, inr, arith}
-use Rattle.std.specs.Prelude.{option_map}
+use Rattle.std.proofs.Common.{Vec, Global, Option, ◌≡◌, ◌+◌, ◌-◌, ◌<◌, ◌≤◌, ℕ, Some, None, List, [], ◌∷◌, ◌++◌, length, take, drop, get_or, set, refl, sym, ap, subst, ◌∙◌, inr, arith}
+use Rattle.std.specs.Prelude.{option_map, unwrap_or}
 use Rattle.std.specs.List.{AllByRecursion}
+use Rattle.std.proofs.lemmas.Bool.{eqb-true, eqb-false}
 use Rattle.std.proofs.lemmas.List.{length-set, take_more_set, drop-set-lt, take_all}
 use Rattle.std.proofs.lemmas.Result.{err_from_is_err_and}
 use Rattle.myi_base.specs.Numbers.{AreBytes}
@@ -11,10 +12,12 @@ use Rattle.myi_keypage.specs.Page.{Page, IsPlace, page_bytes}
 use Rattle.myi_keypage.specs.Views.{page_in}
 use Rattle.myi_btree.specs.Nodes.{node_in}
 use Rattle.myi_treecopy.specs.declared.fault.CopyFault.TheVariants.{File}
-use Rattle.myi_treecopy.specs.Copying.{old_nodes, NoTree}
-use Rattle.myi_treecopy.specs.Rows.{CopiesChildren}
+use Rattle.myi_treecopy.specs.Copying.{old_nodes, NoTreeWithin}
+use Rattle.myi_treecopy.specs.Turns.{CopiesChildren}
 use Rattle.myi_treecopy.proofs.PageLaws.{can_take, changed_page, node_changed, children_there, nothing_there, whole_buffer}
-use Rattle.myi_treecopy.proofs.StepLaws.{begin, step, no_child, whole_tree, no_page, no_room, ends_before, if_err, cause_on, lacks, lacks_on, some_page, none_page, next_same, parts_at, one_more_taken, all_more, part_others}
+use Rattle.myi_treecopy.proofs.BytesLaws.{whole_bytes}
+use Rattle.myi_treecopy.proofs.StepLaws.{begin, step, no_child, whole_tree, no_page, no_room, no_level, ends_before, if_err, cause_on, lacks, lacks_on, some_page, none_page, next_same, parts_at, one_more_taken, all_more, part_others}
+use Rattle.myi_treecopy.proofs.copy.+lay.Goals.{else-levels-eq0-via-then-levels-eq0+else-not-is_empty, else-levels-eq0-via-else-levels-eq0}
 use Rattle.myi_treecopy.proofs.copy.+lay.Goals as goal
 
 pub returns-in_err-page-clause-never : goal.returns-in_err-page-clause-never
@@ -22,14 +25,14 @@ returns-in_err-page-clause-never g t c =
     let e = err_from_is_err_and c.from_residual.result c.from_residual.ensures.1 in
     if_err c.from_residual.result e.0 _ e.1
     (lacks c.args.at (λ m. g.F.Files.holds c.args.files.now ≡ Some m → old_nodes c.args.tree.now m c.args.at ≡ None) _ _ _ e.2 c.in_err-page.ensures.damaged
-    (λ m none held. no_page c.args.tree.now c.args.at c.args.start m (none held)))
+    (λ m none held. no_page c.args.tree.now c.args.levels c.args.at c.args.start m (none held)))
 
 pub returns-in_default-clause-never : goal.returns-in_default-clause-never
 returns-in_default-clause-never g t c =
     inr (
       c.args.at,
       refl,
-      λ m held. no_page c.args.tree.now c.args.at c.args.start m
+      λ m held. no_page c.args.tree.now c.args.levels c.args.at c.args.start m
           (nothing_there c.args.tree.now.place.rec_ref c.args.tree.now.place.block_length c.args.at (bytes_of c.args.tree.now.old.now m) c.in_ok-page.page.items c.in_ok-page.ensures.whole (c.in_ok-page.ensures.bytes m held)
           (none_page (page_in c.args.tree.now.place.rec_ref c.in_ok-page.page.items)
           (sym (ap (option_map (λ (v : Vec ℕ Global). v.items)) c.in_default.is) ∙ c.in_ok-children.ensures ∙ ap (λ xs. option_map (λ (p : Page). p.children) (page_in c.args.tree.now.place.rec_ref xs)) c.deref-2.ensures.value))),
@@ -39,7 +42,7 @@ pub returns-in_err-end-clause-never : goal.returns-in_err-end-clause-never
 returns-in_err-end-clause-never g t c =
     let e = err_from_is_err_and c.from_residual-in_err-end.result c.from_residual-in_err-end.ensures.1 in
     if_err c.from_residual-in_err-end.result e.0 _ e.1
-    (inr (c.args.at, e.2 ∙ c.in_err-end.ensures.damaged, λ m held. no_room c.args.tree.now c.args.at c.args.start m c.in_err-end.ensures.past))
+    (inr (c.args.at, e.2 ∙ c.in_err-end.ensures.damaged, λ m held. no_room c.args.tree.now c.args.levels c.args.at c.args.start m c.in_err-end.ensures.past))
 
 pub loop-i-init : goal.loop-i-init
 loop-i-init g t c =
@@ -83,14 +86,19 @@ returns-in_err-end-2-clause-never g t c =
     let shown : Some cs ≡ option_map (λ (p : Page). p.children) (page_in tree.place.rec_ref c.in_ok-page.page.items) =
     sym (ap (option_map (λ (v : Vec ℕ Global). v.items)) c.in-Some.is) ∙ c.in_ok-children.ensures ∙ ap (λ ys. option_map (λ (p : Page). p.children) (page_in tree.place.rec_ref ys)) c.deref-2.ensures.value in
     let p = some_page (page_in tree.place.rec_ref c.in_ok-page.page.items) cs shown in
+    let level : c.args.levels - 1 + 1 ≡ c.args.levels =
+    elim c.else-levels-eq0.branch as (λ _. c.args.levels - 1 + 1 ≡ c.args.levels) [
+      | else-levels-eq0-via-then-levels-eq0+else-not-is_empty w ↦ omega (arith, eqb-true _ _ (sym w.is_empty.ensures ∙ w.if-not-is_empty.false), c.in-Some.children.ok.0, lt, inv.count)
+      | else-levels-eq0-via-else-levels-eq0 w ↦ omega (arith, w.if-levels-eq0.false)
+    ] in
     let e = err_from_is_err_and c.from_residual-in_err-end-2.result c.from_residual-in_err-end-2.ensures.1 in
     if_err c.from_residual-in_err-end-2.result e.0 _ e.1
-    (lacks_on (λ n. g.F.Files.holds c.loop-i.files ≡ Some n → NoTree tree c.index-child.result.now c.loop-i.end n) _ _ _ e.2 c.in_err-end-2.ensures.never
+    (lacks_on (λ n. g.F.Files.holds c.loop-i.files ≡ Some n → NoTreeWithin tree (c.args.levels - 1) c.index-child.result.now c.loop-i.end n) _ _ _ e.2 c.in_err-end-2.ensures.never
     (λ no_tree m held.
     let l = c.loop-i.invariant.laid.told m held in
-    no_child tree c.args.at c.args.start first c.loop-i.end c.index-child.result.now (take i cs) (drop (i + 1) cs) (take i c.loop-i.children.items) m l.0 c.requires.made.apart refl
+    no_child tree c.args.levels (c.args.levels - 1) c.args.at c.args.start first c.loop-i.end c.index-child.result.now (take i cs) (drop (i + 1) cs) (take i c.loop-i.children.items) m l.0 c.requires.made.apart refl
     (λ node there. children_there tree.place.rec_ref tree.place.block_length c.args.at (bytes_of tree.old.now m) c.in_ok-page.page.items p.0 node c.in_ok-page.ensures.whole (c.in_ok-page.ensures.bytes m held) p.1 there ∙ p.2 ∙ parts_at i c.index-child.result.now cs (omega (arith, lt, inv.count)) ∙ ap (λ x. take i cs ++ x ∷ drop (i + 1) cs) (sym child))
-    l.2 (no_tree l.0 l.1)))
+    l.2 (no_tree l.0 l.1) level))
 
 pub returns-in_err-end-2-clause-cause : goal.returns-in_err-end-2-clause-cause
 returns-in_err-end-2-clause-cause g t c =
@@ -174,7 +182,12 @@ returns-clause-copies g t c =
             b.1,
             whole_tree c.walks_depend_on_their_pages.ensures tree c.args.at c.args.start first c.loop-i.end cs c.loop-i.children.items c.deref-4.result.now m a.0 b.0 refl c.requires.whole (ap length newis ∙ newlen ∙ sym plen ∙ long)
                 (λ node there. (children_there tree.place.rec_ref tree.place.block_length c.args.at (bytes_of tree.old.now m) page p.0 node c.in_ok-page.ensures.whole (c.in_ok-page.ensures.bytes m held) p.1 there ∙ p.2, ap (node_in tree.place.rec_ref) newis ∙ node_changed tree.place.rec_ref tree.place.block_length c.args.at (bytes_of tree.old.now m) page new c.loop-i.children.items p.0 node c.in_ok-page.ensures.whole (c.in_ok-page.ensures.bytes m held) p.1 there changed))
-                inv.count (c.requires.short m held) inv.low l b.2,
+                inv.count (c.requires.short m held) inv.low l
+                (whole_bytes tree c.args.at c.args.start first c.loop-i.end cs c.loop-i.children.items page c.deref-4.result.now is.text.0 p.0 m a.0 b.0 refl (ap length newis ∙ newlen ∙ sym plen ∙ long) record { there = c.in_ok-page.ensures.bytes m held; is = p.1; text = is.text.1 } p.2 inv.count
+                (newis ∙ text ∙ ap (λ ns. page_bytes tree.place.rec_ref (with_children ns p.0) ++ is.text.0) c.deref-3.ensures.value)
+                (λ node there. children_there tree.place.rec_ref tree.place.block_length c.args.at (bytes_of tree.old.now m) page p.0 node c.in_ok-page.ensures.whole (c.in_ok-page.ensures.bytes m held) p.1 there ∙ p.2)
+                l (ap (λ (o : Option (List ℕ)). unwrap_or o []) b.2.here))
+                b.2,
           );
       untold = λ none. c.in_ok-write_at.ensures.ok.untold (inv.laid.untold none);
     }
@@ -183,3 +196,19 @@ pub returns-clause-others : goal.returns-clause-others
 returns-clause-others g t c =
     told_then (g.F.Files.holds c.args.files.now) (g.F.Files.holds c.loop-i.files) (g.F.Files.holds c.write_at.new.self) _ _ (OthersStay c.args.tree.now.new.now) c.loop-i.invariant.laid c.in_ok-write_at.ensures.ok
     (λ m n k l s q other. s.others q other ∙ l.others q other)
+
+pub returns-then-not-is_empty-clause-never : goal.returns-then-not-is_empty-clause-never
+returns-then-not-is_empty-clause-never g t c =
+    let tree = c.args.tree.now in
+    let cs : List ℕ = c.in-Some.children.items in
+    let shown : Some cs ≡ option_map (λ (p : Page). p.children) (page_in tree.place.rec_ref c.in_ok-page.page.items) =
+    sym (ap (option_map (λ (v : Vec ℕ Global). v.items)) c.in-Some.is) ∙ c.in_ok-children.ensures ∙ ap (λ ys. option_map (λ (p : Page). p.children) (page_in tree.place.rec_ref ys)) c.deref-2.ensures.value in
+    let p = some_page (page_in tree.place.rec_ref c.in_ok-page.page.items) cs shown in
+    inr (
+      c.args.at,
+      refl,
+      λ m held. no_level tree c.args.levels c.args.at c.args.start m c.if-levels-eq0.true
+          (λ node there.
+          let kids = children_there tree.place.rec_ref tree.place.block_length c.args.at (bytes_of tree.old.now m) c.in_ok-page.page.items p.0 node c.in_ok-page.ensures.whole (c.in_ok-page.ensures.bytes m held) p.1 there ∙ p.2 in
+          omega (arith, ap (λ (xs : List ℕ). length xs) kids, eqb-false _ _ (sym c.is_empty.ensures ∙ c.if-not-is_empty.true), c.in-Some.children.ok.0)),
+    )

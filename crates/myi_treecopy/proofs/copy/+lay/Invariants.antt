@@ -2,7 +2,7 @@ use Rattle.std.proofs.Common.{◌≡◌, ◌+◌, ◌%◌, ◌≤◌, length, ta
 use Rattle.std.specs.List.{AllByRecursion}
 use Rattle.myi_base.specs.Holding.{Told}
 use Rattle.myi_keypage.specs.Page.{IsPlace}
-use Rattle.myi_treecopy.specs.Rows.{CopiesChildren}
+use Rattle.myi_treecopy.specs.Turns.{CopiesChildren}
 use Rattle.myi_treecopy.proofs.copy.+lay.Given as goal
 
 abbrev pub decreases-lay : goal.decreases-lay

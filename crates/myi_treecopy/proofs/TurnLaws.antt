@@ -1,16 +1,17 @@
 -- Trees that are laid one behind the other, and the page above them.
-use Rattle.std.proofs.Common.{◌≡◌, ℕ, zero, suc, ◌+◌, ◌*◌, ◌<◌, cond, ltb, Option, Some, None, List, [], ◌∷◌, ◌++◌, length, map, refl, sym, ap, subst, ◌∙◌, append_assoc, append-nil, length-append, arith}
+use Rattle.std.proofs.Common.{◌≡◌, ℕ, zero, suc, ◌+◌, ◌*◌, ◌^◌, ◌<◌, ◌≤◌, cond, ltb, Option, Some, None, List, [], ◌∷◌, ◌++◌, length, map, refl, sym, ap, subst, ◌∙◌, append_assoc, append-nil, length-append, arith}
+use native.Mathlib.Nat.{two-pow-succ}
 use Rattle.std.specs.Prelude.{option_map}
 use Rattle.std.specs.List.{AllByRecursion}
 use Rattle.std.proofs.lemmas.Bool.{lt-ltb, ltb-true}
 use Rattle.std.proofs.lemmas.List.{map-append}
 use Rattle.std.proofs.lemmas.Option.{same_Some, cond_some}
 use Rattle.myi_keylist.specs.declared.pair.Pair.{Pair}
-use Rattle.myi_btree.specs.Walk.{◌>>=◌, Node, node_with, Places, Walked, between_pairs, each, at_node, as_leaf, walk_of, content, Agree}
+use Rattle.myi_btree.specs.Walk.{◌>>=◌, Node, node_with, Places, Walked, between_pairs, each, at_node, as_leaf, walk_of, content, Agree, AreNodes}
 use Rattle.myi_btree.specs.LaidPages.{places_from}
 use Rattle.myi_btree.proofs.CallerLemmas.{bind_some}
 use Rattle.myi_treecopy.specs.Copying.{pairs_on, StandsAnew}
-use Rattle.myi_treecopy.specs.Rows.{pages_of, StandInRow}
+use Rattle.myi_treecopy.specs.Turns.{pages_of, StandInTurn}
 
 -- a walk depends on its own pages alone
 abbrev pub Frame : Type 0
@@ -51,7 +52,7 @@ pages_last : (ws : List Walked) (w : Walked) → pages_of (ws ++ w ∷ []) ≡ p
 pages_last [] w = append-nil w.pages
 pages_last (v ∷ ws) w = ap (λ (t : List ℕ). v.pages ++ t) (pages_last ws w) ∙ sym (append_assoc v.pages (pages_of ws) w.pages)
 
-pairs_agree : (one two : Places) (ps : List ℕ) → Agree one two ps → map (pairs_on one) ps ≡ map (pairs_on two) ps
+pub pairs_agree : (one two : Places) (ps : List ℕ) → Agree one two ps → map (pairs_on one) ps ≡ map (pairs_on two) ps
 pairs_agree one two [] agree = refl
 pairs_agree one two (p ∷ ps) agree = ap (λ (o : Option Node). option_map (λ (node : Node). node.pairs) o ∷ map (pairs_on one) ps) agree.0 ∙ ap (λ t. pairs_on two p ∷ t) (pairs_agree one two ps agree.1)
 
@@ -61,14 +62,14 @@ places_more (suc a) b block first =
     ap (λ n. places_from n block first) (let e : suc a + b ≡ suc (a + b) = omega arith in e)
     ∙ ap (λ t. first ∷ t) (places_more a b block (first + block) ∙ ap (λ n. places_from a block (first + block) ++ places_from b block n) (let e : first + block + block * a ≡ first + block * suc a = omega arith in e))
 
--- ---- trees in a row
+-- ---- trees in turn
 
-pub no_tree : (block : ℕ) (old new : Places) (height first : ℕ) → StandInRow block old new height first [] []
+pub no_tree : (block : ℕ) (old new : Places) (height first : ℕ) → StandInTurn block old new height first [] []
 no_tree block old new height first = record { walked = []; walks = refl; laid = refl; pages = refl; pairs = refl }
 
 pub one_more : Frame → (block : ℕ) (old one two : Places) (height first start : ℕ) (places : List ℕ) (ws : List Walked) (w : Walked)
-    → (s : StandInRow block old one height first places ws) → Agree one two (pages_of s.walked) → start ≡ first + block * length (pages_of ws)
-    → StandsAnew block old two height start w → StandInRow block old two height first (places ++ start ∷ []) (ws ++ w ∷ [])
+    → (s : StandInTurn block old one height first places ws) → Agree one two (pages_of s.walked) → start ≡ first + block * length (pages_of ws)
+    → StandsAnew block old two height start w → StandInTurn block old two height first (places ++ start ∷ []) (ws ++ w ∷ [])
 one_more frame block old one two height first start places ws w s agree is t = record {
   walked = s.walked ++ t.walked ∷ [];
   walks = each_last (walk_of two height) places start s.walked t.walked (each_stays frame one two height places s.walked s.walks agree) t.walk;
@@ -116,9 +117,9 @@ contents_are : (ws : List Walked) → map content ws ≡ map firsts (map (λ (w 
 contents_are [] = refl
 contents_are (w ∷ ws) = ap (λ t. content w ∷ t) (contents_are ws)
 
-pub above_row : (block : ℕ) (old new : Places) (height at start : ℕ) (node : Node) (places : List ℕ) (ws : List Walked) → old at ≡ Some node → 0 < length places
-    → StandInRow block old new height (start + block) places ws → new start ≡ Some (node_with node.pairs places) → StandsAnew block old new (suc height) start (at_node at node ws)
-above_row block old new height at start node places ws there some s here = record {
+pub above_trees : (block : ℕ) (old new : Places) (height at start : ℕ) (node : Node) (places : List ℕ) (ws : List Walked) → old at ≡ Some node → 0 < length places
+    → StandInTurn block old new height (start + block) places ws → new start ≡ Some (node_with node.pairs places) → StandsAnew block old new (suc height) start (at_node at node ws)
+above_trees block old new height at start node places ws there some s here = record {
   walked = at_node start (node_with node.pairs places) s.walked;
   walk = rw (here, s.walks, lt-ltb 0 (length places) some) refl;
   places = ap (λ ps. start ∷ ps) s.laid;
@@ -197,10 +198,10 @@ pub each_long : (us : List Walked) (w : Walked) (vs : List Walked) → length (p
 each_long [] w vs = length-append w.pages (pages_of vs) ∙ (let e : length w.pages + length (pages_of vs) ≡ 0 + length w.pages + length (pages_of vs) = omega arith in e)
 each_long (u ∷ us) w vs = length-append u.pages (pages_of (us ++ w ∷ vs)) ∙ omega (arith, each_long us w vs, length-append u.pages (pages_of us))
 
--- trees in a row stay where their pages do
-pub row_stays : Frame → (block : ℕ) (old one two : Places) (height first : ℕ) (places : List ℕ) (ws : List Walked) → StandInRow block old one height first places ws → Agree one two (places_from (length (pages_of ws)) block first)
-    → StandInRow block old two height first places ws
-row_stays frame block old one two height first places ws s same =
+-- trees in turn stay where their pages do
+pub trees_stay : Frame → (block : ℕ) (old one two : Places) (height first : ℕ) (places : List ℕ) (ws : List Walked) → StandInTurn block old one height first places ws → Agree one two (places_from (length (pages_of ws)) block first)
+    → StandInTurn block old two height first places ws
+trees_stay frame block old one two height first places ws s same =
     let agree : Agree one two (pages_of s.walked) = subst (λ ps. Agree one two ps) (sym s.laid) same in
     record {
       walked = s.walked;
@@ -220,3 +221,30 @@ some_pages read (suc height) at w walk =
     let s = some_node read (suc height) at w walk in
     let o = of_node read height at s.0 w s.1 walk in
     (length (pages_of o.0), ap (λ (v : Walked). length v.pages) o.2)
+
+-- a tree of this height has so many pages and more, since a page above others has two children at least
+pub many_pages : (read : Places) (n height at : ℕ) (w : Walked) → AreNodes read → n ≤ height → walk_of read height at ≡ Some w → 2 ^ n ≤ length w.pages
+many_pages read zero height at w nodes low walk = let s = some_pages read height at w walk in omega (arith, s.1)
+many_pages read (suc n) zero at w nodes low walk = absurd (omega (arith, low))
+many_pages read (suc n) (suc height) at w nodes low walk =
+    let s = some_node read (suc height) at w walk in
+    let o = of_node read height at s.0 w s.1 walk in
+    let is = nodes at s.0 s.1 in
+    let two : 2 ≤ length s.0.children = omega (arith, is.some, is.branching o.3) in
+    omega (arith, two-pow-succ n, ap (λ (v : Walked). length v.pages) o.2, of_two s.0.children o.0 (λ c v e. many_pages read n height c v nodes (omega (arith, low)) e) two o.1)
+  where
+    of_two : (cs : List ℕ) (ws : List Walked) → ((c : ℕ) (v : Walked) → walk_of read height c ≡ Some v → 2 ^ n ≤ length v.pages) → 2 ≤ length cs → each (walk_of read height) cs ≡ Some ws → 2 ^ n + 2 ^ n ≤ length (pages_of ws)
+    of_two [] ws below two e = absurd (omega (arith, two))
+    of_two (c ∷ []) ws below two e = absurd (omega (arith, two))
+    of_two (c ∷ d ∷ cs) ws below two e =
+        let p = each_parts (walk_of read height) [] c (d ∷ cs) ws e in
+        let q = each_parts (walk_of read height) [] d cs p.2 p.5 in
+        omega (
+          arith,
+          below c p.1 p.4,
+          below d q.1 q.4,
+          ap (λ (vs : List Walked). length (pages_of vs)) p.6,
+          each_long p.0 p.1 p.2,
+          ap (λ (vs : List Walked). length (pages_of vs)) q.6,
+          each_long q.0 q.1 q.2,
+        )
