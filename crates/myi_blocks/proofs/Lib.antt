@@ -12,3 +12,4 @@ pub mod RowLemmas
 pub mod DeleteLemmas
 pub mod GoneLemmas
 pub mod UpdateLemmas
+pub mod AddedLemmas

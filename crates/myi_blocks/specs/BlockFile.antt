@@ -11,9 +11,11 @@ use Rattle.myi_dellist.specs.Areas.{Area}
 use Rattle.myi_dellist.specs.Standing.{first_or}
 use Rattle.myi_dellist.specs.Placing.{place_at_end}
 use Rattle.myi_dellist.specs.FreeList.{ListState}
-use Rattle.myi_dellist.specs.Putting.{PutBad, PutLong}
-use Rattle.myi_dellist.specs.Freed.{RowFindsBad}
-use Rattle.myi_dellist.specs.Replacing.{RewriteFindsBad, OwnLong}
+use Rattle.myi_dellist.specs.Putting.{PutBad, PutLong, Puts, ends_of}
+use Rattle.myi_dellist.specs.Freed.{RowFindsBad, FreesRow}
+use Rattle.myi_dellist.specs.Replacing.{RewriteFindsBad, OwnLong, RewritesRow}
+use Rattle.myi_pack.specs.Packed.{Values}
+use Rattle.myi_pack.specs.Spelling.{spelling}
 use Rattle.myi_state.specs.declared.counts.Counts.{Counts}
 use Rattle.myi_state.specs.Numbers.{total_bytes}
 use Rattle.myi_slots.specs.SlotFile.{SlotFile, risen}
@@ -53,6 +55,22 @@ FindsOtherBad f at len p m = RewriteFindsBad (list_in f) at len p m
 -- a row of so many bytes fills its blocks and those of the list, and row pointers would not reach the whole file
 abbrev pub LacksOtherRoom : SlotFile → ℕ → ℕ → Holding → Type 0
 LacksOtherRoom f at len m = OwnLong (list_in f) at len m
+
+-- ---- what is written: exactly these bytes
+
+-- a row is put where it is to go
+abbrev pub WritesNew : SlotFile → SlotFile → Values → Holding → Holding → Type 0
+WritesNew f g values m n = Puts f.name (ends_of (list_in f)) (spelling f.defs values) (ends_of (list_in g)) m n
+
+-- the blocks of the row at a position are released
+abbrev pub WritesGone : SlotFile → SlotFile → ℕ → Holding → Holding → Type 0
+WritesGone f g at m n = FreesRow (list_in f) (list_in g) at m n
+
+-- a row is put in the place of the one at a position
+abbrev pub WritesOther : SlotFile → SlotFile → ℕ → Values → Holding → Holding → Type 0
+WritesOther f g at values m n = RewritesRow (list_in f) (list_in g) at (spelling f.defs values) m n
+
+-- ---- numbers
 
 -- the numbers behind a row that was put; a count that would pass the end of its type stays there
 abbrev pub counts_with : Put → ℕ → Option ℕ → Counts → Counts

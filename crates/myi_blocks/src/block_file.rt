@@ -57,8 +57,8 @@ impl BlockFile {
     ghost use Rattle.myi_dellist.specs.Replacing.{PutsAgain};
     ghost use Rattle.myi_state.specs.Changes.{insert, insert_at_end, delete, update};
     ghost use Rattle.myi_slots.specs.declared.fault.DataFault.TheVariants.{File};
-    ghost use Rattle.myi_slots.specs.SlotFile.{IsLong, Steps, Refuses, CutsOff, IfRefused, ByCause, Never, counts_in, is_reached, risen};
-    ghost use Rattle.myi_blocks.specs.BlockFile.{list_in, end_with, FindsBad, FindsRowBad, FindsOtherBad, LacksRoom, LacksOtherRoom};
+    ghost use Rattle.myi_slots.specs.SlotFile.{IsLong, Steps, Refuses, Adds, AddsNew, CutsOff, IfRefused, ByCause, Never, counts_in, is_reached, risen};
+    ghost use Rattle.myi_blocks.specs.BlockFile.{list_in, end_with, FindsBad, FindsRowBad, FindsOtherBad, LacksRoom, LacksOtherRoom, WritesNew, WritesGone, WritesOther};
     ghost use Rattle.myi_blocks.specs.RowReading.{HasRow, LacksRow, IsRowAt, ReadsFew};
     ghost use Rattle.myi_blocks.specs.Places.{KeepsNotes, StaysNoted, ReadsNoted, LooksUp, HasNoted, MayNote, MayForget, Forgets, StepsNoted, RefusesNoted};
 
@@ -130,6 +130,10 @@ impl BlockFile {
         ensures puts { IfOk result (λ at. Told (F.holds files.old) (F.holds files.new)
             (PutsNew (list_in self.old.file) (list_in self.new.file)
             (spelling self.old.file.defs row.now) at)) }
+        ensures written { OnOk result (Told (F.holds files.old) (F.holds files.new)
+            (WritesNew self.old.file self.new.file row.now)) }
+        ensures appended { OnOk result (Told (F.holds files.old) (F.holds files.new)
+            (AddsNew self.old.file self.new.file row.now)) }
         ensures others { Told (F.holds files.old) (F.holds files.new)
             (OthersStay self.old.file.name) }
         ensures place { IfOk result (λ at.
@@ -173,6 +177,8 @@ impl BlockFile {
         ensures puts { IfOk result (λ at. Told (F.holds files.old) (F.holds files.new)
             (PutsAtEnd (list_in self.old.file) (list_in self.new.file)
             (spelling self.old.file.defs row.now) at)) }
+        ensures appended { OnOk result (Told (F.holds files.old) (F.holds files.new)
+            (Adds self.old.file self.new.file row.now)) }
         ensures others { Told (F.holds files.old) (F.holds files.new)
             (OthersStay self.old.file.name) }
         ensures place { IfOk result (λ at. at ≡ self.old.file.counts.length) }
@@ -254,6 +260,8 @@ impl BlockFile {
             (RefusesNoted (delete at) self.old f)) }
         ensures frees { OnOk result (Told (F.holds files.old) (F.holds files.new)
             (RowIsFreed (list_in self.old.file) (list_in self.new.file) at)) }
+        ensures written { OnOk result (Told (F.holds files.old) (F.holds files.new)
+            (WritesGone self.old.file self.new.file at)) }
         ensures others { Told (F.holds files.old) (F.holds files.new)
             (OthersStay self.old.file.name) }
         ensures stood { OnOk result (Forgets (F.holds files.old) at self.old self.new) }
@@ -309,6 +317,8 @@ impl BlockFile {
         ensures puts { OnOk result (Told (F.holds files.old) (F.holds files.new)
             (PutsAgain (list_in self.old.file) (list_in self.new.file) at
             (spelling self.old.file.defs row.now))) }
+        ensures written { OnOk result (Told (F.holds files.old) (F.holds files.new)
+            (WritesOther self.old.file self.new.file at row.now)) }
         ensures others { Told (F.holds files.old) (F.holds files.new)
             (OthersStay self.old.file.name) }
         ensures stood { OnOk result (HasNoted at true self.new.places) }

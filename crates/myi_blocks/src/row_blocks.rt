@@ -95,11 +95,13 @@ impl RowBlocks {
     ghost use Rattle.myi_pack.specs.Spelling.{spelling, fits};
     ghost use Rattle.myi_dellist.specs.Rows.{PutsNew, PutsAtEnd, TalliesNew, TalliesAtEnd};
     ghost use Rattle.myi_dellist.specs.Freed.{RowIsFreed};
-    ghost use Rattle.myi_dellist.specs.Replacing.{PutsAgain, TalliesReplaced};
+    ghost use Rattle.myi_dellist.specs.Replacing.{PutsAgain, TalliesReplaced, RewritesRow};
+    ghost use Rattle.myi_dellist.specs.Putting.{Puts, ends_of};
+    ghost use Rattle.myi_dellist.specs.Appending.{Appends, AppendsNew};
     ghost use Rattle.myi_state.specs.Changes.{insert, insert_at_end, delete, update};
     ghost use Rattle.myi_slots.specs.declared.fault.DataFault.TheVariants.{File};
-    ghost use Rattle.myi_slots.specs.SlotFile.{IsLong, Steps, Refuses, CutsOff, IfRefused, ByCause, Never, counts_in, is_reached, risen};
-    ghost use Rattle.myi_blocks.specs.BlockFile.{list_in, end_with, FindsBad, FindsRowBad, FindsOtherBad, LacksRoom, LacksOtherRoom, counts_with, counts_again};
+    ghost use Rattle.myi_slots.specs.SlotFile.{IsLong, Steps, Refuses, Adds, AddsNew, CutsOff, IfRefused, ByCause, Never, counts_in, is_reached, risen};
+    ghost use Rattle.myi_blocks.specs.BlockFile.{list_in, end_with, FindsBad, FindsRowBad, FindsOtherBad, LacksRoom, LacksOtherRoom, WritesNew, WritesGone, WritesOther, counts_with, counts_again};
     ghost use Rattle.myi_blocks.specs.Standing.{StepsRow, RefusesRow};
     ghost use Rattle.myi_blocks.specs.RowReading.{LacksRow, IsRowAt, ReadsFew};
     ghost use Rattle.myi_blocks.specs.Places.{AreRead};
@@ -173,6 +175,11 @@ impl RowBlocks {
         ensures counted { IfOk result (λ put. self.new ≡ record self.old {
           counts = counts_with put self.new.counts.length self.new.counts.dellink self.old.counts;
         }) }
+        ensures written { OnOk result (Told (F.holds files.old) (F.holds files.new)
+            (Puts self.old.name (ends_of (list_in self.old)) packed.now
+            (ends_of (list_in self.new)))) }
+        ensures appended { OnOk result (Told (F.holds files.old) (F.holds files.new)
+            (AppendsNew (list_in self.old) (list_in self.new) packed.now)) }
         ensures others { Told (F.holds files.old) (F.holds files.new) (OthersStay self.old.name) }
         ensures place { IfOk result (λ put.
             put.at ≡ unwrap_or self.old.counts.dellink self.old.counts.length) }
@@ -211,6 +218,8 @@ impl RowBlocks {
         ensures counted { IfOk result (λ put. self.new ≡ record self.old {
           counts = counts_with put self.new.counts.length self.new.counts.dellink self.old.counts;
         }) }
+        ensures appended { OnOk result (Told (F.holds files.old) (F.holds files.new)
+            (Appends (list_in self.old) (list_in self.new) packed.now)) }
         ensures others { Told (F.holds files.old) (F.holds files.new) (OthersStay self.old.name) }
         ensures place { IfOk result (λ put. put.at ≡ self.old.counts.length) }
         ensures inside { IfOk result (λ put. put.at ≤ self.new.counts.length) }
@@ -246,6 +255,10 @@ impl RowBlocks {
             (Refuses (insert row.now) self.old f)) }
         ensures puts { IfOk result (λ at. Told (F.holds files.old) (F.holds files.new)
             (PutsNew (list_in self.old) (list_in self.new) (spelling self.old.defs row.now) at)) }
+        ensures written { OnOk result (Told (F.holds files.old) (F.holds files.new)
+            (WritesNew self.old self.new row.now)) }
+        ensures appended { OnOk result (Told (F.holds files.old) (F.holds files.new)
+            (AddsNew self.old self.new row.now)) }
         ensures others { Told (F.holds files.old) (F.holds files.new) (OthersStay self.old.name) }
         ensures place { IfOk result (λ at.
             at ≡ unwrap_or self.old.counts.dellink self.old.counts.length) }
@@ -286,6 +299,8 @@ impl RowBlocks {
             (Refuses (insert_at_end row.now) self.old f)) }
         ensures puts { IfOk result (λ at. Told (F.holds files.old) (F.holds files.new)
             (PutsAtEnd (list_in self.old) (list_in self.new) (spelling self.old.defs row.now) at)) }
+        ensures appended { OnOk result (Told (F.holds files.old) (F.holds files.new)
+            (Adds self.old self.new row.now)) }
         ensures others { Told (F.holds files.old) (F.holds files.new) (OthersStay self.old.name) }
         ensures place { IfOk result (λ at. at ≡ self.old.counts.length) }
         ensures inside { IfOk result (λ at. at ≤ self.new.counts.length) }
@@ -318,6 +333,8 @@ impl RowBlocks {
             (RefusesRow (delete at) at self.old f)) }
         ensures frees { OnOk result (Told (F.holds files.old) (F.holds files.new)
             (RowIsFreed (list_in self.old) (list_in self.new) at)) }
+        ensures written { OnOk result (Told (F.holds files.old) (F.holds files.new)
+            (WritesGone self.old self.new at)) }
         ensures others { Told (F.holds files.old) (F.holds files.new) (OthersStay self.old.name) }
         ensures room { OnOk result (is_reached self.old.counts.length self.old ≡ true) }
         ensures object { self.new ≡ record self.old { counts = self.new.counts } }
@@ -356,6 +373,8 @@ impl RowBlocks {
             (PutsAgain (list_in self.old) (list_in self.new) at packed.now)) }
         ensures tallies { IfOk result (λ new. IfTold (F.holds files.old)
             (TalliesReplaced (list_in self.old) at (length packed.now) new)) }
+        ensures written { OnOk result (Told (F.holds files.old) (F.holds files.new)
+            (RewritesRow (list_in self.old) (list_in self.new) at packed.now)) }
         ensures counted { IfOk result (λ new. self.new ≡ record self.old {
           counts = counts_again new self.new.counts.length self.new.counts.dellink self.old.counts;
         }) }
@@ -402,6 +421,8 @@ impl RowBlocks {
         ensures puts { OnOk result (Told (F.holds files.old) (F.holds files.new)
             (PutsAgain (list_in self.old) (list_in self.new) at
             (spelling self.old.defs row.now))) }
+        ensures written { OnOk result (Told (F.holds files.old) (F.holds files.new)
+            (WritesOther self.old self.new at row.now)) }
         ensures others { Told (F.holds files.old) (F.holds files.new) (OthersStay self.old.name) }
         ensures inside { OnOk result (at < self.new.counts.length) }
         ensures room { OnOk result (is_reached self.new.counts.length self.old ≡ true) }

@@ -4,3 +4,5 @@
 pub mod RowFile
 -- why a call is refused
 pub mod Refusals
+-- which bytes a change writes
+pub mod Writing

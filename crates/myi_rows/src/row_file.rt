@@ -47,9 +47,10 @@ impl RowFile {
     ghost use Rattle.myi_pack.specs.Spelling.{fits};
     ghost use Rattle.myi_state.specs.Changes.{insert, insert_at_end, delete, update};
     ghost use Rattle.myi_slots.specs.declared.fault.DataFault.TheVariants.{File};
-    ghost use Rattle.myi_slots.specs.SlotFile.{IsLong, IfRefused, ByCause, Never, counts_in, is_reached, risen};
+    ghost use Rattle.myi_slots.specs.SlotFile.{IsLong, Adds, AddsNew, IfRefused, ByCause, Never, counts_in, is_reached, risen};
     ghost use Rattle.myi_blocks.specs.Places.{StepsNoted, RefusesNoted, StaysNoted, ReadsNoted, LooksUp};
     ghost use Rattle.myi_rows.specs.RowFile.{HasRow, IsRowAt, ReadsFew, SaysNoRow};
+    ghost use Rattle.myi_rows.specs.Writing.{WritesNew, WritesGone, WritesOther};
     ghost use Rattle.myi_rows.specs.Refusals.{FindsRow, FindsNone, TakesAway, LacksRoom, LacksEnd, LacksOther, LacksReach, FindsBad, FindsOtherBad, FindsRowBad, ReadsBad};
 
     /// The data file of that name, with these definitions of a table and this state. Nothing is read yet.
@@ -100,6 +101,10 @@ impl RowFile {
             (StepsNoted (insert row.now) self.old self.new at)) }
         ensures refused { IfErr result (λ f. IfTold (F.holds files.old)
             (RefusesNoted (insert row.now) self.old f)) }
+        ensures written { IfOk result (λ at. Told (F.holds files.old) (F.holds files.new)
+            (WritesNew self.old.file self.new.file row.now at)) }
+        ensures appended { OnOk result (Told (F.holds files.old) (F.holds files.new)
+            (AddsNew self.old.file self.new.file row.now)) }
         ensures others { Told (F.holds files.old) (F.holds files.new)
             (OthersStay self.old.file.name) }
         ensures place { IfOk result (λ at.
@@ -137,6 +142,8 @@ impl RowFile {
             (StepsNoted (insert_at_end row.now) self.old self.new at)) }
         ensures refused { IfErr result (λ f. IfTold (F.holds files.old)
             (RefusesNoted (insert_at_end row.now) self.old f)) }
+        ensures appended { OnOk result (Told (F.holds files.old) (F.holds files.new)
+            (Adds self.old.file self.new.file row.now)) }
         ensures others { Told (F.holds files.old) (F.holds files.new)
             (OthersStay self.old.file.name) }
         ensures place { IfOk result (λ at. at ≡ self.old.file.counts.length) }
@@ -171,6 +178,8 @@ impl RowFile {
             (StepsNoted (delete at) self.old self.new at)) }
         ensures refused { IfErr result (λ f. IfTold (F.holds files.old)
             (RefusesNoted (delete at) self.old f)) }
+        ensures written { OnOk result (Told (F.holds files.old) (F.holds files.new)
+            (WritesGone self.old.file self.new.file at)) }
         ensures others { Told (F.holds files.old) (F.holds files.new)
             (OthersStay self.old.file.name) }
         ensures stood { OnOk result (TakesAway self.old self.new at (F.holds files.old)) }
@@ -215,6 +224,8 @@ impl RowFile {
             (StepsNoted (update at row.now) self.old self.new at)) }
         ensures refused { IfErr result (λ f. IfTold (F.holds files.old)
             (RefusesNoted (update at row.now) self.old f)) }
+        ensures written { OnOk result (Told (F.holds files.old) (F.holds files.new)
+            (WritesOther self.old.file self.new.file at row.now)) }
         ensures others { Told (F.holds files.old) (F.holds files.new)
             (OthersStay self.old.file.name) }
         ensures stood { OnOk result

@@ -9,3 +9,4 @@ pub mod StepLemmas
 pub mod RowSteps
 pub mod ResultLemmas
 pub mod OthersLemmas
+pub mod AddedLemmas

@@ -1,6 +1,6 @@
 -- The data file of a table that changes: what an object on it keeps, and what its calls do; and of a static table, when there is
 -- room, and which numbers a change makes.
-use Rattle.std.specs.Prelude.{◌≡◌, ◌+◌, ◌-◌, ◌^◌, min, ℕ, Bool, true, false, List, length, Option, Some, None, Result, Ok, Err}
+use Rattle.std.specs.Prelude.{◌≡◌, ◌+◌, ◌-◌, ◌^◌, min, ℕ, Bool, true, false, List, ◌++◌, length, Option, Some, None, Result, Ok, Err}
 use Rattle.myi_base.specs.Holding.{Holding, bytes_of}
 use Rattle.myi_defs.specs.declared.types.Defs.{Defs}
 use Rattle.myi_defs.specs.Addressable.{is_addressable}
@@ -10,6 +10,7 @@ use Rattle.myi_state.specs.State.{StoredRow, TableState, row_at}
 use Rattle.myi_state.specs.Changes.{Change, Refusal, no_row, full, step}
 use Rattle.myi_state.specs.Numbers.{counts_of}
 use Rattle.myi_state.specs.Standing.{StandsFor}
+use Rattle.myi_state.specs.Adding.{added_bytes}
 use Rattle.myi_header.specs.declared.state.State.{State}
 use Rattle.myi_slots.specs.SlotBytes.{is_slot, is_row, hole_in}
 use Rattle.myi_dellist.specs.declared.fault.FreeFault.{FreeFault}
@@ -68,6 +69,17 @@ IsFound at (Some r) (Some values) = r.values ≡ values
 
 abbrev pub Reads : SlotFile → ℕ → Result Values DataFault → Holding → Type 0
 Reads f at r m = (s : TableState) → IsFileOf f s m → IsReply at (row_at at s.rows) r
+
+-- ---- a row behind the end
+
+-- exactly the bytes of a row stand behind what the file had, and what is deleted stays
+pub record Adds (f g : SlotFile) (values : Values) (m n : Holding) : Type 0 where
+  pub bytes : bytes_of f.name n ≡ bytes_of f.name m ++ added_bytes f.defs values f.counts.length
+  pub first : g.counts.dellink ≡ f.counts.dellink
+
+-- so it is where nothing is deleted
+abbrev pub AddsNew : SlotFile → SlotFile → Values → Holding → Holding → Type 0
+AddsNew f g values m n = f.counts.dellink ≡ None → Adds f g values m n
 
 -- ---- when there is room
 

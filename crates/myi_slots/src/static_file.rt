@@ -63,7 +63,7 @@ impl StaticFile {
     ghost use Rattle.myi_state.specs.Changes.{insert, insert_at_end, delete, update};
     ghost use Rattle.myi_slots.specs.declared.fault.DataFault.TheVariants.{File};
     ghost use Rattle.myi_slots.specs.SlotBytes.{is_row, row_there, hole_in, hole_bytes};
-    ghost use Rattle.myi_slots.specs.SlotFile.{IsLong, Steps, Refuses, Reads, CutsOff, IfRefused, ByCause, Never, Fills, LacksHole, HasRow, LacksRow, LacksFirst, counts_in, appended_counts, freed_counts, IsLink, is_reached, risen, end_with, end_behind, appended};
+    ghost use Rattle.myi_slots.specs.SlotFile.{IsLong, Steps, Refuses, Reads, Adds, AddsNew, CutsOff, IfRefused, ByCause, Never, Fills, LacksHole, HasRow, LacksRow, LacksFirst, counts_in, appended_counts, freed_counts, IsLink, is_reached, risen, end_with, end_behind, appended};
 
     /// The data file of that name, with these definitions of a static table and this state.
     pub fn new(
@@ -225,6 +225,8 @@ impl StaticFile {
         ensures written { IfOk result (λ at. Told (F.holds files.old) (F.holds files.new)
             (Writes self.old.name at (spelling self.old.defs row.now))) }
         ensures others { Told (F.holds files.old) (F.holds files.new) (OthersStay self.old.name) }
+        ensures appended { OnOk result (Told (F.holds files.old) (F.holds files.new)
+            (AddsNew self.old self.new row.now)) }
         ensures place { IfOk result (λ at.
             at ≡ unwrap_or self.old.counts.dellink self.old.counts.length) }
         ensures room { OnOk result (is_reached (end_with self.old) self.old ≡ true) }
@@ -267,6 +269,8 @@ impl StaticFile {
         ensures written { IfOk result (λ at. Told (F.holds files.old) (F.holds files.new)
             (Writes self.old.name at (spelling self.old.defs row.now))) }
         ensures others { Told (F.holds files.old) (F.holds files.new) (OthersStay self.old.name) }
+        ensures appended { OnOk result (Told (F.holds files.old) (F.holds files.new)
+            (Adds self.old self.new row.now)) }
         ensures place { IfOk result (λ at. at ≡ self.old.counts.length) }
         ensures room { OnOk result (is_reached (end_behind self.old) self.old ≡ true) }
         ensures numbers { OnOk result (self.new ≡ appended self.old) }

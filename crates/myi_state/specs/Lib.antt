@@ -10,3 +10,5 @@ pub mod Sound
 pub mod Numbers
 -- a data file that stands for a state
 pub mod Standing
+-- what a row adds to a file that it is put behind
+pub mod Adding

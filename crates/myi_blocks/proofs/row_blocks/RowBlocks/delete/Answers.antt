@@ -14,6 +14,7 @@ use Rattle.myi_blocks.specs.BlockFile.{end_limit, list_in, FindsRowBad}
 use Rattle.myi_blocks.specs.Standing.{RefusesRow}
 use Rattle.myi_blocks.specs.contracts.row_blocks.RowBlocks.{the_view}
 use Rattle.myi_blocks.proofs.DeleteLemmas.{delete-ok, delete-refused, list-is, freed-told, freed-tallied, freed-refused}
+use Rattle.myi_blocks.proofs.AddedLemmas.{gone-told}
 use Rattle.myi_blocks.proofs.row_blocks.RowBlocks.delete.Goals as goal
 
 pub release_row-requires-clause-long : goal.release_row-requires-clause-long
@@ -73,3 +74,13 @@ returns-clause-ok g c =
     let tallies = freed-tallied (g.F.Files.holds c.args.files.now) c.self.inside.list (list_in c.args.self.now) c.args.at c.in_ok-freed.freed same c.in_ok-freed.ensures.tallies in
     delete-ok c.args.self.now new c.args.at c.in_ok-freed.freed (g.F.Files.holds c.args.files.now) (g.F.Files.holds c.release_row.new.files) sound dynamic frees tallies (search rules)
     (subst (λ (f : SlotFile). is_addressable f.defs f.counts.length ≡ true) c.self.view_is reached)
+
+pub returns-clause-written : goal.returns-clause-written
+returns-clause-written g c =
+    let reached : is_addressable c.self.inside.defs c.self.inside.list.end ≡ true = ap (is_addressable c.self.inside.defs) (sym c.end.ensures) ∙ sym c.addressable.ensures ∙ c.if-not-addressable.false in
+    let limit : c.self.inside.list.end_below ≡ end_limit c.args.self.now.defs = c.self.invariant.2 reached ∙ ap (λ (f : SlotFile). end_limit f.defs) c.self.view_is in
+    let same : c.self.inside.list ≡ list_in c.args.self.now = list-is c.self.inside.list c.args.self.now (ap (λ (f : SlotFile). f.name) c.self.view_is) (ap (λ (f : SlotFile). f.counts.dellink) c.self.view_is) (ap (λ (f : SlotFile). f.counts.length) c.self.view_is) limit in
+    let k = c.release_row.new.self in
+    let new : SlotFile = the_view (record { name = c.self.inside.name; list = k; defs = c.self.inside.defs; tally = c.without_row-self-inside.result; row = c.self.inside.row }) in
+    let then : k ≡ list_in new = list-is k new refl refl refl (ap (λ (l : ListState). l.end_below) c.in_ok-freed.ensures.state ∙ c.self.invariant.2 reached) in
+    gone-told (g.F.Files.holds c.args.files.now) (g.F.Files.holds c.release_row.new.files) c.self.inside.list k (list_in c.args.self.now) (list_in new) c.args.at same then c.in_ok-freed.ensures.frees

@@ -10,6 +10,7 @@ use Rattle.myi_data.proofs.CallerLemmas.{spelling_some}
 use Rattle.myi_state.specs.Changes.{insert_at_end}
 use Rattle.myi_slots.specs.SlotFile.{SlotFile, Refuses}
 use Rattle.myi_blocks.proofs.ResultLemmas.{append-ok, append-refused}
+use Rattle.myi_blocks.proofs.AddedLemmas.{end-adds}
 use Rattle.myi_blocks.proofs.row_blocks.RowBlocks.insert_at_end.Goals as goal
 
 pub append-requires-clause-some : goal.append-requires-clause-some
@@ -39,3 +40,9 @@ returns-clause-ok g c =
     let dynamic : c.args.self.now.defs.format ≡ Dynamic = subst (λ (f : SlotFile). f.defs.format ≡ Dynamic) c.self.view_is c.self.invariant.1 in
     let packed : c.as_slice.result.now ≡ spelling c.args.self.now.defs c.args.row.now = search rules in
     append-ok c.args.self.now c.append.new.self c.args.row.now c.as_slice.result.now c.in_ok-put.put (g.F.Files.holds c.args.files.now) (g.F.Files.holds c.append.new.files) sound dynamic c.requires.fits packed (search rules) (search rules) (search rules) (search rules)
+
+pub returns-clause-appended : goal.returns-clause-appended
+returns-clause-appended g c =
+    let dynamic : c.args.self.now.defs.format ≡ Dynamic = subst (λ (f : SlotFile). f.defs.format ≡ Dynamic) c.self.view_is c.self.invariant.1 in
+    let packed : c.as_slice.result.now ≡ spelling c.args.self.now.defs c.args.row.now = search rules in
+    end-adds c.args.self.now c.append.new.self c.args.row.now c.as_slice.result.now (g.F.Files.holds c.args.files.now) (g.F.Files.holds c.append.new.files) dynamic packed c.in_ok-put.ensures.appended

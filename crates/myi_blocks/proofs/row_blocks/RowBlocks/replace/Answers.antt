@@ -11,6 +11,7 @@ use Rattle.myi_blocks.specs.contracts.row_blocks.RowBlocks.{the_view}
 use Rattle.myi_blocks.proofs.StepLemmas.{reached-below}
 use Rattle.myi_blocks.proofs.DeleteLemmas.{list-is}
 use Rattle.myi_blocks.proofs.UpdateLemmas.{again-told, again-tallied, again-refused}
+use Rattle.myi_blocks.proofs.AddedLemmas.{other-told}
 use Rattle.myi_blocks.proofs.row_blocks.RowBlocks.replace.Goals as goal
 
 pub replace-requires-clause-long : goal.replace-requires-clause-long
@@ -57,3 +58,13 @@ returns-clause-room g c =
     let reached : is_addressable c.self.inside.defs c.self.inside.list.end ≡ true = ap (is_addressable c.self.inside.defs) (sym c.end-before.ensures) ∙ sym c.addressable.ensures ∙ c.if-not-addressable.false in
     let limit : c.self.inside.list.end_below ≡ end_limit c.args.self.now.defs = c.self.invariant.2 reached ∙ ap (λ (f : SlotFile). end_limit f.defs) c.self.view_is in
     reached-below c.args.self.now.defs c.replace.new.self.end dynamic (omega (arith, limit, c.in_ok-new.ensures.room))
+
+pub returns-clause-written : goal.returns-clause-written
+returns-clause-written g c =
+    let reached : is_addressable c.self.inside.defs c.self.inside.list.end ≡ true = ap (is_addressable c.self.inside.defs) (sym c.end-before.ensures) ∙ sym c.addressable.ensures ∙ c.if-not-addressable.false in
+    let limit : c.self.inside.list.end_below ≡ end_limit c.args.self.now.defs = c.self.invariant.2 reached ∙ ap (λ (f : SlotFile). end_limit f.defs) c.self.view_is in
+    let same : c.self.inside.list ≡ list_in c.args.self.now = list-is c.self.inside.list c.args.self.now (ap (λ (f : SlotFile). f.name) c.self.view_is) (ap (λ (f : SlotFile). f.counts.dellink) c.self.view_is) (ap (λ (f : SlotFile). f.counts.length) c.self.view_is) limit in
+    let k = c.replace.new.self in
+    let new : SlotFile = the_view (record { name = c.self.inside.name; list = k; defs = c.self.inside.defs; tally = c.with_other-self-inside.result; row = c.self.inside.row }) in
+    let then : k ≡ list_in new = list-is k new refl refl refl (ap (λ (l : ListState). l.end_below) c.in_ok-new.ensures.state ∙ c.self.invariant.2 reached) in
+    other-told (g.F.Files.holds c.args.files.now) (g.F.Files.holds c.replace.new.files) c.self.inside.list k (list_in c.args.self.now) (list_in new) c.args.at c.args.packed.now same then c.in_ok-new.ensures.rewrites

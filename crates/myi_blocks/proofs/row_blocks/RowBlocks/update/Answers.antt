@@ -2,7 +2,7 @@ use Rattle.std.proofs.Common.{◌≡◌, ◌^◌, ◌<◌, ◌⊎◌, List, ℕ,
 use Rattle.std.specs.Prelude.{IfErr}
 use Rattle.std.proofs.lemmas.Result.{err_from_is_err_and}
 use Rattle.myi_base.specs.Holding.{IfTold, Told}
-use Rattle.myi_dellist.specs.Replacing.{PutsAgain}
+use Rattle.myi_dellist.specs.Replacing.{PutsAgain, RewritesRow}
 use Rattle.myi_defs.specs.declared.types.RowFormat.TheVariants.{Dynamic}
 use Rattle.myi_defs.specs.Sound.{IsSound}
 use Rattle.myi_pack.specs.Spelling.{spelling}
@@ -56,3 +56,8 @@ pub returns-clause-puts : goal.returns-clause-puts
 returns-clause-puts g c =
     let packed : c.as_slice.result.now ≡ spelling c.args.self.now.defs c.args.row.now = search rules in
     subst (λ (y : List ℕ). Told (g.F.Files.holds c.args.files.now) (g.F.Files.holds c.replace.new.files) (PutsAgain (list_in c.args.self.now) (list_in c.replace.new.self) c.args.at y)) packed c.in_ok-replace.ensures.ok
+
+pub returns-clause-written : goal.returns-clause-written
+returns-clause-written g c =
+    let packed : c.as_slice.result.now ≡ spelling c.args.self.now.defs c.args.row.now = search rules in
+    subst (λ (y : List ℕ). Told (g.F.Files.holds c.args.files.now) (g.F.Files.holds c.replace.new.files) (RewritesRow (list_in c.args.self.now) (list_in c.replace.new.self) c.args.at y)) packed c.in_ok-replace.ensures.written

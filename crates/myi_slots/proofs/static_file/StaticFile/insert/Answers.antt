@@ -3,6 +3,7 @@ use Rattle.myi_defs.specs.declared.types.RowFormat.TheVariants.{Static}
 use Rattle.myi_defs.specs.Sound.{IsSound}
 use Rattle.myi_slots.specs.SlotFile.{SlotFile}
 use Rattle.myi_slots.proofs.ResultLemmas.{append-ok, insert-ok, insert-refused, full-refused, fill-ok, fill-refused, packed-long, append-room, append-numbers, append-causes, new-place, new-room, new-numbers, new-causes, fill-place, fill-room, fill-numbers, fill-causes, new-inside, new-length, new-records, fill-inside, fill-length}
+use Rattle.myi_slots.proofs.AddedLemmas.{append-adds, new-adds, fill-adds}
 use Rattle.myi_slots.proofs.static_file.StaticFile.insert.Goals as goal
 
 pub returns-in-Some-clause-ok : goal.returns-in-Some-clause-ok
@@ -87,3 +88,12 @@ returns-clause-records g c =
     new-records c.args.self.now c.append.new.self c.append.result
     (append-numbers c.args.self.now c.append.new.self (length c.as_slice-in-None.result.now) c.append.result (packed-long c.args.self.now.defs c.args.row.now c.as_slice-in-None.result.now
     (subst (λ (f : SlotFile). IsSound f.defs) c.self.view_is c.self.invariant.0) (subst (λ (f : SlotFile). f.defs.format ≡ Static) c.self.view_is c.self.invariant.1) c.requires.fits (search rules)) (search rules))
+
+pub returns-in-Some-clause-appended : goal.returns-in-Some-clause-appended
+returns-in-Some-clause-appended g c = fill-adds c.args.self.now c.fill.new.self c.args.row.now c.as_slice.result.now c.in-Some.at _ _ c.fill.result (search rules) (search rules)
+
+pub returns-clause-appended : goal.returns-clause-appended
+returns-clause-appended g c =
+    new-adds c.args.self.now c.append.new.self c.args.row.now _ _ c.append.result
+    (append-adds c.args.self.now c.append.new.self c.args.row.now c.as_slice-in-None.result.now _ _ c.append.result
+    (subst (λ (f : SlotFile). f.defs.format ≡ Static) c.self.view_is c.self.invariant.1) (search rules) (search rules) (search rules) (search rules))

@@ -3,6 +3,7 @@ use Rattle.myi_defs.specs.declared.types.RowFormat.TheVariants.{Static}
 use Rattle.myi_defs.specs.Sound.{IsSound}
 use Rattle.myi_slots.specs.SlotFile.{SlotFile}
 use Rattle.myi_slots.proofs.ResultLemmas.{append-ok, append-refused, packed-long, append-room, append-numbers, append-causes}
+use Rattle.myi_slots.proofs.AddedLemmas.{append-adds}
 use Rattle.myi_slots.proofs.static_file.StaticFile.insert_at_end.Goals as goal
 
 pub returns-clause-ok : goal.returns-clause-ok
@@ -31,3 +32,8 @@ pub returns-clause-causes : goal.returns-clause-causes
 returns-clause-causes g c =
     append-causes c.args.self.now (length c.as_slice.result.now) c.append.result (packed-long c.args.self.now.defs c.args.row.now c.as_slice.result.now
     (subst (λ (f : SlotFile). IsSound f.defs) c.self.view_is c.self.invariant.0) (subst (λ (f : SlotFile). f.defs.format ≡ Static) c.self.view_is c.self.invariant.1) c.requires.fits (search rules)) (search rules)
+
+pub returns-clause-appended : goal.returns-clause-appended
+returns-clause-appended g c =
+    append-adds c.args.self.now c.append.new.self c.args.row.now c.as_slice.result.now _ _ c.append.result
+    (subst (λ (f : SlotFile). f.defs.format ≡ Static) c.self.view_is c.self.invariant.1) (search rules) (search rules) (search rules) (search rules)
