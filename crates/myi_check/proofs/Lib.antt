@@ -6,6 +6,8 @@ pub mod MetLemmas
 pub mod RowsLemmas
 pub mod UnmetLemmas
 pub mod WalkLemmas
+pub mod MarkLemmas
+pub mod WholeLemmas
 pub mod LinkLemmas
 pub mod StoredLemmas
 pub mod ShownLemmas

@@ -14,7 +14,7 @@ use Rattle.myi_frames.specs.Block.{Block, block_of, head_of}
 use Rattle.myi_frames.proofs.CallerLemmas.{block-short}
 use Rattle.myi_pair.specs.Clean.{slot_named, next_by}
 use Rattle.myi_pair.specs.Findings.{same_link, names_by}
-use Rattle.myi_check.specs.declared.list.Link.{Link}
+use Rattle.myi_check.specs.declared.link.Link.{Link}
 use Rattle.myi_check.specs.ListMet.{IsLinkAt}
 
 -- ---- a number by its bytes

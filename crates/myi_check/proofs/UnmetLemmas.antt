@@ -115,11 +115,11 @@ met_more flags i before here k lt = by (cases_lt k i)
     by (inl far) = before k far
     by (inr near) = let same : i ≡ k = omega (arith, lt, near) in subst (λ (j : ℕ). get_or flags j false ≡ true) same here
 
--- flags that stand in the place of as many
-pub whole_flags : (new items : List Bool) (len : ℕ) → len ≡ length items → length new ≡ length items → take len (new ++ drop (length new) items) ≡ new
-whole_flags new items len e f =
-    let none : drop (length new) items ≡ [] = drop_all (length new) items (omega (arith, f)) in
-    ap (λ (t : List Bool). take len (new ++ t)) none ∙ ap (take len) (append-nil new) ∙ take_all len new (omega (arith, e, f))
+-- elements that stand in the place of as many
+pub whole_items : {A : Type 0} (new items : List A) (len : ℕ) → len ≡ length items → length new ≡ length items → take len (new ++ drop (length new) items) ≡ new
+whole_items new items len e f =
+    let none = drop_all (length new) items (omega (arith, f)) in
+    ap (λ t. take len (new ++ t)) none ∙ ap (take len) (append-nil new) ∙ take_all len new (omega (arith, e, f))
 
 pub named_is : (a b : Bool) → a ≡ b → not a ≡ false → b ≡ true
 named_is true b same names = sym same

@@ -12,6 +12,8 @@ pub mod HeldBytes
 pub mod Met
 -- what a walk along the list of deleted blocks has met, and what each block says of the list
 pub mod ListMet
+-- a walk along the list in memory
+pub mod ListWalk
 -- the bytes that no page of the next tree may have
 pub mod WalksBusy
 -- the walk of a tree, as far as it went

@@ -3,7 +3,7 @@ use Rattle.std.specs.Prelude.{◌≡◌, ℕ, Bool, true, false, List, [], ◌�
 use Rattle.myi_defs.specs.declared.types.Defs.{Defs}
 use Rattle.myi_pair.specs.Clean.{next_deleted}
 use Rattle.myi_pair.specs.Findings.{names_before}
-use Rattle.myi_check.specs.declared.list.Link.{Link}
+use Rattle.myi_check.specs.declared.link.Link.{Link}
 
 -- the places that are left to be met: those whose flag is not set
 abbrev pub unmet : List ℕ → List Bool → List ℕ

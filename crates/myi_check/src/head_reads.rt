@@ -11,7 +11,7 @@ use myi_window::{WINDOW, Window};
 use std::alloc::{AllocError, Global};
 
 /// How far two places may lie apart so that the bytes about them are read together.
-const GAP: u64 = 1024;
+pub(crate) const GAP: u64 = 1024;
 
 /// How many bytes the first read of places that lie close together takes.
 const LEAST_PART: u64 = 2048;

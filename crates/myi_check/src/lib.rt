@@ -11,9 +11,9 @@
 //! block from its place (`asking`, `row_reads`, `chain_reads`): where the pairs rise, each is that of a row,
 //! and they are as many as the rows, they are the key's sorted list. Where a tree is not so, the data file
 //! is gone through once more for the keys of its rows, and each tree is walked beside the key's sorted list
-//! (`keys`), so that the first bad thing is found. In memory are the places of deleted blocks, of pages and
-//! of dynamic rows, what of rows' blocks stands apart from those before it, in the second case the keys of
-//! the table's rows, and no file as a whole.
+//! (`keys`), so that the first bad thing is found. In memory are the places of deleted blocks, what these name
+//! while their list is followed (`whole_list`), the places of pages and of dynamic rows, what of rows' blocks
+//! stands apart from those before it, in the second case the keys of the table's rows, and no file as a whole.
 //!
 //! ```
 //! match check(alloc, files, name) {
@@ -34,11 +34,13 @@ mod head_reads;
 mod header;
 mod held_bytes;
 mod keys;
+mod link;
 mod list;
 mod met;
 mod pairs_met;
 mod row_reads;
 mod rows;
 mod walks;
+mod whole_list;
 
 pub use checking::check;

@@ -7,14 +7,19 @@ use Rattle.myi_pair.specs.Clean.{next_deleted}
 use Rattle.myi_pair.specs.FirstBad.{without, least}
 use Rattle.myi_pair.specs.Findings.{names_before, told}
 use Rattle.myi_check.specs.ListMet.{unmet}
-use Rattle.myi_check.proofs.UnmetLemmas.{whole_flags, named_is, not_named, pointed_one}
+use Rattle.myi_check.specs.ListWalk.{OfRows, IsGoodIn}
+use Rattle.myi_check.proofs.UnmetLemmas.{whole_items, named_is, not_named, pointed_one}
 use Rattle.myi_check.proofs.WalkLemmas.{ended_at, stopped_at, broken_at, spent_at, went_on, begun}
 use Rattle.myi_check.proofs.list.check_list.Goals as goal
 
+pub returns-then-whole-clause-found : goal.returns-then-whole-clause-found
+returns-then-whole-clause-found g c = λ m held d is size up points.
+    sym (ap (option_map told) (subst (λ (x : List ℕ). OfRows c.args.defs.now c.args.end c.args.deleted.now (IsGoodIn c.args.defs.now c.args.deleted.now c.args.head) x) is (c.in_ok-whole.ensures.whole c.if-whole.true m held) size up points))
+
 pub loop-step-init : goal.loop-step-init
 loop-step-init g c = record {
-  holds = refl;
-  faults = omega arith;
+  holds = c.in_ok-whole.ensures.holds;
+  faults = omega (arith, c.in_ok-whole.ensures.cause.later);
   stands = λ m held. subst (λ (w : Excerpt). StandsIn w (bytes_of c.args.rows.now m)) (sym c.in_ok-heads.ensures) refl;
   long = ap length c.in_ok-met.ensures ∙ length-replicate c.len.result false ∙ c.len.ensures;
   ahead = λ n count m held d is size up points. begun (next_deleted c.args.defs.now d) (names_before c.args.defs.now d) n c.args.deleted.now c.in_ok-met.met.items c.widened-at.result c.args.head (omega (arith, count)) (c.in_ok-met.ensures ∙ ap (λ (k : ℕ). replicate k false) c.len.ensures) c.widened-at.ensures;
@@ -27,7 +32,7 @@ loop-step-preserved g c =
     let met = c.loop-step.met.items in
     let block = c.in-Some-take_out.block in
     let long : length c.take_out.new.met ≡ length met = c.take_out.ensures.long ∙ ap length c.deref_mut.ensures.value in
-    let whole = whole_flags c.take_out.new.met met c.loop-step.met.len c.loop-step.met.ok.0 long in
+    let whole = whole_items c.take_out.new.met met c.loop-step.met.len c.loop-step.met.ok.0 long in
     record {
       holds = c.in_ok-count.ensures.holds ∙ inv.holds;
       faults = omega (arith, inv.faults, c.in_ok-count.ensures.cause.later);

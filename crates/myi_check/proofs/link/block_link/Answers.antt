@@ -1,6 +1,6 @@
 use Rattle.std.proofs.Common.{◌∙◌}
 use Rattle.myi_check.proofs.LinkLemmas.{short_block, whole_part, no_block_names, no_block_next, head_names, head_next}
-use Rattle.myi_check.proofs.list.block_link.Goals as goal
+use Rattle.myi_check.proofs.link.block_link.Goals as goal
 
 pub returns-then-bytes-lt-LEAST_SIZE-clause-named : goal.returns-then-bytes-lt-LEAST_SIZE-clause-named
 returns-then-bytes-lt-LEAST_SIZE-clause-named c = λ d long is. no_block_names d c.args.place c.args.before (short_block d c.args.place c.args.bytes.now is c.if-bytes-lt-LEAST_SIZE.true)

@@ -1,6 +1,6 @@
 use Rattle.std.proofs.Common.{arith}
 use Rattle.myi_check.proofs.LinkLemmas.{slot_says, block_says}
-use Rattle.myi_check.proofs.list.link_of.Goals as goal
+use Rattle.myi_check.proofs.link.link_of.Goals as goal
 
 pub returns-in-Static : goal.returns-in-Static
 returns-in-Static c = λ d long is pointed.

@@ -1,7 +1,7 @@
 use Rattle.std.proofs.Common.{◌≡◌, ℕ, ◌^◌, ◌≤◌, eqb, ◌+◌, ap, refl, ◌∙◌, arith}
 use Rattle.std.proofs.Math.Nat.{pow-le-pow_right}
 use Rattle.myi_check.proofs.LinkLemmas.{last_test}
-use Rattle.myi_check.proofs.list.is_none.Goals as goal
+use Rattle.myi_check.proofs.link.is_none.Goals as goal
 
 pub pow-requires : goal.pow-requires
 pow-requires c =
