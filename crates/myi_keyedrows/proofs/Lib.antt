@@ -11,3 +11,4 @@ pub mod CloseLemmas
 pub mod StillLemmas
 pub mod CallerLemmas
 pub mod PlaceLemmas
+pub mod AddedLemmas

@@ -8,6 +8,7 @@ use Rattle.myi_search.specs.Counting.{CountsOn}
 use Rattle.myi_state.specs.declared.counts.Counts.{Counts}
 use Rattle.myi_state.specs.State.{StoredRow, row_at}
 use Rattle.myi_state.specs.Changes.{Change, insert, insert_at_end}
+use Rattle.myi_slots.specs.SlotFile.{SlotFile, Adds, AddsNew}
 use Rattle.myi_pair.specs.KeyList.{pointer}
 use Rattle.myi_tablestate.specs.Keyed.{Holder}
 use Rattle.myi_rowtrees.specs.RowLists.{row_pairs}
@@ -25,6 +26,11 @@ come false values = insert values
 abbrev pub next_at : Bool → Counts → ℕ
 next_at true c = c.length
 next_at false c = unwrap_or c.dellink c.length
+
+-- the data file has its bytes behind what it had, where it goes behind the end, or nothing is deleted
+abbrev pub AddsTo : Bool → SlotFile → SlotFile → Values → Holding → Holding → Type 0
+AddsTo true f g values m n = Adds f g values m n
+AddsTo false f g values m n = AddsNew f g values m n
 
 -- a row stands at the position, and these are its pairs
 abbrev pub HasPairsAt : Defs → ℕ → List StoredRow → List Pair → Type 0

@@ -7,7 +7,7 @@ ghost use Rattle.myi_slots.specs.declared.fault.DataFault.TheVariants as read;
 ghost use Rattle.myi_slots.specs.SlotFile.{IsLong, IfRefused, is_reached};
 ghost use Rattle.myi_blocks.specs.Places.{StepsNoted, RefusesNoted};
 ghost use Rattle.myi_rows.specs.RowFile.{SaysNoRow};
-ghost use Rattle.myi_keyedrows.specs.Checking.{come, next_at};
+ghost use Rattle.myi_keyedrows.specs.Checking.{come, next_at, AddsTo};
 
 use crate::fault::KeyedFault;
 use myi_defs::Defs;
@@ -53,6 +53,8 @@ fn put_in_file<F: Files>(
         (StepsNoted (come at_end row.now) rows.old rows.new at)) }
     ensures refused { IfErr result (λ f. IfTold (F.holds files.old)
         (RefusesNoted (come at_end row.now) rows.old f)) }
+    ensures appended { OnOk result (Told (F.holds files.old) (F.holds files.new)
+        (AddsTo at_end rows.old.file rows.new.file row.now)) }
     ensures others { Told (F.holds files.old) (F.holds files.new) (OthersStay rows.old.file.name) }
     ensures place { IfOk result (λ at. at ≡ next_at at_end rows.old.file.counts) }
     ensures inside { IfOk result (λ at. at ≤ rows.new.file.counts.length) }
@@ -92,6 +94,7 @@ impl KeyedRows {
     ghost use Rattle.myi_search.specs.Counting.{CountsOn};
     ghost use Rattle.myi_state.specs.State.{row_at};
     ghost use Rattle.myi_state.specs.Changes.{insert, insert_at_end, delete, update};
+    ghost use Rattle.myi_slots.specs.SlotFile.{Adds, AddsNew};
     ghost use Rattle.myi_pair.specs.FirstRows.{key_numbers};
     ghost use Rattle.myi_tablestate.specs.Keyed.{first_holder};
     ghost use Rattle.myi_rowtrees.specs.RowLists.{row_pairs};
@@ -99,7 +102,7 @@ impl KeyedRows {
     ghost use Rattle.myi_keyedrows.specs.declared.fault.KeyedFault.TheVariants.{File};
     ghost use Rattle.myi_keyedrows.specs.KeyedRows.{IsFit, IsKept, IfHold, StillHold, Makes, Refuses, IfReply, IsLeft, IsSameTable, ChangesItsOwn};
     ghost use Rattle.myi_keytrees.specs.Trees.{SameKinds};
-    ghost use Rattle.myi_keyedrows.specs.Checking.{come, IsHeldBy, Looks, HasPairsAt, IsAbsent};
+    ghost use Rattle.myi_keyedrows.specs.Checking.{come, AddsTo, IsHeldBy, Looks, HasPairsAt, IsAbsent};
 
     // Refuses a row with these pairs where another row has its complete key in a unique key. Of a row that is in the
     // table its own pointer is given.
@@ -153,6 +156,8 @@ impl KeyedRows {
         requires kept { IsKept (F.holds files.old) self.old }
         ensures made { IfOk result (Makes (come at_end row.now) (F.holds files.old)
             (F.holds files.new) self.old self.new) }
+        ensures appended { OnOk result (Told (F.holds files.old) (F.holds files.new)
+            (AddsTo at_end self.old.rows.file self.new.rows.file row.now)) }
         ensures refused { IfErr result (Refuses (come at_end row.now) (F.holds files.old)
             self.old) }
         ensures unchanged { IfErr result (λ f. IfReply f
@@ -198,6 +203,8 @@ impl KeyedRows {
         requires kept { IsKept (F.holds files.old) self.old }
         ensures made { IfOk result (Makes (insert row.now) (F.holds files.old) (F.holds files.new)
             self.old self.new) }
+        ensures appended { OnOk result (Told (F.holds files.old) (F.holds files.new)
+            (AddsNew self.old.rows.file self.new.rows.file row.now)) }
         ensures refused { IfErr result (Refuses (insert row.now) (F.holds files.old) self.old) }
         ensures unchanged { IfErr result (λ f. IfReply f
             (StillHold (F.holds files.old) (F.holds files.new) self.old self.new)) }
@@ -230,6 +237,8 @@ impl KeyedRows {
         requires kept { IsKept (F.holds files.old) self.old }
         ensures made { IfOk result (Makes (insert_at_end row.now) (F.holds files.old)
             (F.holds files.new) self.old self.new) }
+        ensures appended { OnOk result (Told (F.holds files.old) (F.holds files.new)
+            (Adds self.old.rows.file self.new.rows.file row.now)) }
         ensures refused { IfErr result (Refuses (insert_at_end row.now) (F.holds files.old)
             self.old) }
         ensures unchanged { IfErr result (λ f. IfReply f

@@ -8,9 +8,11 @@ use myi_pack::Row;
 impl Table {
     ghost use Rattle.std.specs.Prelude.{◌≡◌, true, IfOk, IfErr, OnOk, OnErr, IsTrue};
     ghost use Rattle.myi_base.specs.Causes.{HasCause};
+    ghost use Rattle.myi_base.specs.Holding.{Told};
     ghost use Rattle.myi_pack.specs.Spelling.{fits};
     ghost use Rattle.myi_search.specs.Counting.{CountsOn};
     ghost use Rattle.myi_state.specs.Changes.{insert, insert_at_end, delete, update};
+    ghost use Rattle.myi_slots.specs.SlotFile.{Adds, AddsNew};
     ghost use Rattle.myi_table.specs.declared.fault.ChangeFault.TheVariants.{File};
     ghost use Rattle.myi_table.specs.Faults.{of_rows, broken_by_fault, broken_after};
     ghost use Rattle.myi_table.specs.Table.{defs_in, IsKept, StillHolds, Makes, Refuses, IfReply, IsBroken, IsSame, ChangesItsOwn};
@@ -51,6 +53,8 @@ impl Table {
         requires kept { IsKept (F.holds files.old) self.old }
         ensures made { IfOk result (Makes (insert row.now) (F.holds files.old) (F.holds files.new)
             self.old self.new) }
+        ensures appended { OnOk result (Told (F.holds files.old) (F.holds files.new)
+            (AddsNew self.old.rows.rows.file self.new.rows.rows.file row.now)) }
         ensures refused { IfErr result (Refuses (insert row.now) (F.holds files.old) self.old) }
         ensures unchanged { IfErr result (λ f. IfReply f
             (StillHolds (F.holds files.old) (F.holds files.new) self.old self.new)) }
@@ -86,6 +90,8 @@ impl Table {
         requires kept { IsKept (F.holds files.old) self.old }
         ensures made { IfOk result (Makes (insert_at_end row.now) (F.holds files.old)
             (F.holds files.new) self.old self.new) }
+        ensures appended { OnOk result (Told (F.holds files.old) (F.holds files.new)
+            (Adds self.old.rows.rows.file self.new.rows.rows.file row.now)) }
         ensures refused { IfErr result (Refuses (insert_at_end row.now) (F.holds files.old)
             self.old) }
         ensures unchanged { IfErr result (λ f. IfReply f

@@ -10,6 +10,7 @@ use Rattle.myi_keyedrows.specs.KeyedRows.{defs_of, Refuses, IfReply, StillHold}
 use Rattle.myi_keyedrows.specs.Checking.{come}
 use Rattle.myi_search.proofs.CallerLemmas.{counts_none, counts_on}
 use Rattle.myi_keyedrows.proofs.FaultLemmas.{if_err}
+use Rattle.myi_keyedrows.proofs.AddedLemmas.{added_whole}
 use Rattle.myi_keyedrows.proofs.RowLemmas.{pairs_long, pairs_fit}
 use Rattle.myi_keyedrows.proofs.StepLemmas.{half_made, half_whole, half_never, refuses_data, refuses_tree, reply_data}
 use Rattle.myi_keyedrows.proofs.AnswerLemmas.{may_come, comes_free, comes_held, comes, comes_follow, comes_never}
@@ -178,3 +179,12 @@ returns-in_err-put_row-clause-counted g c = counts_on c.args.self.now.trees.cach
 
 pub returns-clause-counted : goal.returns-clause-counted
 returns-clause-counted g c = counts_on c.args.self.now.trees.cache c.refuse_duplicate.new.self.trees.cache c.put_row.new.trees.cache c.in_ok-refuse_duplicate.ensures.looks.counted c.in_ok-put_row.ensures.counted
+
+pub returns-clause-appended : goal.returns-clause-appended
+returns-clause-appended g c =
+    let told = g.F.Files.holds c.args.files.now in
+    let then = g.F.Files.holds c.refuse_duplicate.new.files in
+    let next = g.F.Files.holds c.put_in_file.new.files in
+    let last = g.F.Files.holds c.put_row.new.files in
+    let looks = c.in_ok-refuse_duplicate.ensures.looks in
+    added_whole c.args.at_end c.args.self.now c.refuse_duplicate.new.self c.put_in_file.new.rows.file c.args.row.now told then next last c.requires.fit.apart looks.rows looks.name looks.others c.in_ok-at.ensures.appended c.in_ok-put_row.ensures.others
