@@ -1,13 +1,12 @@
 -- What a call answers and leaves, by what its parts do.
-use Rattle.std.proofs.Common.{◌≡◌, ◌≢◌, ◌⊎◌, inl, inr, ℕ, ◌+◌, ◌-◌, ◌<◌, ◌≤◌, ◌^◌, Bool, true, false, cond, eqb, max, List, [], ◌∷◌, ◌++◌, length, take, map, Option, Some, None, unwrap_or, refl, sym, ap, subst, ◌∙◌, arith, length-append, length-take}
+use Rattle.std.proofs.Common.{◌≡◌, ◌≢◌, ◌⊎◌, inl, inr, ℕ, ◌-◌, ◌≤◌, ◌^◌, Bool, true, false, cond, eqb, max, List, [], ◌∷◌, length, take, Option, Some, None, unwrap_or, refl, sym, ap, subst, ◌∙◌, arith, length-append, length-take}
 use Rattle.std.specs.Prelude.{Result, Ok, Err, OnOk, OnErr, IfOk, IfErr, slice_get, MatchOption, replicate}
 use Rattle.std.proofs.lemmas.List.{length-map, length-replicate}
 use Rattle.myi_base.specs.Causes.{Rose, HasCause}
 use Rattle.myi_base.specs.Numbers.{num_at, pointer_of}
 use Rattle.std.proofs.lemmas.Bool.{eqb-false}
-use Rattle.myi_base.specs.Holding.{Holding, Told, IfTold, Cuts, Writes, Renames, Keeps, Moves, Removes, Sets, bytes_of, resized, overwritten}
-use Rattle.myi_base.specs.Holding as holding
-use Rattle.myi_base.proofs.CallerLemmas.{told_same, told_more, told_then}
+use Rattle.myi_base.specs.Holding.{Holding, Told, IfTold, Cuts, Writes, Renames, Keeps, Moves, Removes, bytes_of, overwritten}
+use Rattle.myi_base.proofs.CallerLemmas.{told_more, told_then}
 use Rattle.myi_io.specs.declared.files.FileErr.{FileErr}
 use Rattle.myi_io.specs.declared.files.FileErr.TheVariants.{Failed}
 use Rattle.myi_defs.specs.declared.types.Defs.{Defs}

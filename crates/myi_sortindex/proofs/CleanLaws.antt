@@ -1,13 +1,12 @@
 -- The new index file: its header before the trees that were laid. The table is clean with it, and its pages are sorted.
-use Rattle.std.proofs.Common.{◌≡◌, ◌≢◌, ◌⊎◌, inl, inr, ℕ, suc, ◌+◌, ◌-◌, ◌*◌, ◌<◌, ◌≤◌, ◌∷◌, ◌++◌, Bool, true, false, max, Option, Some, None, List, [], length, take, drop, map, Ok, refl, sym, ap, subst, ◌∙◌, arith, length-append, length-take, length-drop}
-use Rattle.std.specs.Prelude.{Result, IsPermutation, replicate, unwrap_or, sum_by}
+use Rattle.std.proofs.Common.{◌≡◌, ℕ, ◌+◌, ◌-◌, ◌<◌, ◌≤◌, ◌∷◌, ◌++◌, true, false, Option, Some, None, List, [], length, take, drop, map, Ok, refl, sym, ap, subst, ◌∙◌, arith, length-take, length-drop}
+use Rattle.std.specs.Prelude.{Result, IsPermutation}
 use Rattle.std.specs.List.{list_any}
 use Rattle.std.specs.Str.{bytes_eq}
-use Rattle.std.proofs.lemmas.List.{take_at, take-append-le, drop-append-le, take_all, length-map, length-replicate}
+use Rattle.std.proofs.lemmas.List.{take-append-le, drop-append-le, take_all, length-map}
 use Rattle.myi_base.specs.Numbers.{num_at}
 use Rattle.myi_base.specs.Ranges.{Range}
-use Rattle.myi_base.specs.Holding.{Holding, Told, IfTold, Cuts, Writes, Renames, Keeps, Moves, bytes_of, resized, overwritten}
-use Rattle.std.specs.Prelude.{MatchOption}
+use Rattle.myi_base.specs.Holding.{resized, overwritten}
 use Rattle.myi_defs.specs.declared.types.RowFormat.{RowFormat}
 use Rattle.myi_defs.specs.declared.types.RowFormat.TheVariants.{Static, Dynamic}
 use Rattle.myi_defs.specs.declared.types.Defs.{Defs}
@@ -29,9 +28,7 @@ use Rattle.myi_data.specs.Readable.{readable, deleted}
 use Rattle.myi_btree.specs.Walk.{Walked}
 use Rattle.myi_rowkeys.specs.TableKeys.{key_numbers}
 use Rattle.myi_treecopy.proofs.CallerLemmas.{Frame, written_long}
-use Rattle.myi_pair.specs.KeyList.{PlacedRow}
 use Rattle.myi_pair.specs.FirstRows.{AreDistinct}
-use Rattle.myi_pack.specs.Packed.{Values}
 use Rattle.myi_pair.specs.Trees.{block_of_key, HaveWalks, AreKeyLists, all_pages, total}
 use Rattle.myi_pair.specs.Clean.{values_of, placed_row, covers, next_by, next_deleted, Follows, Counts, IsClean}
 use Rattle.myi_pair.proofs.CallerLemmas.{placed}
@@ -39,7 +36,7 @@ use Rattle.myi_pair.proofs.SameDefs.{with_raw, readable_same, deleted_same, valu
 use Rattle.myi_pair.proofs.RebuiltLaws.{IsLike, layout_same, first_same, state_same, header_like}
 use Rattle.myi_sortindex.specs.declared.laying.LaidTrees.{LaidTrees}
 use Rattle.myi_sortindex.specs.Sorting.{sorted_bits, IsSorted, AreLaid}
-use Rattle.myi_sortindex.specs.Laying.{Tree, AreTrees, end_of, roots_from, LaysTrees, IsOf, state_laid}
+use Rattle.myi_sortindex.specs.Laying.{Tree, AreTrees, roots_from, LaysTrees, IsOf, state_laid}
 use Rattle.myi_sortindex.proofs.TreeLaws.{end_above, trees_behind, OfWalks, of_walks, walks_count}
 use Rattle.myi_sortindex.proofs.NewTreesLaws.{new_walks, have_walks, are_laid, key_lists, pages_fill, same_count}
 

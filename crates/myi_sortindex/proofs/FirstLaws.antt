@@ -1,8 +1,8 @@
 -- A page of a walk whose pages stand at rising places stands before its children.
-use Rattle.std.proofs.Common.{◌≡◌, ℕ, zero, suc, ◌+◌, ◌<◌, ◌≤◌, Option, Some, None, List, [], ◌∷◌, ◌++◌, length, refl, sym, ap, subst, ◌∙◌, arith}
+use Rattle.std.proofs.Common.{◌≡◌, ℕ, zero, suc, ◌+◌, ◌<◌, Option, Some, List, [], ◌∷◌, ◌++◌, sym, subst, ◌∙◌, arith}
 use Rattle.std.specs.List.{AllByRecursion, flat_map}
 use Rattle.std.proofs.lemmas.Option.{same_Some}
-use Rattle.myi_btree.specs.Walk.{◌>>=◌, Node, Places, Walked, each, walk_of}
+use Rattle.myi_btree.specs.Walk.{◌>>=◌, Places, Walked, each, walk_of}
 use Rattle.myi_btree.specs.LaidPages.{places_from}
 use Rattle.myi_btree.proofs.CallerLemmas.{bind_some}
 use Rattle.myi_treecopy.proofs.CallerLemmas.{some_node, of_node, of_leaf, leaf_walk}

@@ -6,8 +6,6 @@ use Rattle.myi_defs.specs.declared.types.Defs.{Defs}
 use Rattle.myi_header.specs.Layout.{first_page_of}
 use Rattle.myi_header.specs.StateOf.{IsPlace}
 use Rattle.myi_btree.specs.declared.place.Place.{Place}
-use Rattle.myi_btree.specs.Walk.{Walked}
-use Rattle.myi_btree.specs.Nodes.{node_at}
 use Rattle.myi_treecopy.specs.declared.page.TreeCopy.{TreeCopy}
 use Rattle.myi_treecopy.specs.Copying.{Copies}
 use Rattle.myi_treecopy.proofs.CallerLemmas.{Frame}

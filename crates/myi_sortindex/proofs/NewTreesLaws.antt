@@ -5,13 +5,13 @@ use Rattle.std.proofs.lemmas.Bool.{and_from, or_left, le-leb}
 use Rattle.std.proofs.lemmas.List.Sums.{sum_by-append, sum_by-cons}
 use Rattle.myi_base.specs.Ranges.{Range, are_apart, is_apart, AreDisjoint}
 use Rattle.myi_defs.specs.declared.types.Defs.{Defs}
-use Rattle.myi_btree.specs.Walk.{Places, Walked, content}
+use Rattle.myi_btree.specs.Walk.{Walked}
 use Rattle.myi_btree.specs.LaidPages.{places_from}
 use Rattle.myi_btree.specs.Visit.{page_range}
 use Rattle.myi_btree.proofs.CallerLemmas.{length-places_from}
 use Rattle.myi_rowkeys.specs.TableKeys.{numbers_from}
 use Rattle.myi_pair.specs.KeyList.{PlacedRow}
-use Rattle.myi_pair.specs.Trees.{block_of_key, no_walk, pages_on, HasWalkApart, HaveWalks, AreKeyLists, all_pages, total}
+use Rattle.myi_pair.specs.Trees.{block_of_key, pages_on, HasWalkApart, HaveWalks, AreKeyLists, all_pages, total}
 use Rattle.myi_pair.proofs.PageRanges.{IsBetween, EndBy, total_pages, end_later, end_append, between_free, between_end}
 use Rattle.myi_sortindex.specs.Sorting.{nodes_of, IsLaid, AreLaid, StandsFirst}
 use Rattle.myi_sortindex.specs.Laying.{Tree, HasTreeWalk, root_at, end_of, roots_from, page_count, LaysTree, LaysTrees}

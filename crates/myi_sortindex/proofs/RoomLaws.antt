@@ -1,6 +1,6 @@
 -- The trees of a clean index file have room in it: no byte belongs to two pages.
-use Rattle.std.proofs.Common.{◌≡◌, ℕ, zero, suc, ◌+◌, ◌-◌, ◌*◌, ◌%◌, ◌<◌, ◌≤◌, ◌⊎◌, inl, inr, min, Bool, true, false, cond, eqb, ◌&&◌, ◌||◌, nat_le, Option, Some, None, List, [], ◌∷◌, ◌++◌, length, length-drop, take, drop, map, refl, sym, ap, subst, ◌∙◌, arith}
-use Rattle.std.specs.List.{AllByRecursion, flat_map, list_all}
+use Rattle.std.proofs.Common.{◌≡◌, ℕ, zero, suc, ◌+◌, ◌-◌, ◌*◌, ◌%◌, ◌<◌, ◌≤◌, ◌⊎◌, inl, inr, Bool, true, false, cond, eqb, nat_le, Option, Some, None, List, [], ◌∷◌, ◌++◌, length, length-drop, take, drop, map, refl, sym, ap, subst, ◌∙◌, arith}
+use Rattle.std.specs.List.{AllByRecursion, flat_map}
 use Rattle.std.proofs.lemmas.Bool.{and_parts, and_from, or_cases, or_left, or_right, leb-true}
 use Rattle.std.proofs.lemmas.Option.{same_Some}
 use Rattle.std.proofs.lemmas.List.Folds.{list_all-append}
@@ -14,7 +14,7 @@ use Rattle.myi_btree.specs.Visit.{page_range}
 use Rattle.myi_btree.proofs.CallerLemmas.{bind_some, filled, few_bytes}
 use Rattle.myi_treecopy.proofs.CallerLemmas.{some_node, of_node, of_leaf, leaf_walk}
 use Rattle.myi_rowkeys.specs.TableKeys.{numbers_from}
-use Rattle.myi_pair.specs.Trees.{block_of_key, no_walk, pages_on, AreFree, HasWalkApart, HaveWalks, all_pages, total}
+use Rattle.myi_pair.specs.Trees.{block_of_key, pages_on, AreFree, HasWalkApart, HaveWalks, all_pages, total}
 use Rattle.myi_pair.proofs.PageRanges.{EndBy, total_pages, end_append}
 use Rattle.myi_sortindex.specs.Laying.{Tree, end_of}
 use Rattle.myi_sortindex.specs.Sorting.{nodes_of}

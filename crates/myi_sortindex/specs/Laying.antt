@@ -1,5 +1,5 @@
 -- The trees of an index file that were laid so far into another one, key after key.
-use Rattle.std.specs.Prelude.{◌≡◌, ◌≢◌, ◌≤◌, ◌+◌, ◌*◌, ℕ, suc, List, [], ◌∷◌, ◌++◌, length, map, take, sum_by, Option, Some, None, Ok}
+use Rattle.std.specs.Prelude.{◌≡◌, ◌≢◌, ◌≤◌, ◌+◌, ◌*◌, ℕ, suc, List, [], ◌∷◌, length, map, take, sum_by, Option, Some, None, Ok}
 use Rattle.myi_base.specs.Holding.{Holding, bytes_of}
 use Rattle.myi_base.specs.Holding as holding
 use Rattle.myi_defs.specs.declared.types.Defs.{Defs}

@@ -1,4 +1,4 @@
-use Rattle.std.proofs.Common.{◌≡◌, ◌⊎◌, ◌+◌, ◌<◌, ◌∙◌, ℕ, Option, List, length, sym, ap, subst, arith}
+use Rattle.std.proofs.Common.{◌⊎◌, ◌+◌, ◌∙◌, ℕ, Option, List, length, sym, ap, subst, arith}
 use Rattle.std.specs.Prelude.{IfErr, All}
 use Rattle.std.proofs.lemmas.List.{length_push}
 use Rattle.std.proofs.lemmas.List.Elements.{All-push}
@@ -9,7 +9,7 @@ use Rattle.myi_header.specs.StateOf.{IsPlace}
 use Rattle.myi_btree.specs.Sizes.{IsPlaced}
 use Rattle.myi_pair.proofs.CallerLemmas.{placed}
 use Rattle.myi_sortindex.specs.Refusals.{CutsOff}
-use Rattle.myi_sortindex.specs.Laying.{HasNoRoom, HaveNoRoom}
+use Rattle.myi_sortindex.specs.Laying.{HaveNoRoom}
 use Rattle.myi_sortindex.proofs.LayLaws.{first_next, no_room_left, root_place, refused_on}
 use Rattle.myi_sortindex.proofs.laying.lay_trees.Goals as goal
 
