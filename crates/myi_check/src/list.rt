@@ -1,7 +1,7 @@
 //! The list of deleted blocks, which is followed once.
 //!
 //! `check_list` holds the places of all deleted blocks in their order, which the scan found. A good list is
-//! told in memory (`whole_list`). Else, or where the blocks stand far from each other, the list is followed in the file
+//! found good in memory (`whole_list`). Else, or where the blocks stand far from each other, the list is followed in the file
 //! with a flag for each place that it has named.
 ghost use Rattle.std.specs.Prelude.{◌≡◌, ◌<◌, ℕ, false, List, length, replicate, None, IfOk, IfErr, IfSome, HoldsAt};
 ghost use Rattle.std.specs.Option.{option_map};

@@ -1,4 +1,4 @@
-//! Whether the list of deleted blocks is wholly good, which is told without following it in the file.
+//! Whether the list of deleted blocks is wholly good, found without following it in the file.
 //!
 //! `is_whole` reads the deleted blocks in order of their places, and holds for each a number of four bytes that
 //! stands for the place that it names as the next one. The list is followed by these numbers, and each that is met
@@ -183,6 +183,10 @@ fn next_numbers<F: Files>(
         let mut bytes = [0u8; LEAST_SIZE];
         let count = heads.read(files, rows, place, &mut bytes)?;
         let link = link_of(&bytes[..count], defs, end, place, None);
+        // A slot that the file ends in by now names nothing.
+        if matches!(defs.format, RowFormat::Static) && !link.named {
+            return Ok(None);
+        }
         let Some(number) = number_of(deleted, link.next, spread) else {
             return Ok(None);
         };
@@ -191,7 +195,7 @@ fn next_numbers<F: Files>(
     Ok(Some(numbers))
 }
 
-// Whether a walk by these numbers, from one on, meets each place once and ends. It leaves a mark at each.
+// Whether a walk by these numbers, from a head on, meets each place once and ends. It leaves a mark at each.
 fn meets_each(numbers: &mut [u32], head: u32) -> bool
     requires few { length numbers.old < 2 ^ 31 }
     requires head { head ≤ length numbers.old }

@@ -65,9 +65,9 @@ fn lay<F: Files>(
 /// Lays the tree whose root stands at a place of the old file into the new file, from a place on that is a multiple
 /// of 1024 and behind which the new file has nothing, and answers where it ends there: `start` and the length of a
 /// page for each of its pages. `Damaged` comes only where no such tree is there, or no room for it before the limit;
-/// its place is that of the first page, in the order of the walk, that is none, has no room, or stands deeper than a
-/// tree can reach, as a page that names itself does. After an error the new file may have pages of the tree from
-/// `start` on, each with what stands below it, but never the root.
+/// its place is that of the first page, in the order of the walk, that is none, has no room, or has children
+/// though it stands 64 levels below the root, as where a page names itself. After an error the new file may have
+/// pages of the tree from `start` on, each with what stands below it, and of one whose write failed a first part.
 pub fn copy_tree<F: Files>(
     tree: &TreeCopy,
     files: &mut F,

@@ -6,12 +6,12 @@ use myi_io::FileErr;
 use std::alloc::{AllocError, AllocFailed};
 use thiserror::Error;
 
-/// Why a tree is not laid anew. The old file is as before, and the new one may hold some of the pages, without
-/// the root.
+/// Why a tree is not laid anew. The old file is as before, and the new one may hold some of the pages, and of
+/// the one whose write failed a first part.
 #[derive(Clone, Copy, Debug, PartialEq, Eq, Error)]
 pub enum CopyFault {
-    /// What stands at this place of the old file is no page of the tree, stands more than 64 levels below its
-    /// root, for which there are no places, or has no room before the limit.
+    /// What stands at this place of the old file is no page of the tree, has no room before the limit, or has
+    /// children though it stands 64 levels below the root, for which there are no places.
     #[error("no page of the tree stands at {at}")]
     Damaged { at: u64 },
     /// A file call failed. The files' count of faults rose.
