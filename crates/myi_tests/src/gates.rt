@@ -18,7 +18,7 @@ const SCRIPT: &[u8] =
     b"S1 lock read local\n; a comment\nS2 insert FF #1 'aaa'\nS1 scan\nS1 insert FF #2 'bbb'\nS1 unlock\nS1 end\nS2 scan\nS2 stats\n";
 
 /// More file calls than the run makes.
-const MOST_CALLS: u64 = 60;
+const MOST_CALLS: u64 = 200;
 
 const PRINTED: &[u8] =
     b"1 ok\n3 ok 0\n4 rows 0 at 0\n5 locked for read\n6 ok\n7 ok\n8 rows 1 at 1\n  0 FF 01000000 616161\n9 requests 0 reads 0 write_requests 0 writes 0\n";
@@ -45,9 +45,9 @@ struct Counting {
 
 impl Counting {
     // A call before a step, or behind one.
-    fn call(&self, behind: usize, session: u32, line: u32) {
+    fn call(&self, is_behind: bool, session: u32, line: u32) {
         let call = self.calls.fetch_add(1, Ordering::SeqCst);
-        if call % 2 != behind || STEPS.get(call / 2) != Some(&(session, line)) {
+        if (call % 2 == 1) != is_behind || STEPS.get(call / 2) != Some(&(session, line)) {
             self.wrong.fetch_add(1, Ordering::SeqCst);
         }
     }
@@ -55,11 +55,11 @@ impl Counting {
 
 impl Gate for Counting {
     fn pass(&self, session: u32, line: u32) {
-        self.call(0, session, line);
+        self.call(false, session, line);
     }
 
     fn done(&self, session: u32, line: u32) {
-        self.call(1, session, line);
+        self.call(true, session, line);
     }
 }
 
@@ -86,11 +86,12 @@ fn files(alloc: Global) -> Result<MemFiles, AllocError> {
 fn failing(alloc: Global, files: &MemFiles, call: u64) -> Result<MemFiles, AllocError> {
     let mut given = Vec::new(alloc);
     for name in ["a.MYI", "a.MYD", "s"] {
-        let bytes = files.get(name).unwrap_or(&[]);
-        given.push((
-            String::from_str(alloc, name)?,
-            Vec::from_slice(alloc, bytes)?,
-        ))?;
+        if let Some(bytes) = files.get(name) {
+            given.push((
+                String::from_str(alloc, name)?,
+                Vec::from_slice(alloc, bytes)?,
+            ))?;
+        }
     }
     MemFiles::new(alloc, given, Vec::from_slice(alloc, &[call])?)
 }
@@ -133,8 +134,9 @@ fn a_step_that_is_cut_off_is_told_as_done(rt: HostRuntime) -> Result<(), Fail> {
     let mut made = files(alloc)?;
     let (created, _) = run(&rt, alloc, &["create", "a", "t"], &mut made, &new_gate())?;
     assert_eq!(rt; created, Status::Ok);
-    // Of the runs that a file call cuts off, some end in a step.
+    // Of the runs that a file call cuts off, some end in a step; the last call is one that no run makes.
     let mut in_a_step = 0;
+    let mut last = Status::FileFault;
     for call in 1..=MOST_CALLS {
         let gate = new_gate();
         let mut files = failing(alloc, &made, call)?;
@@ -146,7 +148,9 @@ fn a_step_that_is_cut_off_is_told_as_done(rt: HostRuntime) -> Result<(), Fail> {
         if calls > 0 && calls < 2 * STEPS.len() {
             in_a_step += 1;
         }
+        last = status;
     }
     assert!(rt; in_a_step > 0);
+    assert_eq!(rt; last, Status::Ok);
     Ok(())
 }

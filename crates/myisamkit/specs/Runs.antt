@@ -85,8 +85,8 @@ Leaves (dump name) now before after s m n = n ≡ m
 Leaves (make count seed name) now before after s m n = MakeLeaves count seed name now s m n
 Leaves (shell o name script) now before after s m n = ShellLeaves o.concurrent name script s m n
 
--- Where the output failed in a script, its table was closed behind the round whose lines were being written. Of the other requests the
--- files at the status say all.
+-- Where the output failed in a script, its table was closed behind the round whose lines were being written. Of the other requests
+-- `Leaves` says all.
 abbrev pub FailsInScript : Request → Option (List ℕ) → Option (List ℕ) → Holding → Holding → Type 0
 FailsInScript usage old new m n = Unit {0}
 FailsInScript (chk o names) old new m n = Unit {0}

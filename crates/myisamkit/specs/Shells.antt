@@ -172,9 +172,17 @@ pub record ShellCutIn (setting : ℕ) (name script : List ℕ) (old new : Option
   pub cut : IsCutIn begin front last old new
   pub pair : StandClean name begin (table_after begin (front ++ last ∷ [])) n
 
--- it failed so, or before a script was run, and nothing was changed
+-- no script is run: the table or the script's file is not as it must be, or a line is not in the grammar
+abbrev pub IsNotRunBy : List ℕ → List ℕ → Holding → Result (List ℕ) Refusal → Type 0
+IsNotRunBy name script m (Err r) = Unit {0}
+IsNotRunBy name script m (Ok text) = (said : List ℕ) × IsOutside name script m text said status.Refused
+
+abbrev pub IsNotRun : List ℕ → List ℕ → Holding → Type 0
+IsNotRun name script m = IsNotRunBy name script m (text_in name script m)
+
+-- it failed so, or where no script is run, and then nothing is changed
 abbrev pub ShellFails : ℕ → List ℕ → List ℕ → Option (List ℕ) → Option (List ℕ) → Holding → Holding → Type 0
-ShellFails setting name script old new m n = (n ≡ m) ⊎ ShellCutIn setting name script old new m n
+ShellFails setting name script old new m n = (IsNotRun name script m × (n ≡ m)) ⊎ ShellCutIn setting name script old new m n
 
 -- ---- what the code finds of it
 

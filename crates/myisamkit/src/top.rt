@@ -64,13 +64,13 @@ pub fn kit<R: Threads + Sync, F: Files, O: Sink, G: Gate>(
     ensures findings { result ≡ Status.Findings → MayFindAny (request_of words.now) }
 
     // The tables are done, or done up to the one in whose turn a fault came; what is repaired is
-    // recovered, what is sorted is in order; the files of a table are the old ones, or a new data file
-    // beside the old or the new index file; other files stay.
+    // recovered, what is sorted is in order; the files of a table of `chk` are the old ones, or a new
+    // data file beside the old or the new index file; other files stay.
     ensures files { Told (F.holds files.old) (F.holds files.new)
         (Leaves (request_of words.now) now (F.faults files.old) (F.faults files.new) result) }
 
     // Where the output fails in a script, its table is closed behind the round whose lines were being
-    // written; where it fails before a script is run, nothing is changed.
+    // written; where it fails and no script is run, nothing is changed.
     ensures fails { result ≡ Status.SinkFault → IfTold (F.holds files.old) (λ m.
         IfTold (F.holds files.new)
         (FailsInScript (request_of words.now) (O.written out.old) (O.written out.new) m)) }
