@@ -48,14 +48,17 @@ pub outside_fails : (setting : ℕ) (name script text : List ℕ) (k : ℕ) (d :
 outside_fails setting name script text k d t told next old new same read loaded defs first m held n after =
     let l = loaded m held in
     inl (
-      subst (IsNotRunBy name script m) (sym (read m held)) (text_line script k, record {
-        table = l.files;
-        is = opened name m l.files l.is;
-        line = k;
-        first = subst (λ e. IsFirstOutside false e (lines text) k) (defs ∙ l.defs) first;
-        says = refl;
-        ends = refl;
-      }),
+      subst (IsNotRunBy name script m) (sym (read m held)) (
+        text_line script k,
+        record {
+          table = l.files;
+          is = opened name m l.files l.is;
+          line = k;
+          first = subst (λ e. IsFirstOutside false e (lines text) k) (defs ∙ l.defs) first;
+          says = refl;
+          ends = refl;
+        },
+      ),
       same_holding told next m n same held after,
     )
 
