@@ -1,1 +1,2 @@
--- lemmas
+mod LoadLemmas
+mod ScanLemmas

@@ -31,6 +31,10 @@ pub record IsListIn (name : List ℕ) (members : List (List ℕ)) (method : Opti
   pub there : m (list_file name) ≡ Some text
   pub list : IsMergeList text members method
 
+-- some text is a list with these names and this method
+abbrev pub SomeText : List (List ℕ) → Option InsertMethod → Type 0
+SomeText members method = (text : List ℕ) × IsMergeList text members method
+
 -- and these names, whatever its method
 abbrev pub HasMembers : List ℕ → List (List ℕ) → Holding → Type 0
 HasMembers name members m = (method : Option InsertMethod) × IsListIn name members method m

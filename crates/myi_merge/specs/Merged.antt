@@ -1,6 +1,6 @@
 -- A MERGE list that is loaded (MySQL Reference Manual, "The MERGE Storage Engine"): its tables in the order of the list, and the
 -- states that they stand for.
-use Rattle.std.specs.Prelude.{◌≡◌, ◌<◌, ◌≤◌, ℕ, List, [], ◌∷◌, length, map, bytes_eq, Option, Some, None}
+use Rattle.std.specs.Prelude.{◌≡◌, ◌<◌, ◌≤◌, ℕ, List, [], ◌∷◌, ◌++◌, length, map, bytes_eq, Option, Some, None}
 use Rattle.std.specs.List.{AllByRecursion, IsDistinct}
 use Rattle.myi_base.specs.Holding.{Holding, IfTold}
 use Rattle.myi_defs.specs.declared.types.Defs.{Defs}
@@ -66,6 +66,21 @@ HoldEachThen told ts ss = (m : Holding) × (told ≡ Some m) × HoldEach ts ss m
 -- the tables stand for the states that they stood for
 abbrev pub StillHoldEach : Option Holding → Option Holding → List OpenTable → List OpenTable → Type 0
 StillHoldEach told next old new = IfHoldEach told old (λ m ss. HoldEachThen next new ss)
+
+-- ---- refusals
+
+-- no table is broken
+abbrev pub AreWhole : List OpenTable → Type 0
+AreWhole ts = AllByRecursion (λ (t : OpenTable). t.broken ≡ None) ts
+
+-- this holds of one of the tables, which refused a call, and those before it in the list are not broken
+pub record OneRefuses (ts : List OpenTable) (P : OpenTable → Type 0) : Type 0 where
+  pub before : List OpenTable
+  pub table : OpenTable
+  pub after : List OpenTable
+  pub parts : ts ≡ before ++ table ∷ after
+  pub whole : AreWhole before
+  pub refuses : P table
 
 -- ---- counters
 

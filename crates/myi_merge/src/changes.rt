@@ -66,12 +66,7 @@ impl Merge {
         ensures others { ChangesTheirOwn (F.holds files.old) (F.holds files.new) self.tables }
         ensures cause { HasCause change.File (F.faults files.old) (F.faults files.new) result }
     {
-        let Merge {
-            alloc: _,
-            tables,
-            method: _,
-        } = self;
-        for table in tables {
+        for table in self.into_tables() {
             table.close(files)?;
         }
         Ok(())

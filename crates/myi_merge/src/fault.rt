@@ -3,7 +3,7 @@ use myi_defs::DefFault;
 use myi_io::FileErr;
 use myi_mergelist::ListFault;
 use myi_table::ChangeFault;
-use std::alloc::AllocError;
+use std::alloc::{AllocError, AllocFailed};
 use thiserror::Error;
 
 /// Why a MERGE list is not loaded. Nothing is changed.
@@ -42,6 +42,17 @@ impl From<AllocError> for MergeFault {
     ghost from_gives = { λ _ f. f ≡ Memory };
 
     fn from(_: AllocError) -> Self {
+        MergeFault::Memory
+    }
+}
+
+impl<T: Drop> From<AllocFailed<T>> for MergeFault {
+    ghost use Rattle.std.specs.Prelude.{◌≡◌};
+    ghost use Rattle.myi_merge.specs.declared.fault.MergeFault.TheVariants.{Memory};
+
+    ghost from_gives = { λ _ f. f ≡ Memory };
+
+    fn from(_: AllocFailed<T>) -> Self {
         MergeFault::Memory
     }
 }

@@ -1,10 +1,9 @@
 //! Loading a MERGE list.
-ghost use Rattle.std.specs.Prelude.{◌≡◌, ◌<◌, ◌↔◌, List, length, map, string_bytes, IfOk, IfErr, IsTrue};
-ghost use Rattle.std.specs.List.{AllByRecursion};
+ghost use Rattle.std.specs.Prelude.{◌≡◌, ◌↔◌, map, string_bytes, IfOk, IfErr, IsTrue};
 ghost use Rattle.myi_base.specs.Holding.{IfTold};
 ghost use Rattle.myi_base.specs.Causes.{HasCause};
 ghost use Rattle.myi_keycache.specs.Setup.{IsSetup};
-ghost use Rattle.myi_table.specs.Table.{OpenTable, defs_in};
+ghost use Rattle.myi_table.specs.Table.{OpenTable};
 ghost use Rattle.myi_table.specs.Loading.{IsLoaded};
 ghost use Rattle.myi_merge.specs.declared.fault.MergeFault.TheVariants as fault;
 ghost use Rattle.myi_merge.specs.Merged.{IsLike, IsLikeFirst, AreAlike};
@@ -62,6 +61,7 @@ fn load_table<F: Files>(
 ) -> Result<Table, MergeFault>
     requires { IsSetup setup }
     ensures loaded { IfOk result (λ t. IfTold (F.holds files.old) (IsLoaded name.now t)) }
+    ensures named { IfOk result (λ t. t.name ≡ name.now) }
     ensures refused { IfErr result (λ f. IfTold (F.holds files.old) (StopsAtMember name.now f)) }
     ensures holds { F.holds files.new ≡ F.holds files.old }
     ensures cause { HasCause fault.File (F.faults files.old) (F.faults files.new) result }
@@ -96,7 +96,8 @@ fn load_tables<F: Files>(
     ensures loaded { IfOk result (λ ts. IfTold (F.holds files.old)
         (EachLoaded (map (λ s. string_bytes s) names.now) ts.items)) }
     ensures alike { IfOk result (λ ts. AreAlike ts.items) }
-    ensures each { IfOk result (λ ts. length ts.items ≡ length names.now) }
+    ensures named { IfOk result (λ ts. map (λ (t : OpenTable). t.name) ts.items
+        ≡ map (λ s. string_bytes s) names.now) }
     ensures refused { IfErr result (λ f. IfTold (F.holds files.old)
         (StopsAmong (map (λ s. string_bytes s) names.now) f)) }
     ensures holds { F.holds files.new ≡ F.holds files.old }

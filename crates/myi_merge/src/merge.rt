@@ -42,6 +42,18 @@ impl Merge {
     ghost use Rattle.myi_table.specs.Table.{OpenTable, defs_in};
     ghost use Rattle.myi_merge.specs.Merged.{counted_by};
 
+    // The tables, in the order of the list.
+    pub(crate) fn into_tables(self) -> Vec<Table>
+        ensures { result.items ≡ self.tables }
+    {
+        let Merge {
+            alloc: _,
+            tables,
+            method: _,
+        } = self;
+        tables
+    }
+
     /// The definitions of the first table. All tables have its row format, fields and keys.
     pub fn defs(&self) -> &Defs
         ensures defs { IfSome (slice_get self.now.tables 0) (λ (t : OpenTable).

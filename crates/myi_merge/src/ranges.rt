@@ -39,6 +39,18 @@ impl Drop for Head {
     }
 }
 
+impl Head {
+    ghost use Rattle.std.specs.Prelude.{◌≡◌};
+
+    // As it is answered.
+    fn numbered(self, table: u32) -> (u32, u64, Row)
+        ensures { result ≡ (table, self.at, self.row) }
+    {
+        let Head { key: _, at, row } = self;
+        (table, at, row)
+    }
+}
+
 /// The reading of a table, and its next row, where one is to come.
 pub(crate) struct Reading {
     pub(crate) rows: RangeRows,
@@ -158,12 +170,12 @@ fn take_head<F: Files>(
 }
 
 impl Merge {
-    ghost use Rattle.std.specs.Prelude.{◌≡◌, ◌<◌, length, slice_get, IfOk, IfErr, IfSome, IsTrue};
+    ghost use Rattle.std.specs.Prelude.{◌≡◌, ◌<◌, length, slice_get, IfOk, IfErr, IfSome, OnOk, IsTrue};
     ghost use Rattle.myi_base.specs.Causes.{HasCause};
     ghost use Rattle.myi_table.specs.declared.fault.ReadFault.TheVariants.{File};
-    ghost use Rattle.myi_table.specs.Faults.{NeverDamaged};
+    ghost use Rattle.myi_table.specs.Faults.{NeverDamaged, IsBrokenFor};
     ghost use Rattle.myi_table.specs.Table.{OpenTable, defs_in};
-    ghost use Rattle.myi_merge.specs.Merged.{AreKept, IfHoldEach, StillHoldEach};
+    ghost use Rattle.myi_merge.specs.Merged.{AreKept, AreWhole, OneRefuses, IfHoldEach, StillHoldEach};
     ghost use Rattle.myi_merge.specs.Reading.{AnswersMerged};
     ghost use Rattle.myi_merge.specs.Changing.{ChangesTheirOwn};
 
@@ -181,6 +193,9 @@ impl Merge {
         ensures rows { IfOk result (λ rows. IfHoldEach (F.holds files.old) self.old.tables (λ m ss.
             IfSome (slice_get self.old.tables 0) (λ (t : OpenTable).
             AnswersMerged (defs_in t) ss range.now rows.items))) }
+        ensures whole { OnOk result (AreWhole self.old.tables) }
+        ensures first { IfErr result (λ f. OneRefuses self.old.tables (λ t.
+            IsBrokenFor t.broken f)) }
         ensures never { IfErr result (NeverDamaged (F.holds files.old)) }
         ensures still { StillHoldEach (F.holds files.old) (F.holds files.new)
             self.old.tables self.new.tables }
@@ -195,8 +210,7 @@ impl Merge {
             let table = &mut self.tables[index];
             let reading = &mut readings[index];
             if let Some(head) = take_head(self.alloc, files, table, range.key, reading)? {
-                let Head { key: _, at, row } = head;
-                found.push((index as u32 + 1, at, row))?;
+                found.push(head.numbered(index as u32 + 1))?;
             }
         }
         Ok(found)

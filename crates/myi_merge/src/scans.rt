@@ -23,10 +23,11 @@ fn append(
 }
 
 impl Merge {
-    ghost use Rattle.std.specs.Prelude.{◌≡◌, map, IfOk};
+    ghost use Rattle.std.specs.Prelude.{◌≡◌, map, IfOk, IfErr, OnOk};
     ghost use Rattle.myi_base.specs.Causes.{HasCause};
     ghost use Rattle.myi_table.specs.declared.fault.ReadFault.TheVariants.{File};
-    ghost use Rattle.myi_merge.specs.Merged.{AreKept, IfHoldEach};
+    ghost use Rattle.myi_table.specs.Faults.{ScanIsRefused};
+    ghost use Rattle.myi_merge.specs.Merged.{AreKept, AreWhole, OneRefuses, IfHoldEach};
     ghost use Rattle.myi_merge.specs.Reading.{AnswersAll};
 
     /// All rows, each with the number of its table and its position: table by table in the order of the list, those
@@ -35,6 +36,9 @@ impl Merge {
         requires kept { AreKept (F.holds files.old) self.old.tables }
         ensures rows { IfOk result (λ rows. IfHoldEach (F.holds files.old) self.old.tables (λ m ss.
             AnswersAll ss rows.items)) }
+        ensures whole { OnOk result (AreWhole self.old.tables) }
+        ensures refused { IfErr result (λ f. OneRefuses self.old.tables (λ t.
+            ScanIsRefused t.broken f)) }
         ensures same { self.new ≡ self.old }
         ensures holds { F.holds files.new ≡ F.holds files.old }
         ensures cause { HasCause File (F.faults files.old) (F.faults files.new) result }
