@@ -7,11 +7,11 @@ use myi_pack::Row;
 use myi_table::ChangeFault;
 
 impl Merge {
-    ghost use Rattle.std.specs.Prelude.{◌≡◌, true, None, slice_get, IfOk, IfErr, IfSome, OnOk, IsTrue};
+    ghost use Rattle.std.specs.Prelude.{◌≡◌, ◌≢◌, true, None, Err, slice_get, IfOk, IfErr, IfSome, OnOk, IsTrue};
     ghost use Rattle.myi_base.specs.Holding.{IfTold};
     ghost use Rattle.myi_base.specs.Causes.{HasCause};
     ghost use Rattle.myi_pack.specs.Spelling.{fits};
-    ghost use Rattle.myi_state.specs.Changes.TheVariants.{insert};
+    ghost use Rattle.myi_state.specs.Changes.{insert};
     ghost use Rattle.myi_table.specs.declared.fault.ChangeFault.{ChangeFault};
     ghost use Rattle.myi_table.specs.declared.fault.ChangeFault.TheVariants as change;
     ghost use Rattle.myi_table.specs.Faults.{CutsOff};

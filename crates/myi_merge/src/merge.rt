@@ -31,9 +31,9 @@ impl Model for Merge {
 
     ghost Value = { OpenMerge };
 
-    ghost view = { λ g. record { tables = g.tables.items; method = g.method; } };
+    ghost view = { λ g. record { tables = g.tables.items; method = g.method } };
 
-    ghost invariant = { λ g. IsMerge (record { tables = g.tables.items; method = g.method; }) };
+    ghost invariant = { λ g. IsMerge (record { tables = g.tables.items; method = g.method }) };
 }
 
 impl Merge {

@@ -1,7 +1,8 @@
 //! Reading the rows of a MERGE list whose key lies between bounds: of the next rows of all tables the one with the least
 //! key comes first, and of those with one key that of the first table.
-ghost use Rattle.std.specs.Prelude.{◌≡◌, ◌≢◌, ◌≤◌, ◌<◌, true, length, None, slice_index_or, IfOk, IfErr, IfSome, IfNone, OnOk, IsSome, IsTrue};
-ghost use Rattle.std.specs.List.{All, AllByRecursion};
+ghost use Rattle.std.specs.Prelude.{◌≡◌, ◌+◌, true, None, IfOk, IfErr, IfSome, IfNone, OnOk, IsTrue};
+ghost use Rattle.std.specs.List.{AllByRecursion};
+ghost use Rattle.myi_merge.specs.declared.ranges.Reading.{Reading};
 ghost use Rattle.myi_base.specs.Causes.{HasCause};
 ghost use Rattle.myi_defs.specs.Sound.{IsSound};
 ghost use Rattle.myi_data.specs.Keys.{IsKeyNumber, key_of};
@@ -217,11 +218,7 @@ impl Merge {
     }
 
     // The readings of all tables, each with its first row.
-    fn begin<F: Files>(
-        &mut self,
-        files: &mut F,
-        range: &Range,
-    ) -> Result<Vec<Reading>, ReadFault>
+    fn begin<F: Files>(&mut self, files: &mut F, range: &Range) -> Result<Vec<Reading>, ReadFault>
         requires writable { IsTrue F.writable }
         requires kept { AreKept (F.holds files.old) self.old.tables }
         ensures each { IfOk result (λ rs. length rs.items ≡ length self.old.tables) }
