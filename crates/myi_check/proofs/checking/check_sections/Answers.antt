@@ -3,10 +3,8 @@ use Rattle.myi_defs.proofs.CallerLemmas.{sound}
 use Rattle.myi_opening.specs.Opening.{Table, table}
 use Rattle.myi_opening.proofs.CallerLemmas.{table_index, table_rows, table_read}
 use Rattle.myi_header.specs.declared.state.State.{State}
-use Rattle.myi_data.specs.Readable.{readable}
 use Rattle.myi_check.specs.Checking.{findings_by}
-use Rattle.myi_placelist.specs.Places.{IsRising}
-use Rattle.myi_check.specs.Rows.{ArePointed, ArePlacesOf}
+use Rattle.myi_check.specs.Rows.{ArePointed}
 use Rattle.myi_check.proofs.SectionLemmas.{all_sections, list_found, item_found, keys_are, shown_are, same_size}
 use Rattle.myi_check.proofs.OrderLaws.{all_in_order}
 use Rattle.myi_check.proofs.checking.check_sections.Goals as goal

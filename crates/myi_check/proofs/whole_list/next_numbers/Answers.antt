@@ -1,8 +1,8 @@
-use Rattle.std.proofs.Common.{◌≡◌, ◌≤◌, ◌<◌, ◌∙◌, ◌∷◌, ℕ, List, [], length, get_or, refl, sym, ap, subst, arith, length-append}
+use Rattle.std.proofs.Common.{◌≡◌, ◌<◌, ◌^◌, ◌∙◌, ◌∷◌, ℕ, List, [], length, get_or, refl, sym, ap, subst, arith, length-append}
 use Rattle.myi_base.specs.Holding.{bytes_of}
 use Rattle.myi_window.specs.Excerpt.{Excerpt, StandsIn}
 use Rattle.myi_pair.specs.Clean.{next_deleted}
-use Rattle.myi_check.specs.ListWalk.{place_of}
+use Rattle.myi_check.specs.ListWalk.{unit_in, place_of}
 use Rattle.myi_check.proofs.WholeLemmas.{more_each, none_below, pointed_at, next_on}
 use Rattle.myi_check.proofs.whole_list.next_numbers.Goals as goal
 
@@ -14,8 +14,9 @@ loop-index-init g c =
       faults = omega arith;
       stands = λ m held. subst (λ (w : Excerpt). StandsIn w (bytes_of c.args.rows.now m)) (sym c.in_ok-heads.ensures) refl;
       long = none;
-      within = none_below (λ k. get_or c.in_ok-numbers.numbers.items k 0 ≤ length c.args.deleted.now) _ none;
-      next = λ m held size up points. none_below (λ k. next_deleted c.args.defs.now (bytes_of c.args.rows.now m) (get_or c.args.deleted.now k 0) ≡ place_of c.args.deleted.now (get_or c.in_ok-numbers.numbers.items k 0)) _ none;
+      within = none_below (λ k. get_or c.in_ok-numbers.numbers.items k 0 < 2 ^ 31) _ none;
+      unit = c.unit_of-unit.ensures.unit;
+      next = λ m held size up points. none_below (λ k. next_deleted c.args.defs.now (bytes_of c.args.rows.now m) (get_or c.args.deleted.now k 0) ≡ place_of (unit_in c.args.defs.now) (get_or c.in_ok-numbers.numbers.items k 0)) _ none;
     }
 
 pub loop-index-preserved : goal.loop-index-preserved
@@ -30,11 +31,12 @@ loop-index-preserved g c =
       faults = omega (arith, inv.faults, c.in_ok-count.ensures.cause.later);
       stands = λ m held. c.in_ok-count.ensures.stands m (inv.holds ∙ held) (inv.stands m held);
       long = omega (arith, ap (λ (ys : List ℕ). length ys) pushed, length-append xs (c.in-Some.number ∷ []), inv.long);
-      within = subst (λ (ys : List ℕ). (k : ℕ) → k < length ys → get_or ys k 0 ≤ length deleted) (sym pushed) (more_each (λ k n. n ≤ length deleted) xs c.in-Some.number inv.within c.in-Some.ensures.within);
+      within = subst (λ (ys : List ℕ). (k : ℕ) → k < length ys → get_or ys k 0 < 2 ^ 31) (sym pushed) (more_each (λ k n. n < 2 ^ 31) xs c.in-Some.number inv.within c.in-Some.ensures.within);
+      unit = inv.unit;
       next = λ m held size up points.
           let rows = bytes_of c.args.rows.now m in
           let front = c.in_ok-count.ensures.told m (inv.holds ∙ held) (inv.stands m held) in
           let said = c.link_of-link.ensures rows size front (pointed_at c.args.defs.now c.args.end deleted c.loop-index.index c.at-place.result inside c.at-place.ensures points) in
-          subst (λ (ys : List ℕ). (k : ℕ) → k < length ys → next_deleted c.args.defs.now rows (get_or deleted k 0) ≡ place_of deleted (get_or ys k 0)) (sym pushed)
-          (next_on c.args.defs.now deleted xs rows c.loop-index.index c.at-place.result c.in-Some.number c.link_of-link.result inv.long c.at-place.ensures said.next c.in-Some.ensures.place (inv.next m held size up points));
+          subst (λ (ys : List ℕ). (k : ℕ) → k < length ys → next_deleted c.args.defs.now rows (get_or deleted k 0) ≡ place_of (unit_in c.args.defs.now) (get_or ys k 0)) (sym pushed)
+          (next_on c.args.defs.now (unit_in c.args.defs.now) deleted xs rows c.loop-index.index c.at-place.result c.in-Some.number c.link_of-link.result inv.long c.at-place.ensures said.next (c.in-Some.ensures.place ∙ ap (λ (u : ℕ). place_of u c.in-Some.number) inv.unit) (inv.next m held size up points));
     }

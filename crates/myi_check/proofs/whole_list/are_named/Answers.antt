@@ -3,7 +3,7 @@ use Rattle.myi_base.specs.Holding.{bytes_of}
 use Rattle.myi_window.specs.Excerpt.{Excerpt, StandsIn}
 use Rattle.myi_check.proofs.UnmetLemmas.{named_is}
 use Rattle.myi_check.proofs.WholeLemmas.{pointed_at, named_on}
-use Rattle.myi_check.proofs.whole_list.name_before.Goals as goal
+use Rattle.myi_check.proofs.whole_list.are_named.Goals as goal
 
 pub loop-index-init : goal.loop-index-init
 loop-index-init g c = record {
@@ -27,5 +27,5 @@ loop-index-preserved g c =
           let front = c.in_ok-count.ensures.told m (inv.holds ∙ held) (inv.stands m held) in
           let said = c.link_of-link.ensures rows size front (pointed_at c.args.defs.now c.args.end deleted c.loop-index.index c.at-place.result inside c.at-place.ensures points) in
           let names = named_is c.link_of-link.result.named _ said.named c.if-not-link.false in
-          named_on c.args.defs.now deleted c.args.marks.now rows c.loop-index.index c.at-place.result c.in-Some.before c.at-place.ensures c.in-Some.ensures names (inv.named m held size up points);
+          named_on c.args.defs.now deleted c.args.marks.now rows c.loop-index.index c.at-place.result c.before_of-before.result c.at-place.ensures c.before_of-before.ensures names (inv.named m held size up points);
     }
