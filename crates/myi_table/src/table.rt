@@ -118,9 +118,10 @@ impl Table {
         self.broken
     }
 
-    /// How long its data file is.
+    /// How long its data file is, which is the file of its name.
     pub fn length(&self) -> u64
-        ensures { result ≡ self.now.rows.rows.file.counts.length }
+        ensures length { result ≡ self.now.rows.rows.file.counts.length }
+        ensures file { self.now.rows.rows.file.name ≡ rows_file self.now.name }
     {
         self.rows.rows.counts().length
     }
