@@ -6,3 +6,4 @@ pub mod FoldLemmas
 pub mod RangeLemmas
 pub mod ScanLemmas
 pub mod AllLemmas
+pub mod OtherFiles

@@ -28,11 +28,13 @@ mod closing;
 mod creating;
 mod fault;
 mod folding;
+mod laws;
 mod loading;
 mod ranges;
 mod scans;
 mod table;
 
 pub use fault::{Cause, ChangeFault, LoadFault, ReadFault};
+pub use laws::tables_rest_on_their_files;
 pub use ranges::Range;
 pub use table::Table;

@@ -80,12 +80,15 @@ impl Table {
     ghost use Rattle.myi_defs.specs.ReadDefs.{AreDefs};
     ghost use Rattle.myi_defs.specs.Sound.{IsSound};
     ghost use Rattle.myi_keycache.specs.Counts.{raised};
+    ghost use Rattle.myi_opening.specs.Names.{rows_file, index_file};
     ghost use Rattle.myi_table.specs.Table.{defs_in};
     ghost use Rattle.myi_table.specs.Counting.{sum_of};
 
-    /// The table's name.
+    /// The table's name, by which its two files are named.
     pub fn name(&self) -> &str
-        ensures { result.now ≡ self.now.name }
+        ensures name { result.now ≡ self.now.name }
+        ensures rows { self.now.rows.rows.file.name ≡ rows_file self.now.name }
+        ensures index { self.now.rows.trees.cache.name ≡ index_file self.now.name }
     {
         self.name.as_str()
     }
@@ -115,9 +118,10 @@ impl Table {
         self.broken
     }
 
-    /// How long its data file is.
+    /// How long its data file is, which is the file of its name.
     pub fn length(&self) -> u64
-        ensures { result ≡ self.now.rows.rows.file.counts.length }
+        ensures length { result ≡ self.now.rows.rows.file.counts.length }
+        ensures file { self.now.rows.rows.file.name ≡ rows_file self.now.name }
     {
         self.rows.rows.counts().length
     }
