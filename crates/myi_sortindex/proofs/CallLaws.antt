@@ -27,6 +27,7 @@ use Rattle.myi_pair.specs.Clean.{IsClean}
 use Rattle.myi_pair.specs.Findings.{findings}
 use Rattle.myi_pair.proofs.CallerLemmas.{clean_where_none}
 use Rattle.myi_check.specs.Checking.{findings_in, findings_by, Finds}
+use Rattle.myi_header.specs.HeaderOf.{header_of}
 use Rattle.myi_check.specs.Checking as checking
 use Rattle.myi_repair.specs.Names.{names_for, new_index_file, AreApart, KeepsBoth}
 use Rattle.myi_repair.proofs.CallerLemmas.{told_and}
@@ -35,11 +36,11 @@ use Rattle.myi_sortindex.specs.declared.fault.SortFault.{SortFault}
 use Rattle.myi_sortindex.specs.declared.fault.SortFault.TheVariants as sort
 use Rattle.myi_sortindex.specs.declared.laying.IndexCopy.{IndexCopy}
 use Rattle.myi_sortindex.specs.declared.laying.LaidTrees.{LaidTrees}
-use Rattle.myi_sortindex.specs.Refusals.{sort_fault, refusal, refusal_in, IsRefused, CutsOff, faults_told, Clears, IsCleared}
-use Rattle.myi_sortindex.specs.Sorting.{Sorts}
-use Rattle.myi_sortindex.specs.Laying.{Tree, AreTrees, IsOf, LaysAll, HaveNoRoom, IsCleanIndex, Replaces, KeepsIndex, OthersStayOf, state_laid}
+use Rattle.myi_sortindex.specs.Refusals.{sort_fault, table_in, table_by, clean_by, Refuses, IsRefused, CutsOff, faults_told, Clears, IsCleared}
+use Rattle.myi_sortindex.specs.Sorting.{IsSorted, Sorts, trees_laid}
+use Rattle.myi_sortindex.specs.Laying.{Tree, AreTrees, IsOf, HasBytes, LaysAll, HaveNoRoom, IsCleanIndex, Replaces, KeepsIndex, OthersStayOf, state_laid}
 use Rattle.myi_sortindex.proofs.RoomLaws.{trees_fit}
-use Rattle.myi_sortindex.proofs.CleanLaws.{IsWritten, raw_state, some_block, same_defs, clean_trees, sorted_again}
+use Rattle.myi_sortindex.proofs.CleanLaws.{IsWritten, raw_state, some_block, same_defs, clean_trees, sorted_again, written_index}
 use Rattle.myi_sortindex.proofs.TreeLaws.{walks_count}
 use Rattle.myi_pair.specs.Trees.{HaveWalks}
 use Rattle.myi_rowkeys.specs.TableKeys.{key_numbers}
@@ -82,6 +83,7 @@ pub record HasHeader (d : Defs) (header : List ℕ) (laid : LaidTrees) : Type 0 
   pub sound : IsSound d
   pub defs : AreDefs d
   pub raw : (x : List ℕ) → read_defs x ≡ Ok d → d.raw ≡ take (num_at 6 2 x) x
+  pub bytes : header ≡ header_of d (state_laid (state_of d d.raw) laid)
   pub front : length header ≡ first_page_of d
   pub state : state_of d header ≡ state_laid (state_of d d.raw) laid
   pub marked : has_mark d header ≡ true
@@ -102,13 +104,23 @@ replaced frame c d header laid roots m k n o p h apart roots_are cut lays writes
           subst (λ b. IsOf d b z laid (take (length (state_of d d.raw).roots) ts)) x_is
           (subst (λ (rs : List (Option ℕ)). IsOf d (bytes_of c.index.now k) z laid (take (length rs) ts)) roots_are
           (lays.first ts (subst (λ b. AreTrees d b 1 ts) (sym x_is) are) (is ∙ sym roots_are)));
+      exact = λ ts are is.
+          subst (λ b. HasBytes (first_page_of d) z laid (trees_laid d b (first_page_of d) 1 (take (length (state_of d d.raw).roots) (state_of d d.raw).roots))) x_is
+          (subst (λ (rs : List (Option ℕ)). HasBytes (first_page_of d) z laid (trees_laid d (bytes_of c.index.now k) (first_page_of d) 1 (take (length rs) rs))) roots_are
+          (lays.exact ts (subst (λ b. AreTrees d b 1 ts) (sym x_is) are) (is ∙ sym roots_are)));
       long = lays.long;
+      bytes = h.bytes;
       front = h.front;
       state = h.state;
       marked = h.marked;
       elsewhere = h.elsewhere;
     } in
-    (y, moved.there, moved.gone (λ same. apart (sym same)), sorted_again frame rows x z header laid d read written clean)
+    let exact = written_index rows x z header laid d read written clean in (
+      moved.there ∙ ap (λ b. Some b) exact.0,
+      moved.gone (λ same. apart (sym same)),
+      exact.1,
+      subst (λ b. IsSorted rows x b laid.pages) exact.0 (sorted_again frame rows x z header laid d read written clean),
+    )
 
 -- ---- the trees of a clean index file have room
 
@@ -148,30 +160,46 @@ only_untold (Some m) mid P A Q f told holds never (inr none) =
 
 -- ---- what is refused
 
-not_by : (r : Result Table TableFault) (e : TableFault) → findings_by r ≡ Err e → refusal (findings_by r) ≡ Some (sort_fault e)
-not_by r e is = ap refusal is
+ok_same : {A E : Type 0} (x y : A) → ◌≡◌ {A = Result A E} (Ok x) (Ok y) → x ≡ y
+ok_same x y same = cc
+
+err_same : {A E : Type 0} (x y : E) → ◌≡◌ {A = Result A E} (Err x) (Err y) → x ≡ y
+err_same x y same = cc
+
+not_by : (r : Result Table TableFault) (e : TableFault) → findings_by r ≡ Err e → r ≡ Err e
+not_by (Err f) e is = ap (λ (x : TableFault). Err x) (err_same {A = List Finding} f e is)
+not_by (Ok t) e is = absurd cc
 
 cut_by : (e : TableFault) → IsCutOff e → CutsOff (sort_fault e)
 cut_by e (inl file) = inl (ap sort_fault file)
 cut_by e (inr memory) = inr (ap sort_fault memory)
 
+refused_by : (name : List ℕ) (e : TableFault) (m : Holding) → checking.Refuses name e m → Refuses name (sort_fault e) m
+unfolding findings_in table_in
+refused_by name e m is = ap table_by (not_by (opening.table_in (index_file name) (rows_file name) m) e is)
+
 -- a check that was not made
 pub not_checked : (name : List ℕ) (old new : Option Holding) (e : TableFault) (f : SortFault) → f ≡ sort_fault e → new ≡ old → IsCutOff e ⊎ IfTold old (checking.Refuses name e) → CutsOff f ⊎ IsRefused name f old new
 not_checked name old new e f is same (inl cut) = inl (subst CutsOff (sym is) (cut_by e cut))
-not_checked name old new e f is same (inr none) = inr (record { reason = λ m told. ap refusal (none m told) ∙ ap (λ (x : SortFault). Some x) (sym is); same = same })
+not_checked name old new e f is same (inr none) = inr (record { reason = λ m told. subst (λ x. Refuses name x m) (sym is) (refused_by name e m (none m told)); same = same })
 
 -- a table that was not opened
 pub not_opened : (name index rows : List ℕ) (old new : Option Holding) (e : TableFault) (f : SortFault) → index ≡ index_file name → rows ≡ rows_file name → f ≡ sort_fault e → new ≡ old → IsCutOff e ⊎ IfTold old (HasNoTable index rows e) → CutsOff f ⊎ IsRefused name f old new
-unfolding findings_in
+unfolding table_in
 not_opened name index rows old new e f index_is rows_is is same (inl cut) = inl (subst CutsOff (sym is) (cut_by e cut))
 not_opened name index rows old new e f index_is rows_is is same (inr none) = inr (record {
-  reason = λ m told. ap (λ r. refusal (findings_by r)) (ap (λ i. opening.table_in i (rows_file name) m) (sym index_is) ∙ ap (λ r. opening.table_in index r m) (sym rows_is) ∙ none m told) ∙ ap (λ (x : SortFault). Some x) (sym is);
+  reason = λ m told. ap table_by (ap (λ i. opening.table_in i (rows_file name) m) (sym index_is) ∙ ap (λ r. opening.table_in index r m) (sym rows_is) ∙ none m told) ∙ ap (λ (x : SortFault). Err x) (sym is);
   same = same;
 })
 
 -- something was found
-pub damaged : (name : List ℕ) (found : Finding) (others : List Finding) (m : Holding) → Finds name (found ∷ others) m → refusal_in name m ≡ Some (sort.Damaged found)
-damaged name found others m is = ap refusal is
+found_by : (r : Result Table TableFault) (found : Finding) (others : List Finding) → findings_by r ≡ Ok (found ∷ others) → table_by r ≡ Err (sort.Damaged found)
+found_by (Err f) found others is = absurd cc
+found_by (Ok t) found others is = ap (clean_by t) (ok_same {E = TableFault} (findings t.defs t.rows t.index) (found ∷ others) is)
+
+pub damaged : (name : List ℕ) (found : Finding) (others : List Finding) (m : Holding) → Finds name (found ∷ others) m → Refuses name (sort.Damaged found) m
+unfolding findings_in table_in
+damaged name found others m is = found_by (opening.table_in (index_file name) (rows_file name) m) found others is
 
 -- a list that begins with an item
 pub begins : (xs : List Finding) (x : Finding) → Some x ≡ slice_get xs 0 → (others : List Finding) × (xs ≡ x ∷ others)
@@ -188,16 +216,14 @@ refused_untold name old new P f told (inr none) = inr (record { reason = λ m he
 pub record IsOpened (name : List ℕ) (d : Defs) (m : Holding) : Type 0 where
   pub data_file : List ℕ
   pub index : List ℕ
+  pub is : table_in name m ≡ Ok (table d data_file index)
   pub rows_there : m (rows_file name) ≡ Some data_file
   pub there : m (index_file name) ≡ Some index
   pub read : read_defs index ≡ Ok d
   pub clean : IsClean data_file index
 
-ok_same : {A E : Type 0} (x y : A) → ◌≡◌ {A = Result A E} (Ok x) (Ok y) → x ≡ y
-ok_same x y same = cc
-
 pub is_opened : (name index rows : List ℕ) (d : Defs) (size : ℕ) (m : Holding) → index ≡ index_file name → rows ≡ rows_file name → HasTable index rows d size m → Finds name [] m → IsOpened name d m
-unfolding findings_in
+unfolding findings_in table_in
 is_opened name index rows d size m index_is rows_is has none =
     let t : Table = table d has.data_file has.index_file in
     let here : opening.table_in (index_file name) (rows_file name) m ≡ Ok t = ap (λ i. opening.table_in i (rows_file name) m) (sym index_is) ∙ ap (λ r. opening.table_in index r m) (sym rows_is) ∙ has.is in
@@ -206,6 +232,7 @@ is_opened name index rows d size m index_is rows_is has none =
     record {
       data_file = has.data_file;
       index = has.index_file;
+      is = ap table_by here ∙ ap (clean_by t) nothing;
       rows_there = table_rows (index_file name) (rows_file name) t m here;
       there = table_index (index_file name) (rows_file name) t m here;
       read = read;
@@ -215,20 +242,19 @@ is_opened name index rows d size m index_is rows_is has none =
 pub clean_index : (name index : List ℕ) (d : Defs) (m : Holding) → index ≡ index_file name → IsOpened name d m → IsCleanIndex index d m
 clean_index name index d m index_is o = (o.index, ap m index_is ∙ o.there, o.read, (o.data_file, o.clean))
 
-pub sorts : (name index working : List ℕ) (d : Defs) (pages : ℕ) (m n : Holding) → AreApart (names_for name) → index ≡ index_file name → working ≡ new_index_file name → Finds name [] m → (o : IsOpened name d m) → Replaces index working d pages m n → OthersStayOf index working m n → Sorts name pages m n
-sorts name index working d pages m n apart index_is working_is none o put others =
+pub sorts : (name index working : List ℕ) (d : Defs) (pages : ℕ) (m n : Holding) → AreApart (names_for name) → index ≡ index_file name → working ≡ new_index_file name → (o : IsOpened name d m) → Replaces index working d pages m n → OthersStayOf index working m n → Sorts name pages m n
+sorts name index working d pages m n apart index_is working_is o put others =
     let r = put o.data_file o.index (ap m index_is ∙ o.there) o.read o.clean in
     record {
-      accepted = ap refusal none;
-      rows = o.data_file;
-      old = o.index;
-      new = r.0;
+      table = table d o.data_file o.index;
+      is = o.is;
       had_rows = o.rows_there;
       had_index = o.there;
       has_rows = others (rows_file name) (λ same. apart.rows-index (same ∙ index_is)) (λ same. apart.rows-new_index (same ∙ working_is)) ∙ o.rows_there;
-      has_index = sym (ap n index_is) ∙ r.1;
+      has_index = sym (ap n index_is) ∙ r.0;
+      answer = r.2;
       sorted = r.3;
-      gone = sym (ap n working_is) ∙ r.2;
+      gone = sym (ap n working_is) ∙ r.1;
     }
 
 -- ---- what stays

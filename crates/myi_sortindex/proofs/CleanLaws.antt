@@ -20,6 +20,7 @@ use Rattle.myi_defs.proofs.CallerLemmas.{elsewhere}
 use Rattle.myi_header.specs.declared.state.State.{State}
 use Rattle.myi_header.specs.Layout.{layout_of, first_page_of}
 use Rattle.myi_header.specs.StateOf.{state_of, has_mark}
+use Rattle.myi_header.specs.HeaderOf.{header_of}
 use Rattle.myi_header.specs.Parts.{part}
 use Rattle.myi_header.proofs.CallerLemmas.{state-take}
 use Rattle.myi_chain.specs.Readable.{Row}
@@ -35,8 +36,8 @@ use Rattle.myi_pair.proofs.CallerLemmas.{placed}
 use Rattle.myi_pair.proofs.SameDefs.{with_raw, readable_same, deleted_same, values_same, placed_same, addressable_same, distinct_same, walks_same, lists_same, pages_same}
 use Rattle.myi_pair.proofs.RebuiltLaws.{IsLike, layout_same, first_same, state_same, header_like}
 use Rattle.myi_sortindex.specs.declared.laying.LaidTrees.{LaidTrees}
-use Rattle.myi_sortindex.specs.Sorting.{sorted_bits, IsSorted, AreLaid}
-use Rattle.myi_sortindex.specs.Laying.{Tree, AreTrees, roots_from, LaysTrees, IsOf, state_laid}
+use Rattle.myi_sortindex.specs.Sorting.{sorted_bits, sorted_state, IsSorted, AreLaid, TreesLaid, trees_laid, index_trees, sorted_index}
+use Rattle.myi_sortindex.specs.Laying.{Tree, AreTrees, roots_from, LaysTrees, IsOf, HasBytes, state_laid}
 use Rattle.myi_sortindex.proofs.TreeLaws.{end_above, trees_behind, OfWalks, of_walks, walks_count}
 use Rattle.myi_sortindex.proofs.NewTreesLaws.{new_walks, have_walks, are_laid, key_lists, pages_fill, same_count}
 
@@ -58,7 +59,10 @@ pub record IsWritten (x z header : List ℕ) (laid : LaidTrees) (d : Defs) : Typ
   pub defs : AreDefs d
   pub raw : d.raw ≡ take (num_at 6 2 x) x
   pub trees : (ts : List Tree) → AreTrees d x 1 ts → map (λ (t : Tree). t.0) ts ≡ (state_of d d.raw).roots → IsOf d x z laid (take (length (state_of d d.raw).roots) ts)
+  pub exact : (ts : List Tree) → AreTrees d x 1 ts → map (λ (t : Tree). t.0) ts ≡ (state_of d d.raw).roots
+      → HasBytes (first_page_of d) z laid (trees_laid d x (first_page_of d) 1 (take (length (state_of d d.raw).roots) (state_of d d.raw).roots))
   pub long : length z ≡ laid.end
+  pub bytes : header ≡ header_of d (state_laid (state_of d d.raw) laid)
   pub front : length header ≡ first_page_of d
   pub state : state_of d header ≡ state_laid (state_of d d.raw) laid
   pub marked : has_mark d header ≡ true
@@ -247,3 +251,26 @@ sorted_again frame rows x z header laid d read written c =
     let by_raw : map (λ (t : Tree). t.0) t.trees ≡ (state_of c.defs c.defs.raw).roots = t.roots ∙ ap (λ (s : State). s.roots) (sym (raw_state c.defs x f.sound f.raw)) in
     let all : take (length (state_of c.defs c.defs.raw).roots) t.trees ≡ t.trees = take_all (length (state_of c.defs c.defs.raw).roots) t.trees (omega (arith, ap (λ (rs : List (Option ℕ)). length rs) by_raw, length-map t.trees (λ (t : Tree). t.0))) in
     is_sorted frame rows x z header laid c f t.trees t.roots t.walks (subst (IsOf c.defs x z laid) all (f.trees t.trees t.are by_raw))
+
+-- ---- its bytes are those of the sorted one
+
+sorted_bytes : (d : Defs) (x z header : List ℕ) (laid : LaidTrees) (trees : TreesLaid) → header ≡ header_of d (state_laid (state_of d x) laid) → length header ≡ first_page_of d → HasBytes (first_page_of d) z laid trees
+    → overwritten 0 header z ≡ header_of d (sorted_state trees.roots (first_page_of d + length trees.bytes) (state_of d x)) ++ trees.bytes
+sorted_bytes d x z header laid trees is front has =
+    written header z
+    ∙ ap (λ n. header ++ drop n z) front
+    ∙ ap (λ ys. header ++ ys) has.bytes
+    ∙ ap (λ h. h ++ trees.bytes) (is ∙ ap (λ rs. header_of d (sorted_state rs laid.end (state_of d x))) has.roots ∙ ap (λ n. header_of d (sorted_state trees.roots n (state_of d x))) has.end)
+
+pub written_index : (rows x z header : List ℕ) (laid : LaidTrees) (d : Defs) → read_defs x ≡ Ok d → IsWritten x z header laid d → IsClean rows x → (overwritten 0 header z ≡ sorted_index d x) × (laid.pages ≡ (index_trees d x).pages)
+unfolding index_trees sorted_index
+written_index rows x z header laid d read f c =
+    let same = same_defs rows x d read c in
+    let t = clean_trees rows x c in
+    let raw = raw_state d x f.sound f.raw in
+    let roots_are : (state_of d d.raw).roots ≡ (state_of d x).roots = ap (λ (s : State). s.roots) raw in
+    let are : AreTrees d x 1 t.trees = subst (λ (e : Defs). AreTrees e x 1 t.trees) (sym same) t.are in
+    let by_roots : map (λ (u : Tree). u.0) t.trees ≡ (state_of d d.raw).roots = subst (λ (e : Defs). map (λ (u : Tree). u.0) t.trees ≡ (state_of e x).roots) (sym same) t.roots ∙ sym roots_are in
+    let all : take (length (state_of d d.raw).roots) (state_of d d.raw).roots ≡ (state_of d x).roots = take_all (length (state_of d d.raw).roots) (state_of d d.raw).roots (omega arith) ∙ roots_are in
+    let has = subst (λ rs. HasBytes (first_page_of d) z laid (trees_laid d x (first_page_of d) 1 rs)) all (f.exact t.trees are by_roots) in
+    (sorted_bytes d x z header laid (index_trees d x) (f.bytes ∙ ap (λ (s : State). header_of d (state_laid s laid)) raw) f.front has, has.count)

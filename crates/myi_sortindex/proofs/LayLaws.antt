@@ -1,21 +1,22 @@
 -- One tree more is laid behind those before.
-use Rattle.std.proofs.Common.{◌≡◌, ◌≢◌, ◌⊎◌, inl, inr, ℕ, zero, suc, ◌+◌, ◌-◌, ◌*◌, ◌/◌, ◌%◌, ◌^◌, ◌<◌, ◌≤◌, Option, Some, None, List, [], ◌∷◌, ◌++◌, length, get_or, take, map, unwrap_or, refl, sym, ap, subst, ◌∙◌, arith, length-take, mul-div_cancel, mul_comm}
-use Rattle.std.proofs.lemmas.List.{length-map, take_all}
+use Rattle.std.proofs.Common.{◌≡◌, ◌≢◌, ◌⊎◌, inl, inr, ℕ, zero, suc, ◌+◌, ◌-◌, ◌*◌, ◌/◌, ◌%◌, ◌^◌, ◌<◌, ◌≤◌, Option, Some, None, List, [], ◌∷◌, ◌++◌, length, get_or, take, drop, map, unwrap_or, refl, sym, ap, subst, ◌∙◌, arith, length-take, length-drop, length-append, append_assoc, append-nil, mul-div_cancel, mul_comm}
+use Rattle.std.proofs.lemmas.List.{length-map, take_all, drop_all, take_more}
 use Rattle.myi_base.specs.Holding.{Holding, Told, IfTold, bytes_of}
 use Rattle.myi_defs.specs.declared.types.Defs.{Defs}
 use Rattle.myi_header.specs.Layout.{first_page_of}
 use Rattle.myi_header.specs.StateOf.{IsPlace}
 use Rattle.myi_btree.specs.declared.place.Place.{Place}
 use Rattle.myi_treecopy.specs.declared.page.TreeCopy.{TreeCopy}
-use Rattle.myi_treecopy.specs.Copying.{Copies}
-use Rattle.myi_treecopy.proofs.CallerLemmas.{Frame}
+use Rattle.myi_treecopy.specs.Copying.{Copies, LaysWhole}
+use Rattle.myi_treecopy.specs.LaidBytes.{whole_tree}
+use Rattle.myi_treecopy.proofs.CallerLemmas.{Frame, dropped_more}
 use Rattle.myi_pair.specs.Trees.{block_of_key, place_of, no_walk}
 use Rattle.myi_sortindex.specs.declared.fault.SortFault.{SortFault}
 use Rattle.myi_sortindex.specs.declared.laying.IndexCopy.{IndexCopy}
 use Rattle.myi_sortindex.specs.declared.laying.LaidTrees.{LaidTrees}
 use Rattle.myi_sortindex.specs.Refusals.{CutsOff}
-use Rattle.myi_sortindex.specs.Sorting.{nodes_of}
-use Rattle.myi_sortindex.specs.Laying.{Tree, HasTreeWalk, root_at, AreTrees, end_of, roots_from, page_count, LaysTree, LaysTrees, IsOf, LaysFirst, LaysNext, IsNext, HasNoRoom, HaveNoRoom}
+use Rattle.myi_sortindex.specs.Sorting.{nodes_of, tree_bytes, root_at, TreesLaid, trees_laid}
+use Rattle.myi_sortindex.specs.Laying.{Tree, HasTreeWalk, AreTrees, end_of, roots_from, page_count, LaysTree, LaysTrees, IsOf, HasBytes, LaysFirst, LaysNext, IsNext, PutsBytes, HasNoRoom, HaveNoRoom}
 use Rattle.myi_sortindex.proofs.TreeLaws.{end_first, end_more, roots_more, count_more, trees_more, trees_kept, no_tree, walk_at, root_is, taken}
 
 -- ---- one tree, by its copy
@@ -29,9 +30,9 @@ quotient end start block n some is =
     let left : end - start ≡ n * block = (let e : end - start ≡ block * n = omega (arith, is) in e) ∙ mul_comm block n in
     ap (λ k. k / block) left ∙ mul-div_cancel n some
 
-pub next_laid : (c : IndexCopy) (place : Place) (root : ℕ) (old new : LaidTrees) (m n : Holding) → 0 < place.block_length → Copies (tree_copy c place) root old.end new.end m n → new.pages ≡ old.pages + (new.end - old.end) / place.block_length
+pub next_laid : (c : IndexCopy) (place : Place) (root : ℕ) (old new : LaidTrees) (m n : Holding) → 0 < place.block_length → Copies (tree_copy c place) root old.end new.end m n → LaysWhole (tree_copy c place) root old.end m n → new.pages ≡ old.pages + (new.end - old.end) / place.block_length
     → LaysNext c place (Some root) old new m n
-next_laid c place root old new m n some s pages = record {
+next_laid c place root old new m n some s whole pages = record {
   long = s.long;
   kept = s.kept;
   others = s.others;
@@ -44,10 +45,20 @@ next_laid c place root old new m n some s pages = record {
         end = end;
         count = pages ∙ ap (λ k. old.pages + k) (quotient new.end old.end place.block_length (length w.pages) some end);
       };
+  exact = λ w walk.
+      let there = whole walk.0 w walk.1 in
+      record {
+        there = there;
+        count = pages
+            ∙ ap (λ k. old.pages + k / place.block_length) (let e : new.end - old.end ≡ length (whole_tree place.rec_ref place.block_length (bytes_of c.index.now m) root old.end) = omega (arith, s.long, length-drop old.end (bytes_of c.working.now n), ap (λ (ys : List ℕ). length ys) there) in e);
+      };
 }
 
-pub next_none : (c : IndexCopy) (place : Place) (old new : LaidTrees) (m : Holding) → length (bytes_of c.working.now m) ≡ old.end → new.end ≡ old.end → new.pages ≡ old.pages → LaysNext c place None old new m m
-next_none c place old new m long end pages = record {
+none_of : (block : ℕ) → 0 < block → 0 / block ≡ 0
+none_of block some = ap (λ k. k / block) (let e : 0 ≡ 0 * block = omega arith in e) ∙ mul-div_cancel 0 some
+
+pub next_none : (c : IndexCopy) (place : Place) (old new : LaidTrees) (m : Holding) → 0 < place.block_length → length (bytes_of c.working.now m) ≡ old.end → new.end ≡ old.end → new.pages ≡ old.pages → LaysNext c place None old new m m
+next_none c place old new m some long end pages = record {
   long = long ∙ sym end;
   kept = take_all (length (bytes_of c.working.now m)) (bytes_of c.working.now m) (omega arith);
   others = λ q other. refl;
@@ -58,7 +69,82 @@ next_none c place old new m long end pages = record {
         end = end ∙ (let e : old.end ≡ old.end + place.block_length * 0 = omega arith in e);
         count = pages ∙ (let e : old.pages ≡ old.pages + 0 = omega arith in e);
       });
+  exact = λ w walk. record {
+    there = drop_all old.end (bytes_of c.working.now m) (omega (arith, long));
+    count = pages ∙ (let e : old.pages ≡ old.pages + 0 = omega arith in e) ∙ ap (λ k. old.pages + k) (sym (none_of place.block_length some));
+  };
 }
+
+-- ---- the bytes of one tree more
+
+at_place : (d : Defs) (x : List ℕ) (root : Option ℕ) (j k s t : ℕ) → j ≡ k → s ≡ t → tree_bytes d x j root s ≡ tree_bytes d x k root t
+at_place d x root j k s t number place = ap (λ i. tree_bytes d x i root s) number ∙ ap (tree_bytes d x k root) place
+
+none_first : (n : ℕ) → n + 0 ≡ 0 + n
+none_first n = omega arith
+
+summed : (a b c : ℕ) → a + (b + c) ≡ a + b + c
+summed a b c = omega arith
+
+-- what the trees with one more are
+record OneMore (d : Defs) (x : List ℕ) (start k : ℕ) (rs : List (Option ℕ)) (root : Option ℕ) (first all : TreesLaid) : Type 0 where
+  pub bytes : all.bytes ≡ first.bytes ++ tree_bytes d x (k + length rs) root (start + length first.bytes)
+  pub roots : all.roots ≡ first.roots ++ root_at (start + length first.bytes) root ∷ []
+  pub pages : all.pages ≡ first.pages + length (tree_bytes d x (k + length rs) root (start + length first.bytes)) / block_of_key d (k + length rs)
+
+one_more : (d : Defs) (x : List ℕ) (start k : ℕ) (rs : List (Option ℕ)) (root : Option ℕ) → OneMore d x start k rs root (trees_laid d x start k rs) (trees_laid d x start k (rs ++ root ∷ []))
+one_more d x start k [] root =
+    let number : k ≡ k + 0 = omega arith in
+    let place : start ≡ start + 0 = omega arith in
+    let same = at_place d x root k (k + 0) start (start + 0) number place in
+    record {
+      bytes = append-nil (tree_bytes d x k root start) ∙ same;
+      roots = ap (λ n. root_at n root ∷ []) place;
+      pages = none_first (length (tree_bytes d x k root start) / block_of_key d k)
+          ∙ ap (λ n. 0 + n / block_of_key d k) (ap (λ (ys : List ℕ). length ys) same)
+          ∙ ap (λ j. 0 + length (tree_bytes d x (k + 0) root (start + 0)) / block_of_key d j) number;
+    }
+one_more d x start k (r ∷ rs) root =
+    let own : List ℕ = tree_bytes d x k r start in
+    let block : ℕ = block_of_key d k in
+    let next : ℕ = start + length own in
+    let inner : TreesLaid = trees_laid d x next (suc k) rs in
+    let others = one_more d x next (suc k) rs root in
+    let number : suc k + length rs ≡ k + suc (length rs) = omega arith in
+    let place : next + length inner.bytes ≡ start + length (own ++ inner.bytes) = omega (arith, length-append own inner.bytes) in
+    let same = at_place d x root (suc k + length rs) (k + suc (length rs)) (next + length inner.bytes) (start + length (own ++ inner.bytes)) number place in
+    record {
+      bytes = ap (λ ys. own ++ ys) others.bytes
+          ∙ sym (append_assoc own inner.bytes (tree_bytes d x (suc k + length rs) root (next + length inner.bytes)))
+          ∙ ap (λ ys. (own ++ inner.bytes) ++ ys) same;
+      roots = ap (λ rs. root_at start r ∷ rs) others.roots ∙ ap (λ n. root_at start r ∷ (inner.roots ++ root_at n root ∷ [])) place;
+      pages = ap (λ n. length own / block + n) others.pages
+          ∙ ap (λ n. length own / block + (inner.pages + n / block_of_key d (suc k + length rs))) (ap (λ (ys : List ℕ). length ys) same)
+          ∙ ap (λ j. length own / block + (inner.pages + length (tree_bytes d x (k + suc (length rs)) root (start + length (own ++ inner.bytes))) / block_of_key d j)) number
+          ∙ summed (length own / block) inner.pages (length (tree_bytes d x (k + suc (length rs)) root (start + length (own ++ inner.bytes))) / block_of_key d (k + suc (length rs)));
+    }
+
+-- one tree more was laid, and its bytes put behind those before
+has_more : (d : Defs) (x y z : List ℕ) (i : ℕ) (rs : List (Option ℕ)) (root : Option ℕ) (old new : LaidTrees) → 1 + length rs ≡ i + 1 → length y ≡ old.end → length z ≡ new.end → take (length y) z ≡ y → HasBytes (first_page_of d) y old (trees_laid d x (first_page_of d) 1 rs)
+    → PutsBytes (block_of_key d (i + 1)) z old new (tree_bytes d x (i + 1) root old.end) → new.roots.items ≡ old.roots.items ++ root_at old.end root ∷ [] → HasBytes (first_page_of d) z new (trees_laid d x (first_page_of d) 1 (rs ++ root ∷ []))
+has_more d x y z i rs root old new number long behind kept has puts more =
+    let first : ℕ = first_page_of d in
+    let before : TreesLaid = trees_laid d x first 1 rs in
+    let own : List ℕ = tree_bytes d x (i + 1) root old.end in
+    let all = one_more d x first 1 rs root in
+    let same = at_place d x root (1 + length rs) (i + 1) (first + length before.bytes) old.end number (sym has.end) in
+    let bytes = dropped_more first old.end y z kept long (omega (arith, has.end)) ∙ ap (λ ys. ys ++ drop old.end z) has.bytes ∙ ap (λ ys. before.bytes ++ ys) (puts.there ∙ sym same) ∙ sym all.bytes in
+    let low : length y ≤ length z = omega (arith, ap (λ (ys : List ℕ). length ys) kept, length-take (length y) z) in
+    record {
+      bytes = bytes;
+      end = omega (arith, behind, long, low, has.end, length-drop first z, ap (λ (ys : List ℕ). length ys) bytes);
+      roots = more ∙ ap (λ rs. rs ++ root_at old.end root ∷ []) has.roots ∙ ap (λ n. before.roots ++ root_at n root ∷ []) has.end ∙ sym all.roots;
+      count = puts.count
+          ∙ ap (λ n. n + length own / block_of_key d (i + 1)) has.count
+          ∙ ap (λ (ys : List ℕ). before.pages + length ys / block_of_key d (i + 1)) (sym same)
+          ∙ ap (λ j. before.pages + length (tree_bytes d x (1 + length rs) root (first + length before.bytes)) / block_of_key d j) (sym number)
+          ∙ sym all.pages;
+    }
 
 -- ---- the trees so far, and the next one
 
@@ -67,6 +153,12 @@ first_none c d roots laid m long end none pages = record {
   long = long ∙ sym end;
   others = λ q other. refl;
   first = λ ts are is. record { trees = tt; end = end; roots = none; count = pages };
+  exact = λ ts are is. record {
+    bytes = drop_all (first_page_of d) (bytes_of c.working.now m) (omega (arith, long));
+    end = end ∙ (let e : first_page_of d ≡ first_page_of d + 0 = omega arith in e);
+    roots = none;
+    count = pages;
+  };
 }
 
 -- the tree that comes next
@@ -131,12 +223,23 @@ module _ (c : IndexCopy) (d : Defs) (roots : List (Option ℕ)) (i : ℕ) (root 
         count = one.count ∙ ap (λ k. k + length t.1.pages) so_far.count ∙ sym (count_more (take i ts) t) ∙ ap page_count (sym (taken ts i inside));
       }
 
+  exact_too : (new : LaidTrees) (k : Holding) → LaysNext c (place_of d (i + 1)) root old new n k → new.roots.items ≡ old.roots.items ++ root_at old.end root ∷ []
+      → HasBytes (first_page_of d) (bytes_of c.working.now k) new (trees_laid d (bytes_of c.index.now m) (first_page_of d) 1 (take (i + 1) roots))
+  exact_too new k next more =
+      let x : List ℕ = bytes_of c.index.now m in
+      let y : List ℕ = bytes_of c.working.now k in
+      let puts : PutsBytes (block_of_key d (i + 1)) y old new (tree_bytes d x (i + 1) root old.end) =
+      subst (λ b. PutsBytes (block_of_key d (i + 1)) y old new (tree_bytes d b (i + 1) root old.end)) same_index (next.exact t.1 walk_here) in
+      subst (λ rs. HasBytes (first_page_of d) y new (trees_laid d x (first_page_of d) 1 rs)) (sym (take_more roots i root low ∙ ap (λ r. take i roots ++ r ∷ []) (sym here)))
+      (has_more d x (bytes_of c.working.now n) y i (take i roots) root old new (omega (arith, length-take i roots, low)) before.long next.long next.kept (before.exact ts are is) puts more)
+
 pub first_more : Frame → (c : IndexCopy) (d : Defs) (roots : List (Option ℕ)) (i : ℕ) (root : Option ℕ) (old new : LaidTrees) (m n k : Holding) → i < length roots → root ≡ get_or roots i root → c.index.now ≢ c.working.now → LaysFirst c d roots i old m n
     → LaysNext c (place_of d (i + 1)) root old new n k → new.roots.items ≡ old.roots.items ++ root_at old.end root ∷ [] → LaysFirst c d roots (i + 1) new m k
 first_more frame c d roots i root old new m n k low here apart before next more = record {
   long = next.long;
   others = λ q other. next.others q other ∙ before.others q other;
   first = λ ts are is. here_too c d roots i root old m n low here apart before ts are is frame new k next more;
+  exact = λ ts are is. exact_too c d roots i root old m n low here apart before ts are is new k next more;
 }
 
 -- what stands at a place of a list does not depend on what is given for a place past its end

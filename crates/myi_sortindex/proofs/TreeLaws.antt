@@ -10,8 +10,8 @@ use Rattle.myi_btree.specs.LaidPages.{places_from}
 use Rattle.myi_treecopy.proofs.CallerLemmas.{Frame, pairs_agree, places_kept, places_behind}
 use Rattle.myi_rowkeys.specs.TableKeys.{numbers_from}
 use Rattle.myi_pair.specs.Trees.{block_of_key, no_walk, pages_on, HasWalkApart, HaveWalks}
-use Rattle.myi_sortindex.specs.Sorting.{nodes_of}
-use Rattle.myi_sortindex.specs.Laying.{Tree, HasTreeWalk, root_at, AreTrees, end_of, roots_from, page_count, LaysTree, LaysTrees}
+use Rattle.myi_sortindex.specs.Sorting.{nodes_of, root_at}
+use Rattle.myi_sortindex.specs.Laying.{Tree, HasTreeWalk, AreTrees, end_of, roots_from, page_count, LaysTree, LaysTrees}
 
 -- ---- where trees end
 

@@ -1,5 +1,5 @@
 -- The trees of an index file that were laid so far into another one, key after key.
-use Rattle.std.specs.Prelude.{◌≡◌, ◌≢◌, ◌≤◌, ◌+◌, ◌*◌, ℕ, suc, List, [], ◌∷◌, length, map, take, sum_by, Option, Some, None, Ok}
+use Rattle.std.specs.Prelude.{◌≡◌, ◌≢◌, ◌≤◌, ◌+◌, ◌*◌, ◌/◌, ℕ, suc, List, [], ◌∷◌, length, map, take, drop, sum_by, Option, Some, None, Ok}
 use Rattle.myi_base.specs.Holding.{Holding, bytes_of}
 use Rattle.myi_base.specs.Holding as holding
 use Rattle.myi_defs.specs.declared.types.Defs.{Defs}
@@ -11,6 +11,7 @@ use Rattle.myi_btree.specs.Walk.{Places, Walked, walk_of, content}
 use Rattle.myi_btree.specs.LaidPages.{places_from}
 use Rattle.myi_btree.specs.Nodes.{node_at}
 use Rattle.myi_treecopy.specs.Copying.{pairs_on}
+use Rattle.myi_treecopy.specs.LaidBytes.{whole_tree}
 use Rattle.myi_treecopy.specs.declared.fault.CopyFault.{CopyFault}
 use Rattle.myi_treecopy.specs.declared.fault.CopyFault.TheVariants as copy
 use Rattle.myi_pair.specs.declared.finding.Finding.TheVariants as finding
@@ -20,7 +21,7 @@ use Rattle.myi_sortindex.specs.declared.fault.SortFault.{SortFault}
 use Rattle.myi_sortindex.specs.declared.fault.SortFault.TheVariants as sort
 use Rattle.myi_sortindex.specs.declared.laying.IndexCopy.{IndexCopy}
 use Rattle.myi_sortindex.specs.declared.laying.LaidTrees.{LaidTrees}
-use Rattle.myi_sortindex.specs.Sorting.{nodes_of, sorted_bits, IsSorted}
+use Rattle.myi_sortindex.specs.Sorting.{nodes_of, sorted_bits, IsSorted, root_bytes, root_at, TreesLaid, trees_laid, index_trees, sorted_index}
 
 -- a tree has this walk from its root, whatever its height
 abbrev pub HasTreeWalk : Places → Option ℕ → Walked → Type 0
@@ -30,11 +31,6 @@ HasTreeWalk read (Some root) w = (height : ℕ) × (walk_of read height root ≡
 -- a tree by its root and its walk
 abbrev pub Tree : Type 0
 Tree = Option ℕ × Walked
-
--- where the root of a tree stands that is laid from a place on
-abbrev pub root_at : ℕ → Option ℕ → Option ℕ
-root_at start None = None
-root_at start (Some root) = Some start
 
 -- the trees of the keys from a number on
 abbrev pub AreTrees : Defs → List ℕ → ℕ → List Tree → Type 0
@@ -75,11 +71,20 @@ pub record IsOf (d : Defs) (x y : List ℕ) (laid : LaidTrees) (ts : List Tree) 
   pub roots : laid.roots.items ≡ roots_from d (first_page_of d) 1 ts
   pub count : laid.pages ≡ page_count ts
 
+-- these bytes of trees from a place on, their roots and how many pages they have are what was laid
+pub record HasBytes (first : ℕ) (y : List ℕ) (laid : LaidTrees) (trees : TreesLaid) : Type 0 where
+  pub bytes : drop first y ≡ trees.bytes
+  pub end : laid.end ≡ first + length trees.bytes
+  pub roots : laid.roots.items ≡ trees.roots
+  pub count : laid.pages ≡ trees.pages
+
 -- The trees of so many keys were laid, of which these are the roots. The working file ends where they end.
 pub record LaysFirst (c : IndexCopy) (d : Defs) (roots : List (Option ℕ)) (count : ℕ) (laid : LaidTrees) (m n : Holding) : Type 0 where
   pub long : length (bytes_of c.working.now n) ≡ laid.end
   pub others : holding.OthersStay c.working.now m n
   pub first : (ts : List Tree) → AreTrees d (bytes_of c.index.now m) 1 ts → map (λ (t : Tree). t.0) ts ≡ roots → IsOf d (bytes_of c.index.now m) (bytes_of c.working.now n) laid (take count ts)
+  pub exact : (ts : List Tree) → AreTrees d (bytes_of c.index.now m) 1 ts → map (λ (t : Tree). t.0) ts ≡ roots
+      → HasBytes (first_page_of d) (bytes_of c.working.now n) laid (trees_laid d (bytes_of c.index.now m) (first_page_of d) 1 (take count roots))
 
 -- such a tree is what was laid last
 pub record IsNext (place : Place) (x y : List ℕ) (old new : LaidTrees) (t : Tree) : Type 0 where
@@ -88,6 +93,11 @@ pub record IsNext (place : Place) (x y : List ℕ) (old new : LaidTrees) (t : Tr
   pub end : new.end ≡ old.end + place.block_length * length t.1.pages
   pub count : new.pages ≡ old.pages + length t.1.pages
 
+-- these bytes of a tree are what was laid last
+pub record PutsBytes (block : ℕ) (y : List ℕ) (old new : LaidTrees) (bytes : List ℕ) : Type 0 where
+  pub there : drop old.end y ≡ bytes
+  pub count : new.pages ≡ old.pages + length bytes / block
+
 -- One more tree was laid, from the end on, on pages that are made so. The working file ended there, and ends behind it.
 pub record LaysNext (c : IndexCopy) (place : Place) (root : Option ℕ) (old new : LaidTrees) (m n : Holding) : Type 0 where
   pub long : length (bytes_of c.working.now n) ≡ new.end
@@ -95,6 +105,8 @@ pub record LaysNext (c : IndexCopy) (place : Place) (root : Option ℕ) (old new
   pub others : holding.OthersStay c.working.now m n
   pub tree : (w : Walked) → HasTreeWalk (node_at place.rec_ref place.block_length (bytes_of c.index.now m)) root w
       → IsNext place (bytes_of c.index.now m) (bytes_of c.working.now n) old new (root, w)
+  pub exact : (w : Walked) → HasTreeWalk (node_at place.rec_ref place.block_length (bytes_of c.index.now m)) root w
+      → PutsBytes place.block_length (bytes_of c.working.now n) old new (root_bytes (whole_tree place.rec_ref place.block_length (bytes_of c.index.now m)) root old.end)
 
 -- no tree stands below the root that has room before the limit, from a place on
 abbrev pub HasNoRoom : IndexCopy → Place → Option ℕ → ℕ → Holding → Type 0
@@ -112,9 +124,10 @@ IsCleanIndex index d m = (x : List ℕ) × (m index ≡ Some x) × (read_defs x 
 abbrev pub LaysAll : IndexCopy → Defs → List (Option ℕ) → LaidTrees → Holding → Holding → Type 0
 LaysAll c d roots laid m n = LaysFirst c d roots (length roots) laid m n
 
--- the index file, where it is clean with a data file, was sorted and has so many pages; the working file is gone
+-- the index file, where it is clean with a data file, was sorted and has so many pages: it is the sorted one, and the working file is gone
 abbrev pub Replaces : List ℕ → List ℕ → Defs → ℕ → Holding → Holding → Type 0
-Replaces index working d pages m n = (rows x : List ℕ) → m index ≡ Some x → read_defs x ≡ Ok d → IsClean rows x → (y : List ℕ) × (n index ≡ Some y) × (n working ≡ None) × IsSorted rows x y pages
+Replaces index working d pages m n = (rows x : List ℕ) → m index ≡ Some x → read_defs x ≡ Ok d → IsClean rows x
+    → (n index ≡ Some (sorted_index d x)) × (n working ≡ None) × (pages ≡ (index_trees d x).pages) × IsSorted rows x (sorted_index d x) pages
 
 -- files of other names than these two hold what they held
 abbrev pub OthersStayOf : List ℕ → List ℕ → Holding → Holding → Type 0

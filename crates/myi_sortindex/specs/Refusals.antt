@@ -1,10 +1,13 @@
 -- Why the pages of an index file are not sorted, and what is left then.
-use Rattle.std.specs.Prelude.{◌≡◌, ◌⊎◌, ℕ, List, [], ◌∷◌, Option, Some, None, Result, Ok, Err}
+use Rattle.std.specs.Prelude.{◌≡◌, ◌⊎◌, ℕ, List, [], ◌∷◌, Option, None, Result, Ok, Err}
 use Rattle.myi_base.specs.Holding.{Holding, IfTold, Told}
 use Rattle.myi_opening.specs.declared.fault.TableFault.{TableFault}
 use Rattle.myi_opening.specs.declared.fault.TableFault.TheVariants as table
+use Rattle.myi_opening.specs.Names.{rows_file, index_file}
+use Rattle.myi_opening.specs.Opening.{Table}
+use Rattle.myi_opening.specs.Opening as opening
 use Rattle.myi_pair.specs.declared.finding.Finding.{Finding}
-use Rattle.myi_check.specs.Checking.{findings_in}
+use Rattle.myi_pair.specs.Findings.{findings}
 use Rattle.myi_repair.specs.Faults.{RoseAtMost}
 use Rattle.myi_sortindex.specs.declared.fault.SortFault.{SortFault}
 use Rattle.myi_sortindex.specs.declared.fault.SortFault.TheVariants as sort
@@ -16,19 +19,27 @@ sort_fault (table.Def f) = sort.Def f
 sort_fault table.File = sort.File
 sort_fault table.Memory = sort.Memory
 
--- why a table is refused, by what a check of it answers: it is not opened, or something is found, and then the first thing is told
-abbrev pub refusal : Result (List Finding) TableFault → Option SortFault
-refusal (Err f) = Some (sort_fault f)
-refusal (Ok []) = None
-refusal (Ok (found ∷ others)) = Some (sort.Damaged found)
+-- by what is wrong with its files: the first thing is told
+abbrev pub clean_by : Table → List Finding → Result Table SortFault
+clean_by t [] = Ok t
+clean_by t (found ∷ others) = Err (sort.Damaged found)
 
--- why the table of this name is refused
-abbrev pub refusal_in : List ℕ → Holding → Option SortFault
-refusal_in name m = refusal (findings_in name m)
+-- by the table that was opened, or why it was not
+abbrev pub table_by : Result Table TableFault → Result Table SortFault
+table_by (Err f) = Err (sort_fault f)
+table_by (Ok t) = clean_by t (findings t.defs t.rows t.index)
+
+-- the table of this name, with whose files nothing is wrong, or why it is refused
+unfoldable pub table_in : List ℕ → Holding → Result Table SortFault
+table_in name m = table_by (opening.table_in (index_file name) (rows_file name) m)
+
+-- the table is refused for this reason
+abbrev pub Refuses : List ℕ → SortFault → Holding → Type 0
+Refuses name fault m = table_in name m ≡ Err fault
 
 -- it is refused for this reason, and nothing is changed
 pub record IsRefused (name : List ℕ) (fault : SortFault) (old new : Option Holding) : Type 0 where
-  pub reason : IfTold old (λ m. refusal_in name m ≡ Some fault)
+  pub reason : IfTold old (Refuses name fault)
   pub same : new ≡ old
 
 -- a fault that is no refusal of the table

@@ -8,7 +8,8 @@ ghost use Rattle.myi_header.specs.Layout.{first_page_of};
 ghost use Rattle.myi_header.specs.StateOf.{IsPlace};
 ghost use Rattle.myi_btree.specs.Sizes.{IsPlaced};
 ghost use Rattle.myi_sortindex.specs.Refusals.{CutsOff};
-ghost use Rattle.myi_sortindex.specs.Laying.{root_at, LaysNext, LaysAll, HasNoRoom, HaveNoRoom, copy_fault};
+ghost use Rattle.myi_sortindex.specs.Sorting.{root_at};
+ghost use Rattle.myi_sortindex.specs.Laying.{LaysNext, LaysAll, HasNoRoom, HaveNoRoom, copy_fault};
 
 use crate::fault::SortFault;
 use myi_btree::{Place, walks_depend_on_their_pages};

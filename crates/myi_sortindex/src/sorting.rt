@@ -21,7 +21,7 @@ use std::alloc::Global;
 pub fn sort_index<F: Files>(alloc: Global, files: &mut F, name: &str) -> Result<u64, SortFault>
     requires { IsTrue F.writable }
 
-    // The data file stays, and the index file is clean again, with the same trees, whose pages are sorted.
+    // The data file stays, and the index file is the sorted one: clean again, with the same trees.
     ensures sorted { IfOk result (λ pages. Told (F.holds files.old) (F.holds files.new)
         (Sorts name.now pages)) }
 

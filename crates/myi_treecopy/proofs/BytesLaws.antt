@@ -42,7 +42,7 @@ reached first end xs laid long low is = let n : length laid ≡ length xs - firs
 
 -- ---- a page and what stands below it
 
-bytes_taken : (xs page : List ℕ) (at block : ℕ) → bytes_at xs at block ≡ Some page → take block (drop at xs) ≡ page
+pub bytes_taken : (xs page : List ℕ) (at block : ℕ) → bytes_at xs at block ≡ Some page → take block (drop at xs) ≡ page
 unfolding bytes_at
 bytes_taken xs page at block is = by _ is
   where

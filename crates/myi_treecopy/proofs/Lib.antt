@@ -4,3 +4,4 @@ pub mod TurnLaws
 pub mod FileLaws
 pub mod BytesLaws
 pub mod StepLaws
+pub mod LevelLaws

@@ -7,7 +7,7 @@ use Rattle.myi_btree.specs.Sizes.{IsPlaced}
 use Rattle.myi_btree.specs.Walk.{Node, Places, Walked, walk_of, content}
 use Rattle.myi_btree.specs.LaidPages.{places_from}
 use Rattle.myi_btree.specs.Nodes.{node_at}
-use Rattle.myi_treecopy.specs.LaidBytes.{Laying, tree_laid}
+use Rattle.myi_treecopy.specs.LaidBytes.{Laying, tree_laid, whole_tree}
 use Rattle.myi_treecopy.specs.declared.fault.CopyFault.{CopyFault}
 use Rattle.myi_treecopy.specs.declared.fault.CopyFault.TheVariants as copy
 use Rattle.myi_treecopy.specs.declared.page.TreeCopy.{TreeCopy}
@@ -54,6 +54,11 @@ pub record Copies (t : TreeCopy) (at start end : ℕ) (m n : Holding) : Type 0 w
   pub ends : (height : ℕ) (w : Walked) → walk_of (old_nodes t m) height at ≡ Some w → end ≡ start + t.place.block_length * length w.pages
   pub bytes : (height : ℕ) (w : Walked) → walk_of (old_nodes t m) height at ≡ Some w → drop start (bytes_of t.new.now n) ≡ laying t m height at start
   pub anew : (height : ℕ) (w : Walked) → walk_of (old_nodes t m) height at ≡ Some w → StandsAnew t.place.block_length (old_nodes t m) (new_nodes t n) height start w
+
+-- Where the tree below a place of the old file has a walk, whatever its height, the new file has from the start on exactly its bytes, as
+-- it is laid from there on.
+abbrev pub LaysWhole : TreeCopy → ℕ → ℕ → Holding → Holding → Type 0
+LaysWhole t at start m n = (height : ℕ) (w : Walked) → walk_of (old_nodes t m) height at ≡ Some w → drop start (bytes_of t.new.now n) ≡ whole_tree t.place.rec_ref t.place.block_length (bytes_of t.old.now m) at start
 
 -- no tree stands below the place whose pages all have room before the limit
 abbrev pub NoTree : TreeCopy → ℕ → ℕ → Holding → Type 0

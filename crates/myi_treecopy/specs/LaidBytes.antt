@@ -31,3 +31,11 @@ page_laid rec_ref block lay bytes (Some p) start = with_places rec_ref bytes p (
 abbrev pub tree_laid : ℕ → ℕ → List ℕ → ℕ → Laying
 tree_laid rec_ref block file zero at start = take block (drop at file)
 tree_laid rec_ref block file (suc height) at start = page_laid rec_ref block (tree_laid rec_ref block file height) (take block (drop at file)) (page_in rec_ref (take block (drop at file))) start
+
+-- the most levels that a tree has below its root: one with more has 2^64 pages at least
+unfoldable pub most_levels : ℕ
+most_levels = 64
+
+-- a tree of any height, laid from a place on
+unfoldable pub whole_tree : ℕ → ℕ → List ℕ → Laying
+whole_tree rec_ref block file at start = tree_laid rec_ref block file most_levels at start

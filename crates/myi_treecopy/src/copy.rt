@@ -1,10 +1,10 @@
 //! Laying one tree: a page, behind it what stands below its first child, then what stands below the second, and so
 //! on.
-ghost use Rattle.std.specs.Prelude.{◌≡◌, ◌+◌, ◌%◌, ◌≤◌, Some, IfOk, IfErr, IsTrue};
+ghost use Rattle.std.specs.Prelude.{◌≡◌, ◌+◌, ◌%◌, ◌≤◌, Some, IfOk, IfErr, OnOk, IsTrue};
 ghost use Rattle.myi_base.specs.Holding.{IfTold, Told, OthersStay};
 ghost use Rattle.myi_base.specs.Causes.{HasCause};
 ghost use Rattle.myi_treecopy.specs.declared.fault.CopyFault.TheVariants.{File};
-ghost use Rattle.myi_treecopy.specs.Copying.{IsMade, CutsOrLacks, EndsBefore, Copies, NoTree, NoTreeWithin};
+ghost use Rattle.myi_treecopy.specs.Copying.{IsMade, CutsOrLacks, EndsBefore, Copies, LaysWhole, NoTree, NoTreeWithin};
 
 use crate::fault::CopyFault;
 use crate::page::{TreeCopy, children_of};
@@ -80,6 +80,8 @@ pub fn copy_tree<F: Files>(
     requires short { IfTold (F.holds files.old) (EndsBefore tree.now start) }
     ensures copies { IfOk result (λ end. Told (F.holds files.old) (F.holds files.new)
         (Copies tree.now root start end)) }
+    ensures bytes { OnOk result (Told (F.holds files.old) (F.holds files.new)
+        (LaysWhole tree.now root start)) }
     ensures some { IfOk result (λ end. start + tree.now.place.block_length ≤ end) }
     ensures inside { IfOk result (λ end. end ≤ tree.now.limit) }
     ensures place { IfOk result (λ end. end % 1024 ≡ 0) }
@@ -88,6 +90,7 @@ pub fn copy_tree<F: Files>(
         → NoTree tree.now root start m)) }
     ensures cause { HasCause File (F.faults files.old) (F.faults files.new) result }
 {
+    pages_read_back();
     index_pages_are_nodes();
     let _limit = tree.limit;
     lay(tree, files, root, start, MOST_LEVELS)

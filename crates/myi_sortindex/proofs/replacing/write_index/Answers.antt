@@ -7,6 +7,7 @@ use Rattle.myi_defs.proofs.CallerLemmas.{sound}
 use Rattle.myi_header.specs.declared.state.State.{State}
 use Rattle.myi_header.specs.Layout.{first_page_of}
 use Rattle.myi_header.specs.StateOf.{IsPlace, state_of}
+use Rattle.myi_header.specs.HeaderOf.{header_of}
 use Rattle.myi_check.proofs.CallerLemmas.{as_many_roots}
 use Rattle.myi_sortindex.specs.declared.laying.IndexCopy.{IndexCopy}
 use Rattle.myi_sortindex.specs.Laying.{HaveNoRoom, IsCleanIndex, state_laid}
@@ -71,6 +72,7 @@ returns-clause-replaced g c =
       sound = sound d c.requires.defs;
       defs = c.requires.defs;
       raw = λ x read. c.definitions_are_sound.ensures.raw x d read;
+      bytes = header.bytes ∙ ap (header_of d) (c.with_trees.ensures ∙ ap (λ (s : State). state_laid s laid) c.in_ok-state.ensures.value);
       front = header.long;
       state = header.read ∙ c.with_trees.ensures ∙ ap (λ (s : State). state_laid s laid) c.in_ok-state.ensures.value;
       marked = header.marked;

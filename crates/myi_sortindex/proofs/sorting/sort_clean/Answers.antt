@@ -37,7 +37,7 @@ returns-clause-sorted g c =
     let rows_is = c.as_str-rows.ensures.value ∙ ap (λ (u : FourNames). u.rows) c.in_ok-table.ensures in
     let working_is = c.as_str.ensures.value ∙ ap (λ (u : FourNames). u.new_index) c.in_ok-table.ensures in
     ok_sorts c.replace_index.result name _ _ d _ _ _ c.open_table.ensures.holds c.replace_index.ensures.replaced c.replace_index.ensures.others
-    (λ pages m n held put others. sorts name _ _ d pages m n (apart_of (names_for name) name refl) index_is working_is (c.requires.clean m held) (is_opened name _ _ d _ m index_is rows_is (c.in_ok-opened.ensures.table m held) (c.requires.clean m held)) put others)
+    (λ pages m n held put others. sorts name _ _ d pages m n (apart_of (names_for name) name refl) index_is working_is (is_opened name _ _ d _ m index_is rows_is (c.in_ok-opened.ensures.table m held) (c.requires.clean m held)) put others)
 
 pub returns-clause-kept : goal.returns-clause-kept
 returns-clause-kept g c =
