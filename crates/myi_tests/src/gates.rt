@@ -131,7 +131,7 @@ fn each_step_passes_the_gate(rt: HostRuntime) -> Result<(), Fail> {
 
 /// Where the call of a run that fails is made.
 #[derive(Clone, Copy, PartialEq, Eq)]
-enum Failing {
+enum FailedCall {
     /// The run makes fewer calls.
     Nowhere,
     /// Before the first step or behind the last.
@@ -145,7 +145,7 @@ fn cut_off_at<R: Abort + Threads + Sync>(
     alloc: Global,
     made: &MemFiles,
     call: u64,
-) -> Result<Failing, Fail> {
+) -> Result<FailedCall, Fail> {
     let gate = new_gate();
     let mut files = failing(alloc, made, call)?;
     let (status, _) = run(rt, alloc, &["shell", "a", "s"], &mut files, &gate)?;
@@ -155,13 +155,13 @@ fn cut_off_at<R: Abort + Threads + Sync>(
     if files.fault_count() == 0 {
         assert_eq!(rt; status, Status::Ok);
         assert_eq!(rt; calls, 2 * STEPS.len());
-        return Ok(Failing::Nowhere);
+        return Ok(FailedCall::Nowhere);
     }
     assert_eq!(rt; status, Status::FileFault, "at {call}");
     if calls == 0 || calls == 2 * STEPS.len() {
-        return Ok(Failing::OutsideSteps);
+        return Ok(FailedCall::OutsideSteps);
     }
-    Ok(Failing::InAStep)
+    Ok(FailedCall::InAStep)
 }
 
 #[test]
@@ -173,9 +173,9 @@ fn a_step_that_is_cut_off_has_both_calls(rt: HostRuntime) -> Result<(), Fail> {
     let mut in_a_step = false;
     for call in 1..=MOST_CALLS {
         match cut_off_at(&rt, alloc, &made, call)? {
-            Failing::InAStep => in_a_step = true,
-            Failing::OutsideSteps => {}
-            Failing::Nowhere => {
+            FailedCall::InAStep => in_a_step = true,
+            FailedCall::OutsideSteps => {}
+            FailedCall::Nowhere => {
                 assert!(rt; in_a_step, "no call is made in a step");
                 return Ok(());
             }

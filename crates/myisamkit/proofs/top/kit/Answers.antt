@@ -38,7 +38,7 @@ pub returns-in-Err-clause-status : goal.returns-in-Err-clause-status
 returns-in-Err-clause-status g c m told = inl (subst IsFault (sym c.into.ensures) (stops_are_faults c.in-Err.stop))
 
 pub returns-in-Ok-clause-fails : goal.returns-in-Ok-clause-fails
-returns-in-Ok-clause-fails g c is = fails_never c.in-Ok.status _ c.in-Ok.ensures.plain is
+returns-in-Ok-clause-fails g c is = fails_never _ _ c.in-Ok.ensures.plain is
 
 pub returns-in-Err-clause-fails : goal.returns-in-Err-clause-fails
-returns-in-Err-clause-fails g c is = fails_of c.in-Err.stop c.run.result _ c.in-Err.is c.run.ensures.fails (sym c.into.ensures ∙ is)
+returns-in-Err-clause-fails g c is = fails_of _ _ _ c.in-Err.is c.run.ensures.fails (sym c.into.ensures ∙ is)
