@@ -31,11 +31,11 @@ use Rattle.myi_table.specs.declared.fault.LoadFault.{LoadFault}
 use Rattle.myi_table.specs.Table.{OpenTable, defs_in, HoldState, IsKept, IfHolds, KeepsOthers, ChangesItsOwn}
 use Rattle.myi_table.specs.Loading.{IsLoaded, marked_by, loaded_by}
 use Rattle.myi_table.specs.Loading as loading
-use Rattle.myi_shell.specs.Running.{opening_on, IsPrinted, IsPrintedPart, AreClosed}
+use Rattle.myi_shell.specs.Running.{opening_on, IsPrinted, IsPrintedPart, AreClosed, AreClosedBehind}
 use Rattle.myisamkit.specs.declared.status.Status.{Status}
 use Rattle.myisamkit.specs.declared.status.Status.TheVariants as status
 use Rattle.myisamkit.specs.Lines.{absent_line}
-use Rattle.myisamkit.specs.Shells.{Refusal, refusal, said_of, text_unless, text_by, text_of, text_in, Begins, IsRun, ComesTo, ShellComesTo, ShellSaid, ShellSaidPart, StandClean, ShellDone, IsReady}
+use Rattle.myisamkit.specs.Shells.{Refusal, refusal, said_of, text_unless, text_by, text_of, text_in, Begins, IsRun, ComesTo, ShellComesTo, ShellSaid, ShellSaidPart, StandClean, ShellDone, ShellFails, IsReady}
 
 ok_same : {A E : Type 0} (x y : A) → ◌≡◌ {A = Result A E} (Ok x) (Ok y) → x ≡ y
 ok_same x y same = cc
@@ -220,6 +220,25 @@ run_done law pairs setting name script t ls told next bytes ready named closed o
       );
   untold = own.untold;
 }
+
+-- the output failed at the lines of a round
+pub run_fails : Stands → AreCleanPairs → (setting : ℕ) (name script : List ℕ) (t : OpenTable) (ls : List Line) (told next : Option Holding) (old new : Option (List ℕ)) → IfTold told HoldsBytes → IfTold told (IsReady name script t ls) → t.name ≡ name
+    → IfHolds told t (λ m s. IfTold next (AreClosedBehind (opening_on (defs_in t) ls setting s) t old new)) → IfTold told (λ m. IfTold next (ShellFails setting name script old new m))
+run_fails law pairs setting name script t ls told next old new bytes ready named closed m held n after =
+    let r = ready m held in
+    let s = stands law name script t ls m (bytes m held) r in
+    let o = opening_on (defs_in t) ls setting s.state in
+    let c = closed m held s.state s.holds n after in
+    inr record {
+      text = r.text;
+      read = r.read;
+      begin = o;
+      begins = begins_so setting name script t ls m r s;
+      front = c.front;
+      last = c.last;
+      cut = c.cut;
+      pair = closed_so pairs name o t _ n named refl c.closed;
+    }
 
 -- files that tell nothing
 pub none_told : (told next : Option Holding) (P : Holding → Holding → Type 0) → IfTold told (λ m. ⊥) → (told ≡ None → next ≡ None) → Told told next P

@@ -11,13 +11,17 @@ use Rattle.myi_table.specs.Table.{OpenTable, defs_in}
 use Rattle.myi_table.specs.Loading.{IsLoaded}
 use Rattle.myisamkit.specs.declared.status.Status.TheVariants as status
 use Rattle.myisamkit.specs.Lines.{text_line}
-use Rattle.myisamkit.specs.Shells.{text_in, ComesTo, ShellComesTo, ShellSaid, ShellSaidPart, IsReady}
+use Rattle.myisamkit.specs.Shells.{Refusal, text_in, ComesTo, ShellComesTo, ShellSaid, ShellSaidPart, ShellFails, IsNotRunBy, IsReady}
 use Rattle.myisamkit.proofs.ShellLaws.{opened}
 
 -- what holds of every value holds of an answer
 pub each_ok : {A E : Type 0} (r : Result A E) (P : A → Type 0) → ((x : A) → P x) → IfOk r P
 each_ok (Ok x) P all = all x
 each_ok (Err e) P all = tt
+
+-- the same is held
+same_holding : (told next : Option Holding) (m n : Holding) → next ≡ told → told ≡ Some m → next ≡ Some n → n ≡ m
+same_holding told next m n same held after = let e : Some n ≡ Some m = sym after ∙ same ∙ held in cc
 
 -- ---- a line of it is not in the grammar
 
@@ -38,6 +42,31 @@ outside_said setting name script text line k d t told old new read loaded defs f
 pub outside_part : (setting : ℕ) (name script text line : List ℕ) (k : ℕ) (d : Defs) (t : OpenTable) (told : Option Holding) (old new : Option (List ℕ)) → IfTold told (λ m. text_in name script m ≡ Ok text) → IfTold told (IsLoaded name t) → d ≡ defs_in t → IsFirstOutside false d (lines text) k → line ≡ text_line script k → IfTold old (AppendsPart line new) → IfTold told (ShellSaidPart setting name script old new)
 outside_part setting name script text line k d t told old new read loaded defs first is said m held =
     inr (text_line script k, status.Refused, outside_comes setting name script text k d t m (read m held) (loaded m held) defs first, subst (λ l. IfTold old (AppendsPart l new)) is said)
+
+pub outside_fails : (setting : ℕ) (name script text : List ℕ) (k : ℕ) (d : Defs) (t : OpenTable) (told next : Option Holding) (old new : Option (List ℕ)) → next ≡ told → IfTold told (λ m. text_in name script m ≡ Ok text) → IfTold told (IsLoaded name t) → d ≡ defs_in t → IsFirstOutside false d (lines text) k
+    → IfTold told (λ m. IfTold next (ShellFails setting name script old new m))
+outside_fails setting name script text k d t told next old new same read loaded defs first m held n after =
+    let l = loaded m held in
+    inl (
+      subst (IsNotRunBy name script m) (sym (read m held)) (
+        text_line script k,
+        record {
+          table = l.files;
+          is = opened name m l.files l.is;
+          line = k;
+          first = subst (λ e. IsFirstOutside false e (lines text) k) (defs ∙ l.defs) first;
+          says = refl;
+          ends = refl;
+        },
+      ),
+      same_holding told next m n same held after,
+    )
+
+-- ---- nothing is read
+pub refused_fails : (setting : ℕ) (name script : List ℕ) (r : Refusal) (told next : Option Holding) (old new : Option (List ℕ)) → next ≡ told → IfTold told (λ m. text_in name script m ≡ Err r)
+    → IfTold told (λ m. IfTold next (ShellFails setting name script old new m))
+refused_fails setting name script r told next old new same read m held n after =
+    inl (subst (IsNotRunBy name script m) (sym (read m held)) tt, same_holding told next m n same held after)
 
 -- ---- it is in the grammar
 

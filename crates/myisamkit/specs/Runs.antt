@@ -15,7 +15,7 @@ use Rattle.myisamkit.specs.Lines.{usage_line}
 use Rattle.myisamkit.specs.Creates.{create_turn, CreateLeaves}
 use Rattle.myisamkit.specs.Dumps.{dump_turn}
 use Rattle.myisamkit.specs.Makes.{make_turn, MakeLeaves}
-use Rattle.myisamkit.specs.Shells.{text_in, shell_begin_turn, ShellComesTo, ShellSaid, ShellSaidPart, ShellSays, ShellLeaves}
+use Rattle.myisamkit.specs.Shells.{text_in, shell_begin_turn, ShellComesTo, ShellSaid, ShellSaidPart, ShellSays, ShellLeaves, ShellFails}
 use Rattle.myisamkit.specs.Turns.{Turn, then_turn, turn, MayFind, TurnRecovers, CutsTurnOff, FailsInTurn}
 
 -- the tables of these names, behind tables of this status: all lines, the greatest status, the files at the end
@@ -84,6 +84,16 @@ Leaves (create name file) now before after s m n = CreateLeaves name file s m n
 Leaves (dump name) now before after s m n = n ≡ m
 Leaves (make count seed name) now before after s m n = MakeLeaves count seed name now s m n
 Leaves (shell o name script) now before after s m n = ShellLeaves o.concurrent name script s m n
+
+-- Where the output failed in a script, its table was closed behind the round whose lines were being written. Of the other requests
+-- `Leaves` says all.
+abbrev pub FailsInScript : Request → Option (List ℕ) → Option (List ℕ) → Holding → Holding → Type 0
+FailsInScript usage old new m n = Unit {0}
+FailsInScript (chk o names) old new m n = Unit {0}
+FailsInScript (create name file) old new m n = Unit {0}
+FailsInScript (dump name) old new m n = Unit {0}
+FailsInScript (make count seed name) old new m n = Unit {0}
+FailsInScript (shell o name script) old new m n = ShellFails o.concurrent name script old new m n
 
 -- what was written is this text, or a front of it where a fault cut the run off
 abbrev pub Says : List ℕ → Option (List ℕ) → Option (List ℕ) → Status → Type 0

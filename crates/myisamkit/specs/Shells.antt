@@ -20,11 +20,13 @@ use Rattle.myi_tablestate.specs.Standing.{StandForTable}
 use Rattle.myi_keyedrows.specs.Files.{defs_with}
 use Rattle.myi_script.specs.declared.types.Line.{Line}
 use Rattle.myi_script.specs.Script.{IsScript, IsFirstOutside}
-use Rattle.myi_history.specs.History.{Opening, history}
+use Rattle.myi_history.specs.History.{Opening, ScriptRound, history}
 use Rattle.myi_history.specs.Text.{Numbers, shell_text}
 use Rattle.myi_history.specs.Bounds.{AreWithin}
+use Rattle.myi_history.specs.Running.{table_after}
 use Rattle.myi_table.specs.Table.{OpenTable, defs_in, KeepsOthers}
 use Rattle.myi_table.specs.Loading.{IsLoaded}
+use Rattle.myi_shell.specs.Running.{IsCutIn}
 use Rattle.myisamkit.specs.declared.status.Status.{Status}
 use Rattle.myisamkit.specs.declared.status.Status.TheVariants as status
 use Rattle.myisamkit.specs.declared.shell.Found.{Found}
@@ -155,6 +157,32 @@ ShellLeaves setting name script status.Findings m n = n ≡ m
 ShellLeaves setting name script status.Usage m n = n ≡ m
 ShellLeaves setting name script status.Refused m n = n ≡ m
 ShellLeaves setting name script status.Absent m n = n ≡ m
+
+-- ---- the files where the output fails
+
+-- It failed at the lines of this round: all text of the rounds before it was written, and of its own a first part or nothing. The
+-- pair of files stands for what the changes up to that round's end lead to.
+pub record ShellCutIn (setting : ℕ) (name script : List ℕ) (old new : Option (List ℕ)) (m n : Holding) : Type 0 where
+  pub text : List ℕ
+  pub read : text_in name script m ≡ Ok text
+  pub begin : Opening
+  pub begins : Begins setting name m text begin
+  pub front : List ScriptRound
+  pub last : ScriptRound
+  pub cut : IsCutIn begin front last old new
+  pub pair : StandClean name begin (table_after begin (front ++ last ∷ [])) n
+
+-- no script is run: the table or the script's file is not as it must be, or a line is not in the grammar
+abbrev pub IsNotRunBy : List ℕ → List ℕ → Holding → Result (List ℕ) Refusal → Type 0
+IsNotRunBy name script m (Err r) = Unit {0}
+IsNotRunBy name script m (Ok text) = (said : List ℕ) × IsOutside name script m text said status.Refused
+
+abbrev pub IsNotRun : List ℕ → List ℕ → Holding → Type 0
+IsNotRun name script m = IsNotRunBy name script m (text_in name script m)
+
+-- it failed so, or where no script is run, and then nothing is changed
+abbrev pub ShellFails : ℕ → List ℕ → List ℕ → Option (List ℕ) → Option (List ℕ) → Holding → Holding → Type 0
+ShellFails setting name script old new m n = (IsNotRun name script m × (n ≡ m)) ⊎ ShellCutIn setting name script old new m n
 
 -- ---- what the code finds of it
 

@@ -8,7 +8,7 @@ ghost use Rattle.myi_keycache.specs.Setup.{IsSetup};
 ghost use Rattle.myi_check.specs.Checking.{Finds, Refuses};
 ghost use Rattle.myi_table.specs.Loading.{IsLoaded};
 ghost use Rattle.myi_table.specs.Table.{defs_in};
-ghost use Rattle.myisamkit.specs.Stops.{status_of_stop};
+ghost use Rattle.myisamkit.specs.Stops.{status_of_stop, IfSink};
 ghost use Rattle.myisamkit.specs.Statuses.{IsFault};
 ghost use Rattle.myisamkit.specs.Lines as spec;
 ghost use Rattle.myisamkit.specs.Shells as shells;
@@ -70,6 +70,9 @@ pub(crate) fn run_shell<R, G: Gate, F: Files, O: Sink>(
     ensures stops { IfErr result (λ stop. Told (F.holds files.old) (F.holds files.new)
         (shells.ShellLeaves job.now.options.concurrent job.now.name.now job.now.script.now
         (status_of_stop stop))) }
+    ensures fails { IfSink result (IfTold (F.holds files.old) (λ m. IfTold (F.holds files.new)
+        (shells.ShellFails job.now.options.concurrent job.now.name.now job.now.script.now
+        (O.written out.old) (O.written out.new) m))) }
     ensures plain { IfOk result (λ s. IsFault s → ⊥) }
     ensures usage { IfOk result (λ s. s ≢ Status.Usage) }
     ensures findings { IfOk result (λ s. s ≢ Status.Findings) }
@@ -180,6 +183,9 @@ fn run_text<R, G: Gate, F: Files, O: Sink>(
     ensures stops { IfErr result (λ stop. Told (F.holds files.old) (F.holds files.new)
         (shells.ShellLeaves job.now.options.concurrent job.now.name.now job.now.script.now
         (status_of_stop stop))) }
+    ensures fails { IfSink result (IfTold (F.holds files.old) (λ m. IfTold (F.holds files.new)
+        (shells.ShellFails job.now.options.concurrent job.now.name.now job.now.script.now
+        (O.written out.old) (O.written out.new) m))) }
     ensures plain { IfOk result (λ s. IsFault s → ⊥) }
     ensures usage { IfOk result (λ s. s ≢ Status.Usage) }
     ensures findings { IfOk result (λ s. s ≢ Status.Findings) }
@@ -249,6 +255,9 @@ fn run_parsed<R, G: Gate, F: Files, O: Sink>(
     ensures stops { IfErr result (λ stop. Told (F.holds files.old) (F.holds files.new)
         (shells.ShellLeaves job.now.options.concurrent job.now.name.now job.now.script.now
         (status_of_stop stop))) }
+    ensures fails { IfSink result (IfTold (F.holds files.old) (λ m. IfTold (F.holds files.new)
+        (shells.ShellFails job.now.options.concurrent job.now.name.now job.now.script.now
+        (O.written out.old) (O.written out.new) m))) }
     ensures plain { IfOk result (λ s. IsFault s → ⊥) }
     ensures usage { IfOk result (λ s. s ≢ Status.Usage) }
     ensures findings { IfOk result (λ s. s ≢ Status.Findings) }

@@ -4,10 +4,10 @@ ghost use Rattle.myi_base.specs.Holding.{IfTold, Told};
 ghost use Rattle.myi_base.specs.Output.{Appends, AppendsPart};
 ghost use Rattle.myi_base.specs.Causes.{Rose, HasCause};
 ghost use Rattle.myisamkit.specs.Words.{request_of, usage};
-ghost use Rattle.myisamkit.specs.Stops.{status_of_stop};
+ghost use Rattle.myisamkit.specs.Stops.{status_of_stop, IfSink};
 ghost use Rattle.myisamkit.specs.Statuses.{IsFault};
 ghost use Rattle.myisamkit.specs.Runs.{MayFindAny, Leaves, KeepsOthers, Says, SaysText, IsOrFault};
-ghost use Rattle.myisamkit.specs.Runs.{SaidText, SaidPart, HasStatus};
+ghost use Rattle.myisamkit.specs.Runs.{SaidText, SaidPart, HasStatus, FailsInScript};
 ghost use Rattle.myisamkit.specs.Recovers.{Recovers};
 ghost use Rattle.myisamkit.specs.Lines as spec;
 
@@ -28,7 +28,7 @@ use std::thread::Threads;
 
 /// Does what the words ask for, prints what it did, and answers how it went. `words` are the words
 /// after the program's name; `now` is the moment, in seconds since 1970. Workers run on threads of `rt`;
-/// `gate` is told before and after each step of a script.
+/// `gate` is called before and after each step of a script.
 pub fn kit<R: Threads + Sync, F: Files, O: Sink, G: Gate>(
     rt: &R,
     alloc: Global,
@@ -64,10 +64,16 @@ pub fn kit<R: Threads + Sync, F: Files, O: Sink, G: Gate>(
     ensures findings { result ≡ Status.Findings → MayFindAny (request_of words.now) }
 
     // The tables are done, or done up to the one in whose turn a fault came; what is repaired is
-    // recovered, what is sorted is in order; the files of a table are the old ones, or a new data file
-    // beside the old or the new index file; other files stay.
+    // recovered, what is sorted is in order; the files of a table of `chk` are the old ones, or a new
+    // data file beside the old or the new index file; other files stay.
     ensures files { Told (F.holds files.old) (F.holds files.new)
         (Leaves (request_of words.now) now (F.faults files.old) (F.faults files.new) result) }
+
+    // Where the output fails in a script, its table is closed behind the round whose lines were being
+    // written; where it fails and no script is run, nothing is changed.
+    ensures fails { result ≡ Status.SinkFault → IfTold (F.holds files.old) (λ m.
+        IfTold (F.holds files.new)
+        (FailsInScript (request_of words.now) (O.written out.old) (O.written out.new) m)) }
 
     // At each status the files that are none of the tables' stay as they are.
     ensures others { Told (F.holds files.old) (F.holds files.new)
@@ -110,6 +116,8 @@ fn run<R: Threads + Sync, G: Gate, F: Files, O: Sink>(
     ensures stops { IfErr result (λ stop. Told (F.holds files.old) (F.holds files.new)
         (Leaves (request_of words.now) now (F.faults files.old) (F.faults files.new)
         (status_of_stop stop))) }
+    ensures fails { IfSink result (IfTold (F.holds files.old) (λ m. IfTold (F.holds files.new)
+        (FailsInScript (request_of words.now) (O.written out.old) (O.written out.new) m))) }
     ensures file { HasCause Stop.File (F.faults files.old) (F.faults files.new) result }
     ensures sink { HasCause Stop.Sink (O.faults out.old) (O.faults out.new) result }
 {

@@ -1,8 +1,8 @@
-use Rattle.std.proofs.Common.{false, subst}
+use Rattle.std.proofs.Common.{false, Err, ap, subst, ◌∙◌}
 use Rattle.myi_shell.specs.Running.{IsStopped}
 use Rattle.myisamkit.specs.declared.status.Status.TheVariants as status
 use Rattle.myisamkit.specs.Shells.{ShellSaid, ShellSaidPart, ShellLeaves}
-use Rattle.myisamkit.proofs.ShellLaws.{kept, never, run_said, run_part, run_done, none_told}
+use Rattle.myisamkit.proofs.ShellLaws.{kept, never, run_said, run_part, run_done, run_fails, none_told}
 use Rattle.myisamkit.proofs.shell.run_parsed.Goals as goal
 
 pub run_script-requires-clause-script : goal.run_script-requires-clause-script
@@ -22,6 +22,9 @@ returns-in-Err-File-clause-part g c = run_part c.clean_pairs_stand_for_tables.en
 
 pub returns-in-Err-Sink-clause-part : goal.returns-in-Err-Sink-clause-part
 returns-in-Err-Sink-clause-part g c = run_part c.clean_pairs_stand_for_tables.ensures.stands c.args.job.now.options.concurrent c.args.job.now.name.now c.args.job.now.script.now c.args.table c.args.script.lines _ _ _ (λ m held. g.met.F.Files.told_bytes c.args.files.now m held) c.requires.ready c.in-Err-Sink.ensures.part
+
+pub returns-in-Err-Sink-clause-fails : goal.returns-in-Err-Sink-clause-fails
+returns-in-Err-Sink-clause-fails g c is = run_fails c.clean_pairs_stand_for_tables.ensures.stands c.clean_pairs_stand_for_tables.ensures.clean c.args.job.now.options.concurrent c.args.job.now.name.now c.args.job.now.script.now c.args.table c.args.script.lines _ _ _ _ (λ m held. g.met.F.Files.told_bytes c.args.files.now m held) c.requires.ready c.requires.name (c.run_script.ensures.closed (c.in-Err-Sink.is ∙ ap Err c.in-Err-Sink.field-0-is))
 
 pub returns-clause-part : goal.returns-clause-part
 returns-clause-part g c = run_part c.clean_pairs_stand_for_tables.ensures.stands c.args.job.now.options.concurrent c.args.job.now.name.now c.args.job.now.script.now c.args.table c.args.script.lines _ _ _ (λ m held. g.met.F.Files.told_bytes c.args.files.now m held) c.requires.ready c.in-Err-Memory.ensures.part

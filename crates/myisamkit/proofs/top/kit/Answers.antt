@@ -1,11 +1,12 @@
 use Rattle.myisamkit.proofs.OtherLaws.{others_told}
-use Rattle.std.proofs.Common.{sym, subst, inl, inr}
+use Rattle.std.proofs.Common.{sym, subst, ◌∙◌, inl, inr}
 use Rattle.myi_base.specs.Holding.{Told}
 use Rattle.myisamkit.specs.Words.{request_of}
 use Rattle.myisamkit.specs.Recovers.{Recovers}
 use Rattle.myisamkit.proofs.RecoverLaws.{recovers_told, stops_are_faults}
 use Rattle.myisamkit.specs.Statuses.{IsFault}
 use Rattle.myisamkit.proofs.SaidLaws.{whole_said, part_said}
+use Rattle.myisamkit.proofs.SinkLaws.{fails_of, fails_never}
 use Rattle.myisamkit.proofs.top.kit.Goals as goal
 
 pub returns-in-Ok-clause-others : goal.returns-in-Ok-clause-others
@@ -35,3 +36,9 @@ returns-in-Ok-clause-status g c m told = inr (c.in-Ok.ensures.status m told)
 
 pub returns-in-Err-clause-status : goal.returns-in-Err-clause-status
 returns-in-Err-clause-status g c m told = inl (subst IsFault (sym c.into.ensures) (stops_are_faults c.in-Err.stop))
+
+pub returns-in-Ok-clause-fails : goal.returns-in-Ok-clause-fails
+returns-in-Ok-clause-fails g c is = fails_never _ _ c.in-Ok.ensures.plain is
+
+pub returns-in-Err-clause-fails : goal.returns-in-Err-clause-fails
+returns-in-Err-clause-fails g c is = fails_of _ _ _ c.in-Err.is c.run.ensures.fails (sym c.into.ensures ∙ is)

@@ -1,7 +1,8 @@
 use Rattle.std.proofs.Common.{sym, subst}
 use Rattle.std.specs.Prelude.{IfOk, OnErr, map, string_bytes}
 use Rattle.myi_base.specs.Holding.{IfTold}
-use Rattle.myisamkit.specs.Runs.{SaidText, SaidPart, HasStatus}
+use Rattle.myisamkit.specs.Stops.{IfSink}
+use Rattle.myisamkit.specs.Runs.{SaidText, SaidPart, HasStatus, FailsInScript}
 use Rattle.myisamkit.proofs.AskedLaws.{words_made}
 use Rattle.myisamkit.proofs.MakeWordLaws.{within}
 use Rattle.myisamkit.proofs.SaidLaws.{if_ok, status_of}
@@ -83,3 +84,23 @@ returns-in-Shell-clause-part g c =
 pub returns-in-Shell-clause-status : goal.returns-in-Shell-clause-status
 returns-in-Shell-clause-status g c =
     subst (λ r. IfOk c.run_shell.result (λ s. IfTold (g.F.Files.holds c.args.files.now) (HasStatus r c.args.now s))) c.in-Shell.ensures (status_of c.run_shell.result _ _ _ _ _ _ c.run_shell.ensures.said)
+
+pub returns-in-Chk-clause-fails : goal.returns-in-Chk-clause-fails
+returns-in-Chk-clause-fails g c =
+    subst (λ r. IfSink c.run_tables.result (IfTold (g.F.Files.holds c.args.files.now) (λ m. IfTold (g.F.Files.holds c.run_tables.new.files) (FailsInScript r (g.O.Sink.written c.args.out.now) (g.O.Sink.written c.run_tables.new.out) m)))) c.in-Chk.ensures (λ sank m held n after. tt)
+
+pub returns-in-Create-clause-fails : goal.returns-in-Create-clause-fails
+returns-in-Create-clause-fails g c =
+    subst (λ r. IfSink c.create_from_text.result (IfTold (g.F.Files.holds c.args.files.now) (λ m. IfTold (g.F.Files.holds c.create_from_text.new.files) (FailsInScript r (g.O.Sink.written c.args.out.now) (g.O.Sink.written c.create_from_text.new.out) m)))) c.in-Create.ensures (λ sank m held n after. tt)
+
+pub returns-in-Dump-clause-fails : goal.returns-in-Dump-clause-fails
+returns-in-Dump-clause-fails g c =
+    subst (λ r. IfSink c.dump_table.result (IfTold (g.F.Files.holds c.args.files.now) (λ m. IfTold (g.F.Files.holds c.dump_table.new.files) (FailsInScript r (g.O.Sink.written c.args.out.now) (g.O.Sink.written c.dump_table.new.out) m)))) c.in-Dump.ensures (λ sank m held n after. tt)
+
+pub returns-in-Make-clause-fails : goal.returns-in-Make-clause-fails
+returns-in-Make-clause-fails g c =
+    subst (λ r. IfSink c.make_of_rows.result (IfTold (g.F.Files.holds c.args.files.now) (λ m. IfTold (g.F.Files.holds c.make_of_rows.new.files) (FailsInScript r (g.O.Sink.written c.args.out.now) (g.O.Sink.written c.make_of_rows.new.out) m)))) c.in-Make.ensures (λ sank m held n after. tt)
+
+pub returns-in-Shell-clause-fails : goal.returns-in-Shell-clause-fails
+returns-in-Shell-clause-fails g c =
+    subst (λ r. IfSink c.run_shell.result (IfTold (g.F.Files.holds c.args.files.now) (λ m. IfTold (g.F.Files.holds c.run_shell.new.files) (FailsInScript r (g.O.Sink.written c.args.out.now) (g.O.Sink.written c.run_shell.new.out) m)))) c.in-Shell.ensures c.run_shell.ensures.fails
