@@ -18,6 +18,7 @@ pub mod DumpTurnLaws
 pub mod SinkLaws
 pub mod OpenLaws
 pub mod TurnLaws
+pub mod SortIndexLaws
 pub mod CheckLaws
 pub mod TableLaws
 pub mod AskedLaws

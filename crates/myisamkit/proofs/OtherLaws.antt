@@ -15,7 +15,7 @@ use Rattle.myi_repair.specs.declared.fault.RepairFault.{RepairFault}
 use Rattle.myi_repair.specs.Names.{FourNames, names_for}
 use Rattle.myi_repair.specs.Opening.{Table, table_in}
 use Rattle.myisamkit.specs.declared.options.Mode.{Mode}
-use Rattle.myisamkit.specs.declared.options.Mode.TheVariants.{Check, Recover, Describe, Analyze, Sort}
+use Rattle.myisamkit.specs.declared.options.Mode.TheVariants.{Check, Recover, Describe, Analyze, Sort, SortIndex}
 use Rattle.myisamkit.specs.declared.options.Options.{Options}
 use Rattle.myisamkit.specs.declared.status.Status.{Status}
 use Rattle.myisamkit.specs.declared.status.Status.TheVariants as status
@@ -26,7 +26,10 @@ use Rattle.myi_repair.specs.Names.{new_index_file}
 use Rattle.myi_order.specs.declared.fault.OrderFault.{OrderFault}
 use Rattle.myi_order.specs.Analyzing as analyzing
 use Rattle.myi_order.specs.Sorting as sorting
-use Rattle.myisamkit.specs.Turns.{replaced, with_index, analyzed_turn, sorted_turn, repair_turn, without_extend, goes_on, check_turn_by, turn, turn_by, CheckCutOff, CutsTurnOff, CutsTurnOffBy, TurnDone, FailsInTurn, FailsInTurnBy}
+use Rattle.myi_sortindex.specs.declared.fault.SortFault.{SortFault}
+use Rattle.myi_sortindex.specs.Refusals as index_sorting
+use Rattle.myi_sortindex.specs.Sorting.{sorted_index}
+use Rattle.myisamkit.specs.Turns.{replaced, with_index, analyzed_turn, sorted_turn, pages_turn, repair_turn, without_extend, goes_on, check_turn_by, turn, turn_by, CheckCutOff, CutsTurnOff, CutsTurnOffBy, TurnDone, FailsInTurn, FailsInTurnBy}
 use Rattle.myisamkit.specs.Creates.{made, made_turn, CreateLeaves}
 use Rattle.myi_make.specs.MadeTable.{defs, damaged_file}
 use Rattle.myisamkit.specs.Makes.{MakeDone, MakeLeaves}
@@ -66,6 +69,10 @@ sorted_keeps : (o : Options) (now key : ℕ) (name : List ℕ) (t : Result openi
 sorted_keeps o now key name (Err f) m q apart = refl
 sorted_keeps o now key name (Ok t) m q apart = replaced_keeps (names_for name) (sorting.sorted_data t key) (sorting.sorted_index t key now) m q apart
 
+pages_keep : (o : Options) (name : List ℕ) (t : Result opening.Table SortFault) (m : Holding) (q : List ℕ) → IsApart q (names_for name) → (pages_turn o name t m).files q ≡ m q
+pages_keep o name (Err f) m q apart = refl
+pages_keep o name (Ok t) m q apart = indexed_keeps name (sorted_index t.defs t.index) m q apart
+
 turn_keeps : (o : Options) (now : ℕ) (name : List ℕ) (m : Holding) (q : List ℕ) → IsApart q (names_for name) → (turn o now name m).files q ≡ m q
 unfolding turn
 turn_keeps o now name m q apart = by_mode o.mode
@@ -80,6 +87,7 @@ turn_keeps o now name m q apart = by_mode o.mode
     by_mode Describe = refl
     by_mode Analyze = analyzed_keeps o name (analyzing.table_in name m) m q apart
     by_mode (Sort key) = sorted_keeps o now key name (sorting.table_in name key m) m q apart
+    by_mode SortIndex = pages_keep o name (index_sorting.table_in name m) m q apart
 
 cut_keeps : (o : Options) (now told before after : ℕ) (name : List ℕ) (m n : Holding) (q : List ℕ) → IsApart q (names_for name) → CutsTurnOff o now told before after name m n → n q ≡ m q
 unfolding CutsTurnOff
@@ -96,6 +104,8 @@ cut_keeps o now told before after name m n q apart cut = by_mode o.mode cut
     by_mode Analyze (inl none) = none.others q apart.index apart.new_index
     by_mode Analyze (inr done) = ap (λ (h : Holding). h q) done.1.files ∙ analyzed_keeps o name (analyzing.table_in name m) m q apart
     by_mode (Sort key) cut = cut.others q apart.rows apart.index apart.new_rows apart.new_index
+    by_mode SortIndex (inl none) = none.others q apart.index apart.new_index
+    by_mode SortIndex (inr done) = ap (λ (h : Holding). h q) done.1.files ∙ pages_keep o name (index_sorting.table_in name m) m q apart
 
 fail_keeps : (o : Options) (now : ℕ) (name : List ℕ) (m n : Holding) (q : List ℕ) → IsApart q (names_for name) → FailsInTurn o now name m n → n q ≡ m q
 unfolding FailsInTurn
@@ -111,6 +121,7 @@ fail_keeps o now name m n q apart fails = by_mode o.mode fails
     by_mode Describe same = ap (λ (h : Holding). h q) same
     by_mode Analyze done = by_done done
     by_mode (Sort key) done = by_done done
+    by_mode SortIndex done = by_done done
 
 done_keeps : (o : Options) (now : ℕ) (names : List (List ℕ)) (m n : Holding) (q : List ℕ) → IsNoFileOf q names → TablesDone o now names m n → n q ≡ m q
 done_keeps o now [] m n q apart done = ap (λ (h : Holding). h q) done

@@ -16,7 +16,7 @@ use Rattle.myi_repair.specs.Faults.{RoseAtMost}
 use Rattle.myi_repair.specs.Opening.{table_in}
 use Rattle.myi_repair.specs.Repaired.{LeavesRepaired, OldOrNew}
 use Rattle.myisamkit.specs.declared.options.Mode.{Mode}
-use Rattle.myisamkit.specs.declared.options.Mode.TheVariants.{Check, Recover, Describe, Analyze, Sort}
+use Rattle.myisamkit.specs.declared.options.Mode.TheVariants.{Check, Recover, Describe, Analyze, Sort, SortIndex}
 use Rattle.myisamkit.specs.declared.options.Options.{Options}
 use Rattle.myi_opening.specs.Names.{index_file}
 use Rattle.myi_repair.specs.Names.{new_index_file}
@@ -29,7 +29,7 @@ use Rattle.myi_order.specs.Faults as order
 use Rattle.myi_order.specs.Sorting as sorting
 use Rattle.myi_order.specs.Numbers.{all_per, IsAnalyzed}
 use Rattle.myi_order.specs.KeyParts.{key_parts}
-use Rattle.myisamkit.specs.Turns.{AreSound, with_index, analyzed_turn, sorted_turn, AnalyzeDone, StoresNone, AnalyzeCutOff, SortDone, SortCutOff, replaced, repair_turn, without_extend, goes_on, RepairDone, RepairCutOff, CheckCutOff, CutsTurnOff, CutsTurnOffBy}
+use Rattle.myisamkit.specs.Turns.{AreSound, with_index, analyzed_turn, sorted_turn, AnalyzeDone, StoresNone, AnalyzeCutOff, SortDone, SortCutOff, SortsNone, replaced, repair_turn, without_extend, goes_on, RepairDone, RepairCutOff, CheckCutOff, CutsTurnOff, CutsTurnOffBy}
 
 -- what a name has that is none of these
 pub not_named : (q name : List ℕ) → bytes_eq q name ≡ false → q ≢ name
@@ -68,6 +68,9 @@ none_earlier told before at after name m n later none = record { both = none.bot
 sort_earlier : (now key told before at after : ℕ) (name : List ℕ) (m n : Holding) → before ≤ at → SortCutOff now key told at after name m n → SortCutOff now key told before after name m n
 sort_earlier now key told before at after name m n later cut = record { whole = cut.whole; others = cut.others; cleared = λ more rose. cut.cleared more (omega (arith, rose.0, later), rose.1) }
 
+pages_earlier : (told before at after : ℕ) (name : List ℕ) (m n : Holding) → before ≤ at → SortsNone told at after name m n → SortsNone told before after name m n
+pages_earlier told before at after name m n later none = record { both = none.both; others = none.others; cleared = λ rose. none.cleared (omega (arith, rose.0, later), rose.1) }
+
 pub cut_earlier : (o : Options) (now told before at after : ℕ) (name : List ℕ) (m n : Holding) → before ≤ at → CutsTurnOff o now told at after name m n → CutsTurnOff o now told before after name m n
 unfolding CutsTurnOff
 cut_earlier o now told before at after name m n later cut = by_mode o.mode cut
@@ -83,15 +86,17 @@ cut_earlier o now told before at after name m n later cut = by_mode o.mode cut
     by_mode Analyze (inl none) = inl (none_earlier told before at after name m n later none)
     by_mode Analyze (inr done) = inr done
     by_mode (Sort key) cut = sort_earlier now key told before at after name m n later cut
+    by_mode SortIndex (inl none) = inl (pages_earlier told before at after name m n later none)
+    by_mode SortIndex (inr done) = inr done
 
-some_same : {A : Type 0} (x y : A) (o : Option A) → o ≡ Some x → o ≡ Some y → x ≡ y
+pub some_same : {A : Type 0} (x y : A) (o : Option A) → o ≡ Some x → o ≡ Some y → x ≡ y
 some_same x y o a b = let e : Some x ≡ Some y = sym a ∙ b in cc
 
 ok_or : {A E : Type 0} → A → Result A E → A
 ok_or d (Ok x) = x
 ok_or d (Err e) = d
 
-ok_same : {A E : Type 0} (x y : A) (r : Result A E) → r ≡ Ok x → r ≡ Ok y → x ≡ y
+pub ok_same : {A E : Type 0} (x y : A) (r : Result A E) → r ≡ Ok x → r ≡ Ok y → x ≡ y
 unfolding ok_or
 ok_same x y r a b = sym (ap (ok_or x) a) ∙ ap (ok_or x) b
 
@@ -141,7 +146,7 @@ repair_cut o now told before after name old new whole others cleared = record {
 -- ---- tables that are analyzed
 
 -- the index file is replaced, and the working file is gone
-indexed_at : (name x : List ℕ) (m n : Holding) → n (index_file name) ≡ Some x → n (new_index_file name) ≡ None → analyzing.OthersStay name m n → (q : List ℕ) → n q ≡ with_index name x m q
+pub indexed_at : (name x : List ℕ) (m n : Holding) → n (index_file name) ≡ Some x → n (new_index_file name) ≡ None → analyzing.OthersStay name m n → (q : List ℕ) → n q ≡ with_index name x m q
 indexed_at name x m n index gone keeps q = by_index (bytes_eq q (index_file name)) refl
   where
     by_work : (b : Bool) → bytes_eq q (new_index_file name) ≡ b → q ≢ index_file name → n q ≡ (if b then None else m q)

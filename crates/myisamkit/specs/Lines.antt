@@ -13,6 +13,8 @@ use Rattle.myi_repair.specs.declared.fault.RepairFault.TheVariants as repair
 use Rattle.myi_order.specs.declared.fault.OrderFault.{OrderFault}
 use Rattle.myi_order.specs.declared.fault.OrderFault.TheVariants as order
 use Rattle.myi_order.specs.declared.key_parts.KeyParts.{KeyParts}
+use Rattle.myi_sortindex.specs.declared.fault.SortFault.{SortFault}
+use Rattle.myi_sortindex.specs.declared.fault.SortFault.TheVariants as sort
 use Rattle.myi_opening.specs.Names.{file_of}
 
 abbrev pub usage_line : List ℕ
@@ -133,3 +135,15 @@ order_line name key (order.NoKey keys) = refused_line name (no_key key)
 order_line name key (order.Damaged f) = finding_line name f
 order_line name key order.File = []
 order_line name key order.Memory = []
+
+-- the pages of a table's index file were sorted, and are so many
+abbrev pub sorted_pages_line : List ℕ → ℕ → List ℕ
+sorted_pages_line name pages = name ++ (codes ": sorted " ++ (decimal pages ++ codes " pages\n"))
+
+-- why they are not sorted; the faults that cut work off have no line
+abbrev pub sort_index_line : List ℕ → SortFault → List ℕ
+sort_index_line name (sort.Absent f) = absent_line (file_of f name)
+sort_index_line name (sort.Def f) = refused_line name (reason_of f)
+sort_index_line name (sort.Damaged f) = finding_line name f
+sort_index_line name sort.File = []
+sort_index_line name sort.Memory = []

@@ -16,7 +16,7 @@ use Rattle.myi_pair.specs.Recovered.{Recovered}
 use Rattle.myi_check.specs.Checking.{findings_in}
 use Rattle.myi_repair.specs.declared.fault.RepairFault.{RepairFault}
 use Rattle.myi_repair.specs.declared.fault.RepairFault.TheVariants as repair
-use Rattle.myi_repair.specs.Names.{FourNames, names_for, new_index_file, KeepsBut, Clears}
+use Rattle.myi_repair.specs.Names.{FourNames, names_for, new_index_file, KeepsBut, KeepsBoth, Clears}
 use Rattle.myi_repair.specs.Faults.{repair_fault, RoseAtMost}
 use Rattle.myi_repair.specs.Opening.{Table, table_in, IsTable}
 use Rattle.myi_repair.specs.Gathering.{report_of}
@@ -28,14 +28,19 @@ use Rattle.myi_order.specs.Numbers.{all_per, IsAnalyzed}
 use Rattle.myi_order.specs.Analyzing as analyzing
 use Rattle.myi_order.specs.Sorting as sorting
 use Rattle.myi_order.specs.Faults as analyzing_faults
+use Rattle.myi_sortindex.specs.declared.fault.SortFault.{SortFault}
+use Rattle.myi_sortindex.specs.declared.fault.SortFault.TheVariants as sort
+use Rattle.myi_sortindex.specs.Refusals as index_sorting
+use Rattle.myi_sortindex.specs.Sorting.{IsSorted, index_trees, sorted_index}
+use Rattle.myi_sortindex.specs.Sorting as page_sorting
 use Rattle.myisamkit.specs.declared.status.Status.{Status}
 use Rattle.myisamkit.specs.declared.status.Status.TheVariants as status
 use Rattle.myisamkit.specs.declared.status.Stop.{Stop}
 use Rattle.myisamkit.specs.declared.status.Stop.TheVariants as stop
 use Rattle.myisamkit.specs.declared.options.Mode.{Mode}
-use Rattle.myisamkit.specs.declared.options.Mode.TheVariants.{Check, Recover, Describe, Analyze, Sort}
+use Rattle.myisamkit.specs.declared.options.Mode.TheVariants.{Check, Recover, Describe, Analyze, Sort, SortIndex}
 use Rattle.myisamkit.specs.declared.options.Options.{Options}
-use Rattle.myisamkit.specs.Lines.{recovered_line, fault_line, ok_line, finding_lines, analyzed_lines, sorted_line, order_line}
+use Rattle.myisamkit.specs.Lines.{recovered_line, fault_line, ok_line, finding_lines, analyzed_lines, sorted_line, order_line, sorted_pages_line, sort_index_line}
 use Rattle.myisamkit.specs.Descriptions.{description}
 
 -- what a turn comes to that nothing cuts off: its lines, its status, and what the files hold then
@@ -272,10 +277,60 @@ SortStops o now key before after name stop.File m n = SortCutOff now key 1 befor
 SortStops o now key before after name stop.Memory m n = SortCutOff now key 0 before after name m n
 SortStops o now key before after name stop.Sink m n = SortDone o now key name m n
 
--- that something was found may be answered by a check with these options, without force, by an analysis, and where rows are
--- to be sorted
+-- ---- sorting of pages
+
+-- the status of a fault
+abbrev pub sort_index_status : SortFault → Status
+sort_index_status (sort.Absent f) = status.Absent
+sort_index_status (sort.Def f) = status.Refused
+sort_index_status (sort.Damaged f) = status.Findings
+sort_index_status sort.File = status.FileFault
+sort_index_status sort.Memory = status.Memory
+
+-- a table that is refused, or not there, or with which something is wrong keeps its files
+abbrev pub pages_turn : Options → List ℕ → Result opening.Table SortFault → Holding → Turn
+pages_turn o name (Err f) m = record { text = sort_index_line name f; status = sort_index_status f; files = m }
+pages_turn o name (Ok t) m = record {
+  text = unless_silent o.silent (sorted_pages_line name (index_trees t.defs t.index).pages);
+  status = status.Ok;
+  files = with_index name (sorted_index t.defs t.index) m;
+}
+
+abbrev pub sort_index_turn : Options → List ℕ → Holding → Turn
+sort_index_turn o name m = pages_turn o name (index_sorting.table_in name m) m
+
+-- of a table with which nothing is wrong the index file gets the same trees, whose pages are sorted, and is clean again
+abbrev pub SortsPages : List ℕ → Holding → Type 0
+SortsPages name m = (t : opening.Table) → index_sorting.table_in name m ≡ Ok t → IsSorted t.rows t.index (sorted_index t.defs t.index) (index_trees t.defs t.index).pages
+
+-- the pages of a table were sorted, or it was refused
+pub record SortIndexDone (o : Options) (name : List ℕ) (m n : Holding) : Type 0 where
+  pub files : n ≡ (sort_index_turn o name m).files
+  pub sorted : SortsPages name m
+
+-- No pages were sorted, the files' count of faults having risen from the one number to the other, of which the status tells
+-- so many: both files of the table and all others are as before, but the working index file; it is not left where no other
+-- file call failed.
+pub record SortsNone (told before after : ℕ) (name : List ℕ) (m n : Holding) : Type 0 where
+  pub both : KeepsBoth (names_for name) m n
+  pub others : page_sorting.OthersStay name m n
+  pub cleared : RoseAtMost told before after → index_sorting.Clears (new_index_file name) m n
+
+-- sorting of pages was cut off: none were sorted, or it was done, and memory for its line was wanting, which tells of no fault of
+-- a file
+abbrev pub SortIndexCutOff : Options → ℕ → ℕ → ℕ → List ℕ → Holding → Holding → Type 0
+SortIndexCutOff o told before after name m n = SortsNone told before after name m n ⊎ ((told ≡ 0) × SortIndexDone o name m n)
+
+-- what a stop leaves of the turn of a table whose pages are sorted
+abbrev pub SortIndexStops : Options → ℕ → ℕ → List ℕ → Stop → Holding → Holding → Type 0
+SortIndexStops o before after name stop.File m n = SortIndexCutOff o 1 before after name m n
+SortIndexStops o before after name stop.Memory m n = SortIndexCutOff o 0 before after name m n
+SortIndexStops o before after name stop.Sink m n = SortIndexDone o name m n
+
+-- that something was found may be answered by a check with these options, without force, by an analysis, and where rows or
+-- pages are to be sorted
 abbrev pub MayFind : Options → Type 0
-MayFind o = ((o.mode ≡ Check) × (o.force ≡ false)) ⊎ ((o.mode ≡ Analyze) ⊎ ((key : ℕ) × (o.mode ≡ Sort key)))
+MayFind o = ((o.mode ≡ Check) × (o.force ≡ false)) ⊎ ((o.mode ≡ Analyze) ⊎ ((o.mode ≡ SortIndex) ⊎ ((key : ℕ) × (o.mode ≡ Sort key))))
 
 -- ---- all modes: whether trees are laid side by side makes no difference
 
@@ -285,6 +340,7 @@ turn_by Check o now name m = check_turn o now name m
 turn_by Describe o now name m = describe_turn o name m
 turn_by Analyze o now name m = analyze_turn o name m
 turn_by (Sort key) o now name m = sort_turn o now key name m
+turn_by SortIndex o now name m = sort_index_turn o name m
 
 -- the turn of the table of this name
 unfoldable pub turn : Options → ℕ → List ℕ → Holding → Turn
@@ -296,8 +352,9 @@ TurnRecoversBy Check o now name m = CheckRecovers (goes_on o name m) o now name 
 TurnRecoversBy Describe o now name m = Unit {0}
 TurnRecoversBy Analyze o now name m = StoresNumbers name m
 TurnRecoversBy (Sort key) o now name m = IsSortedBy now key name m
+TurnRecoversBy SortIndex o now name m = SortsPages name m
 
--- what is repaired in a turn is recovered, what is analyzed stores its numbers, and what is sorted is in order
+-- what is repaired in a turn is recovered, what is analyzed stores its numbers, and rows and pages that are sorted are in order
 unfoldable pub TurnRecovers : Options → ℕ → List ℕ → Holding → Type 0
 TurnRecovers o now name m = TurnRecoversBy o.mode o now name m
 
@@ -307,6 +364,7 @@ CutsTurnOffBy Check o now told before after name m n = CheckCutOff (goes_on o na
 CutsTurnOffBy Describe o now told before after name m n = n ≡ m
 CutsTurnOffBy Analyze o now told before after name m n = AnalyzeCutOff o told before after name m n
 CutsTurnOffBy (Sort key) o now told before after name m n = SortCutOff now key told before after name m n
+CutsTurnOffBy SortIndex o now told before after name m n = SortIndexCutOff o told before after name m n
 
 -- a file fault or want of memory cut the turn off
 unfoldable pub CutsTurnOff : Options → ℕ → ℕ → ℕ → ℕ → List ℕ → Holding → Holding → Type 0
@@ -325,6 +383,7 @@ FailsInTurnBy Check o now name m n = (n ≡ m) ⊎ TurnDone o now name m n
 FailsInTurnBy Describe o now name m n = n ≡ m
 FailsInTurnBy Analyze o now name m n = TurnDone o now name m n
 FailsInTurnBy (Sort key) o now name m n = TurnDone o now name m n
+FailsInTurnBy SortIndex o now name m n = TurnDone o now name m n
 
 unfoldable pub FailsInTurn : Options → ℕ → List ℕ → Holding → Holding → Type 0
 FailsInTurn o now name m n = FailsInTurnBy o.mode o now name m n

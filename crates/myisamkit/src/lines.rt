@@ -167,6 +167,13 @@ pub(crate) fn sorted_line(
     )
 }
 
+/// The line on an index file whose pages, so many, were sorted.
+pub(crate) fn sorted_pages_line(alloc: Global, name: &str, pages: u64) -> Result<String, AllocError>
+    ensures { IfOk result (λ line. string_bytes line ≡ spec.sorted_pages_line name.now pages) }
+{
+    format!(in alloc; "{name}: sorted {pages} pages\n")
+}
+
 pub(crate) fn no_key_line(alloc: Global, name: &str, key: u8) -> Result<String, AllocError>
     ensures { IfOk result (λ line.
         string_bytes line ≡ spec.refused_line name.now (spec.no_key key)) }

@@ -18,6 +18,8 @@ pub(crate) enum Mode {
     Analyze,
     /// The rows are put in the order of the key of this number, from 1.
     Sort { key: u8 },
+    /// The pages of the index file are laid anew, each before those below it.
+    SortIndex,
 }
 
 /// What one option says.
@@ -119,6 +121,7 @@ pub(crate) fn letter_flag(letter: u8) -> Option<Flag>
         b'p' => Some(Flag::Mode(Mode::Recover { parallel: true })),
         b'd' => Some(Flag::Mode(Mode::Describe)),
         b'a' => Some(Flag::Mode(Mode::Analyze)),
+        b'S' => Some(Flag::Mode(Mode::SortIndex)),
         b'e' => Some(Flag::Extend),
         b'f' => Some(Flag::Force),
         b's' => Some(Flag::Silent),
@@ -136,6 +139,7 @@ pub(crate) fn long_flag(name: &str) -> Option<Flag>
         "parallel-recover" => Some(Flag::Mode(Mode::Recover { parallel: true })),
         "description" => Some(Flag::Mode(Mode::Describe)),
         "analyze" => Some(Flag::Mode(Mode::Analyze)),
+        "sort-index" => Some(Flag::Mode(Mode::SortIndex)),
         "extend-check" => Some(Flag::Extend),
         "force" => Some(Flag::Force),
         "silent" => Some(Flag::Silent),

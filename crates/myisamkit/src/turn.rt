@@ -13,6 +13,7 @@ use crate::host::Host;
 use crate::options::{Mode, Options};
 use crate::recover::recover_table;
 use crate::sort::{Order, sort_table};
+use crate::sort_index::sort_index_table;
 use crate::status::{Status, Stop};
 use myi_io::{Files, Sink};
 use myi_shell::Gate;
@@ -53,6 +54,7 @@ pub(crate) fn run_table<R: Threads + Sync, G: Gate, F: Files, O: Sink>(
             let order = Order { key, now };
             sort_table(host.alloc, files, out, options, name, order)
         }
+        Mode::SortIndex => sort_index_table(host.alloc, files, out, options, name),
         Mode::Check => check_table(host, files, out, options, name, now),
     }
 }

@@ -29,3 +29,8 @@ pub returns-in-Sort-clause-part : goal.returns-in-Sort-clause-part
 unfolding turn
 returns-in-Sort-clause-part g c =
     subst (λ mode. OnErr c.sort_table.result (IfTold (g.F.Files.holds c.args.files.now) (λ m. IfTold (g.O.Sink.written c.args.out.now) (AppendsPart (turn_by mode c.args.options.now c.args.now c.args.name.now m).text (g.O.Sink.written c.sort_table.new.out))))) (sym c.in-Sort.is) c.sort_table.ensures.part
+
+pub returns-in-SortIndex-clause-part : goal.returns-in-SortIndex-clause-part
+unfolding turn
+returns-in-SortIndex-clause-part g c =
+    subst (λ mode. OnErr c.sort_index_table.result (IfTold (g.F.Files.holds c.args.files.now) (λ m. IfTold (g.O.Sink.written c.args.out.now) (AppendsPart (turn_by mode c.args.options.now c.args.now c.args.name.now m).text (g.O.Sink.written c.sort_index_table.new.out))))) (sym c.in-SortIndex.is) c.sort_index_table.ensures.part
