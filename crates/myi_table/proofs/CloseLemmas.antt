@@ -1,9 +1,10 @@
 -- What the two files of a table are when it is closed.
-use Rattle.std.proofs.Common.{◌≡◌, ℕ, Bool, true, zero, suc, ◌+◌, ◌^◌, ◌<◌, List, [], ◌∷◌, ◌++◌, length, take, drop, replicate, ◌-◌, map, All, HoldsAt, IfErr, Option, Some, Result, Ok, Err, refl, sym, ap, subst, ◌∙◌, arith}
+use Rattle.std.proofs.Common.{◌≡◌, ◌≢◌, ℕ, Bool, true, zero, suc, ◌+◌, ◌^◌, ◌<◌, List, [], ◌∷◌, ◌++◌, length, take, drop, replicate, ◌-◌, map, All, HoldsAt, IfErr, Option, Some, Result, Ok, Err, refl, sym, ap, subst, ◌∙◌, arith}
 use Rattle.std.proofs.lemmas.Option.{same_Some}
 use Rattle.std.specs.Prelude.{unwrap_or}
 use Rattle.std.specs.List.{AllByRecursion}
 use Rattle.myi_base.specs.Holding.{Holding, bytes_of, overwritten, Told, IfTold, OthersStay, Cuts, Writes}
+use Rattle.myi_base.proofs.CallerLemmas.{told_more, told_then}
 use Rattle.myi_defs.specs.declared.types.Defs.{Defs}
 use Rattle.myi_defs.specs.Sound.{IsSound}
 use Rattle.myi_defs.specs.ReadDefs.{AreDefs}
@@ -31,7 +32,7 @@ use Rattle.myi_keyedrows.specs.Files.{AreOfKeys, HoldFiles, IsHeaderOf, closed_i
 use Rattle.myi_keyedrows.proofs.CallerLemmas.{look_stands}
 use Rattle.myi_table.specs.declared.fault.ChangeFault.{ChangeFault}
 use Rattle.myi_table.specs.Faults.{CutsOff}
-use Rattle.myi_table.specs.Table.{OpenTable, defs_in, HoldState, StillHolds, IfHolds, IsSame}
+use Rattle.myi_table.specs.Table.{OpenTable, defs_in, HoldState, StillHolds, IfHolds, IsSame, KeepsRows}
 use Rattle.myi_table.specs.Closing.{closing_state, HasState, IsClosed}
 use Rattle.myi_table.specs.Tied.{IsTied, HasPlaces}
 use Rattle.myi_table.proofs.ChangeLemmas.{with_rows, still_rows, tied_again}
@@ -62,7 +63,17 @@ pub written_tied : (t : OpenTable) (trees : Trees) (defs : Defs) (index : List �
 written_tied t trees defs index tied places room name counted =
     tied_again t (record { rows = t.rows.rows; trees = trees }) t.changed t.broken defs index tied (written_fit t.rows trees tied.fit places room name) (ap kinds places) counted (record { defs = refl; file = refl; index = name })
 
--- ---- the files
+-- ---- the data file
+
+-- pages are written to the other file
+pub rows_kept : (told next : Option Holding) (t : OpenTable) (defs : Defs) (index : List ℕ) → IsTied t defs index → Told told next (OthersStay t.rows.trees.cache.name) → Told told next (KeepsRows t.name)
+rows_kept told next t defs index tied others = told_more told next _ (KeepsRows t.name) others (λ m n held stay. stay (rows_file t.name) (λ e. tied.fit.apart (tied.rows_named ∙ e)))
+
+-- and so are the cut and the header
+pub rows_closed : (told mid low end : Option Holding) (t now : OpenTable) (defs : Defs) (index h : List ℕ) (n : ℕ) → IsTied now defs index → now.name ≡ t.name → Told told mid (KeepsRows t.name) → Told mid low (Cuts index n) → Told low end (Writes index 0 h) → Told told end (KeepsRows t.name)
+rows_closed told mid low end t now defs index h n tied name kept cut write =
+    let apart : rows_file t.name ≢ index = λ e. tied.fit.apart (tied.rows_named ∙ ap rows_file name ∙ e ∙ tied.index ∙ sym tied.index_named) in
+    told_then told low end _ _ (KeepsRows t.name) (told_then told mid low _ _ (KeepsRows t.name) kept cut (λ l m k keeps cuts. cuts.others (rows_file t.name) apart ∙ keeps)) write (λ l m k keeps writes. writes.others (rows_file t.name) apart ∙ keeps)
 
 -- ---- the state
 

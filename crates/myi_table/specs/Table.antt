@@ -114,5 +114,9 @@ pub record IsSame (old new : OpenTable) : Type 0 where
 abbrev pub KeepsOthers : List ℕ → Holding → Holding → Type 0
 KeepsOthers name m n = (q : List ℕ) → q ≢ rows_file name → q ≢ index_file name → n q ≡ m q
 
+-- the data file of a table holds what it held
+abbrev pub KeepsRows : List ℕ → Holding → Holding → Type 0
+KeepsRows name m n = n (rows_file name) ≡ m (rows_file name)
+
 abbrev pub ChangesItsOwn : Option Holding → Option Holding → OpenTable → Type 0
 ChangesItsOwn told next t = Told told next (KeepsOthers t.name)

@@ -36,7 +36,7 @@ impl Table {
     ghost use Rattle.myi_table.specs.declared.fault.Cause.{Cause};
     ghost use Rattle.std.specs.Prelude.{None, Some, map, All, OnOk, IsTrue, if◌then◌else◌};
     ghost use Rattle.std.specs.List.{AllByRecursion};
-    ghost use Rattle.myi_base.specs.Holding.{IfTold};
+    ghost use Rattle.myi_base.specs.Holding.{IfTold, Told};
     ghost use Rattle.myi_base.specs.Causes.{HasCause};
     ghost use Rattle.myi_keycache.specs.Kept.{AllWritten};
     ghost use Rattle.myi_keycache.specs.Caching.{pages_of};
@@ -44,12 +44,12 @@ impl Table {
     ghost use Rattle.myi_search.specs.Counting.{CountsOn};
     ghost use Rattle.myi_keyedrows.specs.KeyedRows.{IsLeft};
     ghost use Rattle.myi_table.specs.Faults.{CutsOff};
-    ghost use Rattle.myi_table.specs.Table.{IsKept, IfHolds, StillHolds, IsSame, ChangesItsOwn};
+    ghost use Rattle.myi_table.specs.Table.{IsKept, IfHolds, StillHolds, IsSame, KeepsRows, ChangesItsOwn};
     ghost use Rattle.myi_table.specs.Closing.{changed_bits, closing_state, HasState, IsClosed};
     ghost use Rattle.myi_table.specs.Tied.{HasPlaces};
 
     /// Writes all pages that were put. The table stands for the same state afterwards, also after a refusal, and is
-    /// not broken by it.
+    /// not broken by it. The data file stays.
     pub fn flush<F: Files>(&mut self, files: &mut F) -> Result<(), ChangeFault>
         requires writable { IsTrue F.writable }
         requires whole { self.old.broken ≡ None }
@@ -61,6 +61,8 @@ impl Table {
         ensures left { IsLeft self.old.rows self.new.rows }
         ensures cut { IfErr result CutsOff }
         ensures others { ChangesItsOwn (F.holds files.old) (F.holds files.new) self.old }
+        ensures rows { Told (F.holds files.old) (F.holds files.new)
+            (KeepsRows self.old.name) }
         ensures counted { CountsOn self.old.rows.trees.cache self.new.rows.trees.cache }
         ensures cause { HasCause File (F.faults files.old) (F.faults files.new) result }
     {
@@ -69,7 +71,7 @@ impl Table {
     }
 
     /// Writes all pages, and then the header with the numbers of the table. Where the table stands for a state the two
-    /// files stand for it then, and are a clean pair. After a refusal the files are what the calls left.
+    /// files stand for it then, and are a clean pair; the data file stays. After a refusal the files are what the calls left.
     pub fn close<F: Files>(self, files: &mut F) -> Result<(), ChangeFault>
         requires writable { IsTrue F.writable }
         requires kept { IsKept (F.holds files.old) self }
@@ -81,6 +83,8 @@ impl Table {
         ensures refused { IfErr result (λ f.
             IfHolds (F.holds files.old) self (λ m s. CutsOff f)) }
         ensures others { ChangesItsOwn (F.holds files.old) (F.holds files.new) self }
+        ensures rows { OnOk result (Told (F.holds files.old) (F.holds files.new)
+            (KeepsRows self.name)) }
         ensures cause { HasCause File (F.faults files.old) (F.faults files.new) result }
     {
         closed_files_stand();

@@ -80,6 +80,7 @@ impl Table {
     ghost use Rattle.myi_defs.specs.ReadDefs.{AreDefs};
     ghost use Rattle.myi_defs.specs.Sound.{IsSound};
     ghost use Rattle.myi_keycache.specs.Counts.{raised};
+    ghost use Rattle.myi_opening.specs.Names.{rows_file};
     ghost use Rattle.myi_table.specs.Table.{defs_in};
     ghost use Rattle.myi_table.specs.Counting.{sum_of};
 
@@ -115,9 +116,10 @@ impl Table {
         self.broken
     }
 
-    /// How long its data file is.
+    /// How long its data file is, which is the file of its name.
     pub fn length(&self) -> u64
-        ensures { result ≡ self.now.rows.rows.file.counts.length }
+        ensures length { result ≡ self.now.rows.rows.file.counts.length }
+        ensures file { self.now.rows.rows.file.name ≡ rows_file self.now.name }
     {
         self.rows.rows.counts().length
     }

@@ -10,7 +10,7 @@ use Rattle.myi_table.specs.Table.{OpenTable, IsSame, StillHolds}
 use Rattle.myi_table.specs.Faults.{CutsOff}
 use Rattle.myi_table.specs.Tied.{HasPlaces}
 use Rattle.myi_table.specs.Closing.{HasState}
-use Rattle.myi_table.proofs.CloseLemmas.{closed_here, header_refused, if_err_is}
+use Rattle.myi_table.proofs.CloseLemmas.{closed_here, header_refused, if_err_is, rows_closed}
 use Rattle.myi_table.proofs.table.Table.close.Goals as goal
 
 pub returns-in_err-header-clause-refused : goal.returns-in_err-header-clause-refused
@@ -44,3 +44,16 @@ returns-clause-closed g c =
     c.end-end.ensures c.end-end.type_inv
     (subst (λ (q : List ℕ). Told mid low (Cuts q c.end-end.result)) c.as_str-index.ensures.value c.in_ok-cut.ensures.ok)
     (subst (λ (x : List ℕ). Told low end (Writes (string_bytes i.index) 0 x)) c.deref.ensures.value (subst (λ (q : List ℕ). Told low end (Writes q 0 c.deref.result.now)) c.as_str-index.ensures.value c.in_ok-write_at.ensures.ok))
+
+pub returns-clause-rows : goal.returns-clause-rows
+returns-clause-rows g c =
+    let told = g.F.Files.holds c.args.files.now in
+    let mid = g.F.Files.holds c.flush.new.files in
+    let low = g.F.Files.holds c.cut.new.self in
+    let end = g.F.Files.holds c.write_at.new.self in
+    let i = c.table.inside in
+    let now : OpenTable = record { name = string_bytes i.name; setup = i.setup; header = i.header; lost = i.lost; rows = i.rows; changed = i.changed; broken = i.broken; added = i.added } in
+    let same : IsSame c.args.self now = subst (λ (u : OpenTable). IsSame c.args.self u) (sym c.table.view_is) c.flush.ensures.same in
+    rows_closed told mid low end c.args.self now i.defs (string_bytes i.index) _ c.end-end.result c.table.invariant same.name c.flush.ensures.rows
+    (subst (λ (q : List ℕ). Told mid low (Cuts q c.end-end.result)) c.as_str-index.ensures.value c.in_ok-cut.ensures.ok)
+    (subst (λ (q : List ℕ). Told low end (Writes q 0 c.deref.result.now)) c.as_str-index.ensures.value c.in_ok-write_at.ensures.ok)

@@ -1,7 +1,8 @@
 use Rattle.std.proofs.Common.{subst}
 use Rattle.std.specs.Prelude.{string_bytes}
-use Rattle.myi_table.specs.Table.{OpenTable, StillHolds}
-use Rattle.myi_table.proofs.CloseLemmas.{with_trees, written_holds, written_tied}
+use Rattle.myi_base.specs.Holding.{Told}
+use Rattle.myi_table.specs.Table.{OpenTable, StillHolds, KeepsRows}
+use Rattle.myi_table.proofs.CloseLemmas.{with_trees, written_holds, written_tied, rows_kept}
 use Rattle.myi_table.proofs.table.Table.flush.Goals as goal
 
 pub invariant_of-self : goal.invariant_of-self
@@ -31,3 +32,19 @@ returns-clause-still g c =
     let i = c.self.inside in
     let t : OpenTable = record { name = string_bytes i.name; setup = i.setup; header = i.header; lost = i.lost; rows = i.rows; changed = i.changed; broken = i.broken; added = i.added } in
     subst (λ (u : OpenTable). StillHolds told next u (with_trees t c.flush.new.self)) c.self.view_is (written_holds told next t c.flush.new.self c.self.invariant.fit c.flush.ensures.stand c.flush.ensures.others c.flush.ensures.name)
+
+pub returns-in_err-flush-clause-rows : goal.returns-in_err-flush-clause-rows
+returns-in_err-flush-clause-rows g c =
+    let told = g.F.Files.holds c.args.files.now in
+    let next = g.F.Files.holds c.flush.new.files in
+    let i = c.self.inside in
+    let t : OpenTable = record { name = string_bytes i.name; setup = i.setup; header = i.header; lost = i.lost; rows = i.rows; changed = i.changed; broken = i.broken; added = i.added } in
+    subst (λ (u : OpenTable). Told told next (KeepsRows u.name)) c.self.view_is (rows_kept told next t i.defs (string_bytes i.index) c.self.invariant c.flush.ensures.others)
+
+pub returns-clause-rows : goal.returns-clause-rows
+returns-clause-rows g c =
+    let told = g.F.Files.holds c.args.files.now in
+    let next = g.F.Files.holds c.flush.new.files in
+    let i = c.self.inside in
+    let t : OpenTable = record { name = string_bytes i.name; setup = i.setup; header = i.header; lost = i.lost; rows = i.rows; changed = i.changed; broken = i.broken; added = i.added } in
+    subst (λ (u : OpenTable). Told told next (KeepsRows u.name)) c.self.view_is (rows_kept told next t i.defs (string_bytes i.index) c.self.invariant c.flush.ensures.others)
