@@ -13,12 +13,12 @@ pack-requires-clause-sound c = subst IsSound (sym c.requires.defs) defs_sound
 
 pub overflow_cast-result : goal.overflow_cast-result
 overflow_cast-result c =
-    let long : c.len.result ≡ length (spelling defs c.args.row.now) = c.len.ensures ∙ ap (λ (b : List ℕ). length b) (c.as_slice.ensures.value ∙ c.in_ok-packed.ensures ∙ ap (λ (d : Defs). spelling d c.args.row.now) c.requires.defs) in
+    let long : length c.as_slice.result.now ≡ length (spelling defs c.args.row.now) = ap (λ (b : List ℕ). length b) (c.as_slice.ensures.value ∙ c.in_ok-packed.ensures ∙ ap (λ (d : Defs). spelling d c.args.row.now) c.requires.defs) in
     let least = least_short (length (spelling defs c.args.row.now)) c.requires.short in
     let same : c.least_size.result ≡ least_size (length (spelling defs c.args.row.now)) = c.least_size.ensures ∙ ap least_size long in
     omega (arith, same, least)
 
 pub returns : goal.returns
 returns c =
-    let long : c.len.result ≡ length (spelling defs c.args.row.now) = c.len.ensures ∙ ap (λ (b : List ℕ). length b) (c.as_slice.ensures.value ∙ c.in_ok-packed.ensures ∙ ap (λ (d : Defs). spelling d c.args.row.now) c.requires.defs) in
+    let long : length c.as_slice.result.now ≡ length (spelling defs c.args.row.now) = ap (λ (b : List ℕ). length b) (c.as_slice.ensures.value ∙ c.in_ok-packed.ensures ∙ ap (λ (d : Defs). spelling d c.args.row.now) c.requires.defs) in
     c.least_size.ensures ∙ ap least_size long ∙ sym (length-row_block c.args.row.now c.requires.short)
