@@ -1,0 +1,9 @@
+mod AheadLemmas
+mod CarryLemmas
+mod FrameLemmas
+mod LeastLemmas
+mod LoadLemmas
+mod MergedLists
+mod MergeLemmas
+mod ReadLemmas
+mod ScanLemmas
