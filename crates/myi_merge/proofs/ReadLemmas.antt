@@ -2,6 +2,7 @@
 use Rattle.std.proofs.Common.{◌≡◌, ℕ, suc, true, Option, Some, None, List, [], ◌∷◌, ◌++◌, map, refl, sym, ap, subst, ◌∙◌, append_assoc}
 use Rattle.std.specs.List.{AllByRecursion}
 use Rattle.std.proofs.lemmas.List.{append-nil, map-append}
+use Rattle.myi_base.specs.Holding.{Holding}
 use Rattle.myi_defs.specs.declared.types.Defs.{Defs}
 use Rattle.myi_defs.specs.Sound.{IsSound}
 use Rattle.myi_keylist.specs.declared.pair.Pair.{Pair}
@@ -40,6 +41,11 @@ next_head d s b old new came (Some h) all same so next =
       },
       so ∙ ap (λ (q : List Pair). map (pair_of_row d (suc b.key)) came ++ q) (a.3 ∙ ap (λ (k : ℕ). pair_of_row d (suc k) a.0 ∷ coming d new s.rows) same),
     )
+
+-- files that would tell what cannot be tell nothing
+pub untold : (o : Option Holding) → ((m : Holding) → o ≡ Some m → ⊥) → o ≡ None
+untold None never = refl
+untold (Some m) never = absurd (never m refl)
 
 -- a row of a table fits
 pub fits_row : (d : Defs) (s : TableState) (old new : RangeRows) (at : ℕ) (row : Values) → AllByRecursion (λ (r : StoredRow). fits d r.values ≡ true) s.rows → Answers d s old new (Some (at, row)) → fits d row ≡ true
