@@ -2,6 +2,11 @@ mod RowLaws
 mod TextLaws
 mod SizeLaws
 mod BlockLaws
-mod PutLaws
+mod SpaceLaws
+mod KeyLaws
+mod StepLaws
 mod RowsLaws
+mod AgainLaws
+mod FillLaws
+mod DamageLaws
 mod MakeLaws

@@ -1,5 +1,5 @@
 -- How long the rows and their blocks are.
-use Rattle.std.proofs.Common.{◌≡◌, ◌≤◌, ◌++◌, ◌∷◌, ◌+◌, ◌^◌, ◌%◌, ◌/◌, ◌==◌, ℕ, zero, suc, Bool, true, false, List, [], length, ap, sym, refl, arith, subst}
+use Rattle.std.proofs.Common.{◌≡◌, ◌<◌, ◌≤◌, ◌++◌, ◌∷◌, ◌+◌, ◌^◌, ◌%◌, ◌/◌, ◌==◌, ℕ, zero, suc, Bool, true, false, List, [], length, ap, sym, refl, arith, subst}
 use Rattle.std.specs.Prelude.{◌&&◌}
 use Rattle.std.proofs.lemmas.Bool.{and_from, eq-eqb, le-leb, lt-ltb}
 use Rattle.std.proofs.lemmas.List.{length-append}
@@ -47,6 +47,10 @@ fits_with n t b four few some less =
 pub row_short : (i x : ℕ) → length (spelling defs (row_of i x)) ≤ 248
 unfolding row_of
 row_short i x = short (low_num_bytes 4 i) _ _ (length-low_num_bytes 4 i) (subst (λ k. k ≤ 40) (sym (length-letters x 0 (x / 2 ^ 32 % 41))) (omega arith)) (subst (λ k. k ≤ 199) (sym (length-blob x 0 (x / 2 ^ 40 % 200))) (omega arith))
+
+pub row_some : (i x : ℕ) → 0 < length (spelling defs (row_of i x))
+unfolding row_of
+row_some i x = omega (arith, spelled (low_num_bytes 4 i) (letters x 0 (x / 2 ^ 32 % 41)) (blob_bytes x 0 (x / 2 ^ 40 % 200)))
 
 pub row_fits : (i x : ℕ) → fits defs (row_of i x) ≡ true
 unfolding row_of

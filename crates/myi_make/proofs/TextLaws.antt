@@ -1,6 +1,16 @@
 -- What is read of the text of the table, and of its header.
-use Rattle.std.proofs.Common.{◌≡◌, ◌≢◌, ◌∙◌, Ok, Err, refl, sym}
-use Rattle.std.specs.Prelude.{Result}
+use Rattle.std.proofs.Common.{◌≡◌, ◌≢◌, ◌≤◌, ◌-◌, ◌^◌, ◌∙◌, ℕ, zero, suc, Bool, true, List, [], ◌∷◌, Ok, Err, refl, sym, arith}
+use Rattle.std.specs.Prelude.{◌&&◌, nat_lt, Result}
+use Rattle.std.proofs.lemmas.Bool.{and_from, and_parts, le-leb, lt-ltb, ltb-true}
+use Rattle.std.proofs.lemmas.List.{length-take}
+use Rattle.myi_base.specs.Numbers.{num_at, AreBytes}
+use Rattle.myi_base.proofs.CallerLemmas.{bytes-none, bytes-take}
+use Rattle.myi_defs.specs.Addressable.{is_addressable}
+use Rattle.myi_defs.specs.ReadDefs.{AreDefs}
+use Rattle.myi_defs.specs.Sound.{IsSound}
+use Rattle.myi_defs.proofs.CallerLemmas.{sound, are_defs}
+use Rattle.myi_header.specs.StateOf.{state_of}
+use Rattle.myi_header.proofs.CallerLemmas.{state-take}
 use Rattle.myi_defs.specs.declared.types.Defs.{Defs}
 use Rattle.myi_deftext.specs.declared.parse.TextFault.{TextFault}
 use Rattle.myi_deftext.specs.declared.parse.TextFault.TheVariants as fault
@@ -41,3 +51,41 @@ only_defs d read = same d (sym read ∙ text_read)
   where
     same : (d : Defs) → ◌≡◌ {A = Result Defs TextFault} (Ok d) (Ok defs) → d ≡ defs
     same d e = cc
+
+-- ---- what follows of its definitions
+
+pub defs_are : AreDefs defs
+defs_are = are_defs header defs header_read
+
+pub defs_sound : IsSound defs
+defs_sound = sound defs defs_are
+
+-- row pointers reach the whole file
+pub reached : (end : ℕ) → end ≤ 2 ^ 40 → is_addressable defs end ≡ true
+unfolding is_addressable defs
+reached end less = and_from _ _ (le-leb end (2 ^ 40) less) (lt-ltb end (256 ^ 6 - 1) (omega (arith, less)))
+
+-- the header is bytes
+
+are_small : List ℕ → Bool
+are_small [] = true
+are_small (x ∷ xs) = nat_lt x 256 && are_small xs
+
+small_bytes : (xs : List ℕ) → are_small xs ≡ true → AreBytes xs
+unfolding are_small
+small_bytes [] small i = bytes-none i
+small_bytes (x ∷ xs) small zero = ltb-true x 256 ((and_parts (nat_lt x 256) (are_small xs) small).0)
+small_bytes (x ∷ xs) small (suc i) = small_bytes xs ((and_parts (nat_lt x 256) (are_small xs) small).1) i
+
+header_small : are_small header ≡ true
+unfolding are_small header defs num num_bytes step line_of two_words format_of field_line kind_of number is_decimal value unique_of seg_line seg_of signed_of unsigned_of empty_header front_bytes base_bytes text_header base_spelling front_said front_spelling key_bytes seg_bytes empty_state nulls zeros front all_keys
+header_small = refl
+
+pub header_bytes : AreBytes defs.raw
+unfolding defs
+header_bytes = bytes-take (num_at 6 2 header) header (small_bytes header header_small)
+
+-- the state of the empty table, as it is read of the definitions
+pub empty_read : state_of defs defs.raw ≡ state_of defs header
+unfolding defs
+empty_read = state-take defs (num_at 6 2 header) header defs_sound (omega (arith, length-take (num_at 6 2 header) header))

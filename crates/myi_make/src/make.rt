@@ -2,27 +2,20 @@
 ghost use Rattle.std.specs.Prelude.{◌≡◌, ◌⊎◌, ◌/◌, ◌≤◌, None, IfOk, IfErr, OnOk, IsTrue};
 ghost use Rattle.myi_base.specs.Holding.{Told};
 ghost use Rattle.myi_base.specs.Causes.{HasCause};
-ghost use Rattle.myi_create.specs.declared.fault.CreateFault.TheVariants as creating;
-ghost use Rattle.myi_create.specs.Creating as create;
 ghost use Rattle.myi_repair.specs.Names.{names_for, KeepsBut};
-ghost use Rattle.myi_repair.specs.Opening.{CutsOff};
-ghost use Rattle.myi_make.specs.MadeTable as spec;
-ghost use Rattle.myi_make.specs.Making.{HasDamaged, LeavesMade};
+ghost use Rattle.myi_make.specs.Making.{LeavesMade};
+ghost use Rattle.myi_make.specs.Faults.{CutsOff};
+ghost use Rattle.myi_make.specs.Filling.{HasDamaged};
 
-use crate::put::put_rows;
+use crate::damage::damage_blocks;
+use crate::fault::MakeFault;
+use crate::filling::fill_table;
 use myi_check::check;
-use myi_create::{CreateFault, create_with};
-use myi_defs::Defs;
-use myi_deftext::{TextFault, parse_text};
 use myi_io::Files;
 use myi_opening::TableFile;
 use myi_pair::Finding;
-use myi_repair::{RepairFault, Report, recover};
-use std::alloc::{AllocError, Global};
-
-/// The creating text of the table.
-const TEXT: &[u8] =
-    b"rows dynamic\nfield normal 1\nfield normal 4\nfield varchar 41\nfield blob 10\nkey unique\nseg long_int 1 4 0 0 0\nkey plain\nseg vartext 5 40 8 0 0\n";
+use myi_repair::{Report, recover};
+use std::alloc::Global;
 
 /// A table that was made and recovered.
 pub struct Made {
@@ -45,7 +38,8 @@ impl Drop for Made {
 }
 
 /// Makes a table of so many rows, damages every tenth, recovers the table and checks it. Files of the table's
-/// names are replaced, and `now` is the moment, in seconds since 1970. The memory is that of a repair.
+/// names are replaced, and `now` is the moment, in seconds since 1970. The memory is first that of a table with a key
+/// cache of 64 pages and a place for each damaged block, and then that of a repair.
 pub fn make_table<F: Files>(
     alloc: Global,
     files: &mut F,
@@ -53,7 +47,7 @@ pub fn make_table<F: Files>(
     count: u32,
     seed: u64,
     now: u64,
-) -> Result<Made, RepairFault>
+) -> Result<Made, MakeFault>
     requires writable { IsTrue F.writable }
     requires some { 1 ≤ count }
     requires few { count ≤ 100000 }
@@ -68,7 +62,7 @@ pub fn make_table<F: Files>(
 
     // Where the files tell what they hold, nothing but a failed file call or want of memory is in the way.
     ensures refused { IfErr result (λ f. CutsOff f ⊎ (F.holds files.old ≡ None)) }
-    ensures cause { HasCause RepairFault.File (F.faults files.old) (F.faults files.new) result }
+    ensures cause { HasCause MakeFault.File (F.faults files.old) (F.faults files.new) result }
 {
     make_damaged(alloc, files, name, count, seed)?;
     let report = recover(alloc, files, name, false, now)?;
@@ -87,73 +81,18 @@ fn make_damaged<F: Files>(
     name: &str,
     count: u32,
     seed: u64,
-) -> Result<(), RepairFault>
+) -> Result<(), MakeFault>
     requires writable { IsTrue F.writable }
     requires some { 1 ≤ count }
     requires few { count ≤ 100000 }
     ensures made { OnOk result (Told (F.holds files.old) (F.holds files.new)
         (HasDamaged name.now count seed)) }
     ensures others { Told (F.holds files.old) (F.holds files.new) (KeepsBut (names_for name.now)) }
-    ensures cut { IfErr result CutsOff }
-    ensures cause { HasCause RepairFault.File (F.faults files.old) (F.faults files.new) result }
+    ensures refused { IfErr result (λ f. CutsOff f ⊎ (F.holds files.old ≡ None)) }
+    ensures cause { HasCause MakeFault.File (F.faults files.old) (F.faults files.new) result }
 {
     let rows = TableFile::Data.of(alloc, name)?;
-    let defs = definitions(alloc)?;
-    create(alloc, files, name, &defs)?;
-    put_rows(alloc, files, rows.as_str(), &defs, count, seed)?;
+    let blocks = fill_table(alloc, files, name, count, seed)?;
+    damage_blocks(files, rows.as_str(), blocks.as_slice())?;
     Ok(())
-}
-
-// The definitions of the table.
-fn definitions(alloc: Global) -> Result<Defs, AllocError>
-    ensures { IfOk result (λ d. d ≡ spec.defs) }
-{
-    match parse_text(alloc, TEXT) {
-        Ok(defs) => Ok(defs),
-        Err(fault) => Err(want_of_memory(fault)),
-    }
-}
-
-// The text is one, so that nothing but want of memory is in the way.
-fn want_of_memory(fault: TextFault) -> AllocError
-    requires { fault ≡ TextFault.Memory }
-{
-    match fault {
-        TextFault::Memory => AllocError,
-        _ => unreachable!(),
-    }
-}
-
-// Makes the empty table.
-fn create<F: Files>(
-    alloc: Global,
-    files: &mut F,
-    name: &str,
-    defs: &Defs,
-) -> Result<(), RepairFault>
-    requires writable { IsTrue F.writable }
-    requires defs { defs.now ≡ spec.defs }
-    ensures made { OnOk result (Told (F.holds files.old) (F.holds files.new)
-        (HasDamaged name.now 0 0)) }
-    ensures others { Told (F.holds files.old) (F.holds files.new) (KeepsBut (names_for name.now)) }
-    ensures cut { IfErr result CutsOff }
-    ensures cause { HasCause RepairFault.File (F.faults files.old) (F.faults files.new) result }
-{
-    match create_with(alloc, files, name, defs) {
-        Ok(()) => Ok(()),
-        Err(fault) => Err(cut_off(fault)),
-    }
-}
-
-// The fault of a creation that was cut off.
-fn cut_off(fault: CreateFault) -> RepairFault
-    requires { create.IsCutOff fault }
-    ensures cut { CutsOff result }
-    ensures file { result ≡ RepairFault.File → fault ≡ creating.File }
-{
-    match fault {
-        CreateFault::File => RepairFault::File,
-        CreateFault::Memory => RepairFault::Memory,
-        _ => unreachable!(),
-    }
 }

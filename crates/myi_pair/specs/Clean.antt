@@ -69,6 +69,10 @@ Follows d x before at (p ∷ ps) = (at ≡ Some p) × NamesBefore d x p before �
 abbrev pub ListsDeleted : Defs → List ℕ → Option ℕ → Type 0
 ListsDeleted defs d head = (ps : List ℕ) × IsPermutation (map (λ (a : Range). a.0) (deleted defs d)) ps × Follows defs d None head ps
 
+-- every byte of a data file belongs to a block of a row or to a deleted block
+abbrev pub IsCovered : Defs → List ℕ → Type 0
+IsCovered defs d = (p : ℕ) → p < length d → list_any (covers p) (ranges_of (readable defs false d) ++ deleted defs d) ≡ true
+
 -- the numbers of a state are those of these files
 pub record Counts (defs : Defs) (s : State) (d x : List ℕ) : Type 0 where
   pub records : s.records ≡ length (readable defs false d)
@@ -84,8 +88,7 @@ pub record IsClean (d x : List ℕ) : Type 0 where
   pub read : read_defs x ≡ Ok defs
   pub mark : has_mark defs x ≡ true
   pub addressable : is_addressable defs (length d) ≡ true
-  -- every byte belongs to a block of a row or to a deleted block
-  pub covered : (p : ℕ) → p < length d → list_any (covers p) (ranges_of (readable defs false d) ++ deleted defs d) ≡ true
+  pub covered : IsCovered defs d
   pub list : ListsDeleted defs d (state_of defs x).dellink
   pub counts : Counts defs (state_of defs x) d x
   -- each tree has a walk, whose pairs are its key list; what is left of the index file behind the header belongs to no

@@ -20,8 +20,7 @@ use Rattle.myi_state.specs.Sound.{AreInOrder}
 use Rattle.myi_state.specs.Standing.{StandsFor}
 use Rattle.myi_slots.specs.SlotBytes.{is_slot, row_there}
 use Rattle.myi_slots.specs.SlotFile.{SlotFile, IsFileOf, IsLong}
-use Rattle.myi_slots.proofs.StandLemmas.{static-of}
-use Rattle.myi_slots.proofs.FoundLemmas.{IsThere, row-there}
+use Rattle.myi_slots.proofs.CallerLemmas.{IsThere, row-there, static-of}
 use Rattle.myi_blocks.specs.RowReading.{StandsAt}
 use Rattle.myi_rows.specs.RowFile.{HasRow, HasRowBy, IsRowAt, IsRowBy}
 use Rattle.myi_pair.specs.KeyList.{pointer, pairs_of, key_list}

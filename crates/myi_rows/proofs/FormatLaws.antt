@@ -1,5 +1,6 @@
 -- Rows at positions of a data file, by its format.
 use Rattle.std.proofs.Common.{◌≡◌, ◌≤◌, ◌+◌, ℕ, true, Some, None, ap, subst, sym, ◌∙◌}
+use Rattle.std.specs.Prelude.{is_some}
 use Rattle.myi_base.specs.Holding.{Holding, bytes_of, blocks}
 use Rattle.myi_defs.specs.declared.types.RowFormat.{RowFormat}
 use Rattle.myi_defs.specs.declared.types.RowFormat.TheVariants.{Static, Dynamic}
@@ -10,7 +11,7 @@ use Rattle.myi_blocks.specs.Places.{NotedFile}
 use Rattle.myi_blocks.specs.RowReading as dynamic
 use Rattle.myi_rows.specs.declared.row_file.Rows.{Rows}
 use Rattle.myi_rows.specs.declared.row_file.Rows.TheVariants as rows
-use Rattle.myi_rows.specs.RowFile.{noted_of, AreInFormat, HasRow, HasRowBy, IsRowAt, IsRowBy, ReadsFew, ReadsFewBy}
+use Rattle.myi_rows.specs.RowFile.{noted_of, AreInFormat, HasRow, HasRowBy, IsRowAt, IsRowBy, KnowsRows, KnowsRowsBy, ReadsFew, ReadsFewBy}
 
 static_is : (r : Rows) (v : NotedFile) (f : SlotFile) → r ≡ rows.Static f → noted_of r ≡ v → f ≡ v.file
 static_is r v f is view = sym (ap (λ (q : Rows). (noted_of q).file) is) ∙ ap (λ (n : NotedFile). n.file) view
@@ -49,3 +50,7 @@ static_by W r v f is view form here = subst (λ (n : NotedFile). W n.file.defs.f
 
 pub dynamic_by : (W : RowFormat → NotedFile → Type 0) (r : Rows) (v d : NotedFile) → r ≡ rows.Dynamic d → noted_of r ≡ v → AreInFormat r → W Dynamic d → W v.file.defs.format v
 dynamic_by W r v d is view form here = subst (λ (n : NotedFile). W n.file.defs.format n) (dynamic_all r v d is view) (subst (λ k. W k d) (sym (subst AreInFormat is form)) here)
+
+-- where it is known of the file where rows stand, it is of its blocks
+pub dynamic_known : (r : Rows) (v d : NotedFile) → r ≡ rows.Dynamic d → noted_of r ≡ v → AreInFormat r → KnowsRows v → is_some d.places ≡ true
+dynamic_known r v d is view form known = subst (λ k. KnowsRowsBy k d.places) (subst AreInFormat is form) (subst (λ (n : NotedFile). KnowsRows n) (sym (dynamic_all r v d is view)) known)

@@ -1,6 +1,6 @@
 -- The data file of a table that changes, in either format, as one kind of object: a static file is one of which no positions are
 -- noted. What stands at a position, and how many reads it may count for, by the format.
-use Rattle.std.specs.Prelude.{◌≡◌, ◌+◌, ◌≤◌, ℕ, true, Some, None}
+use Rattle.std.specs.Prelude.{◌≡◌, ◌+◌, ◌≤◌, ℕ, true, List, Option, Some, None, is_some}
 use Rattle.myi_base.specs.Holding.{Holding, bytes_of, blocks}
 use Rattle.myi_defs.specs.declared.types.RowFormat.{RowFormat}
 use Rattle.myi_defs.specs.declared.types.RowFormat.TheVariants.{Static, Dynamic}
@@ -39,6 +39,15 @@ IsRowBy Dynamic f at values m = dynamic.IsRowAt f at values m
 
 abbrev pub IsRowAt : SlotFile → ℕ → Values → Holding → Type 0
 IsRowAt f at values m = IsRowBy f.defs.format f at values m
+
+-- It is known where rows stand without a scan of the file: in a static one by its slots, and in a dynamic one where positions are
+-- noted.
+abbrev pub KnowsRowsBy : RowFormat → Option (List ℕ) → Type 0
+KnowsRowsBy Static places = Unit {0}
+KnowsRowsBy Dynamic places = is_some places ≡ true
+
+abbrev pub KnowsRows : NotedFile → Type 0
+KnowsRows f = KnowsRowsBy f.file.defs.format f.places
 
 -- it was read, and counted for no more reads than a slot may, or its blocks
 abbrev pub ReadsFewBy : RowFormat → SlotFile → ℕ → ℕ → ℕ → Holding → Type 0

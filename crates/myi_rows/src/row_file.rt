@@ -49,8 +49,8 @@ impl RowFile {
     ghost use Rattle.myi_slots.specs.declared.fault.DataFault.TheVariants.{File};
     ghost use Rattle.myi_slots.specs.SlotFile.{IsLong, Adds, AddsNew, IfRefused, ByCause, Never, counts_in, is_reached, risen};
     ghost use Rattle.myi_blocks.specs.Places.{StepsNoted, RefusesNoted, StaysNoted, ReadsNoted, LooksUp};
-    ghost use Rattle.myi_rows.specs.RowFile.{HasRow, IsRowAt, ReadsFew, SaysNoRow};
-    ghost use Rattle.myi_rows.specs.Writing.{WritesNew, WritesGone, WritesOther};
+    ghost use Rattle.myi_rows.specs.RowFile.{HasRow, IsRowAt, KnowsRows, ReadsFew, SaysNoRow};
+    ghost use Rattle.myi_rows.specs.Writing.{PutsNew, WritesNew, WritesGone, WritesOther};
     ghost use Rattle.myi_rows.specs.Refusals.{FindsRow, FindsNone, TakesAway, LacksRoom, LacksEnd, LacksOther, LacksReach, FindsBad, FindsOtherBad, FindsRowBad, ReadsBad};
 
     /// The data file of that name, with these definitions of a table and this state. Nothing is read yet.
@@ -101,6 +101,8 @@ impl RowFile {
             (StepsNoted (insert row.now) self.old self.new at)) }
         ensures refused { IfErr result (λ f. IfTold (F.holds files.old)
             (RefusesNoted (insert row.now) self.old f)) }
+        ensures puts { IfOk result (λ at. PutsNew self.old.file self.new.file row.now at
+            (F.holds files.old) (F.holds files.new)) }
         ensures written { IfOk result (λ at. Told (F.holds files.old) (F.holds files.new)
             (WritesNew self.old.file self.new.file row.now at)) }
         ensures appended { OnOk result (Told (F.holds files.old) (F.holds files.new)
@@ -256,18 +258,23 @@ impl RowFile {
     }
 
     /// The row at any position, which fits the definitions, and of a file that stands for a state `NoRow` where the
-    /// state has none there. `NoRow` names the position.
+    /// state has none there. `NoRow` names the position. Where it is known where rows stand, it is read in no more
+    /// reads than its slot or its blocks may count for; else a dynamic file is scanned once before.
     pub fn read_at<F: Files>(&mut self, files: &mut F, at: u64) -> Result<Row, DataFault>
         requires long { IfTold (F.holds files.old) (IsLong self.old.file) }
         ensures told { IfTold (F.holds files.old) (ReadsNoted self.old at result) }
         ensures there { IfOk result (λ row. IfTold (F.holds files.old)
             (IsRowAt self.old.file at row)) }
         ensures fits { IfOk result (λ row. fits self.old.file.defs row ≡ true) }
+        ensures stood { OnOk result
+            (FindsRow self.old.file self.new.places at (F.holds files.old)) }
         ensures causes { IfErr result (ByCause (λ p. (p ≡ at)
             × FindsNone self.old.file self.new.places at (F.holds files.old))
             ⊥ (λ p. ReadsBad self.old.file self.new.places at (F.holds files.old))) }
         ensures noted { IfTold (F.holds files.old) (LooksUp self.old self.new) }
         ensures kept { IfTold (F.holds files.old) (StaysNoted self.old self.new) }
+        ensures few { KnowsRows self.old → IfTold (F.holds files.old)
+            (ReadsFew self.old.file at (F.reads files.old) (F.reads files.new)) }
         ensures file { self.new.file ≡ self.old.file }
         ensures holds { F.holds files.new ≡ F.holds files.old }
         ensures cause { HasCause File (F.faults files.old) (F.faults files.new) result }

@@ -1,5 +1,5 @@
 -- A step that meets damage, and the line on it.
-use Rattle.std.proofs.Common.{◌≡◌, ◌<◌, ◌≤◌, ℕ, zero, suc, List, [], ◌∷◌, ◌++◌, length, Option, Some, Result, Ok, Err, IfErr, refl, sym, ap, subst, ◌∙◌, inl, inr, arith, append_assoc}
+use Rattle.std.proofs.Common.{◌≡◌, ◌≤◌, ℕ, zero, suc, List, [], ◌∷◌, ◌++◌, Option, Some, Result, Err, IfErr, refl, sym, ap, subst, ◌∙◌, inl, inr, arith, append_assoc}
 use Rattle.std.specs.Prelude.{◌⊎◌}
 use Rattle.std.specs.List.{Contains}
 use Rattle.std.proofs.lemmas.List.{append-nil}
@@ -18,7 +18,7 @@ use Rattle.myi_shell.specs.declared.fault.ShellFault.TheVariants as fault
 use Rattle.myi_shell.specs.Changing.{NeverDamaged}
 use Rattle.myi_shell.specs.Damage.{IsDamage, IsNoted, Extends, IsPrintedDamage, IsToldFor}
 use Rattle.myi_shell.specs.Stepping.{RunState}
-use Rattle.myi_shell.specs.Running.{HasDone, IsPrintedPart, StandsBehind, IsStopped, of_sink}
+use Rattle.myi_shell.specs.Running.{Before, HasDone, IsPrintedPart, StandsBehind, IsStopped, of_sink}
 
 err_of : {T F : Type 0} (f g : F) → ◌≡◌ {A = Result T F} (Err f) (Err g) → f ≡ g
 err_of f g e = cc
@@ -86,21 +86,21 @@ sink_no_damage sink.Memory damage = damage
 
 -- ---- a round that a fault cut off
 
-pub cut_stopped : (o : Opening) (start : Option (List ℕ)) (told : Option Holding) (out mid now : Option (List ℕ)) (p : RunState) (t : OpenTable) (f : ShellFault) → IsStopped told t f → ((IsDamage f → ⊥) → now ≡ mid) → HasDone o start told p t out → IsPrintedPart o start mid
-    → IsPrintedPart o start now
-cut_stopped o start told out mid now p t (fault.Damaged at) never same w part = let k = w.stands.table in absurd (never k.0 k.1 _ k.2)
-cut_stopped o start told out mid now p t fault.File never same w part = subst (λ (z : Option (List ℕ)). IsPrintedPart o start z) (sym (same (λ x. x))) part
-cut_stopped o start told out mid now p t fault.Sink never same w part = subst (λ (z : Option (List ℕ)). IsPrintedPart o start z) (sym (same (λ x. x))) part
-cut_stopped o start told out mid now p t fault.Memory never same w part = subst (λ (z : Option (List ℕ)). IsPrintedPart o start z) (sym (same (λ x. x))) part
+pub cut_stopped : (o : Opening) (from : Before) (told : Option Holding) (out mid now : Option (List ℕ)) (p : RunState) (t : OpenTable) (f : ShellFault) → IsStopped told t f → ((IsDamage f → ⊥) → now ≡ mid) → HasDone o from told p t out → IsPrintedPart o from.printed mid
+    → IsPrintedPart o from.printed now
+cut_stopped o from told out mid now p t (fault.Damaged at) never same w part = let k = w.stands.table in absurd (never k.0 k.1 _ k.2)
+cut_stopped o from told out mid now p t fault.File never same w part = subst (λ (z : Option (List ℕ)). IsPrintedPart o from.printed z) (sym (same (λ x. x))) part
+cut_stopped o from told out mid now p t fault.Sink never same w part = subst (λ (z : Option (List ℕ)). IsPrintedPart o from.printed z) (sym (same (λ x. x))) part
+cut_stopped o from told out mid now p t fault.Memory never same w part = subst (λ (z : Option (List ℕ)). IsPrintedPart o from.printed z) (sym (same (λ x. x))) part
 
-pub cut_stands : (o : Opening) (start : Option (List ℕ)) (told next : Option Holding) (out mid now : Option (List ℕ)) (p : RunState) (t u : OpenTable) (f g : ShellFault) → g ≡ fault.Sink → IsToldFor f g → IsStopped told t f → ((IsDamage f → ⊥) → now ≡ mid)
-    → HasDone o start told p t out → (f ≡ fault.Sink → StandsBehind o start next u mid) → StandsBehind o start next u now
-cut_stands o start told next out mid now p t u (fault.Damaged at) g sank is never same w stands = let k = w.stands.table in absurd (never k.0 k.1 _ k.2)
-cut_stands o start told next out mid now p t u fault.Sink g sank is never same w stands = subst (λ (z : Option (List ℕ)). StandsBehind o start next u z) (sym (same (λ x. x))) (stands refl)
-cut_stands o start told next out mid now p t u fault.File g sank (inl is) never same w stands = absurd (let bad : fault.File ≡ fault.Sink = sym is ∙ sank in cc)
-cut_stands o start told next out mid now p t u fault.File g sank (inr is) never same w stands = absurd is.0
-cut_stands o start told next out mid now p t u fault.Memory g sank (inl is) never same w stands = absurd (let bad : fault.Memory ≡ fault.Sink = sym is ∙ sank in cc)
-cut_stands o start told next out mid now p t u fault.Memory g sank (inr is) never same w stands = absurd is.0
+pub cut_stands : (o : Opening) (from : Before) (told next : Option Holding) (out mid now : Option (List ℕ)) (p : RunState) (t u : OpenTable) (f g : ShellFault) → g ≡ fault.Sink → IsToldFor f g → IsStopped told t f → ((IsDamage f → ⊥) → now ≡ mid)
+    → HasDone o from told p t out → (f ≡ fault.Sink → StandsBehind o from next u mid) → StandsBehind o from next u now
+cut_stands o from told next out mid now p t u (fault.Damaged at) g sank is never same w stands = let k = w.stands.table in absurd (never k.0 k.1 _ k.2)
+cut_stands o from told next out mid now p t u fault.Sink g sank is never same w stands = subst (λ (z : Option (List ℕ)). StandsBehind o from next u z) (sym (same (λ x. x))) (stands refl)
+cut_stands o from told next out mid now p t u fault.File g sank (inl is) never same w stands = absurd (let bad : fault.File ≡ fault.Sink = sym is ∙ sank in cc)
+cut_stands o from told next out mid now p t u fault.File g sank (inr is) never same w stands = absurd is.0
+cut_stands o from told next out mid now p t u fault.Memory g sank (inl is) never same w stands = absurd (let bad : fault.Memory ≡ fault.Sink = sym is ∙ sank in cc)
+cut_stands o from told next out mid now p t u fault.Memory g sank (inr is) never same w stands = absurd is.0
 
 pub cut_never : (told : Option Holding) (t : OpenTable) (f g : ShellFault) → IsToldFor f g → IsStopped told t f → IsStopped told t g
 cut_never told t f g (inl is) never = subst (IsStopped told t) (sym is) never

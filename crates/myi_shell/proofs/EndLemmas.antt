@@ -1,19 +1,22 @@
 -- How a script ends: by its rounds, and by closing its table.
-use Rattle.std.proofs.Common.{◌≡◌, ℕ, List, ◌++◌, length, Option, Some, Result, Ok, Err, OnOk, IfErr, refl, sym, ap, subst, ◌∙◌, arith}
+use Rattle.std.proofs.Common.{◌≡◌, ◌<◌, ℕ, List, [], ◌∷◌, ◌++◌, length, Option, Some, Result, Ok, Err, OnOk, IfErr, refl, sym, ap, subst, ◌∙◌, arith}
+use Rattle.std.specs.Prelude.{◌≢◌}
 use Rattle.std.proofs.lemmas.List.{take_all}
-use Rattle.myi_base.specs.Holding.{Holding, IfTold}
+use Rattle.std.proofs.lemmas.Option.{same_Some}
+use Rattle.myi_base.specs.Holding.{Holding, IfTold, Told}
 use Rattle.myi_state.specs.State.{TableState}
-use Rattle.myi_state.specs.Changes.{replay}
-use Rattle.myi_history.specs.History.{Opening, history}
+use Rattle.myi_state.specs.Changes.{Change, replay}
+use Rattle.myi_history.specs.History.{Opening, history_in, history}
 use Rattle.myi_history.specs.Text.{shell_text}
 use Rattle.myi_table.specs.declared.fault.ChangeFault.{ChangeFault}
 use Rattle.myi_table.specs.declared.fault.ChangeFault.TheVariants as change
-use Rattle.myi_table.specs.Table.{OpenTable, IfHolds, IsSame}
+use Rattle.myi_table.specs.Table.{OpenTable, IfHolds, IsSame, KeepsRows}
 use Rattle.myi_table.specs.Closing.{IsClosed}
 use Rattle.myi_shell.specs.declared.fault.ShellFault.{ShellFault}
 use Rattle.myi_shell.specs.declared.fault.ShellFault.TheVariants as fault
 use Rattle.myi_shell.specs.Damage.{IsPrintedDamage}
-use Rattle.myi_shell.specs.Running.{HasEnded, IsPrinted, IsPrintedPart, AreClosed, StandsBehind, AreClosedBehind, IfSink, ended}
+use Rattle.myi_shell.specs.Carrying.{IsTouchedBy}
+use Rattle.myi_shell.specs.Running.{standing, HasEnded, IsPrinted, IsPrintedPart, AreClosed, AreClosedAtEnd, StandsBehind, AreClosedBehind, IfSink, ended}
 
 both : (P Q : Type 0) (ran : Result (Unit {0}) ShellFault) (closed : Result (Unit {0}) ChangeFault) → OnOk ran P → OnOk closed Q → OnOk (ended ran closed) (P × Q)
 both P Q (Err (fault.Damaged at)) closed p q = tt
@@ -50,19 +53,49 @@ always (Err e) = tt
 -- ---- the text
 
 pub text_of_end : (told : Option Holding) (start : Option (List ℕ)) (mid : Option Holding) (printed : Option (List ℕ)) (old t : OpenTable) (o : TableState → Opening) (result ran : Result (Unit {0}) ShellFault) (closed : Result (Unit {0}) ChangeFault) → result ≡ ended ran closed
-    → OnOk ran (IfHolds told old (λ m s. HasEnded (o s) start mid t printed)) → OnOk result (IfHolds told old (λ m s. IsPrinted (o s) start printed))
+    → OnOk ran (IfHolds told old (λ m s. HasEnded (o s) (standing start told old) mid t printed)) → OnOk result (IfHolds told old (λ m s. IsPrinted (o s) start printed))
 text_of_end told start mid printed old t o result ran closed is done =
     told_ok _ result (ended ran closed) is (on_ok _ _ (ended ran closed) (λ p. λ m held s h. (p.0 m held s h).text) (both _ _ ran closed done (always closed)))
 
 -- ---- the table
 
+-- what closing the table says
+record IsShut (mid next : Option Holding) (t : OpenTable) : Type 0 where
+  pub closed : IfHolds mid t (λ m s. IfTold next (IsClosed t s))
+  pub rows : Told mid next (KeepsRows t.name)
+
+shut_ok : {E : Type 0} (mid next : Option Holding) (t : OpenTable) (closed : Result (Unit {0}) E) → OnOk closed (IfHolds mid t (λ m s. IfTold next (IsClosed t s))) → OnOk closed (Told mid next (KeepsRows t.name)) → OnOk closed (IsShut mid next t)
+shut_ok mid next t (Ok done) closed rows = record { closed = closed; rows = rows }
+shut_ok mid next t (Err f) closed rows = tt
+
+some_changes : (cs : List Change) → cs ≢ [] → 0 < length cs
+some_changes [] some = absurd (some refl)
+some_changes (c ∷ cs) some = omega arith
+
+-- the files of a table that was closed behind these changes
+closed_by : (o : Opening) (changes : List Change) (told mid next : Option Holding) (old t : OpenTable) (m n : Holding) → IsSame old t → IsTouchedBy told mid old t 0 (length changes) → told ≡ Some m → next ≡ Some n
+    → IsClosed t (replay o.defs o.base changes) n → Told mid next (KeepsRows t.name) → AreClosed o changes old m n
+closed_by o changes told mid next old t m n same touched held shown closed rows = record {
+  last = t;
+  same = same;
+  closed = closed;
+  rows = λ none.
+      let one = (touched.none (ap length none)).rows.told m held in
+      let two = rows.told one.0 one.1 in
+      let kept = subst (λ (name : List ℕ). KeepsRows name one.0 two.0) same.name two.2 in
+      subst (λ (q : Holding). KeepsRows old.name m q) (same_Some two.0 n (sym two.1 ∙ shown)) (kept ∙ one.2);
+  unmarked = λ none. (touched.none (ap length none)).mark;
+  marked = λ some. touched.some (some_changes changes some);
+}
+
 pub table_of_end : (told : Option Holding) (start : Option (List ℕ)) (mid next : Option Holding) (printed : Option (List ℕ)) (old t : OpenTable) (o : TableState → Opening) (result ran : Result (Unit {0}) ShellFault) (closed : Result (Unit {0}) ChangeFault) → result ≡ ended ran closed → IsSame old t
-    → OnOk ran (IfHolds told old (λ m s. HasEnded (o s) start mid t printed)) → OnOk closed (IfHolds mid t (λ m s. IfTold next (IsClosed t s)))
-    → OnOk result (IfHolds told old (λ m s. IfTold next (AreClosed old (replay (o s).defs (o s).base (history (o s))))))
-table_of_end told start mid next printed old t o result ran closed is same done shut =
+    → OnOk ran (IfHolds told old (λ m s. HasEnded (o s) (standing start told old) mid t printed)) → OnOk closed (IfHolds mid t (λ m s. IfTold next (IsClosed t s))) → OnOk closed (Told mid next (KeepsRows t.name))
+    → OnOk result (IfHolds told old (λ m s. IfTold next (AreClosedAtEnd (o s) old m)))
+table_of_end told start mid next printed old t o result ran closed is same done shut rows =
     told_ok _ result (ended ran closed) is (on_ok _ _ (ended ran closed) (λ p. λ m held s h.
-    let k = (p.0 m held s h).table in
-    λ n shown. record { last = t; same = same; closed = p.1 k.0 k.1 (replay (o s).defs (o s).base (history (o s))) k.2 n shown }) (both _ _ ran closed done shut))
+    let e = p.0 m held s h in
+    let k = e.table in
+    λ n shown. closed_by (o s) (history (o s)) told mid next old t m n same e.touched held shown (p.1.closed k.0 k.1 (replay (o s).defs (o s).base (history (o s))) k.2 n shown) p.1.rows) (both _ _ ran closed done (shut_ok mid next t closed shut rows)))
 
 -- ---- a part
 
@@ -80,7 +113,7 @@ part_of P (Err e) (Ok over) p q = tt
 part_of P (Err e) (Err f) p q = q
 
 pub part_of_end : (told : Option Holding) (start : Option (List ℕ)) (mid : Option Holding) (printed : Option (List ℕ)) (old t : OpenTable) (o : TableState → Opening) (result ran : Result (Unit {0}) ShellFault)
-    → OnOk ran (IfHolds told old (λ m s. HasEnded (o s) start mid t printed)) → IfErr ran (λ f. IfHolds told old (λ m s. IsPrintedPart (o s) start printed))
+    → OnOk ran (IfHolds told old (λ m s. HasEnded (o s) (standing start told old) mid t printed)) → IfErr ran (λ f. IfHolds told old (λ m s. IsPrintedPart (o s) start printed))
     → IfErr result (λ f. IfHolds told old (λ m s. IsPrintedPart (o s) start printed))
 part_of_end told start mid printed old t o result ran done part =
     part_of _ ran result (on_ok _ _ ran (λ p. λ m held s h. all_is_part (o s) start printed (p m held s h).text) done) part
@@ -109,13 +142,18 @@ sink_ran (Ok done) (Err change.File) e = cc
 sink_ran (Ok done) (Err change.Memory) e = cc
 
 pub closed_behind : (told : Option Holding) (start : Option (List ℕ)) (mid next : Option Holding) (printed : Option (List ℕ)) (old t : OpenTable) (o : TableState → Opening) (result ran : Result (Unit {0}) ShellFault) (closed : Result (Unit {0}) ChangeFault) → result ≡ ended ran closed → IsSame old t
-    → IfSink ran (IfHolds told old (λ m s. StandsBehind (o s) start mid t printed)) → OnOk closed (IfHolds mid t (λ m s. IfTold next (IsClosed t s)))
-    → IfSink result (IfHolds told old (λ m s. IfTold next (AreClosedBehind (o s) old start printed)))
-closed_behind told start mid next printed old t o result ran closed is same stands shut = λ failed m held s h.
+    → IfSink ran (IfHolds told old (λ m s. StandsBehind (o s) (standing start told old) mid t printed)) → OnOk closed (IfHolds mid t (λ m s. IfTold next (IsClosed t s))) → OnOk closed (Told mid next (KeepsRows t.name))
+    → IfSink result (IfHolds told old (λ m s. IfTold next (AreClosedBehind (o s) old start printed m)))
+closed_behind told start mid next printed old t o result ran closed is same stands shut rows = λ failed m held s h.
     let both = sink_ran ran closed (sym is ∙ failed) in
-    let done = subst (λ r. OnOk r (IfHolds mid t (λ m s. IfTold next (IsClosed t s)))) both.1 shut in
+    let done = subst (λ r. OnOk r (IsShut mid next t)) both.1 (shut_ok mid next t closed shut rows) in
     let k = stands both.0 m held s h in
-    λ n shown. record { front = k.front; last = k.last; cut = k.cut; closed = record { last = t; same = same; closed = done k.table.0 k.table.1 _ k.table.2 n shown } }
+    λ n shown. record {
+      front = k.front;
+      last = k.last;
+      cut = k.cut;
+      closed = closed_by (o s) (history_in (o s) (k.front ++ k.last ∷ [])) told mid next old t m n same k.touched held shown (done.closed k.table.0 k.table.1 _ k.table.2 n shown) done.rows;
+    }
 
 -- ---- damage
 

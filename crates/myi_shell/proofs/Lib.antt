@@ -1,5 +1,6 @@
 mod ChangeLemmas
 mod CarryLemmas
+mod TouchLemmas
 mod StatementLemmas
 mod ReadLemmas
 mod KindLemmas

@@ -22,18 +22,19 @@ use Rattle.myi_locks.specs.Done.{steps_of, is_together, advanced}
 use Rattle.myi_script.specs.declared.types.Line.{Line}
 use Rattle.myi_history.specs.Lines.{MayRun}
 use Rattle.myi_history.specs.Answers.{LineAnswer, said_text}
-use Rattle.myi_history.specs.History.{Opening, ScriptRound, history, has_hole, asks, changes, state_after}
+use Rattle.myi_history.specs.History.{Opening, ScriptRound, rounds_of, history, has_hole, asks, changes, state_after}
 use Rattle.myi_history.specs.Text.{Numbers, no_numbers, shell_text, state_at, reads_said, others_said, round_said}
 use Rattle.myi_history.specs.Bounds.{SessionNumber, number_at, taken_by, is_stats, CountersRise}
 use Rattle.myi_history.specs.OneThread.{numbers_now}
 use Rattle.myi_history.specs.RoundTexts.{LineText, texts_of, joined, in_line_order, HaveOwnLines}
 use Rattle.myi_history.specs.Running.{HasRun, IsNext, taken_in, counted_in, locks_after, table_after, number_after, next_after, seen_number, seen_state, run_text}
-use Rattle.myi_history.proofs.CallerLemmas.{goes_on, locks_more, table_more, number_more, taken_more, counted_more, text_more, ends_within, ends_text, ends_table, stops, read_now, texts_in_order, answered_once}
+use Rattle.myi_history.proofs.CallerLemmas.{follows_history, goes_on, locks_more, table_more, number_more, taken_more, counted_more, text_more, ends_within, ends_text, ends_table, stops, read_now, texts_in_order, answered_once}
 use Rattle.myi_table.specs.Table.{OpenTable, defs_in, HoldState, HoldsThen}
 use Rattle.myi_shell.specs.declared.script_run.Taken.{Taken}
-use Rattle.myi_shell.specs.Carrying.{IsCarried}
+use Rattle.myi_shell.specs.Carrying.{IsCarried, IsTouchedBy}
 use Rattle.myi_shell.specs.Stepping.{RunState, seen_by, others_by, round_by, taken_behind, taken_now, counted_now, AreDone}
-use Rattle.myi_shell.specs.Running.{opening_on, Stands, AreNotBelow, HasDone, HasEnded, IsPrintedPart, StandsBehind}
+use Rattle.myi_shell.specs.Running.{opening_on, Before, Stands, AreNotBelow, HasDone, HasEnded, IsPrintedPart, StandsBehind}
+use Rattle.myi_shell.proofs.TouchLemmas.{touched_then, touched_as}
 use Rattle.myi_shell.proofs.DoneLemmas.{IsRoundDone, AreRounds}
 use Rattle.myi_shell.proofs.RoundLemmas.{others_same, reads_same, alike}
 
@@ -188,28 +189,45 @@ next_stands o front c told next p mid q t u k may sound base w left is few leave
 text_on : (start printed : Option (List ℕ)) (text more : List ℕ) → (out : Option (List ℕ)) → IfTold start (Appends text out) → IfTold out (Appends more printed) → IfTold start (Appends (text ++ more) printed)
 text_on start printed text more out one two = λ xs told. two (xs ++ text) (one xs told) ∙ ap Some (append_assoc xs text more)
 
-pub goes_round : (o : Opening) (start told next out printed : _) (p mid q : RunState) (t u : OpenTable) (k : Counters) → MayRun o.defs o.lines → IsSound o.defs → IsState o.defs o.base
-    → (w : HasDone o start told p t out) → has_steps p.locks ≡ true → k ≡ counted_now t → k.reads ≤ k.read_requests → RoundLeaves o w.front k p mid q t next u → IsCarried told next t u
-    → IfTold out (Appends (round_text o w.front k) printed) → HasDone o start next q u printed
-goes_round o start told next out printed p mid q t u k may sound base w left is few leaves carried text = record {
-  front = w.front ++ next_after o w.front ∷ [];
-  numbers = w.numbers ++ numbers_of o w.front k ∷ [];
-  stands = next_stands o w.front w.numbers told next p mid q t u k may sound base w.stands left is few leaves carried;
-  text = subst (λ xs. IfTold start (Appends xs printed)) (sym (text_more o w.front w.numbers (next_after o w.front) (numbers_of o w.front k) w.stands.run)) (text_on start printed (run_text o w.front w.numbers) (round_text o w.front k) out w.text text);
-}
+-- the changes of the rounds before it, and its own
+touched_more : (o : Opening) (front : List ScriptRound) (from : Before) (told next : Option Holding) (p mid q : RunState) (t u : OpenTable) (r : ScriptRound) → p.number ≡ number_after o front → q.number ≡ mid.number → q.number ≡ number_after o (front ++ r ∷ [])
+    → IsTouchedBy from.files told from.table t 0 (number_after o front) → IsTouchedBy told next t u p.number mid.number → IsTouchedBy from.files next from.table u 0 (number_after o (front ++ r ∷ []))
+touched_more o front from told next p mid q t u r before same now so_far more =
+    touched_then from.files told next from.table t u 0 (number_after o front) (number_after o (front ++ r ∷ [])) so_far (touched_as told next t u p.number mid.number (number_after o front) (number_after o (front ++ r ∷ [])) before (sym same ∙ now) more)
+
+pub goes_round : (o : Opening) (from : Before) (told next out printed : _) (p mid q : RunState) (t u : OpenTable) (k : Counters) → MayRun o.defs o.lines → IsSound o.defs → IsState o.defs o.base
+    → (w : HasDone o from told p t out) → has_steps p.locks ≡ true → k ≡ counted_now t → k.reads ≤ k.read_requests → RoundLeaves o w.front k p mid q t next u → IsCarried told next t u → IsTouchedBy told next t u p.number mid.number
+    → IfTold out (Appends (round_text o w.front k) printed) → HasDone o from next q u printed
+goes_round o from told next out printed p mid q t u k may sound base w left is few leaves carried more text =
+    let stands = next_stands o w.front w.numbers told next p mid q t u k may sound base w.stands left is few leaves carried in
+    record {
+      front = w.front ++ next_after o w.front ∷ [];
+      numbers = w.numbers ++ numbers_of o w.front k ∷ [];
+      stands = stands;
+      text = subst (λ xs. IfTold from.printed (Appends xs printed)) (sym (text_more o w.front w.numbers (next_after o w.front) (numbers_of o w.front k) w.stands.run)) (text_on from.printed printed (run_text o w.front w.numbers) (round_text o w.front k) out w.text text);
+      touched = touched_more o w.front from told next p mid q t u (next_after o w.front) w.stands.number leaves.number stands.number w.touched more;
+    }
 
 -- ---- the end
 
-pub ends_run : (o : Opening) (start told out : _) (p : RunState) (t : OpenTable) → (w : HasDone o start told p t out) → has_steps p.locks ≡ false → HasEnded o start told t out
-ends_run o start told out p t w none =
+all_rounds : (o : Opening) (front back : List ScriptRound) → rounds_of o ≡ front ++ back → has_steps (locks_after o front) ≡ false → front ≡ rounds_of o
+all_rounds o front [] e none = sym (e ∙ append-nil front)
+all_rounds o front (p ∷ back) e none =
+    let f = follows_history o front back p e in
+    absurd (let k : true ≡ false = sym f.left ∙ ap has_steps f.locks ∙ none in cc)
+
+pub ends_run : (o : Opening) (from : Before) (told out : _) (p : RunState) (t : OpenTable) → (w : HasDone o from told p t out) → has_steps p.locks ≡ false → HasEnded o from told t out
+ends_run o from told out p t w none =
     let over = subst (λ (z : LockState). has_steps z ≡ false) w.stands.locks none in
+    let all = all_rounds o w.front w.stands.run.first.0 w.stands.run.first.1 over in
     record {
       text = record {
         numbers = w.numbers;
         within = ends_within o w.front w.numbers w.stands.run over;
-        text = subst (λ xs. IfTold start (Appends xs out)) (sym (ends_text o w.front w.numbers w.stands.run over)) w.text;
+        text = subst (λ xs. IfTold from.printed (Appends xs out)) (sym (ends_text o w.front w.numbers w.stands.run over)) w.text;
       };
       table = subst (λ s. HoldsThen told t s) (ends_table o w.front w.numbers w.stands.run over) w.stands.table;
+      touched = subst (λ (ps : List ScriptRound). IsTouchedBy from.files told from.table t 0 (number_after o ps)) all w.touched;
     }
 
 -- ---- a run that stops
@@ -232,9 +250,9 @@ front_part whole text rest is k ys le more behind old printed shown =
     (n, omega (arith, long, le), shown ∙ ap Some (append_assoc old text (take k ys) ∙ ap (λ r. old ++ r) (sym first)))
 
 -- of a round's text a first part was printed, or nothing
-pub stops_in : (o : Opening) (start told out printed : _) (p : RunState) (t : OpenTable) (ns : Numbers) → (w : HasDone o start told p t out) → HasRun o (w.front ++ next_after o w.front ∷ []) (w.numbers ++ ns ∷ [])
-    → IfTold out (AppendsPart (flat_map said_text (round_said o (history o) (next_after o w.front) ns)) printed) → IsPrintedPart o start printed
-stops_in o start told out printed p t ns w run part =
+pub stops_in : (o : Opening) (from : Before) (told out printed : _) (p : RunState) (t : OpenTable) (ns : Numbers) → (w : HasDone o from told p t out) → HasRun o (w.front ++ next_after o w.front ∷ []) (w.numbers ++ ns ∷ [])
+    → IfTold out (AppendsPart (flat_map said_text (round_said o (history o) (next_after o w.front) ns)) printed) → IsPrintedPart o from.printed printed
+stops_in o from told out printed p t ns w run part =
     let e = stops o (w.front ++ next_after o w.front ∷ []) (w.numbers ++ ns ∷ []) run in
     let piece = flat_map said_text (round_said o (history o) (next_after o w.front) ns) in
     let text = run_text o w.front w.numbers in
@@ -242,8 +260,8 @@ stops_in o start told out printed p t ns w run part =
     e.3 ∙ ap (λ xs. xs ++ e.2) (text_more o w.front w.numbers (next_after o w.front) ns w.stands.run) ∙ append_assoc text piece e.2 in
     record { numbers = e.0; within = e.1; text = λ old is. let k = part (old ++ text) (w.text old is) in front_part (shell_text o e.0) text (piece ++ e.2) whole k.0 piece k.1 e.2 refl old printed k.2 }
 
-pub stops_between : (o : Opening) (start told out printed : _) (p : RunState) (t : OpenTable) → HasDone o start told p t out → printed ≡ out → IsPrintedPart o start printed
-stops_between o start told out printed p t w same =
+pub stops_between : (o : Opening) (from : Before) (told out printed : _) (p : RunState) (t : OpenTable) → HasDone o from told p t out → printed ≡ out → IsPrintedPart o from.printed printed
+stops_between o from told out printed p t w same =
     let e = stops o w.front w.numbers w.stands.run in
     let text = run_text o w.front w.numbers in
     record { numbers = e.0; within = e.1; text = λ old is. front_part (shell_text o e.0) text e.2 e.3 0 [] (omega arith) e.2 refl old printed (same ∙ w.text old is ∙ ap Some (sym (append-nil (old ++ text)))) }
@@ -251,18 +269,18 @@ stops_between o start told out printed p t w same =
 -- ---- one round, as the table and the output tell it
 
 -- the round is the one that comes next
-round_next : (o : Opening) (start told out : _) (p : RunState) (t : OpenTable) (round : Round) → (w : HasDone o start told p t out) → round ≡ next_round p.locks (is_some t.rows.rows.file.counts.dellink) → round ≡ (next_after o w.front).round
-round_next o start told out p t round w is =
+round_next : (o : Opening) (from : Before) (told out : _) (p : RunState) (t : OpenTable) (round : Round) → (w : HasDone o from told p t out) → round ≡ next_round p.locks (is_some t.rows.rows.file.counts.dellink) → round ≡ (next_after o w.front).round
+round_next o from told out p t round w is =
     let held = w.stands.table in
     is ∙ ap (λ (z : LockState). next_round z (is_some t.rows.rows.file.counts.dellink)) w.stands.locks ∙ ap (λ b. next_round (locks_after o w.front) b) (holes_are t (table_after o w.front) held.0 held.2)
 
-leaves_of : (t u : OpenTable) (ls : List Line) (setting : ℕ) (base : TableState) (start told next out : _) (p mid q : RunState) (round : Round) (k : Counters) → (w : HasDone (opening_on (defs_in t) ls setting base) start told p t out)
+leaves_of : (t u : OpenTable) (ls : List Line) (setting : ℕ) (base : TableState) (from : Before) (told next out : _) (p mid q : RunState) (round : Round) (k : Counters) → (w : HasDone (opening_on (defs_in t) ls setting base) from told p t out)
     → round ≡ next_round p.locks (is_some t.rows.rows.file.counts.dellink) → AreRounds told t ls p k round next u mid → ((n : ℕ) → mid.taken n ≡ taken_behind round (taken_now p t) p.taken n) → q ≡ record mid { locks = advanced p.locks round; texts = [] }
     → RoundLeaves (opening_on (defs_in t) ls setting base) w.front k p mid q t next u
-leaves_of t u ls setting base start told next out p mid q round k w is done taken after =
+leaves_of t u ls setting base from told next out p mid q round k w is done taken after =
     let o = opening_on (defs_in t) ls setting base in
     let held = w.stands.table in
-    let same = round_next o start told out p t round w is in
+    let same = round_next o from told out p t round w is in
     record {
       done = subst (λ (r : Round). IsRoundDone (defs_in t) ls p k (table_after o w.front) r next u mid) same (done held.0 held.1 (table_after o w.front) held.2);
       locks = ap (λ (z : RunState). z.locks) after ∙ ap (λ r. advanced p.locks r) same;
@@ -275,31 +293,31 @@ leaves_of t u ls setting base start told next out p mid q round k w is done take
 round_shown : (o : Opening) (front : List ScriptRound) (k : Counters) (texts : List LineText) → texts ≡ texts_of (answers_of o front k) → joined (in_line_order texts) ≡ round_text o front k
 round_shown o front k texts is = ap (λ ts. joined (in_line_order ts)) is ∙ sym (texts_in_order (answers_of o front k))
 
-pub round_on : (t u : OpenTable) (ls : List Line) (setting : ℕ) (base : TableState) (start told next out printed : _) (p mid q : RunState) (round : Round) (k : Counters) → MayRun (defs_in t) ls → IsSound (defs_in t) → IsState (defs_in t) base
+pub round_on : (t u : OpenTable) (ls : List Line) (setting : ℕ) (base : TableState) (from : Before) (told next out printed : _) (p mid q : RunState) (round : Round) (k : Counters) → MayRun (defs_in t) ls → IsSound (defs_in t) → IsState (defs_in t) base
     → has_steps p.locks ≡ true → k ≡ counted_now t → k.reads ≤ k.read_requests
     → round ≡ next_round p.locks (is_some t.rows.rows.file.counts.dellink) → AreRounds told t ls p k round next u mid → ((n : ℕ) → mid.taken n ≡ taken_behind round (taken_now p t) p.taken n) → q ≡ record mid { locks = advanced p.locks round; texts = [] }
-    → IsCarried told next t u → (HaveOwnLines mid.texts → IfTold out (Appends (joined (in_line_order mid.texts)) printed))
-    → HasDone (opening_on (defs_in t) ls setting base) start told p t out → HasDone (opening_on (defs_in t) ls setting base) start next q u printed
-round_on t u ls setting base start told next out printed p mid q round k may sound state left is few round_is done taken after carried shown w =
+    → IsCarried told next t u → IsTouchedBy told next t u p.number mid.number → (HaveOwnLines mid.texts → IfTold out (Appends (joined (in_line_order mid.texts)) printed))
+    → HasDone (opening_on (defs_in t) ls setting base) from told p t out → HasDone (opening_on (defs_in t) ls setting base) from next q u printed
+round_on t u ls setting base from told next out printed p mid q round k may sound state left is few round_is done taken after carried more shown w =
     let o = opening_on (defs_in t) ls setting base in
-    let leaves = leaves_of t u ls setting base start told next out p mid q round k w round_is done taken after in
+    let leaves = leaves_of t u ls setting base from told next out p mid q round k w round_is done taken after in
     let texts = said_texts o w.front w.numbers told next p mid q t u k may sound state w.stands leaves in
     let run = next_run o w.front w.numbers told p t k may w.stands left is few in
     let own = subst HaveOwnLines (sym texts) (own_lines o w.front (w.numbers ++ numbers_of o w.front k ∷ []) k may run) in
-    goes_round o start told next out printed p mid q t u k may sound state w left is few leaves carried (subst (λ xs. IfTold out (Appends xs printed)) (round_shown o w.front k mid.texts texts) (shown own))
+    goes_round o from told next out printed p mid q t u k may sound state w left is few leaves carried more (subst (λ xs. IfTold out (Appends xs printed)) (round_shown o w.front k mid.texts texts) (shown own))
 
-pub round_part : (t u : OpenTable) (ls : List Line) (setting : ℕ) (base : TableState) (start told next out printed : _) (p mid : RunState) (round : Round) (k : Counters) → MayRun (defs_in t) ls → IsSound (defs_in t) → IsState (defs_in t) base
+pub round_part : (t u : OpenTable) (ls : List Line) (setting : ℕ) (base : TableState) (from : Before) (told next out printed : _) (p mid : RunState) (round : Round) (k : Counters) → MayRun (defs_in t) ls → IsSound (defs_in t) → IsState (defs_in t) base
     → has_steps p.locks ≡ true → k ≡ counted_now t → k.reads ≤ k.read_requests
     → round ≡ next_round p.locks (is_some t.rows.rows.file.counts.dellink) → AreRounds told t ls p k round next u mid → ((n : ℕ) → mid.taken n ≡ taken_behind round (taken_now p t) p.taken n)
     → (HaveOwnLines mid.texts → IfTold out (AppendsPart (joined (in_line_order mid.texts)) printed))
-    → HasDone (opening_on (defs_in t) ls setting base) start told p t out → IsPrintedPart (opening_on (defs_in t) ls setting base) start printed
-round_part t u ls setting base start told next out printed p mid round k may sound state left is few round_is done taken shown w =
+    → HasDone (opening_on (defs_in t) ls setting base) from told p t out → IsPrintedPart (opening_on (defs_in t) ls setting base) from.printed printed
+round_part t u ls setting base from told next out printed p mid round k may sound state left is few round_is done taken shown w =
     let o = opening_on (defs_in t) ls setting base in
-    let leaves = leaves_of t u ls setting base start told next out p mid (record mid { locks = advanced p.locks round; texts = [] }) round k w round_is done taken refl in
+    let leaves = leaves_of t u ls setting base from told next out p mid (record mid { locks = advanced p.locks round; texts = [] }) round k w round_is done taken refl in
     let texts = said_texts o w.front w.numbers told next p mid (record mid { locks = advanced p.locks round; texts = [] }) t u k may sound state w.stands leaves in
     let run = next_run o w.front w.numbers told p t k may w.stands left is few in
     let own = subst HaveOwnLines (sym texts) (own_lines o w.front (w.numbers ++ numbers_of o w.front k ∷ []) k may run) in
-    stops_in o start told out printed p t (numbers_of o w.front k) w run (subst (λ xs. IfTold out (AppendsPart xs printed)) (round_shown o w.front k mid.texts texts) (shown own))
+    stops_in o from told out printed p t (numbers_of o w.front k) w run (subst (λ xs. IfTold out (AppendsPart xs printed)) (round_shown o w.front k mid.texts texts) (shown own))
 
 -- ---- whether a step is left
 
@@ -332,15 +350,15 @@ cut_text o front c k start out printed run before part = λ xs told.
     (length text + j.0, omega arith, omega (arith, le, long), j.2 ∙ ap Some (append_assoc xs text (take j.0 piece) ∙ ap (λ r. xs ++ r) (sym first)))
 
 -- behind a round whose text was not printed whole the table stands for its changes too
-pub round_behind : (t u : OpenTable) (ls : List Line) (setting : ℕ) (base : TableState) (start told next out printed : _) (p mid : RunState) (round : Round) (k : Counters) → MayRun (defs_in t) ls → IsSound (defs_in t) → IsState (defs_in t) base
+pub round_behind : (t u : OpenTable) (ls : List Line) (setting : ℕ) (base : TableState) (from : Before) (told next out printed : _) (p mid : RunState) (round : Round) (k : Counters) → MayRun (defs_in t) ls → IsSound (defs_in t) → IsState (defs_in t) base
     → has_steps p.locks ≡ true → k ≡ counted_now t → k.reads ≤ k.read_requests
-    → round ≡ next_round p.locks (is_some t.rows.rows.file.counts.dellink) → AreRounds told t ls p k round next u mid → ((n : ℕ) → mid.taken n ≡ taken_behind round (taken_now p t) p.taken n) → IsCarried told next t u
+    → round ≡ next_round p.locks (is_some t.rows.rows.file.counts.dellink) → AreRounds told t ls p k round next u mid → ((n : ℕ) → mid.taken n ≡ taken_behind round (taken_now p t) p.taken n) → IsCarried told next t u → IsTouchedBy told next t u p.number mid.number
     → (HaveOwnLines mid.texts → IfTold out (AppendsPart (joined (in_line_order mid.texts)) printed))
-    → HasDone (opening_on (defs_in t) ls setting base) start told p t out → StandsBehind (opening_on (defs_in t) ls setting base) start next u printed
-round_behind t u ls setting base start told next out printed p mid round k may sound state left is few round_is done taken carried shown w =
+    → HasDone (opening_on (defs_in t) ls setting base) from told p t out → StandsBehind (opening_on (defs_in t) ls setting base) from next u printed
+round_behind t u ls setting base from told next out printed p mid round k may sound state left is few round_is done taken carried more shown w =
     let o = opening_on (defs_in t) ls setting base in
     let after : RunState = record mid { locks = advanced p.locks round; texts = [] } in
-    let leaves = leaves_of t u ls setting base start told next out p mid after round k w round_is done taken refl in
+    let leaves = leaves_of t u ls setting base from told next out p mid after round k w round_is done taken refl in
     let stands = next_stands o w.front w.numbers told next p mid after t u k may sound state w.stands left is few leaves carried in
     let texts = said_texts o w.front w.numbers told next p mid after t u k may sound state w.stands leaves in
     let own = subst HaveOwnLines (sym texts) (own_lines o w.front (w.numbers ++ numbers_of o w.front k ∷ []) k may stands.run) in
@@ -353,7 +371,8 @@ round_behind t u ls setting base start told next out printed p mid round k may s
         numbers = w.numbers;
         own = numbers_of o w.front k;
         run = stands.run;
-        text = cut_text o w.front w.numbers k start out printed w.stands.run w.text (subst (λ xs. IfTold out (AppendsPart xs printed)) (round_shown o w.front k mid.texts texts) (shown own));
+        text = cut_text o w.front w.numbers k from.printed out printed w.stands.run w.text (subst (λ xs. IfTold out (AppendsPart xs printed)) (round_shown o w.front k mid.texts texts) (shown own));
       };
       table = stands.table;
+      touched = touched_more o w.front from told next p mid after t u (next_after o w.front) w.stands.number refl stands.number w.touched more;
     }

@@ -16,8 +16,9 @@ use Rattle.myi_shell.specs.declared.fault.ShellFault.{ShellFault}
 use Rattle.myi_shell.specs.declared.fault.ShellFault.TheVariants as fault
 use Rattle.myi_shell.specs.Carrying.{IsCarried}
 use Rattle.myi_shell.specs.Stepping.{RunState, begun}
-use Rattle.myi_shell.specs.Running.{opening_on, ForOpening, HasDone, HasGoneOn, IsPrintedPart, IsStopped, StandsBehind}
+use Rattle.myi_shell.specs.Running.{opening_on, Before, standing, ForOpening, HasDone, HasGoneOn, IsPrintedPart, IsStopped, StandsBehind}
 use Rattle.myi_shell.proofs.CarryLemmas.{kept_then}
+use Rattle.myi_shell.proofs.TouchLemmas.{touched_none}
 use Rattle.myi_shell.proofs.RoundsLemmas.{length_is, front_part}
 
 -- nothing was printed
@@ -28,7 +29,7 @@ nothing_printed o out =
 
 -- a script before its first round
 pub begins : (ls : List Line) (setting : ℕ) (s : TableState) (t : OpenTable) (told : Option Holding) (m : Holding) (out : Option (List ℕ)) (p : RunState) → told ≡ Some m → HoldState t s m → p ≡ begun setting ls t.rows.rows.file.counts.length
-    → HasDone (opening_on (defs_in t) ls setting s) out told p t out
+    → HasDone (opening_on (defs_in t) ls setting s) (standing out told t) told p t out
 begins ls setting s t told m out p held h is =
     let o = opening_on (defs_in t) ls setting s in
     record {
@@ -44,27 +45,28 @@ begins ls setting s t told m out p held h is =
         texts = ap (λ (z : RunState). z.texts) is;
       };
       text = λ xs told. told ∙ ap Some (sym (append-nil xs));
+      touched = touched_none told told t 0 refl;
     }
 
 pub begun_lawful : (d : Defs) (ls : List Line) (setting length : ℕ) (p : RunState) → MayRun d ls → p ≡ begun setting ls length → IsLawful p.locks.sessions
 begun_lawful d ls setting length p may is = subst (λ (r : LockState). IsLawful r.sessions) (sym (ap (λ (z : RunState). z.locks) is)) (opens setting (script_steps ls) (steps_run d ls may))
 
 -- of each state that the table stood for, one round more
-pub goes_on_by : (told mid next : Option Holding) (old half table : OpenTable) (ls : List Line) (setting : ℕ) (start out printed : Option (List ℕ)) (p q : RunState) (more : Bool) → defs_in half ≡ defs_in old
-    → IfHolds told old (λ m s. HasDone (opening_on (defs_in old) ls setting s) start mid p half out)
-    → ForOpening (defs_in half) ls (λ o from. HasDone o from mid p half out → HasGoneOn more o from next q table printed)
-    → IfHolds told old (λ m s. HasGoneOn more (opening_on (defs_in old) ls setting s) start next q table printed)
-goes_on_by told mid next old half table ls setting start out printed p q more same so_far played = λ m held s h.
-    let all = subst (λ (d : Defs). ForOpening d ls (λ o from. HasDone o from mid p half out → HasGoneOn more o from next q table printed)) same played in
-    all setting s start h.files.table.table.state (so_far m held s h)
+pub goes_on_by : (told mid next : Option Holding) (old half table : OpenTable) (ls : List Line) (setting : ℕ) (from : Before) (out printed : Option (List ℕ)) (p q : RunState) (more : Bool) → defs_in half ≡ defs_in old
+    → IfHolds told old (λ m s. HasDone (opening_on (defs_in old) ls setting s) from mid p half out)
+    → ForOpening (defs_in half) ls (λ o was. HasDone o was mid p half out → HasGoneOn more o was next q table printed)
+    → IfHolds told old (λ m s. HasGoneOn more (opening_on (defs_in old) ls setting s) from next q table printed)
+goes_on_by told mid next old half table ls setting from out printed p q more same so_far played = λ m held s h.
+    let all = subst (λ (d : Defs). ForOpening d ls (λ o was. HasDone o was mid p half out → HasGoneOn more o was next q table printed)) same played in
+    all setting s from h.files.table.table.state (so_far m held s h)
 
-pub stops_by : (told mid : Option Holding) (old half : OpenTable) (ls : List Line) (setting : ℕ) (start out printed : Option (List ℕ)) (p : RunState) → defs_in half ≡ defs_in old
-    → IfHolds told old (λ m s. HasDone (opening_on (defs_in old) ls setting s) start mid p half out)
-    → ForOpening (defs_in half) ls (λ o from. HasDone o from mid p half out → IsPrintedPart o from printed)
-    → IfHolds told old (λ m s. IsPrintedPart (opening_on (defs_in old) ls setting s) start printed)
-stops_by told mid old half ls setting start out printed p same so_far stopped = λ m held s h.
-    let all = subst (λ (d : Defs). ForOpening d ls (λ o from. HasDone o from mid p half out → IsPrintedPart o from printed)) same stopped in
-    all setting s start h.files.table.table.state (so_far m held s h)
+pub stops_by : (told mid : Option Holding) (old half : OpenTable) (ls : List Line) (setting : ℕ) (from : Before) (out printed : Option (List ℕ)) (p : RunState) → defs_in half ≡ defs_in old
+    → IfHolds told old (λ m s. HasDone (opening_on (defs_in old) ls setting s) from mid p half out)
+    → ForOpening (defs_in half) ls (λ o was. HasDone o was mid p half out → IsPrintedPart o was.printed printed)
+    → IfHolds told old (λ m s. IsPrintedPart (opening_on (defs_in old) ls setting s) from.printed printed)
+stops_by told mid old half ls setting from out printed p same so_far stopped = λ m held s h.
+    let all = subst (λ (d : Defs). ForOpening d ls (λ o was. HasDone o was mid p half out → IsPrintedPart o was.printed printed)) same stopped in
+    all setting s from h.files.table.table.state (so_far m held s h)
 
 pub stopped_before : (told mid : Option Holding) (old half : OpenTable) (f : ShellFault) → IsCarried told mid old half → half.broken ≡ None → IsStopped mid half f → IsStopped told old f
 stopped_before told mid old half (fault.Damaged at) carried whole never = λ m held s h. let k = kept_then told mid old half carried whole m held in never k.0 k.1 k.2 k.3
@@ -72,13 +74,13 @@ stopped_before told mid old half fault.File carried whole never = tt
 stopped_before told mid old half fault.Sink carried whole never = tt
 stopped_before told mid old half fault.Memory carried whole never = tt
 
-pub stands_by : (told mid next : Option Holding) (old half table : OpenTable) (ls : List Line) (setting : ℕ) (start out printed : Option (List ℕ)) (p : RunState) → defs_in half ≡ defs_in old
-    → IfHolds told old (λ m s. HasDone (opening_on (defs_in old) ls setting s) start mid p half out)
-    → ForOpening (defs_in half) ls (λ o from. HasDone o from mid p half out → StandsBehind o from next table printed)
-    → IfHolds told old (λ m s. StandsBehind (opening_on (defs_in old) ls setting s) start next table printed)
-stands_by told mid next old half table ls setting start out printed p same so_far stands = λ m held s h.
-    let all = subst (λ (d : Defs). ForOpening d ls (λ o from. HasDone o from mid p half out → StandsBehind o from next table printed)) same stands in
-    all setting s start h.files.table.table.state (so_far m held s h)
+pub stands_by : (told mid next : Option Holding) (old half table : OpenTable) (ls : List Line) (setting : ℕ) (from : Before) (out printed : Option (List ℕ)) (p : RunState) → defs_in half ≡ defs_in old
+    → IfHolds told old (λ m s. HasDone (opening_on (defs_in old) ls setting s) from mid p half out)
+    → ForOpening (defs_in half) ls (λ o was. HasDone o was mid p half out → StandsBehind o was next table printed)
+    → IfHolds told old (λ m s. StandsBehind (opening_on (defs_in old) ls setting s) from next table printed)
+stands_by told mid next old half table ls setting from out printed p same so_far stands = λ m held s h.
+    let all = subst (λ (d : Defs). ForOpening d ls (λ o was. HasDone o was mid p half out → StandsBehind o was next table printed)) same stands in
+    all setting s from h.files.table.table.state (so_far m held s h)
 
 pub err_is : {T : Type 0} {f g : ShellFault} → ◌≡◌ {A = Result T ShellFault} (Err f) (Err g) → f ≡ g
 err_is e = cc

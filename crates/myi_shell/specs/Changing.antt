@@ -31,6 +31,11 @@ count_of (reply.NoRow at) = 0
 count_of (reply.Duplicate key at) = 0
 count_of reply.Full = 0
 
+-- how many changes a statement made, if it asked for one
+abbrev pub count_made : Option Reply → ℕ
+count_made None = 0
+count_made (Some r) = count_of r
+
 -- a step was made of a state that the table stood for
 pub record IsStep (c : Change) (old : OpenTable) (s : TableState) (next : Option Holding) (new : OpenTable) (r : Reply) : Type 0 where
   pub reply : (keyed_step (defs_in old) s c).reply ≡ reply_of r

@@ -11,9 +11,10 @@ ghost use Rattle.myi_history.specs.RoundTexts.{text_of};
 ghost use Rattle.myi_shell.specs.declared.fault.ShellFault.TheVariants.{File};
 ghost use Rattle.myi_history.specs.History.{change_of};
 ghost use Rattle.myi_history.specs.Lines.{BringsRow};
-ghost use Rattle.myi_shell.specs.Carrying.{IsCarried};
+ghost use Rattle.myi_shell.specs.Carrying.{IsCarried, IsTouchedBy};
 ghost use Rattle.myi_shell.specs.Changing as spec;
-ghost use Rattle.myi_shell.specs.Changing.{insert_of, reply_of, Steps, IsChanged, NeverDamaged};
+ghost use Rattle.myi_shell.specs.Changing.{insert_of, reply_of, count_of, count_made, Steps};
+ghost use Rattle.myi_shell.specs.Changing.{IsChanged, NeverDamaged};
 
 use crate::fault::ShellFault;
 use myi_history::{RoundTexts, StepAnswer};
@@ -75,6 +76,8 @@ pub(crate) fn insert<F: Files>(
     requires whole { table.old.broken ≡ None }
     ensures stepped { IfOk result (Steps (insert_of together row.now) (F.holds files.old)
         (F.holds files.new) table.old table.new) }
+    ensures touched { IfOk result (λ reply. IsTouchedBy (F.holds files.old) (F.holds files.new)
+        table.old table.new 0 (count_of reply)) }
     ensures refused { IfErr result (NeverDamaged (F.holds files.old) table.old) }
     ensures whole { OnOk result (table.new.broken ≡ None) }
     ensures kept { IsKept (F.holds files.new) table.new }
@@ -102,6 +105,8 @@ pub(crate) fn delete<F: Files>(
     requires whole { table.old.broken ≡ None }
     ensures stepped { IfOk result (Steps (change.delete at) (F.holds files.old)
         (F.holds files.new) table.old table.new) }
+    ensures touched { IfOk result (λ reply. IsTouchedBy (F.holds files.old) (F.holds files.new)
+        table.old table.new 0 (count_of reply)) }
     ensures refused { IfErr result (NeverDamaged (F.holds files.old) table.old) }
     ensures whole { OnOk result (table.new.broken ≡ None) }
     ensures kept { IsKept (F.holds files.new) table.new }
@@ -127,6 +132,8 @@ pub(crate) fn update<F: Files>(
     requires whole { table.old.broken ≡ None }
     ensures stepped { IfOk result (Steps (change.update at row.now) (F.holds files.old)
         (F.holds files.new) table.old table.new) }
+    ensures touched { IfOk result (λ reply. IsTouchedBy (F.holds files.old) (F.holds files.new)
+        table.old table.new 0 (count_of reply)) }
     ensures refused { IfErr result (NeverDamaged (F.holds files.old) table.old) }
     ensures whole { OnOk result (table.new.broken ≡ None) }
     ensures kept { IsKept (F.holds files.new) table.new }
@@ -153,6 +160,8 @@ pub(crate) fn change<F: Files>(
     ensures changed { IfOk result (λ reply. IfHolds (F.holds files.old) table.old (λ m s.
         IsChanged table.old s (change_of together (Some act.now)) (F.holds files.new)
         table.new reply)) }
+    ensures touched { IfOk result (λ reply. IsTouchedBy (F.holds files.old) (F.holds files.new)
+        table.old table.new 0 (count_made reply)) }
     ensures carried { IsCarried (F.holds files.old) (F.holds files.new) table.old table.new }
     ensures whole { OnOk result (table.new.broken ≡ None) }
     ensures refused { IfErr result (NeverDamaged (F.holds files.old) table.old) }

@@ -6,7 +6,7 @@ ghost use Rattle.myi_history.specs.Answers.{rows, answer_on};
 ghost use Rattle.myi_history.specs.RoundTexts.{text_of};
 ghost use Rattle.myi_history.specs.Lines.{IsRange, ReadsRange};
 ghost use Rattle.myi_table.specs.Table.{defs_in, IsKept, IfHolds, StillHolds};
-ghost use Rattle.myi_shell.specs.Carrying.{IsCarried};
+ghost use Rattle.myi_shell.specs.Carrying.{IsCarried, IsUntouched};
 ghost use Rattle.myi_shell.specs.Changing.{NeverDamaged};
 ghost use Rattle.myi_shell.specs.Stepping.{seen_rows, read_answer};
 ghost use Rattle.myi_shell.specs.Reading.{table_range};
@@ -84,6 +84,7 @@ pub(crate) fn read<F: Files>(
         (read_answer (defs_in table.old) view s (Some act.now))) ∷ [])) }
     ensures still { StillHolds (F.holds files.old) (F.holds files.new) table.old table.new }
     ensures carried { IsCarried (F.holds files.old) (F.holds files.new) table.old table.new }
+    ensures untouched { IsUntouched (F.holds files.old) (F.holds files.new) table.old table.new }
     ensures whole { table.new.broken ≡ None }
     ensures refused { IfErr result (NeverDamaged (F.holds files.old) table.old) }
     ensures cause { HasCause File (F.faults files.old) (F.faults files.new) result }
@@ -94,8 +95,9 @@ pub(crate) fn read<F: Files>(
             push_found(texts, line, &found, view)?;
         }
         Act::Over(range) => {
-            // The table has a tree for each of its keys.
+            // The table has a tree for each of its keys, and its two files have different names.
             table.defs();
+            table.name();
             let range = range_of(texts.allocator(), range)?;
             let found = table.range(files, &range)?;
             push_found(texts, line, &found, view)?;

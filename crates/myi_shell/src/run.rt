@@ -3,16 +3,14 @@ ghost use Rattle.std.specs.Prelude.{◌≡◌, ◌≤◌, None, OnOk, IfOk, IfEr
 ghost use Rattle.myi_base.specs.Holding.{IfTold};
 ghost use Rattle.myi_base.specs.Causes.{HasCause};
 ghost use Rattle.myi_defs.specs.Sound.{IsSound};
-ghost use Rattle.myi_state.specs.Changes.{replay};
-ghost use Rattle.myi_history.specs.History.{history};
 ghost use Rattle.myi_locks.specs.Script.{IsScript};
 ghost use Rattle.myi_history.specs.Lines.{MayRun, script_steps};
 ghost use Rattle.myi_table.specs.Table.{defs_in, IsKept, IfHolds, ChangesItsOwn};
 ghost use Rattle.myi_shell.specs.Carrying.{IsCarried};
 ghost use Rattle.myi_shell.specs.Damage.{IsPrintedDamage};
 ghost use Rattle.myi_shell.specs.Stepping.{begun, state_of};
-ghost use Rattle.myi_shell.specs.Running.{opening_on, HasEnded, IsPrinted, IsPrintedPart};
-ghost use Rattle.myi_shell.specs.Running.{IsStopped, AreClosed, ended};
+ghost use Rattle.myi_shell.specs.Running.{opening_on, standing, HasEnded, IsPrinted};
+ghost use Rattle.myi_shell.specs.Running.{IsPrintedPart, IsStopped, AreClosedAtEnd, ended};
 ghost use Rattle.myi_shell.specs.Running.{IfSink, StandsBehind, AreClosedBehind};
 ghost use Rattle.myi_shell.specs.declared.fault.ShellFault.TheVariants.{File, Sink};
 
@@ -29,11 +27,12 @@ use std::alloc::{AllocError, Global};
 /// Runs a script on a table, and closes the table. `setting` is that of concurrent inserts, as
 /// `Locks::new` has it. The lines are printed round by round, in order of their numbers. What is
 /// printed is the text of the script, with numbers within their bounds, and the files are a clean
-/// pair that stands for the table that the history leads to. A run that is cut off has printed a
-/// first part of such a text. Where the output failed, the table is closed too, behind the round
-/// whose lines were being printed; where closing it fails, its fault is the answer. `gate` is called
-/// before and after each step. Over files that tell nothing of what they hold a step may meet
-/// damage: the lines of its round so far are printed then, one of which says so, and nothing follows.
+/// pair that stands for the table that the history leads to; with no accepted change the data file
+/// stays byte for byte. A run that is cut off has printed a first part of such a text. Where the
+/// output failed, the table is closed too, behind the round whose lines were being printed; where
+/// closing it fails, its fault is the answer. `gate` is called before and after each step. Over
+/// files that tell nothing of what they hold a step may meet damage: the lines of its round so far
+/// are printed then, one of which says so, and nothing follows.
 pub fn run_script<F: Files, O: Sink, G: Gate>(
     alloc: Global,
     table: Table,
@@ -52,15 +51,15 @@ pub fn run_script<F: Files, O: Sink, G: Gate>(
         IsPrinted (opening_on (defs_in table) script.now.lines setting s)
         (O.written out.old) (O.written out.new))) }
     ensures table { OnOk result (IfHolds (F.holds files.old) table (λ m s.
-        IfTold (F.holds files.new) (AreClosed table (replay (defs_in table) s
-        (history (opening_on (defs_in table) script.now.lines setting s)))))) }
+        IfTold (F.holds files.new) (AreClosedAtEnd
+        (opening_on (defs_in table) script.now.lines setting s) table m))) }
     ensures part { IfErr result (λ f. IfHolds (F.holds files.old) table (λ m s.
         IsPrintedPart (opening_on (defs_in table) script.now.lines setting s)
         (O.written out.old) (O.written out.new))) }
     ensures closed { IfSink result (IfHolds (F.holds files.old) table (λ m s.
         IfTold (F.holds files.new) (AreClosedBehind
         (opening_on (defs_in table) script.now.lines setting s) table
-        (O.written out.old) (O.written out.new)))) }
+        (O.written out.old) (O.written out.new) m))) }
     ensures refused { IfErr result (IsStopped (F.holds files.old) table) }
     ensures damaged { IfErr result (IsPrintedDamage (O.written out.old) (O.written out.new)) }
     ensures others { ChangesItsOwn (F.holds files.old) (F.holds files.new) table }
@@ -132,13 +131,15 @@ fn run<F: Files, O: Sink, G: Gate>(
     requires kept { IsKept (F.holds files.old) table.old }
     requires whole { table.old.broken ≡ None }
     ensures ran { OnOk result (IfHolds (F.holds files.old) table.old (λ m s.
-        HasEnded (opening_on (defs_in table.old) lines.now setting s) (O.written out.old)
+        HasEnded (opening_on (defs_in table.old) lines.now setting s)
+        (standing (O.written out.old) (F.holds files.old) table.old)
         (F.holds files.new) table.new (O.written out.new))) }
     ensures part { IfErr result (λ f. IfHolds (F.holds files.old) table.old (λ m s.
         IsPrintedPart (opening_on (defs_in table.old) lines.now setting s)
         (O.written out.old) (O.written out.new))) }
     ensures stands { IfSink result (IfHolds (F.holds files.old) table.old (λ m s.
-        StandsBehind (opening_on (defs_in table.old) lines.now setting s) (O.written out.old)
+        StandsBehind (opening_on (defs_in table.old) lines.now setting s)
+        (standing (O.written out.old) (F.holds files.old) table.old)
         (F.holds files.new) table.new (O.written out.new))) }
     ensures carried { IsCarried (F.holds files.old) (F.holds files.new) table.old table.new }
     ensures whole { OnOk result (table.new.broken ≡ None) }

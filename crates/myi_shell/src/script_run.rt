@@ -60,7 +60,7 @@ impl ScriptRun {
     ghost use Rattle.myi_shell.specs.declared.fault.ShellFault.TheVariants.{File, Memory, Sink};
     ghost use Rattle.myi_base.specs.Holding.{IfTold};
     ghost use Rattle.myi_base.specs.Causes.{Rose};
-    ghost use Rattle.myi_shell.specs.Carrying.{IsCarried};
+    ghost use Rattle.myi_shell.specs.Carrying.{IsCarried, IsUntouched, IsTouchedBy};
     ghost use Rattle.myi_shell.specs.Damage.{IsDamage, IsNoted, IsToldFor, IsPrintedDamage, Extends};
     ghost use Rattle.myi_shell.specs.Changing.{NeverDamaged, count_of};
     ghost use Rattle.myi_shell.specs.Stepping.{state_of, seen_by, read_by, writes_by, round_by};
@@ -141,6 +141,8 @@ impl ScriptRun {
         ensures only { self.new ≡ record self.old { texts = self.new.texts } }
         ensures still { StillHolds (F.holds files.old) (F.holds files.new) table.old table.new }
         ensures carried { IsCarried (F.holds files.old) (F.holds files.new) table.old table.new }
+        ensures untouched { IsUntouched (F.holds files.old) (F.holds files.new)
+            table.old table.new }
         ensures whole { table.new.broken ≡ None }
         ensures refused { IfErr result (NeverDamaged (F.holds files.old) table.old) }
         ensures noted { IfErr result (IsNoted self.new.texts) }
@@ -176,6 +178,8 @@ impl ScriptRun {
         ensures only { self.new ≡ record self.old { texts = self.new.texts } }
         ensures still { StillHolds (F.holds files.old) (F.holds files.new) table.old table.new }
         ensures carried { IsCarried (F.holds files.old) (F.holds files.new) table.old table.new }
+        ensures untouched { IsUntouched (F.holds files.old) (F.holds files.new)
+            table.old table.new }
         ensures whole { table.new.broken ≡ None }
         ensures refused { IfErr result (NeverDamaged (F.holds files.old) table.old) }
         ensures noted { IfErr result (IsNoted self.new.texts) }
@@ -210,6 +214,8 @@ impl ScriptRun {
         ensures only { self.new ≡ record self.old { texts = self.new.texts } }
         ensures still { StillHolds (F.holds files.old) (F.holds files.new) table.old table.new }
         ensures carried { IsCarried (F.holds files.old) (F.holds files.new) table.old table.new }
+        ensures untouched { IsUntouched (F.holds files.old) (F.holds files.new)
+            table.old table.new }
         ensures whole { table.new.broken ≡ None }
         ensures refused { IfErr result (NeverDamaged (F.holds files.old) table.old) }
         ensures noted { IfErr result (IsNoted self.new.texts) }
@@ -242,6 +248,8 @@ impl ScriptRun {
         ensures only { self.new
             ≡ record self.old { number = self.new.number; texts = self.new.texts } }
         ensures carried { IsCarried (F.holds files.old) (F.holds files.new) table.old table.new }
+        ensures touched { OnOk result (IsTouchedBy (F.holds files.old) (F.holds files.new)
+            table.old table.new self.old.number self.new.number) }
         ensures whole { OnOk result (table.new.broken ≡ None) }
         ensures refused { IfErr result (NeverDamaged (F.holds files.old) table.old) }
         ensures noted { IfErr result (IsNoted self.new.texts) }
@@ -300,6 +308,8 @@ impl ScriptRun {
         ensures only { self.new
             ≡ record self.old { number = self.new.number; texts = self.new.texts } }
         ensures carried { IsCarried (F.holds files.old) (F.holds files.new) table.old table.new }
+        ensures touched { OnOk result (IsTouchedBy (F.holds files.old) (F.holds files.new)
+            table.old table.new self.old.number self.new.number) }
         ensures whole { OnOk result (table.new.broken ≡ None) }
         ensures refused { IfErr result (NeverDamaged (F.holds files.old) table.old) }
         ensures noted { IfErr result (IsNoted self.new.texts) }
@@ -336,6 +346,8 @@ impl ScriptRun {
             ≡ taken_behind (Alone step.now) (taken_now (state_of self.old) table.old)
             (state_of self.old).taken n) }
         ensures carried { IsCarried (F.holds files.old) (F.holds files.new) table.old table.new }
+        ensures touched { OnOk result (IsTouchedBy (F.holds files.old) (F.holds files.new)
+            table.old table.new self.old.number self.new.number) }
         ensures whole { OnOk result (table.new.broken ≡ None) }
         ensures refused { IfErr result (NeverDamaged (F.holds files.old) table.old) }
         ensures noted { IfErr result (IsNoted self.new.texts) }
@@ -423,6 +435,8 @@ impl ScriptRun {
             ≡ taken_behind round.now (taken_now (state_of self.old) table.old)
             (state_of self.old).taken n) }
         ensures carried { IsCarried (F.holds files.old) (F.holds files.new) table.old table.new }
+        ensures touched { OnOk result (IsTouchedBy (F.holds files.old) (F.holds files.new)
+            table.old table.new self.old.number self.new.number) }
         ensures whole { OnOk result (table.new.broken ≡ None) }
         ensures refused { IfErr result (NeverDamaged (F.holds files.old) table.old) }
         ensures noted { IfErr result (IsNoted self.new.texts) }
@@ -465,16 +479,16 @@ impl ScriptRun {
         requires left { has_steps self.old.locks ≡ true }
         requires next { round.now
             ≡ next_round self.old.locks (is_some table.old.rows.rows.file.counts.dellink) }
-        ensures gone_on { OnOk result (ForOpening (defs_in table.old) lines.now (λ o start.
-            HasDone o start (F.holds files.old) (state_of self.old) table.old (O.written out.old)
-            → HasDone o start (F.holds files.new) (state_of self.new) table.new
+        ensures gone_on { OnOk result (ForOpening (defs_in table.old) lines.now (λ o from.
+            HasDone o from (F.holds files.old) (state_of self.old) table.old (O.written out.old)
+            → HasDone o from (F.holds files.new) (state_of self.new) table.new
             (O.written out.new))) }
-        ensures stopped { OnErr result (ForOpening (defs_in table.old) lines.now (λ o start.
-            HasDone o start (F.holds files.old) (state_of self.old) table.old (O.written out.old)
-            → IsPrintedPart o start (O.written out.new))) }
-        ensures stands { IfSink result (ForOpening (defs_in table.old) lines.now (λ o start.
-            HasDone o start (F.holds files.old) (state_of self.old) table.old (O.written out.old)
-            → StandsBehind o start (F.holds files.new) table.new (O.written out.new))) }
+        ensures stopped { OnErr result (ForOpening (defs_in table.old) lines.now (λ o from.
+            HasDone o from (F.holds files.old) (state_of self.old) table.old (O.written out.old)
+            → IsPrintedPart o from.printed (O.written out.new))) }
+        ensures stands { IfSink result (ForOpening (defs_in table.old) lines.now (λ o from.
+            HasDone o from (F.holds files.old) (state_of self.old) table.old (O.written out.old)
+            → StandsBehind o from (F.holds files.new) table.new (O.written out.new))) }
         ensures lawful { OnOk result (IsLawful self.new.locks.sessions) }
         ensures fewer { OnOk result
             (steps_left self.new.locks.sessions < steps_left self.old.locks.sessions) }
@@ -530,16 +544,16 @@ impl ScriptRun {
         requires kept { IsKept (F.holds files.old) table.old }
         requires whole { table.old.broken ≡ None }
         requires lawful { IsLawful self.old.locks.sessions }
-        ensures gone_on { IfOk result (λ more. ForOpening (defs_in table.old) lines.now (λ o start.
-            HasDone o start (F.holds files.old) (state_of self.old) table.old (O.written out.old)
-            → HasGoneOn more o start (F.holds files.new) (state_of self.new) table.new
+        ensures gone_on { IfOk result (λ more. ForOpening (defs_in table.old) lines.now (λ o from.
+            HasDone o from (F.holds files.old) (state_of self.old) table.old (O.written out.old)
+            → HasGoneOn more o from (F.holds files.new) (state_of self.new) table.new
             (O.written out.new))) }
-        ensures stopped { OnErr result (ForOpening (defs_in table.old) lines.now (λ o start.
-            HasDone o start (F.holds files.old) (state_of self.old) table.old (O.written out.old)
-            → IsPrintedPart o start (O.written out.new))) }
-        ensures stands { IfSink result (ForOpening (defs_in table.old) lines.now (λ o start.
-            HasDone o start (F.holds files.old) (state_of self.old) table.old (O.written out.old)
-            → StandsBehind o start (F.holds files.new) table.new (O.written out.new))) }
+        ensures stopped { OnErr result (ForOpening (defs_in table.old) lines.now (λ o from.
+            HasDone o from (F.holds files.old) (state_of self.old) table.old (O.written out.old)
+            → IsPrintedPart o from.printed (O.written out.new))) }
+        ensures stands { IfSink result (ForOpening (defs_in table.old) lines.now (λ o from.
+            HasDone o from (F.holds files.old) (state_of self.old) table.old (O.written out.old)
+            → StandsBehind o from (F.holds files.new) table.new (O.written out.new))) }
         ensures lawful { OnOk result (IsLawful self.new.locks.sessions) }
         ensures fewer { IfOk result (λ more. more ≡ true
             → steps_left self.new.locks.sessions < steps_left self.old.locks.sessions) }

@@ -10,3 +10,4 @@ pub mod RowSteps
 pub mod ResultLemmas
 pub mod OthersLemmas
 pub mod AddedLemmas
+pub mod CallerLemmas

@@ -263,6 +263,10 @@ answer-none at (Some r) h = absurd h
 pub row-missing : (d : Defs) (x : List ℕ) (at : ℕ) → None ≡ row_there d x at → is_row d x at ≡ false
 row-missing d x at none = sym (row_is d x at) ∙ ap (λ (o : Option Values). is_some o) (sym none)
 
+-- where one is found, one stands
+pub row-found : (d : Defs) (x : List ℕ) (at : ℕ) (values : Values) → Some values ≡ row_there d x at → is_row d x at ≡ true
+row-found d x at values found = sym (row_is d x at) ∙ ap (λ (o : Option Values). is_some o) (sym found)
+
 -- where a row stands, none is not found
 pub row-not-lost : (d : Defs) (x : List ℕ) (at : ℕ) → None ≡ row_there d x at → is_row d x at ≡ true → ⊥
 row-not-lost d x at none is = never (ap (λ (o : Option Values). is_some o) none ∙ row_is d x at ∙ is)

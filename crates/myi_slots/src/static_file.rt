@@ -402,6 +402,7 @@ impl StaticFile {
         ensures there { IfOk result (λ row. IfTold (F.holds files.old) (λ m.
             Some row ≡ row_there self.old.defs (bytes_of self.old.name m) at)) }
         ensures fits { IfOk result (λ row. fits self.old.defs row ≡ true) }
+        ensures stood { OnOk result (IfTold (F.holds files.old) (HasRow self.old at)) }
         ensures causes { IfErr result (ByCause (λ p. (p ≡ at)
             × IfTold (F.holds files.old) (LacksRow self.old at)) ⊥ Never) }
         ensures same { self.new ≡ self.old }

@@ -32,9 +32,7 @@ use Rattle.myi_treecopy.proofs.CallerLemmas.{Frame, written_long}
 use Rattle.myi_pair.specs.FirstRows.{AreDistinct}
 use Rattle.myi_pair.specs.Trees.{block_of_key, HaveWalks, AreKeyLists, all_pages, total}
 use Rattle.myi_pair.specs.Clean.{values_of, placed_row, covers, next_by, next_deleted, Follows, Counts, IsClean}
-use Rattle.myi_pair.proofs.CallerLemmas.{placed}
-use Rattle.myi_pair.proofs.SameDefs.{with_raw, readable_same, deleted_same, values_same, placed_same, addressable_same, distinct_same, walks_same, lists_same, pages_same}
-use Rattle.myi_pair.proofs.RebuiltLaws.{IsLike, layout_same, first_same, state_same, header_like}
+use Rattle.myi_pair.proofs.CallerLemmas.{placed, IsLike, layout_same, first_same, state_same, header_like, with_raw, readable_same, deleted_same, values_same, placed_same, addressable_same, distinct_same, walks_same, lists_same, pages_same}
 use Rattle.myi_sortindex.specs.declared.laying.LaidTrees.{LaidTrees}
 use Rattle.myi_sortindex.specs.Sorting.{sorted_bits, sorted_state, IsSorted, AreLaid, TreesLaid, trees_laid, index_trees, sorted_index}
 use Rattle.myi_sortindex.specs.Laying.{Tree, AreTrees, roots_from, LaysTrees, IsOf, HasBytes, state_laid}

@@ -12,7 +12,7 @@ use Rattle.myi_btree.proofs.CallerLemmas.{length-places_from}
 use Rattle.myi_rowkeys.specs.TableKeys.{numbers_from}
 use Rattle.myi_pair.specs.KeyList.{PlacedRow}
 use Rattle.myi_pair.specs.Trees.{block_of_key, pages_on, HasWalkApart, HaveWalks, AreKeyLists, all_pages, total}
-use Rattle.myi_pair.proofs.PageRanges.{IsBetween, EndBy, total_pages, end_later, end_append, between_free, between_end}
+use Rattle.myi_pair.proofs.CallerLemmas.{IsBetween, EndBy, total_pages, end_later, end_append, between_free, between_end}
 use Rattle.myi_sortindex.specs.Sorting.{nodes_of, IsLaid, AreLaid, StandsFirst, root_at}
 use Rattle.myi_sortindex.specs.Laying.{Tree, HasTreeWalk, end_of, roots_from, page_count, LaysTree, LaysTrees}
 use Rattle.myi_sortindex.proofs.FirstLaws.{AreRising, places_rise, pages_first}

@@ -15,7 +15,7 @@ use Rattle.myi_btree.proofs.CallerLemmas.{bind_some, filled, few_bytes}
 use Rattle.myi_treecopy.proofs.CallerLemmas.{some_node, of_node, of_leaf, leaf_walk}
 use Rattle.myi_rowkeys.specs.TableKeys.{numbers_from}
 use Rattle.myi_pair.specs.Trees.{block_of_key, pages_on, AreFree, HasWalkApart, HaveWalks, all_pages, total}
-use Rattle.myi_pair.proofs.PageRanges.{EndBy, total_pages, end_append}
+use Rattle.myi_pair.proofs.CallerLemmas.{EndBy, total_pages, end_append}
 use Rattle.myi_sortindex.specs.Laying.{Tree, end_of}
 use Rattle.myi_sortindex.specs.Sorting.{nodes_of}
 use Rattle.myi_sortindex.proofs.FirstLaws.{all_both}

@@ -1,7 +1,8 @@
 -- Changes of a table, by the changes of its rows and trees.
 use Rattle.std.proofs.Common.{◌≡◌, ℕ, Bool, true, Option, Some, None, Result, Err, List, map, refl, sym, ap, subst, ◌∙◌}
 use Rattle.std.proofs.lemmas.Option.{same_Some}
-use Rattle.myi_base.specs.Holding.{Holding}
+use Rattle.myi_base.specs.Holding.{Holding, Told, OthersStay}
+use Rattle.myi_base.proofs.CallerLemmas.{told_more}
 use Rattle.myi_base.specs.Causes.{HasCause}
 use Rattle.myi_defs.specs.declared.types.Defs.{Defs}
 use Rattle.myi_defs.specs.Addressable.{is_addressable}
@@ -12,6 +13,7 @@ use Rattle.myi_pair.specs.FirstRows.{key_numbers}
 use Rattle.myi_pair.specs.Trees.{place_of}
 use Rattle.myi_keytrees.specs.Trees.{SameKinds}
 use Rattle.myi_tablestate.specs.Keyed.{KeyedRefusal, keyed_step}
+use Rattle.myi_opening.specs.Names.{rows_file}
 use Rattle.myi_keyedrows.specs.declared.keyed_rows.KeyedRows.{KeyedRows}
 use Rattle.myi_keyedrows.specs.declared.fault.KeyedFault.{KeyedFault}
 use Rattle.myi_keyedrows.specs.declared.fault.KeyedFault.TheVariants as kf
@@ -23,7 +25,7 @@ use Rattle.myi_table.specs.declared.fault.Cause.{Cause}
 use Rattle.myi_table.specs.declared.fault.ChangeFault.{ChangeFault}
 use Rattle.myi_table.specs.declared.fault.ChangeFault.TheVariants as fault
 use Rattle.myi_table.specs.Faults.{of_rows, broken_by_fault}
-use Rattle.myi_table.specs.Table.{OpenTable, defs_in, HoldState, HoldsThen, IsKept, StillHolds, Makes, IsReplyOf, Refuses, IfReply, IsBroken, IsSame, ChangesItsOwn}
+use Rattle.myi_table.specs.Table.{OpenTable, defs_in, HoldState, HoldsThen, IsKept, StillHolds, Makes, IsReplyOf, Refuses, IfReply, IsBroken, IsSame, KeepsRows, ChangesItsOwn}
 use Rattle.myi_table.specs.Tied.{IsTied}
 
 -- the table with other rows and trees
@@ -145,3 +147,25 @@ cause_rows before now kf.Full h = record { later = h.later; cause = λ e. absurd
 cause_rows before now (kf.Damaged at) h = record { later = h.later; cause = λ e. absurd cc }
 cause_rows before now kf.File h = record { later = h.later; cause = λ e. h.cause refl }
 cause_rows before now kf.Memory h = record { later = h.later; cause = λ e. absurd cc }
+
+-- ---- the data file
+
+-- the other file alone was changed
+pub rows_kept : (told next : Option Holding) (t : OpenTable) (defs : Defs) (index : List ℕ) → IsTied t defs index → Told told next (OthersStay t.rows.trees.cache.name) → Told told next (KeepsRows t.name)
+rows_kept told next t defs index tied others = told_more told next _ (KeepsRows t.name) others (λ m n held stay. stay (rows_file t.name) (λ e. tied.fit.apart (tied.rows_named ∙ e)))
+
+if_reply : (f : KeyedFault) (P Q : Type 0) → (P → Q) → keyed.IfReply f P → IfReply (of_rows f) Q
+if_reply (kf.Duplicate key at) P Q go p = go p
+if_reply (kf.NoRow at) P Q go p = go p
+if_reply kf.Full P Q go p = go p
+if_reply (kf.Damaged at) P Q go p = tt
+if_reply kf.File P Q go p = tt
+if_reply kf.Memory P Q go p = tt
+
+-- a refused change leaves it
+pub refused_rows : (told next : Option Holding) (t : OpenTable) (defs : Defs) (index : List ℕ) (f : KeyedFault) → IsTied t defs index → keyed.IfReply f (Told told next (OthersStay t.rows.trees.cache.name)) → IfReply (of_rows f) (Told told next (KeepsRows t.name))
+refused_rows told next t defs index f tied apart = if_reply f _ _ (rows_kept told next t defs index tied) apart
+
+-- and so does one that changes no file
+pub untouched_rows : (told next : Option Holding) (t : OpenTable) (f : KeyedFault) → keyed.IfReply f (next ≡ told) → IfReply (of_rows f) (Told told next (KeepsRows t.name))
+untouched_rows told next t f same = if_reply f _ _ (λ e. subst (λ (q : Option Holding). Told told q (KeepsRows t.name)) (sym e) (record { told = λ m held. (m, held, refl); untold = λ none. none })) same

@@ -65,11 +65,7 @@ written_tied t trees defs index tied places room name counted =
 
 -- ---- the data file
 
--- pages are written to the other file
-pub rows_kept : (told next : Option Holding) (t : OpenTable) (defs : Defs) (index : List ℕ) → IsTied t defs index → Told told next (OthersStay t.rows.trees.cache.name) → Told told next (KeepsRows t.name)
-rows_kept told next t defs index tied others = told_more told next _ (KeepsRows t.name) others (λ m n held stay. stay (rows_file t.name) (λ e. tied.fit.apart (tied.rows_named ∙ e)))
-
--- and so are the cut and the header
+-- it stays where the index file is cut and its header is written
 pub rows_closed : (told mid low end : Option Holding) (t now : OpenTable) (defs : Defs) (index h : List ℕ) (n : ℕ) → IsTied now defs index → now.name ≡ t.name → Told told mid (KeepsRows t.name) → Told mid low (Cuts index n) → Told low end (Writes index 0 h) → Told told end (KeepsRows t.name)
 rows_closed told mid low end t now defs index h n tied name kept cut write =
     let apart : rows_file t.name ≢ index = λ e. tied.fit.apart (tied.rows_named ∙ ap rows_file name ∙ e ∙ tied.index ∙ sym tied.index_named) in

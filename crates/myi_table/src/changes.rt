@@ -1,4 +1,4 @@
-//! Changes of a table: each is a step of it, or breaks it where it is cut off.
+//! Changes of a table: each is a step of it, or breaks it where it is cut off. A refused one leaves the data file.
 use crate::fault::{Cause, ChangeFault};
 use crate::table::Table;
 use myi_io::Files;
@@ -15,7 +15,7 @@ impl Table {
     ghost use Rattle.myi_slots.specs.SlotFile.{Adds, AddsNew};
     ghost use Rattle.myi_table.specs.declared.fault.ChangeFault.TheVariants.{File};
     ghost use Rattle.myi_table.specs.Faults.{of_rows, broken_by_fault, broken_after};
-    ghost use Rattle.myi_table.specs.Table.{defs_in, IsKept, StillHolds, Makes, Refuses, IfReply, IsBroken, IsSame, ChangesItsOwn};
+    ghost use Rattle.myi_table.specs.Table.{defs_in, IsKept, StillHolds, Makes, Refuses, IfReply, IsBroken, IsSame, KeepsRows, ChangesItsOwn};
 
     // Refuses a table that a change was cut off from.
     pub(crate) fn refuse_broken(&self) -> Result<(), ChangeFault>
@@ -58,6 +58,8 @@ impl Table {
         ensures refused { IfErr result (Refuses (insert row.now) (F.holds files.old) self.old) }
         ensures unchanged { IfErr result (λ f. IfReply f
             (StillHolds (F.holds files.old) (F.holds files.new) self.old self.new)) }
+        ensures rows { IfErr result (λ f. IfReply f
+            (Told (F.holds files.old) (F.holds files.new) (KeepsRows self.old.name))) }
         ensures whole { OnOk result (self.old.broken ≡ None) }
         ensures first { IfErr result (IsBroken self.old self.new
             (F.holds files.old) (F.holds files.new)) }
@@ -96,6 +98,8 @@ impl Table {
             self.old) }
         ensures unchanged { IfErr result (λ f. IfReply f
             (StillHolds (F.holds files.old) (F.holds files.new) self.old self.new)) }
+        ensures rows { IfErr result (λ f. IfReply f
+            (Told (F.holds files.old) (F.holds files.new) (KeepsRows self.old.name))) }
         ensures whole { OnOk result (self.old.broken ≡ None) }
         ensures first { IfErr result (IsBroken self.old self.new
             (F.holds files.old) (F.holds files.new)) }
@@ -130,6 +134,8 @@ impl Table {
         ensures refused { IfErr result (Refuses (delete at) (F.holds files.old) self.old) }
         ensures unchanged { IfErr result (λ f. IfReply f
             (StillHolds (F.holds files.old) (F.holds files.new) self.old self.new)) }
+        ensures rows { IfErr result (λ f. IfReply f
+            (Told (F.holds files.old) (F.holds files.new) (KeepsRows self.old.name))) }
         ensures whole { OnOk result (self.old.broken ≡ None) }
         ensures first { IfErr result (IsBroken self.old self.new
             (F.holds files.old) (F.holds files.new)) }
@@ -165,6 +171,8 @@ impl Table {
         ensures refused { IfErr result (Refuses (update at row.now) (F.holds files.old) self.old) }
         ensures unchanged { IfErr result (λ f. IfReply f
             (StillHolds (F.holds files.old) (F.holds files.new) self.old self.new)) }
+        ensures rows { IfErr result (λ f. IfReply f
+            (Told (F.holds files.old) (F.holds files.new) (KeepsRows self.old.name))) }
         ensures whole { OnOk result (self.old.broken ≡ None) }
         ensures first { IfErr result (IsBroken self.old self.new
             (F.holds files.old) (F.holds files.new)) }

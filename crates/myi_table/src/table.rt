@@ -75,7 +75,7 @@ impl Model for Table {
 }
 
 impl Table {
-    ghost use Rattle.std.specs.Prelude.{◌≡◌, ◌≤◌, ◌<◌, is_some, length, HoldsAt};
+    ghost use Rattle.std.specs.Prelude.{◌≡◌, ◌≢◌, ◌≤◌, ◌<◌, is_some, length, HoldsAt};
     ghost use Rattle.myi_btree.specs.declared.place.Place.{Place};
     ghost use Rattle.myi_defs.specs.ReadDefs.{AreDefs};
     ghost use Rattle.myi_defs.specs.Sound.{IsSound};
@@ -89,6 +89,7 @@ impl Table {
         ensures name { result.now ≡ self.now.name }
         ensures rows { self.now.rows.rows.file.name ≡ rows_file self.now.name }
         ensures index { self.now.rows.trees.cache.name ≡ index_file self.now.name }
+        ensures apart { rows_file self.now.name ≢ index_file self.now.name }
     {
         self.name.as_str()
     }

@@ -8,6 +8,7 @@ use Rattle.myi_defs.specs.declared.types.RowFormat.{RowFormat}
 use Rattle.myi_defs.specs.declared.types.RowFormat.TheVariants.{Static, Dynamic}
 use Rattle.myi_defs.specs.declared.types.Defs.{Defs}
 use Rattle.myi_defs.specs.Addressable.{is_addressable, pointers}
+use Rattle.myi_defs.specs.Sound.{IsSound}
 use Rattle.myi_defs.proofs.CallerLemmas.{sound, are_defs}
 use Rattle.myi_header.specs.StateOf.{state_of}
 use Rattle.myi_frames.specs.Block.{Block, block_of}
@@ -28,7 +29,7 @@ use Rattle.myi_btree.specs.Walk.{Walked}
 use Rattle.myi_pair.specs.FirstRows.{key_numbers, AreDistinct}
 use Rattle.myi_pair.specs.KeyList.{PlacedRow, key_list}
 use Rattle.myi_pair.specs.Trees.{AreKeyLists}
-use Rattle.myi_pair.specs.Clean.{sized_row, placed_row, IsClean}
+use Rattle.myi_pair.specs.Clean.{sized_row, placed_row, IsClean, IsCovered, ListsDeleted}
 use Rattle.myi_pair.proofs.CallerLemmas.{readable_storable}
 use Rattle.myi_tablestate.specs.Listed.{placed}
 use Rattle.myi_tablestate.specs.Standing.{HavePairs, StandForTable}
@@ -66,17 +67,20 @@ counts_same a b r d s e l h =
     ∙ ap (λ (n : ℕ). record { records = b.records; del = b.del; split = b.split; empty = b.empty; length = n; dellink = a.dellink }) l
     ∙ ap (λ (n : Option ℕ). record { records = b.records; del = b.del; split = b.split; empty = b.empty; length = b.length; dellink = n }) h
 
-pub is_listed : (b x : List ℕ) (c : IsClean b x) → AreBytes b → Rises c.defs b → AreRising 0 (readable c.defs false b) → IsListed c.defs b (state_of c.defs x).dellink c.list.0
-is_listed b x c bytes rise rising = record {
-  sound = sound c.defs (are_defs x c.defs c.read);
+pub is_listed : (d : Defs) (b : List ℕ) (head : Option ℕ) → IsSound d → AreBytes b → is_addressable d (length b) ≡ true → IsCovered d b → (list : ListsDeleted d b head) → Rises d b → AreRising 0 (readable d false b) → IsListed d b head list.0
+is_listed d b head fine bytes reached covered list rise rising = record {
+  sound = fine;
   bytes = bytes;
-  short = is_short c.defs (length b) c.addressable;
+  short = is_short d (length b) reached;
   rise = rise;
   rising = rising;
-  full = c.covered;
-  same = c.list.1;
-  follows = c.list.2;
+  full = covered;
+  same = list.1;
+  follows = list.2;
 }
+
+pub is_clean_listed : (b x : List ℕ) (c : IsClean b x) → AreBytes b → Rises c.defs b → AreRising 0 (readable c.defs false b) → IsListed c.defs b (state_of c.defs x).dellink c.list.0
+is_clean_listed b x c bytes rise rising = is_listed c.defs b (state_of c.defs x).dellink (sound c.defs (are_defs x c.defs c.read)) bytes c.addressable c.covered c.list rise rising
 
 pub stands : (b x : List ℕ) → AreBytes b → (c : IsClean b x) → (l : IsListed c.defs b (state_of c.defs x).dellink c.list.0) → IsRead c.defs (table_of c.defs b c.list.0) b → StandForTable c.defs (table_of c.defs b c.list.0) b x
 unfolding counts_of

@@ -37,7 +37,7 @@ use Rattle.myi_data.proofs.CallerLemmas.{rows_apart, slot_cases}
 use Rattle.myi_state.specs.State.{StoredRow, TableState, row_areas}
 use Rattle.myi_state.specs.Sound.{AreInOrder, AreBlocks, IsSlot, AreHoles, IsRow, IsState}
 use Rattle.myi_state.specs.Standing.{area_of_block, slot_bytes, RowStands, ListSlots, HolesStand, StandsFor, area_of_range, stored_row}
-use Rattle.myi_pair.specs.Clean.{covers, next_by, NamesByFormat, NamesBefore, Follows, next_deleted}
+use Rattle.myi_pair.specs.Clean.{covers, IsCovered, next_by, NamesByFormat, NamesBefore, Follows, next_deleted}
 
 -- ---- what is read, by the format
 
@@ -481,13 +481,10 @@ map_ranges : (xs ys : List Range) → map area_of_range (xs ++ ys) ≡ map area_
 map_ranges [] ys = refl
 map_ranges (x ∷ xs) ys = ap (λ (gs : List Area). area_of_range x ∷ gs) (map_ranges xs ys)
 
-abbrev pub IsFull : Defs → List ℕ → Type 0
-IsFull d x = (p : ℕ) → p < length x → list_any (covers p) (ranges_of (readable d false x) ++ deleted d x) ≡ true
-
 abbrev pub Lists : Defs → List ℕ → List ℕ → Type 0
 Lists d x ps = IsPermutation (map (λ (a : Range). a.0) (deleted d x)) ps
 
-pub areas_tile : (d : Defs) (x ps : List ℕ) → IsSound d → Rises d x → IsFull d x → Lists d x ps → Tile (length x) (row_areas (map (stored_row d) (readable d false x)) ++ holes_at d x ps)
+pub areas_tile : (d : Defs) (x ps : List ℕ) → IsSound d → Rises d x → IsCovered d x → Lists d x ps → Tile (length x) (row_areas (map (stored_row d) (readable d false x)) ++ holes_at d x ps)
 areas_tile d x ps sound rise full same =
     let rows = readable d false x in
     let rs = ranges_of rows in
@@ -624,7 +621,7 @@ pub record IsListed (d : Defs) (x : List ℕ) (head : Option ℕ) (ps : List ℕ
   pub short : length x < 2 ^ 64
   pub rise : Rises d x
   pub rising : Rattle.myi_chain.specs.Meeting.AreRising 0 (readable d false x)
-  pub full : IsFull d x
+  pub full : IsCovered d x
   pub same : Lists d x ps
   pub follows : Follows d x None head ps
 

@@ -1,23 +1,26 @@
 //! Laws over tables with keys. Each is the contract of a function that does nothing, so that it is proved with
 //! the crate and stands for the crates above.
-ghost use Rattle.std.specs.Prelude.{◌≡◌, ◌≢◌, ℕ, true, false, List, Option, Some, None, Result, Ok, Err, IsSorted, option_map, map};
+ghost use Rattle.std.specs.Prelude.{◌≡◌, ◌≢◌, ℕ, true, false, List, length, Option, Some, None, Result, Ok, Err, IsSorted, option_map, map};
 ghost use Rattle.std.specs.List.{AllByRecursion};
 ghost use Rattle.std.specs.List.Sorted.{IsStrictlySortedBy};
 ghost use Rattle.myi_base.specs.Numbers.{AreBytes};
 ghost use Rattle.myi_defs.specs.declared.types.Defs.{Defs};
+ghost use Rattle.myi_defs.specs.Addressable.{is_addressable};
 ghost use Rattle.myi_defs.specs.Sound.{IsSound};
 ghost use Rattle.myi_pack.specs.Packed.{Values};
 ghost use Rattle.myi_keys.specs.Limits.{is_complete};
 ghost use Rattle.myi_keylist.specs.PairOrder.{pair_cmp, put_pair};
 ghost use Rattle.myi_insertion.specs.Removal.{without_pair, has_pair};
 ghost use Rattle.myi_search.specs.Least.{IsLeastRow};
+ghost use Rattle.myi_dellist.specs.Standing.{first_or};
 ghost use Rattle.myi_data.specs.Keys.{IsKeyNumber, key_of};
 ghost use Rattle.myi_state.specs.State.{StoredRow, TableState, empty_table, row_at, rows_without, put_row};
 ghost use Rattle.myi_state.specs.Changes.{Change, insert, insert_at_end, delete, update, Refusal, accepted, step, replay, lacks_row, lacks_room};
 ghost use Rattle.myi_state.specs.Sound.{IsState, MayCome};
+ghost use Rattle.myi_state.specs.Standing.{StandsFor};
 ghost use Rattle.myi_pair.specs.FirstRows.{is_unique};
 ghost use Rattle.myi_pair.specs.KeyList.{pointer};
-ghost use Rattle.myi_pair.specs.Clean.{IsClean};
+ghost use Rattle.myi_pair.specs.Clean.{IsClean, IsCovered, ListsDeleted};
 ghost use Rattle.myi_tablestate.specs.Keyed.{IsTable, Holder, holder, lacks_key, KeyedRefusal, without_keys, by_holder, keyed_refusal, keyed_step, after_keyed, keyed_history};
 ghost use Rattle.myi_tablestate.specs.Listed.{pair_at, pair_of_row, listed, position};
 ghost use Rattle.myi_tablestate.specs.Standing.{StandForTable};
@@ -134,6 +137,18 @@ pub fn keyed_histories_are_replayed()
     ensures { (d : Defs) (s : TableState) (changes : List Change)
         → replay d s (keyed_history d s changes) ≡ after_keyed d s changes }
 {}
+
+/// A data file of which every byte belongs to a block of a row or to a deleted block, and whose list of deleted
+/// blocks has each of them once, stands for a state: one whose list is that of the file.
+pub fn listed_files_stand()
+    ensures { (d : Defs) (b : List ℕ) (head : Option ℕ) → IsSound d → AreBytes b
+        → is_addressable d (length b) ≡ true → IsCovered d b → ListsDeleted d b head
+        → (s : TableState) × StandsFor d s b × (first_or s.space.holes None ≡ head) }
+{
+    chains_are_found();
+    rows_are_met();
+    rows_are_readable();
+}
 
 /// A pair of files that stands for a table is clean, and a clean one stands for exactly one table.
 pub fn clean_pairs_stand_for_tables()

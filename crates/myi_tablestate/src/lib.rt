@@ -22,5 +22,5 @@ mod laws;
 pub use laws::{
     clean_pairs_stand_for_tables, duplicates_are_found, key_lists_are_in_order, key_lists_follow,
     keyed_changes_keep_tables, keyed_histories_are_replayed, keyed_refusals_come_in_order,
-    keyed_steps_are_steps,
+    keyed_steps_are_steps, listed_files_stand,
 };

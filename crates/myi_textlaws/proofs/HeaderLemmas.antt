@@ -19,7 +19,7 @@ use Rattle.myi_deftext.specs.declared.text.Line.{Line}
 use Rattle.myi_deftext.specs.Grammar.{FieldSaid, KeySaid, TableSaid, table_lines}
 use Rattle.myi_deftext.specs.TextHeader.{stored, format_said, pointer_said, row_said, has_flag, field_bytes, keys_bytes, keys_said, parts_said, fields_said, page_sizes, base_said, length_said, slot_as, options_as, front_said, front_spelling, base_spelling, text_header}
 use Rattle.myi_deftext.specs.TableHeader.{field_header, key_header}
-use Rattle.myi_deftext.proofs.TableHeaderLaws.{format_is, pointer_is, row_is, fields_are, keys_are}
+use Rattle.myi_deftext.proofs.CallerLemmas.{format_is, pointer_is, row_is, fields_are, keys_are}
 use Rattle.myi_textlaws.proofs.PlaceLemmas.{read_at}
 use Rattle.myi_textlaws.proofs.ItemLemmas.{KeyFits, FieldFits, key_stored, keys_read, length-key, placed, fields_read, length-field}
 use Rattle.myi_textlaws.proofs.CountLemmas.{segments_of, count_keys, count_parts, count_fields, few_flags}

@@ -20,8 +20,7 @@ use Rattle.myi_deftext.specs.Text.{lines}
 use Rattle.myi_deftext.specs.Grammar.{FieldSaid, KeySaid, TableSaid, table_lines, Describe}
 use Rattle.myi_deftext.specs.TextHeader.{stored, key_most, page_length, slot_as, options_as, format_said, pointer_said, row_said, front_said, text_header}
 use Rattle.myi_deftext.specs.ParseText.{StandsFor, parse_text}
-use Rattle.myi_deftext.proofs.CallerLemmas.{made}
-use Rattle.myi_deftext.proofs.GrammarLaws.{one_table}
+use Rattle.myi_deftext.proofs.CallerLemmas.{made, one_table}
 use Rattle.myi_textlaws.specs.Said.{said_field, said_segment, said_key, row_of, pages_of, AreSaid}
 use Rattle.myi_textlaws.proofs.ItemLemmas.{SegmentFits, KeyFits, key_stored, placed}
 use Rattle.myi_textlaws.proofs.FitLemmas.{TableFits, table_fits}

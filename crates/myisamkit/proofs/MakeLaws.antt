@@ -6,10 +6,10 @@ use Rattle.myi_base.specs.HandsOn.{HandsOn}
 use Rattle.myi_base.proofs.CallerLemmas.{told_more}
 use Rattle.myi_io.specs.declared.sink.SinkErr.{SinkErr}
 use Rattle.myi_io.specs.declared.sink.SinkErr.TheVariants as sink
-use Rattle.myi_repair.specs.declared.fault.RepairFault.{RepairFault}
 use Rattle.myi_repair.specs.declared.report.Report.{Report}
 use Rattle.myi_repair.specs.Names.{names_for, KeepsBut}
-use Rattle.myi_repair.specs.Opening.{CutsOff}
+use Rattle.myi_make.specs.declared.fault.MakeFault.{MakeFault}
+use Rattle.myi_make.specs.Faults.{CutsOff}
 use Rattle.myi_make.specs.MadeTable.{defs, damaged_file}
 use Rattle.myi_make.specs.Making.{LeavesMade}
 use Rattle.myi_make.specs.declared.make.Made.{Made}
@@ -60,12 +60,12 @@ status_told count seed name now made s old new left says m held = says (left.tol
 untold_some : {A : Type 0} (o : Option A) (x : A) → o ≡ None → o ≡ Some x → ⊥
 untold_some {A} o x none some = let e : ◌≡◌ {A = Option A} None (Some x) = sym none ∙ some in cc
 
-pub never_told : {A E : Type 0} (r : Result A E) (f : RepairFault) (old : Option Holding) (P : A → Holding → Type 0) → CutsOff f ⊎ (old ≡ None) → IfOk r (λ x. CutsOff f → ⊥) → IfOk r (λ x. IfTold old (P x))
+pub never_told : {A E : Type 0} (r : Result A E) (f : MakeFault) (old : Option Holding) (P : A → Holding → Type 0) → CutsOff f ⊎ (old ≡ None) → IfOk r (λ x. CutsOff f → ⊥) → IfOk r (λ x. IfTold old (P x))
 never_told (Err e) f old P why never = tt
 never_told (Ok x) f old P (inl cut) never = absurd (never cut)
 never_told (Ok x) f old P (inr none) never = λ m told. absurd (untold_some old m none told)
 
-pub never_done : {A E : Type 0} (r : Result A E) (f : RepairFault) (old new : Option Holding) (P Q : Holding → Holding → Type 0) → CutsOff f ⊎ (old ≡ None) → IfOk r (λ x. CutsOff f → ⊥) → Told old new Q → OnOk r (Told old new P)
+pub never_done : {A E : Type 0} (r : Result A E) (f : MakeFault) (old new : Option Holding) (P Q : Holding → Holding → Type 0) → CutsOff f ⊎ (old ≡ None) → IfOk r (λ x. CutsOff f → ⊥) → Told old new Q → OnOk r (Told old new P)
 never_done (Err e) f old new P Q why never others = tt
 never_done (Ok x) f old new P Q (inl cut) never others = absurd (never cut)
 never_done (Ok x) f old new P Q (inr none) never others = record { told = λ m told. absurd (untold_some old m none told); untold = others.untold }

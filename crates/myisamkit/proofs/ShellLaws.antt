@@ -1,14 +1,16 @@
 -- What a script comes to, by what is found before it is read, and by how it ran.
-use Rattle.std.proofs.Common.{◌≡◌, arith, ℕ, Bool, true, false, List, [], ◌∷◌, take, Option, Some, None, Result, Ok, Err, refl, sym, ap, subst, ◌∙◌, inr}
-use Rattle.std.specs.Prelude.{unwrap_or}
+use Rattle.std.proofs.Common.{◌≡◌, arith, ℕ, Bool, true, false, List, [], ◌∷◌, ◌++◌, take, Option, Some, None, Result, Ok, Err, refl, sym, ap, subst, ◌∙◌, inr}
+use Rattle.std.specs.Prelude.{◌≢◌, unwrap_or, if◌then◌else◌}
 use Rattle.myi_base.specs.Numbers.{AreBytes}
 use Rattle.std.proofs.lemmas.List.{take_all}
 use Rattle.myi_base.specs.Holding.{Holding, IfTold, Told, HoldsBytes, Measures, IsFront, bytes_of}
 use Rattle.myi_defs.specs.declared.types.Defs.{Defs}
 use Rattle.myi_defs.specs.declared.types.DefFault.{DefFault}
 use Rattle.myi_defs.specs.Sound.{IsSound}
+use Rattle.myi_defs.specs.Elsewhere.{AgreeOutsideState}
 use Rattle.myi_defs.proofs.CallerLemmas.{sound, are_defs}
-use Rattle.myi_header.specs.StateOf.{has_mark}
+use Rattle.myi_header.specs.declared.state.State.{State}
+use Rattle.myi_header.specs.StateOf.{state_of, has_mark}
 use Rattle.myi_opening.specs.declared.fault.TableFault.{TableFault}
 use Rattle.myi_opening.specs.declared.fault.TableFault.TheVariants as fault
 use Rattle.myi_opening.specs.declared.fault.TableFile.{TableFile}
@@ -21,21 +23,22 @@ use Rattle.myi_pair.specs.Findings.{findings}
 use Rattle.myi_pair.proofs.CallerLemmas.{clean_where_none}
 use Rattle.myi_check.specs.Checking.{findings_by, findings_in}
 use Rattle.myi_state.specs.State.{TableState}
-use Rattle.myi_state.specs.Changes.{replay}
+use Rattle.myi_state.specs.Changes.{Change, replay}
 use Rattle.myi_tablestate.specs.Standing.{StandForTable}
 use Rattle.myi_keyedrows.specs.Files.{defs_with}
 use Rattle.myi_script.specs.declared.types.Line.{Line}
 use Rattle.myi_script.specs.Script.{IsScript}
-use Rattle.myi_history.specs.History.{Opening, history}
+use Rattle.myi_history.specs.History.{Opening, history_in, history}
 use Rattle.myi_table.specs.declared.fault.LoadFault.{LoadFault}
-use Rattle.myi_table.specs.Table.{OpenTable, defs_in, HoldState, IsKept, IfHolds, KeepsOthers, ChangesItsOwn}
-use Rattle.myi_table.specs.Loading.{IsLoaded, marked_by, loaded_by}
+use Rattle.myi_table.specs.Table.{OpenTable, defs_in, HoldState, IsKept, IfHolds, KeepsRows, KeepsOthers, ChangesItsOwn}
+use Rattle.myi_table.specs.Closing.{changed_bits}
+use Rattle.myi_table.specs.Loading.{marked_by, loaded_by}
 use Rattle.myi_table.specs.Loading as loading
-use Rattle.myi_shell.specs.Running.{opening_on, IsPrinted, IsPrintedPart, AreClosed, AreClosedBehind}
+use Rattle.myi_shell.specs.Running.{opening_on, IsPrinted, IsPrintedPart, AreClosed, AreClosedAtEnd, AreClosedBehind}
 use Rattle.myisamkit.specs.declared.status.Status.{Status}
 use Rattle.myisamkit.specs.declared.status.Status.TheVariants as status
 use Rattle.myisamkit.specs.Lines.{absent_line}
-use Rattle.myisamkit.specs.Shells.{Refusal, refusal, said_of, text_unless, text_by, text_of, text_in, Begins, IsRun, ComesTo, ShellComesTo, ShellSaid, ShellSaidPart, StandClean, ShellDone, ShellFails, IsReady}
+use Rattle.myisamkit.specs.Shells.{Refusal, refusal, said_of, text_unless, text_by, text_of, text_in, Begins, IsRun, ComesTo, ShellComesTo, ShellSaid, ShellSaidPart, bits_behind, header_in, IsHeaderBehind, StandClean, ShellDone, ShellFails, IsReady}
 
 ok_same : {A E : Type 0} (x y : A) → ◌≡◌ {A = Result A E} (Ok x) (Ok y) → x ≡ y
 ok_same x y same = cc
@@ -134,6 +137,7 @@ record Standing (name script : List ℕ) (t : OpenTable) (ls : List Line) (m : H
   pub state : TableState
   pub stand : StandForTable files.defs state files.rows files.index
   pub holds : HoldState t state m
+  pub header : t.header ≡ state_of (defs_in t) files.index
 
 stands : Stands → (name script : List ℕ) (t : OpenTable) (ls : List Line) (m : Holding) → HoldsBytes m → IsReady name script t ls m → Standing name script t ls m
 stands law name script t ls m bytes ready =
@@ -146,7 +150,7 @@ stands law name script t ls m bytes ready =
     let found = law files.rows files.index are clean in
     let same : clean.defs ≡ files.defs = ok_same {E = DefFault} clean.defs files.defs (sym clean.read ∙ read) in
     let stand = subst (λ d. StandForTable d found.0 files.rows files.index) same found.1 in
-    record { files = files; is = is; defs = ready.loaded.defs; state = found.0; stand = stand; holds = ready.loaded.stands found.0 stand }
+    record { files = files; is = is; defs = ready.loaded.defs; state = found.0; stand = stand; holds = ready.loaded.stands found.0 stand; header = ready.loaded.header ∙ ap (λ d. state_of d files.index) (sym ready.loaded.defs) }
 
 pub kept : Stands → (name script : List ℕ) (t : OpenTable) (ls : List Line) (told : Option Holding) → IfTold told HoldsBytes → IfTold told (IsReady name script t ls) → IsKept told t
 kept law name script t ls told bytes ready whole m held =
@@ -190,23 +194,51 @@ run_part law setting name script t ls told old new bytes ready printed m held =
     let p = printed m held s.state s.holds in
     inr (_, status.Ok, comes_to_run setting name script m r.text _ status.Ok r.read record { begin = opening_on (defs_in t) ls setting s.state; begins = begins_so setting name script t ls m r s; numbers = p.numbers; within = p.within; says = refl; ends = refl }, p.text)
 
-closed_so : AreCleanPairs → (name : List ℕ) (o : Opening) (t : OpenTable) (s : TableState) (n : Holding) → t.name ≡ name → o.defs ≡ defs_in t → AreClosed t s n → StandClean name o s n
-closed_so law name o t s n named defs closed =
+bits_by : (changes : List Change) (b : Bool) (bits : ℕ) → (changes ≡ [] → b ≡ false) → (changes ≢ [] → b ≡ true) → (if b then changed_bits bits else bits) ≡ bits_behind changes bits
+bits_by [] b bits none some = ap (λ q. if q then changed_bits bits else bits) (none refl)
+bits_by (c ∷ cs) b bits none some = ap (λ q. if q then changed_bits bits else bits) (some (λ e. cc))
+
+-- the header of a table that was closed behind these changes
+header_so : (o : Opening) (was : List ℕ) (changes : List Change) (t : OpenTable) (m n : Holding) → o.defs ≡ defs_in t → t.header ≡ state_of o.defs was → t.changed ≡ false → (closed : AreClosed o changes t m n)
+    → IsHeaderBehind o.defs was changes (header_in o.defs closed.closed.index)
+header_so o was changes t m n defs header unchanged closed =
+    let last = closed.last in
+    let index = closed.closed.index in
+    let of_defs : defs_in last ≡ o.defs = closed.same.defs ∙ sym defs in
+    let has = closed.closed.header in
+    let read : last.header ≡ state_of o.defs was = closed.same.header ∙ header in
+    let bits_now : (if last.changed then changed_bits last.header.changed else last.header.changed) ≡ bits_behind changes last.header.changed =
+    bits_by changes last.changed last.header.changed (λ none. closed.unmarked none ∙ unchanged) closed.marked in
+    record {
+      elsewhere = subst (λ (d : Defs). AgreeOutsideState d.raw (header_in d index)) of_defs has.elsewhere;
+      mark = subst (λ (d : Defs). has_mark d (header_in d index) ≡ true) of_defs has.mark;
+      bits = subst (λ (d : Defs). (state_of d (header_in d index)).changed ≡ bits_behind changes (state_of o.defs was).changed) of_defs
+          (ap (λ (z : State). z.changed) has.state ∙ bits_now ∙ ap (λ (z : State). bits_behind changes z.changed) read);
+    }
+
+closed_so : AreCleanPairs → (name : List ℕ) (o : Opening) (was : List ℕ) (changes : List Change) (t : OpenTable) (m n : Holding) → t.name ≡ name → o.defs ≡ defs_in t → t.header ≡ state_of o.defs was → t.changed ≡ false → AreClosed o changes t m n → StandClean name o was changes n
+closed_so law name o was changes t m n named defs header unchanged closed =
     let at : closed.last.name ≡ name = closed.same.name ∙ named in
     let of_defs : defs_in closed.last ≡ o.defs = closed.same.defs ∙ sym defs in
     let index = closed.closed.index in
+    let s = replay o.defs o.base changes in
     let there : n (index_file name) ≡ Some index = ap (λ (q : List ℕ). n (index_file q)) (sym at) ∙ closed.closed.there in
     let stand : StandForTable (defs_with o.defs index) s (bytes_of (rows_file name) n) index = subst (λ (d : Defs). StandForTable (defs_with d index) s (bytes_of (rows_file name) n) index) of_defs (subst (λ (q : List ℕ). StandForTable (defs_with (defs_in closed.last) index) s (bytes_of (rows_file q) n) index) at closed.closed.stand) in
-    record { index = index; there = there; stand = stand; clean = law _ s _ index (sound _ (are_defs index _ stand.read)) stand }
+    record { index = index; there = there; stand = stand; clean = law _ s _ index (sound _ (are_defs index _ stand.read)) stand; header = header_so o was changes t m n defs header unchanged closed }
+
+kept_rows : (name : List ℕ) (o : Opening) (changes : List Change) (t : OpenTable) (m n : Holding) → t.name ≡ name → AreClosed o changes t m n → changes ≡ [] → KeepsRows name m n
+kept_rows name o changes t m n named closed none = subst (λ (q : List ℕ). KeepsRows q m n) named (closed.rows none)
 
 pub run_done : Stands → AreCleanPairs → (setting : ℕ) (name script : List ℕ) (t : OpenTable) (ls : List Line) (told next : Option Holding) → IfTold told HoldsBytes → IfTold told (IsReady name script t ls) → t.name ≡ name
-    → IfHolds told t (λ m s. IfTold next (AreClosed t (replay (defs_in t) s (history (opening_on (defs_in t) ls setting s))))) → ChangesItsOwn told next t → Told told next (ShellDone setting name script)
+    → IfHolds told t (λ m s. IfTold next (AreClosedAtEnd (opening_on (defs_in t) ls setting s) t m)) → ChangesItsOwn told next t → Told told next (ShellDone setting name script)
+unfolding begins_so stands
 run_done law pairs setting name script t ls told next bytes ready named closed own = record {
   told = λ m held.
       let r = ready m held in
       let s = stands law name script t ls m (bytes m held) r in
       let n = own.told m held in
-      let o = opening_on (defs_in t) ls setting s.state in (
+      let o = opening_on (defs_in t) ls setting s.state in
+      let c = closed m held s.state s.holds n.0 n.1 in (
         n.0,
         n.1,
         record {
@@ -214,7 +246,8 @@ run_done law pairs setting name script t ls told next bytes ready named closed o
           read = r.read;
           begin = o;
           begins = begins_so setting name script t ls m r s;
-          pair = closed_so pairs name o t _ n.0 named refl (closed m held s.state s.holds n.0 n.1);
+          pair = closed_so pairs name o s.files.index (history o) t m n.0 named refl s.header r.unchanged c;
+          rows = kept_rows name o (history o) t m n.0 named c;
           others = subst (λ (q : List ℕ). KeepsOthers q m n.0) named n.2;
         },
       );
@@ -223,7 +256,8 @@ run_done law pairs setting name script t ls told next bytes ready named closed o
 
 -- the output failed at the lines of a round
 pub run_fails : Stands → AreCleanPairs → (setting : ℕ) (name script : List ℕ) (t : OpenTable) (ls : List Line) (told next : Option Holding) (old new : Option (List ℕ)) → IfTold told HoldsBytes → IfTold told (IsReady name script t ls) → t.name ≡ name
-    → IfHolds told t (λ m s. IfTold next (AreClosedBehind (opening_on (defs_in t) ls setting s) t old new)) → IfTold told (λ m. IfTold next (ShellFails setting name script old new m))
+    → IfHolds told t (λ m s. IfTold next (AreClosedBehind (opening_on (defs_in t) ls setting s) t old new m)) → IfTold told (λ m. IfTold next (ShellFails setting name script old new m))
+unfolding begins_so stands
 run_fails law pairs setting name script t ls told next old new bytes ready named closed m held n after =
     let r = ready m held in
     let s = stands law name script t ls m (bytes m held) r in
@@ -237,7 +271,8 @@ run_fails law pairs setting name script t ls told next old new bytes ready named
       front = c.front;
       last = c.last;
       cut = c.cut;
-      pair = closed_so pairs name o t _ n named refl c.closed;
+      pair = closed_so pairs name o s.files.index (history_in o (c.front ++ c.last ∷ [])) t m n named refl s.header r.unchanged c.closed;
+      rows = kept_rows name o (history_in o (c.front ++ c.last ∷ [])) t m n named c.closed;
     }
 
 -- files that tell nothing

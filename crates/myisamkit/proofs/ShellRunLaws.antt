@@ -70,7 +70,7 @@ refused_fails setting name script r told next old new same read m held n after =
 
 -- ---- it is in the grammar
 
-pub ready_so : (name script text : List ℕ) (d : Defs) (t : OpenTable) (ls : List Line) (told again : Option Holding) → again ≡ told → IfTold told (λ m. text_in name script m ≡ Ok text) → IfTold told (IsLoaded name t) → d ≡ defs_in t → IsScript false d text ls → IfTold again (IsReady name script t ls)
-ready_so name script text d t ls told again same read loaded defs says m held =
+pub ready_so : (name script text : List ℕ) (d : Defs) (t : OpenTable) (ls : List Line) (told again : Option Holding) → again ≡ told → IfTold told (λ m. text_in name script m ≡ Ok text) → IfTold told (IsLoaded name t) → t.changed ≡ false → d ≡ defs_in t → IsScript false d text ls → IfTold again (IsReady name script t ls)
+ready_so name script text d t ls told again same read loaded unchanged defs says m held =
     let held_before : told ≡ Some m = sym same ∙ held in
-    record { text = text; read = read m held_before; lines = subst (λ e. IsScript false e text ls) defs says; loaded = loaded m held_before }
+    record { text = text; read = read m held_before; lines = subst (λ e. IsScript false e text ls) defs says; loaded = loaded m held_before; unchanged = unchanged }

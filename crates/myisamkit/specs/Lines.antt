@@ -15,6 +15,8 @@ use Rattle.myi_order.specs.declared.fault.OrderFault.TheVariants as order
 use Rattle.myi_order.specs.declared.key_parts.KeyParts.{KeyParts}
 use Rattle.myi_sortindex.specs.declared.fault.SortFault.{SortFault}
 use Rattle.myi_sortindex.specs.declared.fault.SortFault.TheVariants as sort
+use Rattle.myi_make.specs.declared.fault.MakeFault.{MakeFault}
+use Rattle.myi_make.specs.declared.fault.MakeFault.TheVariants as make
 use Rattle.myi_opening.specs.Names.{file_of}
 
 abbrev pub usage_line : List ℕ
@@ -72,6 +74,19 @@ created_line name = name ++ codes ": created\n"
 abbrev pub made_line : List ℕ → ℕ → ℕ → ℕ → List ℕ
 made_line name count damaged kept =
     name ++ (codes ": made " ++ (decimal count ++ (codes ", damaged " ++ (decimal damaged ++ (codes ", recovered " ++ (decimal kept ++ codes ", ok\n"))))))
+
+-- other bytes stand at this place of a file than were put there
+abbrev pub damaged_line : List ℕ → ℕ → List ℕ
+damaged_line name at = name ++ (codes ": damaged at " ++ (decimal at ++ codes "\n"))
+
+-- why a table is not made; the faults that cut the making off have no line
+abbrev pub not_made_line : List ℕ → MakeFault → List ℕ
+not_made_line name (make.Absent f) = absent_line (file_of f name)
+not_made_line name (make.Def f) = refused_line name (reason_of f)
+not_made_line name make.TooLong = refused_line name too_long
+not_made_line name (make.Damaged at) = damaged_line name at
+not_made_line name make.File = []
+not_made_line name make.Memory = []
 
 -- a line of a text is the first that is not in its grammar
 abbrev pub text_line : List ℕ → ℕ → List ℕ

@@ -5,6 +5,8 @@ use Rattle.myi_pair.specs.RecoveredBytes.{new_data, new_index}
 use Rattle.myi_pair.specs.Recovered.{Recovered}
 use Rattle.myi_repair.specs.Names.{names_for, KeepsBut}
 use Rattle.myi_repair.specs.Gathering.{report_of}
+use Rattle.myi_make.specs.declared.fault.MakeFault.{MakeFault}
+use Rattle.myi_make.specs.declared.fault.MakeFault.TheVariants as make
 use Rattle.myi_make.specs.MadeTable.{defs, damaged_file}
 use Rattle.myisamkit.specs.declared.status.Status.{Status}
 use Rattle.myisamkit.specs.declared.status.Status.TheVariants as status
@@ -18,6 +20,15 @@ make_turn count seed name now m = record {
   status = status.Ok;
   files = replaced (names_for name) (new_data defs false (damaged_file count seed)) (new_index defs false (damaged_file count seed) now) m;
 }
+
+-- the status of a fault
+abbrev pub not_made_status : MakeFault → Status
+not_made_status (make.Absent f) = status.Absent
+not_made_status (make.Def f) = status.Refused
+not_made_status make.TooLong = status.Refused
+not_made_status (make.Damaged at) = status.Refused
+not_made_status make.File = status.FileFault
+not_made_status make.Memory = status.Memory
 
 -- a table was made: its files are recovered from the damaged data file, and nothing is wrong with them
 pub record MakeDone (count seed : ℕ) (name : List ℕ) (now : ℕ) (m n : Holding) : Type 0 where

@@ -1,12 +1,15 @@
 -- What the run of a script on a table prints, answers and leaves. The text of a script has free numbers (what its reads find while
 -- others insert, what a key cache counted), so it is a relation.
-use Rattle.std.specs.Prelude.{◌≡◌, ◌⊎◌, ℕ, false, List, [], ◌∷◌, ◌++◌, Option, Some, None, Result, Ok, Err, Vec, string_bytes}
+use Rattle.std.specs.Prelude.{◌≡◌, ◌⊎◌, ℕ, true, false, take, List, [], ◌∷◌, ◌++◌, Option, Some, None, Result, Ok, Err, Vec, string_bytes}
 use Rattle.myi_base.specs.Holding.{Holding, IfTold, bytes_of}
 use Rattle.myi_base.specs.Output.{Appends, AppendsPart}
 use Rattle.std.specs.declared.alloc.Global.{Global}
 use Rattle.myi_defs.specs.declared.types.Defs.{Defs}
 use Rattle.myi_defs.specs.declared.types.DefFault.{DefFault}
+use Rattle.myi_defs.specs.Elsewhere.{AgreeOutsideState}
 use Rattle.myi_deftext.specs.Text.{lines}
+use Rattle.myi_header.specs.Layout.{first_page_of}
+use Rattle.myi_header.specs.StateOf.{state_of, has_mark}
 use Rattle.myi_opening.specs.declared.fault.TableFault.{TableFault}
 use Rattle.myi_opening.specs.declared.fault.TableFault.TheVariants as fault
 use Rattle.myi_opening.specs.Names.{rows_file, index_file, file_of}
@@ -14,17 +17,16 @@ use Rattle.myi_opening.specs.Opening as opening
 use Rattle.myi_pair.specs.declared.finding.Finding.{Finding}
 use Rattle.myi_pair.specs.Clean.{IsClean}
 use Rattle.myi_check.specs.Checking.{findings_in}
-use Rattle.myi_state.specs.State.{TableState}
-use Rattle.myi_state.specs.Changes.{replay}
+use Rattle.myi_state.specs.Changes.{Change, replay}
 use Rattle.myi_tablestate.specs.Standing.{StandForTable}
 use Rattle.myi_keyedrows.specs.Files.{defs_with}
 use Rattle.myi_script.specs.declared.types.Line.{Line}
 use Rattle.myi_script.specs.Script.{IsScript, IsFirstOutside}
-use Rattle.myi_history.specs.History.{Opening, ScriptRound, history}
+use Rattle.myi_history.specs.History.{Opening, ScriptRound, history_in, history}
 use Rattle.myi_history.specs.Text.{Numbers, shell_text}
 use Rattle.myi_history.specs.Bounds.{AreWithin}
-use Rattle.myi_history.specs.Running.{table_after}
-use Rattle.myi_table.specs.Table.{OpenTable, defs_in, KeepsOthers}
+use Rattle.myi_table.specs.Table.{OpenTable, defs_in, KeepsRows, KeepsOthers}
+use Rattle.myi_table.specs.Closing.{changed_bits}
 use Rattle.myi_table.specs.Loading.{IsLoaded}
 use Rattle.myi_shell.specs.Running.{IsCutIn}
 use Rattle.myisamkit.specs.declared.status.Status.{Status}
@@ -131,20 +133,38 @@ ShellSays setting name script old new s m = (IsFault s × ShellSaidPart setting 
 
 -- ---- the files
 
--- the two files of this name are a clean pair that stands for a state of a table
-pub record StandClean (name : List ℕ) (o : Opening) (s : TableState) (m : Holding) : Type 0 where
+-- the changed bits of a table behind these changes: as they were where there is none, and else with those that a change sets
+abbrev pub bits_behind : List Change → ℕ → ℕ
+bits_behind [] bits = bits
+bits_behind (c ∷ cs) bits = changed_bits bits
+
+-- the header of an index file
+abbrev pub header_in : Defs → List ℕ → List ℕ
+header_in d index = take (first_page_of d) index
+
+-- A header has the bytes of these definitions outside its state, the mark, and the changed bits behind these changes of a table whose
+-- index file was this.
+pub record IsHeaderBehind (d : Defs) (was : List ℕ) (changes : List Change) (header : List ℕ) : Type 0 where
+  pub elsewhere : AgreeOutsideState d.raw header
+  pub mark : has_mark d header ≡ true
+  pub bits : (state_of d header).changed ≡ bits_behind changes (state_of d was).changed
+
+-- the two files of this name are a clean pair that stands for what these changes lead to, and the index file has such a header
+pub record StandClean (name : List ℕ) (o : Opening) (was : List ℕ) (changes : List Change) (m : Holding) : Type 0 where
   pub index : List ℕ
   pub there : m (index_file name) ≡ Some index
-  pub stand : StandForTable (defs_with o.defs index) s (bytes_of (rows_file name) m) index
+  pub stand : StandForTable (defs_with o.defs index) (replay o.defs o.base changes) (bytes_of (rows_file name) m) index
   pub clean : IsClean (bytes_of (rows_file name) m) index
+  pub header : IsHeaderBehind o.defs was changes (header_in o.defs index)
 
--- the script was run: the pair of files stands for the replay of its history, and other files stay
+-- the script was run: the pair of files stands for the replay of its history, with none the data file stays, and other files stay
 pub record ShellDone (setting : ℕ) (name script : List ℕ) (m n : Holding) : Type 0 where
   pub text : List ℕ
   pub read : text_in name script m ≡ Ok text
   pub begin : Opening
   pub begins : Begins setting name m text begin
-  pub pair : StandClean name begin (replay begin.defs begin.base (history begin)) n
+  pub pair : StandClean name begin begins.table.index (history begin) n
+  pub rows : history begin ≡ [] → KeepsRows name m n
   pub others : KeepsOthers name m n
 
 -- The files at a status. Where no script is run nothing is changed; a run that is cut off leaves files of other names.
@@ -161,7 +181,7 @@ ShellLeaves setting name script status.Absent m n = n ≡ m
 -- ---- the files where the output fails
 
 -- It failed at the lines of this round: all text of the rounds before it was written, and of its own a first part or nothing. The
--- pair of files stands for what the changes up to that round's end lead to.
+-- pair of files stands for what the changes up to that round's end lead to; with none the data file stays.
 pub record ShellCutIn (setting : ℕ) (name script : List ℕ) (old new : Option (List ℕ)) (m n : Holding) : Type 0 where
   pub text : List ℕ
   pub read : text_in name script m ≡ Ok text
@@ -170,7 +190,8 @@ pub record ShellCutIn (setting : ℕ) (name script : List ℕ) (old new : Option
   pub front : List ScriptRound
   pub last : ScriptRound
   pub cut : IsCutIn begin front last old new
-  pub pair : StandClean name begin (table_after begin (front ++ last ∷ [])) n
+  pub pair : StandClean name begin begins.table.index (history_in begin (front ++ last ∷ [])) n
+  pub rows : history_in begin (front ++ last ∷ []) ≡ [] → KeepsRows name m n
 
 -- no script is run: the table or the script's file is not as it must be, or a line is not in the grammar
 abbrev pub IsNotRunBy : List ℕ → List ℕ → Holding → Result (List ℕ) Refusal → Type 0
@@ -208,9 +229,10 @@ IsPlain (found.Text text) = Unit {0}
 abbrev pub IsScriptOf : Defs → List ℕ → List Line → Type 0
 IsScriptOf d text said = IsScript false d text said
 
--- nothing is wrong with the table that was loaded, and the text of the script says these lines
+-- nothing is wrong with the table that was loaded and not changed, and the text of the script says these lines
 pub record IsReady (name script : List ℕ) (t : OpenTable) (said : List Line) (m : Holding) : Type 0 where
   pub text : List ℕ
   pub read : text_in name script m ≡ Ok text
   pub lines : IsScript false (defs_in t) text said
   pub loaded : IsLoaded name t m
+  pub unchanged : t.changed ≡ false

@@ -5,8 +5,10 @@
 //! name. Each table has its turn (`turn.rt`), one after the other (`tables.rt`). What a turn and a whole
 //! run say, answer and do is defined over what the files hold before (`Turns`, `Runs`), and the files
 //! that a repair leaves over the bytes of the two files before it (`Rattle.myi_pair.specs`,
-//! `RecoveredBytes` and `Recovered`), what a check finds over the same bytes (`Findings`); analysis and sorting are those of
-//! `myi_order`, and the sorting of pages is that of `myi_sortindex`. The commands are `chk`, `create`, `dump`, `make` and `shell`. A `Gate` of `myi_shell` is told of the steps of a script.
+//! `RecoveredBytes` and `Recovered`), what a check finds over the same bytes (`Findings`); analysis
+//! and sorting are those of `myi_order`, and the sorting of pages is that of `myi_sortindex`. The
+//! commands are `chk`, `create`, `dump`, `make` and `shell`. A `Gate` of `myi_shell` is told of the
+//! steps of a script.
 //!
 //! ```
 //! let mut words = Vec::new(alloc);

@@ -95,6 +95,13 @@ pub(crate) fn made_line(
     format!(in alloc; "{name}: made {count}, damaged {damaged}, recovered {kept}, ok\n")
 }
 
+/// The line on a table that was not made, since other bytes stand at this place of a file than were put there.
+pub(crate) fn damaged_line(alloc: Global, name: &str, at: u64) -> Result<String, AllocError>
+    ensures { IfOk result (λ line. string_bytes line ≡ spec.damaged_line name.now at) }
+{
+    format!(in alloc; "{name}: damaged at {at}\n")
+}
+
 pub(crate) fn text_line(alloc: Global, file: &str, number: u32) -> Result<String, AllocError>
     ensures { IfOk result (λ line. string_bytes line ≡ spec.text_line file.now number) }
 {

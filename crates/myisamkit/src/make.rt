@@ -4,18 +4,18 @@ ghost use Rattle.myi_base.specs.Holding.{IfTold, Told};
 ghost use Rattle.myi_base.specs.Output.{Appends, AppendsPart};
 ghost use Rattle.myi_base.specs.Causes.{HasCause};
 ghost use Rattle.myi_repair.specs.Names.{names_for, KeepsBut};
+ghost use Rattle.myi_make.specs.Faults.{CutsOff};
 ghost use Rattle.myisamkit.specs.Stops.{status_of_stop};
 ghost use Rattle.myisamkit.specs.Statuses.{IsFault};
 ghost use Rattle.myisamkit.specs.Lines as spec;
-ghost use Rattle.myisamkit.specs.Makes.{make_turn, MakeDone, MakeLeaves};
+ghost use Rattle.myisamkit.specs.Makes.{make_turn, not_made_status, MakeDone, MakeLeaves};
 
-use crate::lines::{finding_lines, made_line};
-use crate::recover::not_worked_on;
+use crate::lines::{absent_line, damaged_line, finding_lines, made_line, reason_of, refused_line};
 use crate::say::say;
 use crate::status::{Status, Stop};
 use crate::words::Rows;
 use myi_io::{Files, Sink};
-use myi_make::{Made, make_table};
+use myi_make::{Made, MakeFault, make_table};
 use std::alloc::{AllocError, Global};
 
 /// Makes a table of so many rows, damages and recovers it, and says so.
@@ -78,7 +78,7 @@ fn make_and_tell<F: Files>(
             let told = told_of(alloc, name, rows.count, &made)?;
             Ok(told)
         }
-        Err(fault) => not_worked_on(alloc, name, fault),
+        Err(fault) => not_made(alloc, name, fault),
     }
 }
 
@@ -99,5 +99,30 @@ fn told_of(
         Ok((Status::Ok, made_line(alloc, name, count, made)?))
     } else {
         Ok((Status::Findings, finding_lines(alloc, name, &made.found)?))
+    }
+}
+
+// What is said of a table that was not made. Files that tell what they hold give cause for `File` and `Memory` alone.
+fn not_made(alloc: Global, name: &str, fault: MakeFault) -> Result<(Status, String), Stop>
+    ensures said { IfOk result (λ r. string_bytes r.1 ≡ spec.not_made_line name.now fault) }
+    ensures status { IfOk result (λ r. r.0 ≡ not_made_status fault) }
+    ensures plain { IfOk result (λ r. IsFault r.0 → ⊥) }
+    ensures usage { IfOk result (λ r. r.0 ≢ Status.Usage) }
+    ensures refusal { IfOk result (λ r. CutsOff fault → ⊥) }
+    ensures file { IfErr result (λ s. s ≡ Stop.File → fault ≡ MakeFault.File) }
+    ensures sink { IfErr result (λ s. s ≢ Stop.Sink) }
+{
+    match fault {
+        MakeFault::Absent(file) => Ok((Status::Absent, absent_line(alloc, name, file)?)),
+        MakeFault::Def(fault) => {
+            Ok((
+                Status::Refused,
+                refused_line(alloc, name, reason_of(fault))?,
+            ))
+        }
+        MakeFault::TooLong => Ok((Status::Refused, refused_line(alloc, name, "too long")?)),
+        MakeFault::Damaged { at } => Ok((Status::Refused, damaged_line(alloc, name, at)?)),
+        MakeFault::File => Err(Stop::File),
+        MakeFault::Memory => Err(Stop::Memory),
     }
 }

@@ -214,7 +214,9 @@ fn load_sound<F: Files>(
     requires setup { IsSetup setup }
     ensures loaded { IfOk result (λ t. IfTold (F.holds files.old) (IsLoaded name.now t)) }
     ensures name { IfOk result (λ t. t.name ≡ name.now) }
+    ensures setup { IfOk result (λ t. t.setup ≡ setup) }
     ensures whole { IfOk result (λ t. t.broken ≡ None) }
+    ensures unchanged { IfOk result (λ t. t.changed ≡ false) }
     ensures holds { F.holds files.new ≡ F.holds files.old }
     ensures sink { IfErr result (λ stop. stop ≢ Stop.Sink) }
     ensures cause { HasCause Stop.File (F.faults files.old) (F.faults files.new) result }

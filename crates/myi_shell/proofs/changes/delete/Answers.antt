@@ -2,6 +2,7 @@ use Rattle.std.proofs.Common.{◌∙◌, ap}
 use Rattle.myi_state.specs.Changes as change
 use Rattle.myi_shell.specs.Changing.{replied}
 use Rattle.myi_shell.proofs.ChangeLemmas.{stepped_at, never_damaged_at, told_step, told_fault}
+use Rattle.myi_shell.proofs.TouchLemmas.{touched_at, told_touched}
 use Rattle.myi_shell.proofs.changes.delete.Goals as goal
 
 pub returns-clause-stepped : goal.returns-clause-stepped
@@ -12,3 +13,7 @@ returns-clause-stepped g c =
 pub returns-clause-refused : goal.returns-clause-refused
 returns-clause-refused g c =
     told_fault _ _ _ _ (c.replied.ensures ∙ ap replied c.at_place.ensures) (never_damaged_at (change.delete c.args.at) _ _ c.args.at c.delete.result c.delete.ensures.refused)
+
+pub returns-clause-touched : goal.returns-clause-touched
+returns-clause-touched g c =
+    told_touched _ _ _ _ _ _ (c.replied.ensures ∙ ap replied c.at_place.ensures) (touched_at _ _ _ _ c.args.at c.delete.result c.delete.ensures.same.name c.delete.ensures.rows c.delete.ensures.changed c.delete.ensures.unmarked)

@@ -4,7 +4,7 @@ use Rattle.myi_defs.specs.declared.types.Defs.{Defs}
 use Rattle.myi_defs.specs.Sound.{IsSound}
 use Rattle.myi_table.specs.Table.{defs_in}
 use Rattle.myi_shell.specs.Stepping.{state_of, begun}
-use Rattle.myi_shell.specs.Running.{opening_on, HasGoneOn, IsStopped}
+use Rattle.myi_shell.specs.Running.{opening_on, standing, HasGoneOn, IsStopped}
 use Rattle.myi_shell.proofs.CarryLemmas.{carried_none, carried_then, if_err}
 use Rattle.myi_shell.proofs.RunLemmas.{nothing_printed, begins, begun_lawful, goes_on_by, stops_by, stands_by, sink_again, stopped_before}
 use Rattle.myi_shell.specs.Damage.{IsPrintedDamage}
@@ -29,7 +29,7 @@ loop-state-init g c = record {
 pub returns-in_err-next_round-clause-part : goal.returns-in_err-next_round-clause-part
 returns-in_err-next_round-clause-part g c =
     if_err c.from_residual-in_err-next_round.result
-    (stops_by (g.F.Files.holds c.args.files.now) (g.F.Files.holds c.loop-state.files) c.args.table.now c.loop-state.table c.args.lines.now c.args.setting (g.O.Sink.written c.args.out.now) (g.O.Sink.written c.loop-state.out) (g.O.Sink.written c.next_round.new.out) (state_of c.loop-state.state)
+    (stops_by (g.F.Files.holds c.args.files.now) (g.F.Files.holds c.loop-state.files) c.args.table.now c.loop-state.table c.args.lines.now c.args.setting (standing (g.O.Sink.written c.args.out.now) (g.F.Files.holds c.args.files.now) c.args.table.now) (g.O.Sink.written c.loop-state.out) (g.O.Sink.written c.next_round.new.out) (state_of c.loop-state.state)
     c.loop-state.invariant.carried.same.defs c.loop-state.invariant.done c.in_err-next_round.ensures.stopped)
 
 pub returns-in_err-next_round-clause-refused : goal.returns-in_err-next_round-clause-refused
@@ -51,8 +51,8 @@ loop-state-preserved g c =
     let start = g.O.Sink.written c.args.out.now in
     let printed = g.O.Sink.written c.next_round.new.out in
     record {
-      done = λ m held s h. subst (λ (b : Bool). HasGoneOn b (opening_on (defs_in old) c.args.lines.now c.args.setting s) start next (state_of c.next_round.new.self) new printed) c.if-branch.true
-          (goes_on_by told mid next old half new c.args.lines.now c.args.setting start (g.O.Sink.written c.loop-state.out) printed (state_of c.loop-state.state) (state_of c.next_round.new.self) c.in_ok-next_round.field-0 was.carried.same.defs was.done c.in_ok-next_round.ensures.gone_on m held s h);
+      done = λ m held s h. subst (λ (b : Bool). HasGoneOn b (opening_on (defs_in old) c.args.lines.now c.args.setting s) (standing start told old) next (state_of c.next_round.new.self) new printed) c.if-branch.true
+          (goes_on_by told mid next old half new c.args.lines.now c.args.setting (standing start told old) (g.O.Sink.written c.loop-state.out) printed (state_of c.loop-state.state) (state_of c.next_round.new.self) c.in_ok-next_round.field-0 was.carried.same.defs was.done c.in_ok-next_round.ensures.gone_on m held s h);
       carried = carried_then told mid next old half new was.carried c.next_round.ensures.carried;
       whole = c.in_ok-next_round.ensures.whole;
       sound = subst (λ (d : Defs). IsSound d) (sym c.next_round.ensures.carried.same.defs) was.sound;
@@ -65,17 +65,18 @@ loop-state-preserved g c =
 pub returns-clause-ran : goal.returns-clause-ran
 returns-clause-ran g c = λ m held s h.
     let was = c.loop-state.invariant in
+    let told = g.F.Files.holds c.args.files.now in
     let next = g.F.Files.holds c.next_round.new.files in
     let old = c.args.table.now in
     let start = g.O.Sink.written c.args.out.now in
     let printed = g.O.Sink.written c.next_round.new.out in
-    subst (λ (b : Bool). HasGoneOn b (opening_on (defs_in old) c.args.lines.now c.args.setting s) start next (state_of c.next_round.new.self) c.next_round.new.table printed) c.if-branch.false
-    (goes_on_by (g.F.Files.holds c.args.files.now) (g.F.Files.holds c.loop-state.files) next old c.loop-state.table c.next_round.new.table c.args.lines.now c.args.setting start (g.O.Sink.written c.loop-state.out) printed (state_of c.loop-state.state) (state_of c.next_round.new.self) c.in_ok-next_round.field-0 was.carried.same.defs was.done c.in_ok-next_round.ensures.gone_on m held s h)
+    subst (λ (b : Bool). HasGoneOn b (opening_on (defs_in old) c.args.lines.now c.args.setting s) (standing start told old) next (state_of c.next_round.new.self) c.next_round.new.table printed) c.if-branch.false
+    (goes_on_by (g.F.Files.holds c.args.files.now) (g.F.Files.holds c.loop-state.files) next old c.loop-state.table c.next_round.new.table c.args.lines.now c.args.setting (standing start told old) (g.O.Sink.written c.loop-state.out) printed (state_of c.loop-state.state) (state_of c.next_round.new.self) c.in_ok-next_round.field-0 was.carried.same.defs was.done c.in_ok-next_round.ensures.gone_on m held s h)
 
 pub returns-in_err-next_round-clause-stands : goal.returns-in_err-next_round-clause-stands
 returns-in_err-next_round-clause-stands g c =
     let e = err_from_is_err_and c.from_residual-in_err-next_round.result c.from_residual-in_err-next_round.ensures.1 in
-    λ failed. stands_by (g.F.Files.holds c.args.files.now) (g.F.Files.holds c.loop-state.files) (g.F.Files.holds c.next_round.new.files) c.args.table.now c.loop-state.table c.next_round.new.table c.args.lines.now c.args.setting (g.O.Sink.written c.args.out.now) (g.O.Sink.written c.loop-state.out) (g.O.Sink.written c.next_round.new.out) (state_of c.loop-state.state)
+    λ failed. stands_by (g.F.Files.holds c.args.files.now) (g.F.Files.holds c.loop-state.files) (g.F.Files.holds c.next_round.new.files) c.args.table.now c.loop-state.table c.next_round.new.table c.args.lines.now c.args.setting (standing (g.O.Sink.written c.args.out.now) (g.F.Files.holds c.args.files.now) c.args.table.now) (g.O.Sink.written c.loop-state.out) (g.O.Sink.written c.next_round.new.out) (state_of c.loop-state.state)
     c.loop-state.invariant.carried.same.defs c.loop-state.invariant.done (c.next_round.ensures.stands (sink_again e.1 e.2 c.in_err-next_round.was failed))
 
 pub returns-in_err-next_round-clause-damaged : goal.returns-in_err-next_round-clause-damaged

@@ -1,10 +1,8 @@
 use Rattle.std.proofs.Common.{List, OnOk, IfErr, subst}
 use Rattle.myi_base.specs.Holding.{IfTold}
-use Rattle.myi_state.specs.Changes.{replay}
 use Rattle.myi_script.specs.declared.types.Line.{Line}
-use Rattle.myi_history.specs.History.{history}
 use Rattle.myi_table.specs.Table.{defs_in, IfHolds}
-use Rattle.myi_shell.specs.Running.{opening_on, IsPrinted, IsPrintedPart, AreClosed, AreClosedBehind, IfSink}
+use Rattle.myi_shell.specs.Running.{opening_on, IsPrinted, IsPrintedPart, AreClosedAtEnd, AreClosedBehind, IfSink}
 use Rattle.myi_shell.proofs.CarryLemmas.{others_then}
 use Rattle.myi_shell.proofs.EndLemmas.{text_of_end, table_of_end, part_of_end, closed_behind, damage_of_end}
 use Rattle.myi_shell.proofs.run.run_script.Goals as goal
@@ -22,9 +20,9 @@ returns-clause-table g c =
     let told = g.F.Files.holds c.args.files.now in
     let next = g.F.Files.holds c.close-closed.new.files in
     let d = defs_in c.args.table in
-    subst (λ (ls : List Line). OnOk c.ended.result (IfHolds told c.args.table (λ m s. IfTold next (AreClosed c.args.table (replay d s (history (opening_on d ls c.args.setting s))))))) c.as_slice-lines.ensures
+    subst (λ (ls : List Line). OnOk c.ended.result (IfHolds told c.args.table (λ m s. IfTold next (AreClosedAtEnd (opening_on d ls c.args.setting s) c.args.table m)))) c.as_slice-lines.ensures
     (table_of_end told (g.O.Sink.written c.args.out.now) (g.F.Files.holds c.run-ran.new.files) next (g.O.Sink.written c.run-ran.new.out) c.args.table c.run-ran.new.table (λ s. opening_on d c.as_slice-lines.result.now c.args.setting s)
-    c.ended.result c.run-ran.result c.close-closed.result c.ended.ensures c.run-ran.ensures.carried.same c.run-ran.ensures.ran c.close-closed.ensures.closed)
+    c.ended.result c.run-ran.result c.close-closed.result c.ended.ensures c.run-ran.ensures.carried.same c.run-ran.ensures.ran c.close-closed.ensures.closed c.close-closed.ensures.rows)
 
 pub returns-clause-part : goal.returns-clause-part
 returns-clause-part g c =
@@ -45,8 +43,8 @@ returns-clause-closed g c =
     let start = g.O.Sink.written c.args.out.now in
     let printed = g.O.Sink.written c.run-ran.new.out in
     let d = defs_in c.args.table in
-    subst (λ (ls : List Line). IfSink c.ended.result (IfHolds told c.args.table (λ m s. IfTold next (AreClosedBehind (opening_on d ls c.args.setting s) c.args.table start printed)))) c.as_slice-lines.ensures
-    (closed_behind told start (g.F.Files.holds c.run-ran.new.files) next printed c.args.table c.run-ran.new.table (λ s. opening_on d c.as_slice-lines.result.now c.args.setting s) c.ended.result c.run-ran.result c.close-closed.result c.ended.ensures c.run-ran.ensures.carried.same c.run-ran.ensures.stands c.close-closed.ensures.closed)
+    subst (λ (ls : List Line). IfSink c.ended.result (IfHolds told c.args.table (λ m s. IfTold next (AreClosedBehind (opening_on d ls c.args.setting s) c.args.table start printed m)))) c.as_slice-lines.ensures
+    (closed_behind told start (g.F.Files.holds c.run-ran.new.files) next printed c.args.table c.run-ran.new.table (λ s. opening_on d c.as_slice-lines.result.now c.args.setting s) c.ended.result c.run-ran.result c.close-closed.result c.ended.ensures c.run-ran.ensures.carried.same c.run-ran.ensures.stands c.close-closed.ensures.closed c.close-closed.ensures.rows)
 
 pub returns-clause-damaged : goal.returns-clause-damaged
 returns-clause-damaged g c = damage_of_end (g.O.Sink.written c.args.out.now) (g.O.Sink.written c.run-ran.new.out) c.ended.result c.run-ran.result c.close-closed.result c.ended.ensures c.run-ran.ensures.damaged

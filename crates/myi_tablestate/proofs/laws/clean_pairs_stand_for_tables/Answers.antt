@@ -7,7 +7,7 @@ use Rattle.myi_state.specs.State.{TableState}
 use Rattle.myi_state.specs.Standing.{StandsFor}
 use Rattle.myi_tablestate.proofs.CleanLemmas.{IsRead, is_clean}
 use Rattle.myi_tablestate.proofs.StandLemmas.{table_of, listed_stands}
-use Rattle.myi_tablestate.proofs.PairedLemmas.{is_listed, stands, once}
+use Rattle.myi_tablestate.proofs.PairedLemmas.{is_clean_listed, stands, once}
 use Rattle.myi_tablestate.proofs.laws.clean_pairs_stand_for_tables.Goals as goal
 
 pub returns : goal.returns
@@ -26,7 +26,7 @@ returns c =
       clean = λ d s b x sound t. is_clean d s b x t (read d s b sound t.rows);
       stands = λ b x bytes clean.
           let d = clean.defs in
-          let l = is_listed b x clean bytes (c.rows_are_met.ensures.in_order false (block_of b) (length b) (packs d) (c.chains_are_found.ensures.blocks b) 0 []) (c.rows_are_readable.ensures.rising d false b (Rattle.myi_defs.proofs.CallerLemmas.sound d (Rattle.myi_defs.proofs.CallerLemmas.are_defs x d clean.read))) in
+          let l = is_clean_listed b x clean bytes (c.rows_are_met.ensures.in_order false (block_of b) (length b) (packs d) (c.chains_are_found.ensures.blocks b) 0 []) (c.rows_are_readable.ensures.rising d false b (Rattle.myi_defs.proofs.CallerLemmas.sound d (Rattle.myi_defs.proofs.CallerLemmas.are_defs x d clean.read))) in
           (table_of d b clean.list.0, stands b x bytes clean l (read d (table_of d b clean.list.0) b l.sound (listed_stands d b _ clean.list.0 l)));
       once = λ d s t b x sound one other. once d s t b x one other (read d s b sound one.rows) (read d t b sound other.rows);
     }

@@ -11,10 +11,10 @@ pub returns-in_ok-told-in-Ok-clause-status : goal.returns-in_ok-told-in-Ok-claus
 returns-in_ok-told-in-Ok-clause-status g c = status_told _ _ _ _ _ _ _ _ c.in-Ok.ensures.made c.in_ok-told-in-Ok.ensures.status
 
 pub returns-in-Err-clause-said : goal.returns-in-Err-clause-said
-returns-in-Err-clause-said g c = never_told c.not_worked_on.result c.in-Err.fault _ _ c.in-Err.ensures.refused c.not_worked_on.ensures.refusal
+returns-in-Err-clause-said g c = never_told c.not_made.result c.in-Err.fault _ _ c.in-Err.ensures.refused c.not_made.ensures.refusal
 
 pub returns-in-Err-clause-status : goal.returns-in-Err-clause-status
-returns-in-Err-clause-status g c = never_told c.not_worked_on.result c.in-Err.fault _ _ c.in-Err.ensures.refused c.not_worked_on.ensures.refusal
+returns-in-Err-clause-status g c = never_told c.not_made.result c.in-Err.fault _ _ c.in-Err.ensures.refused c.not_made.ensures.refusal
 
 pub returns-in-Err-clause-done : goal.returns-in-Err-clause-done
-returns-in-Err-clause-done g c = never_done c.not_worked_on.result c.in-Err.fault _ _ _ _ c.in-Err.ensures.refused c.not_worked_on.ensures.refusal c.make_table.ensures.others
+returns-in-Err-clause-done g c = never_done c.not_made.result c.in-Err.fault _ _ _ _ c.in-Err.ensures.refused c.not_made.ensures.refusal c.make_table.ensures.others

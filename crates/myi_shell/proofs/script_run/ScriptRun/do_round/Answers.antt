@@ -21,12 +21,12 @@ round-requires-clause-kinds g c κs within = subst HasItsKinds (sym c.requires.n
 
 pub returns-in_err-round-clause-stopped : goal.returns-in_err-round-clause-stopped
 returns-in_err-round-clause-stopped g c =
-    on_err c.from_residual.result (λ setting base start state w. stops_between _ start (g.F.Files.holds c.args.files.now) (g.O.Sink.written c.args.out.now) (g.O.Sink.written c.args.out.now) (state_of c.args.self.now) c.args.table.now w refl)
+    on_err c.from_residual.result (λ setting base from state w. stops_between _ from (g.F.Files.holds c.args.files.now) (g.O.Sink.written c.args.out.now) (g.O.Sink.written c.args.out.now) (state_of c.args.self.now) c.args.table.now w refl)
 
 pub returns-in_err-write-clause-stopped : goal.returns-in_err-write-clause-stopped
 returns-in_err-write-clause-stopped g c =
-    on_err c.from_residual-in_err-write.result (λ setting base start state w.
-    round_part c.args.table.now c.round.new.table c.args.lines.now setting base start (g.F.Files.holds c.args.files.now) (g.F.Files.holds c.round.new.files) (g.O.Sink.written c.args.out.now) (g.O.Sink.written c.write.new.out) (state_of c.args.self.now) (state_of c.round.new.self) c.args.round.now c.counters-counters.result
+    on_err c.from_residual-in_err-write.result (λ setting base from state w.
+    round_part c.args.table.now c.round.new.table c.args.lines.now setting base from (g.F.Files.holds c.args.files.now) (g.F.Files.holds c.round.new.files) (g.O.Sink.written c.args.out.now) (g.O.Sink.written c.write.new.out) (state_of c.args.self.now) (state_of c.round.new.self) c.args.round.now c.counters-counters.result
     c.requires.lines c.requires.sound state c.requires.left c.counters-counters.ensures.sum c.counters-counters.ensures.fewer c.requires.next c.in_ok-round.ensures.done c.in_ok-round.ensures.taken c.in_err-write.ensures.err w)
 
 pub returns-in_err-write-clause-sink : goal.returns-in_err-write-clause-sink
@@ -35,13 +35,13 @@ returns-in_err-write-clause-sink g c =
     sink_cause _ _ c.from_residual-in_err-write.result c.write.result e.0 c.in_err-write.field-0.0 e.1 e.2 c.in_err-write.was c.write.ensures.cause
 
 pub returns-clause-gone_on : goal.returns-clause-gone_on
-returns-clause-gone_on g c = λ setting base start state w.
-    round_on c.args.table.now c.round.new.table c.args.lines.now setting base start (g.F.Files.holds c.args.files.now) (g.F.Files.holds c.round.new.files) (g.O.Sink.written c.args.out.now) (g.O.Sink.written c.write.new.out) (state_of c.args.self.now) (state_of c.round.new.self)
+returns-clause-gone_on g c = λ setting base from state w.
+    round_on c.args.table.now c.round.new.table c.args.lines.now setting base from (g.F.Files.holds c.args.files.now) (g.F.Files.holds c.round.new.files) (g.O.Sink.written c.args.out.now) (g.O.Sink.written c.write.new.out) (state_of c.args.self.now) (state_of c.round.new.self)
     (record (state_of c.round.new.self) { locks = c.advance.new.self; texts = c.write.new.self }) c.args.round.now c.counters-counters.result
     c.requires.lines c.requires.sound state c.requires.left c.counters-counters.ensures.sum c.counters-counters.ensures.fewer c.requires.next c.in_ok-round.ensures.done c.in_ok-round.ensures.taken
     (ap (λ (z : LockState). record (state_of c.round.new.self) { locks = z; texts = c.write.new.self }) (c.advance.ensures ∙ ap (λ (z : LockState). advanced z c.args.round.now) c.in_ok-round.ensures.locks)
     ∙ ap (λ ts. record (state_of c.round.new.self) { locks = advanced c.args.self.now.locks c.args.round.now; texts = ts }) c.write.ensures.empty)
-    c.round.ensures.carried c.in_ok-write.ensures.ok w
+    c.round.ensures.carried c.in_ok-round.ensures.touched c.in_ok-write.ensures.ok w
 
 pub returns-clause-lawful : goal.returns-clause-lawful
 returns-clause-lawful g c =
@@ -58,9 +58,9 @@ returns-clause-fewer g c =
     subst (λ (z : LockState). steps_left z.sessions < steps_left r.sessions) (sym after) (fewer r b c.requires.lawful c.requires.left)
 
 pub returns-in_err-write-clause-stands : goal.returns-in_err-write-clause-stands
-returns-in_err-write-clause-stands g c = λ failed setting base start state w.
-    round_behind c.args.table.now c.round.new.table c.args.lines.now setting base start (g.F.Files.holds c.args.files.now) (g.F.Files.holds c.round.new.files) (g.O.Sink.written c.args.out.now) (g.O.Sink.written c.write.new.out) (state_of c.args.self.now) (state_of c.round.new.self) c.args.round.now c.counters-counters.result
-    c.requires.lines c.requires.sound state c.requires.left c.counters-counters.ensures.sum c.counters-counters.ensures.fewer c.requires.next c.in_ok-round.ensures.done c.in_ok-round.ensures.taken c.round.ensures.carried c.in_err-write.ensures.err w
+returns-in_err-write-clause-stands g c = λ failed setting base from state w.
+    round_behind c.args.table.now c.round.new.table c.args.lines.now setting base from (g.F.Files.holds c.args.files.now) (g.F.Files.holds c.round.new.files) (g.O.Sink.written c.args.out.now) (g.O.Sink.written c.write.new.out) (state_of c.args.self.now) (state_of c.round.new.self) c.args.round.now c.counters-counters.result
+    c.requires.lines c.requires.sound state c.requires.left c.counters-counters.ensures.sum c.counters-counters.ensures.fewer c.requires.next c.in_ok-round.ensures.done c.in_ok-round.ensures.taken c.round.ensures.carried c.in_ok-round.ensures.touched c.in_err-write.ensures.err w
 
 pub returns-in_err-round-clause-noted : goal.returns-in_err-round-clause-noted
 returns-in_err-round-clause-noted g c =

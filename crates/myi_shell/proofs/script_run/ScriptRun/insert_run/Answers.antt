@@ -10,12 +10,14 @@ use Rattle.myi_shell.specs.declared.script_run.ScriptRun.{ScriptRun}
 use Rattle.myi_shell.specs.Stepping.{state_of}
 use Rattle.myi_shell.proofs.CarryLemmas.{carried_none, carried_then, never_before, cause_then}
 use Rattle.myi_shell.proofs.LoopLemmas.{drop_none, half_begins, half_steps, half_ends}
+use Rattle.myi_shell.proofs.TouchLemmas.{touched_none, touched_then}
 use Rattle.myi_shell.proofs.script_run.ScriptRun.insert_run.Goals as goal
 
 pub loop-step-init : goal.loop-step-init
 loop-step-init g c = record {
   only = refl;
   so_far = λ m held s h. half_begins (defs_in c.args.table.now) c.args.lines.now _ (state_of c.args.self.now) s c.args.steps.now (g.F.Files.holds c.args.files.now) c.args.table.now (m, held, h);
+  touched = touched_none (g.F.Files.holds c.args.files.now) (g.F.Files.holds c.args.files.now) c.args.table.now c.args.self.now.number refl;
   carried = carried_none (g.F.Files.holds c.args.files.now) (g.F.Files.holds c.args.files.now) c.args.table.now refl c.requires.kept;
   whole = c.requires.whole;
   later = omega arith;
@@ -59,6 +61,7 @@ loop-step-preserved g c =
     record {
       only = c.write-written.ensures.only ∙ ap (λ (p : ScriptRun). record p { number = c.write-written.new.self.number; texts = c.write-written.new.self.texts }) was.only;
       so_far = half_steps told mid next old half c.write-written.new.table c.args.lines.now (state_of c.args.self.now) (state_of c.loop-step.self) (state_of c.write-written.new.self) c.args.steps.now c.loop-step.step-index _ c.loop-step-test.true (ap (λ (p : ScriptRun). p.locks) was.only) was.carried.same.defs was.so_far c.in_ok-written.ensures.done;
+      touched = touched_then told mid next old half c.write-written.new.table c.args.self.now.number c.loop-step.self.number c.write-written.new.self.number was.touched c.in_ok-written.ensures.touched;
       carried = carried_then told mid next old half c.write-written.new.table was.carried c.write-written.ensures.carried;
       whole = c.in_ok-written.ensures.whole;
       later = omega (arith, was.later, c.write-written.ensures.cause.later);
@@ -84,3 +87,6 @@ pub returns-in_err-written-clause-noted : goal.returns-in_err-written-clause-not
 returns-in_err-written-clause-noted g c =
     let e = err_from_is_err_and c.from_residual.result c.from_residual.ensures.1 in
     if_err_by (IsNoted c.write-written.new.self.texts) _ c.in_err-written.field-0.0 e.0 e.1 e.2 c.in_err-written.ensures.noted
+
+pub returns-clause-touched : goal.returns-clause-touched
+returns-clause-touched g c = c.loop-step.invariant.touched

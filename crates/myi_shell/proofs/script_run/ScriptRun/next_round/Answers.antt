@@ -8,23 +8,23 @@ use Rattle.myi_shell.proofs.script_run.ScriptRun.next_round.Goals as goal
 
 pub returns-in_err-round-clause-stopped : goal.returns-in_err-round-clause-stopped
 returns-in_err-round-clause-stopped g c =
-    on_err c.from_residual.result (λ setting base start state w. stops_between _ start (g.F.Files.holds c.args.files.now) (g.O.Sink.written c.args.out.now) (g.O.Sink.written c.args.out.now) (state_of c.args.self.now) c.args.table.now w refl)
+    on_err c.from_residual.result (λ setting base from state w. stops_between _ from (g.F.Files.holds c.args.files.now) (g.O.Sink.written c.args.out.now) (g.O.Sink.written c.args.out.now) (state_of c.args.self.now) c.args.table.now w refl)
 
 pub returns-in-Finished-clause-gone_on : goal.returns-in-Finished-clause-gone_on
-returns-in-Finished-clause-gone_on g c = λ setting base start state w.
-    ends_run _ start (g.F.Files.holds c.args.files.now) (g.O.Sink.written c.args.out.now) (state_of c.args.self.now) c.args.table.now w (is_over c.args.self.now.locks _ c.in_ok-round.round c.in_ok-round.ensures.rule c.in-Finished.is)
+returns-in-Finished-clause-gone_on g c = λ setting base from state w.
+    ends_run _ from (g.F.Files.holds c.args.files.now) (g.O.Sink.written c.args.out.now) (state_of c.args.self.now) c.args.table.now w (is_over c.args.self.now.locks _ c.in_ok-round.round c.in_ok-round.ensures.rule c.in-Finished.is)
 
 pub do_round-requires-clause-left : goal.do_round-requires-clause-left
 do_round-requires-clause-left g c κs within = is_left c.args.self.now.locks _ c.in_ok-round.round c.in_ok-round.ensures.rule c.in_default.not-Finished
 
 pub returns-in-Err-clause-stopped : goal.returns-in-Err-clause-stopped
-returns-in-Err-clause-stopped g c = λ setting base start state w.
-    cut_stopped _ start (g.F.Files.holds c.args.files.now) (g.O.Sink.written c.args.out.now) (g.O.Sink.written c.do_round.new.out) (g.O.Sink.written c.cut_off.new.out) (state_of c.args.self.now) c.args.table.now c.in-Err.fault c.in-Err.ensures.refused c.cut_off.ensures.unsaid w (c.in-Err.ensures.stopped setting base start state w)
+returns-in-Err-clause-stopped g c = λ setting base from state w.
+    cut_stopped _ from (g.F.Files.holds c.args.files.now) (g.O.Sink.written c.args.out.now) (g.O.Sink.written c.do_round.new.out) (g.O.Sink.written c.cut_off.new.out) (state_of c.args.self.now) c.args.table.now c.in-Err.fault c.in-Err.ensures.refused c.cut_off.ensures.unsaid w (c.in-Err.ensures.stopped setting base from state w)
 
 pub returns-in-Err-clause-stands : goal.returns-in-Err-clause-stands
-returns-in-Err-clause-stands g c = λ failed setting base start state w.
-    cut_stands _ start (g.F.Files.holds c.args.files.now) (g.F.Files.holds c.do_round.new.files) (g.O.Sink.written c.args.out.now) (g.O.Sink.written c.do_round.new.out) (g.O.Sink.written c.cut_off.new.out) (state_of c.args.self.now) c.args.table.now c.do_round.new.table c.in-Err.fault c.cut_off.result
-    (err_is failed) c.cut_off.ensures.told c.in-Err.ensures.refused c.cut_off.ensures.unsaid w (λ sank. c.do_round.ensures.stands (c.in-Err.is ∙ ap Err sank) setting base start state w)
+returns-in-Err-clause-stands g c = λ failed setting base from state w.
+    cut_stands _ from (g.F.Files.holds c.args.files.now) (g.F.Files.holds c.do_round.new.files) (g.O.Sink.written c.args.out.now) (g.O.Sink.written c.do_round.new.out) (g.O.Sink.written c.cut_off.new.out) (state_of c.args.self.now) c.args.table.now c.do_round.new.table c.in-Err.fault c.cut_off.result
+    (err_is failed) c.cut_off.ensures.told c.in-Err.ensures.refused c.cut_off.ensures.unsaid w (λ sank. c.do_round.ensures.stands (c.in-Err.is ∙ ap Err sank) setting base from state w)
 
 pub returns-in-Err-clause-refused : goal.returns-in-Err-clause-refused
 returns-in-Err-clause-refused g c = cut_never (g.F.Files.holds c.args.files.now) c.args.table.now c.in-Err.fault c.cut_off.result c.cut_off.ensures.told c.in-Err.ensures.refused

@@ -12,6 +12,7 @@ use Rattle.myi_shell.specs.declared.script_run.ScriptRun.{ScriptRun}
 use Rattle.myi_shell.specs.Stepping.{state_of, seen_by, read_by}
 use Rattle.myi_shell.proofs.CarryLemmas.{carried_none, carried_then, still_none, still_then, never_before, cause_then}
 use Rattle.myi_shell.proofs.LoopLemmas.{read_more, texts_end, drop_none}
+use Rattle.myi_shell.proofs.TouchLemmas.{untouched_none, untouched_then}
 use Rattle.myi_shell.proofs.script_run.ScriptRun.read_run.Goals as goal
 
 pub loop-step-init : goal.loop-step-init
@@ -19,6 +20,7 @@ loop-step-init g c = record {
   only = refl;
   so_far = λ m held s h. refl;
   still = still_none (g.F.Files.holds c.args.files.now) (g.F.Files.holds c.args.files.now) c.args.table.now refl;
+  untouched = untouched_none (g.F.Files.holds c.args.files.now) (g.F.Files.holds c.args.files.now) c.args.table.now refl;
   carried = carried_none (g.F.Files.holds c.args.files.now) (g.F.Files.holds c.args.files.now) c.args.table.now refl c.requires.kept;
   whole = c.requires.whole;
   later = omega arith;
@@ -66,6 +68,7 @@ loop-step-preserved g c =
       only = c.read-read.ensures.only ∙ ap (λ (p : ScriptRun). record p { texts = c.read-read.new.self.texts }) was.only;
       so_far = read_more told mid old half c.args.lines.now (state_of c.args.self.now) (state_of c.loop-step.self) c.read-read.new.self.texts c.args.steps.now c.loop-step.step-index _ c.loop-step-test.true (ap state_of was.only) was.carried.same was.still was.so_far c.in_ok-read.ensures.said;
       still = still_then told mid next old half c.read-read.new.table was.still c.read-read.ensures.still;
+      untouched = untouched_then told mid next old half c.read-read.new.table was.carried.same.name was.untouched c.read-read.ensures.untouched;
       carried = carried_then told mid next old half c.read-read.new.table was.carried c.read-read.ensures.carried;
       whole = c.read-read.ensures.whole;
       later = omega (arith, was.later, c.read-read.ensures.cause.later);
@@ -95,3 +98,10 @@ pub returns-in_err-read-clause-noted : goal.returns-in_err-read-clause-noted
 returns-in_err-read-clause-noted g c =
     let e = err_from_is_err_and c.from_residual.result c.from_residual.ensures.1 in
     if_err_by (IsNoted c.read-read.new.self.texts) _ c.in_err-read.field-0.0 e.0 e.1 e.2 c.in_err-read.ensures.noted
+
+pub returns-in_err-read-clause-untouched : goal.returns-in_err-read-clause-untouched
+returns-in_err-read-clause-untouched g c =
+    untouched_then (g.F.Files.holds c.args.files.now) (g.F.Files.holds c.loop-step.files) (g.F.Files.holds c.read-read.new.files) c.args.table.now c.loop-step.table c.read-read.new.table c.loop-step.invariant.carried.same.name c.loop-step.invariant.untouched c.read-read.ensures.untouched
+
+pub returns-clause-untouched : goal.returns-clause-untouched
+returns-clause-untouched g c = c.loop-step.invariant.untouched

@@ -12,6 +12,7 @@ use Rattle.myi_shell.specs.declared.script_run.ScriptRun.{ScriptRun}
 use Rattle.myi_shell.specs.Stepping.{state_of, seen_by, read_by}
 use Rattle.myi_shell.proofs.CarryLemmas.{carried_then, still_then, never_before}
 use Rattle.myi_shell.proofs.LoopLemmas.{run_more, texts_end, drop_none}
+use Rattle.myi_shell.proofs.TouchLemmas.{untouched_then}
 use Rattle.myi_shell.proofs.script_run.ScriptRun.read_runs.Goals as goal
 
 pub returns-in_err-read_run-clause-still : goal.returns-in_err-read_run-clause-still
@@ -38,6 +39,7 @@ loop-run-preserved g c =
       only = c.read_run.ensures.only ∙ ap (λ (p : ScriptRun). record p { texts = c.read_run.new.self.texts }) was.only;
       so_far = run_more told mid old half c.args.lines.now (state_of c.args.self.now) (state_of c.loop-run.self) c.read_run.new.self.texts c.args.runs.now c.loop-run.run-index c.run-item.result c.loop-run-test.true (ap state_of was.only) was.carried.same was.still was.so_far said;
       still = still_then told mid next old half c.read_run.new.table was.still c.read_run.ensures.still;
+      untouched = untouched_then told mid next old half c.read_run.new.table was.carried.same.name was.untouched c.read_run.ensures.untouched;
       carried = carried_then told mid next old half c.read_run.new.table was.carried c.read_run.ensures.carried;
       whole = c.read_run.ensures.whole;
       later = omega (arith, was.later, c.read_run.ensures.cause.later);
@@ -52,3 +54,10 @@ pub returns-in_err-read_run-clause-noted : goal.returns-in_err-read_run-clause-n
 returns-in_err-read_run-clause-noted g c =
     let e = err_from_is_err_and c.from_residual.result c.from_residual.ensures.1 in
     if_err_by (IsNoted c.read_run.new.self.texts) _ c.in_err-read_run.field-0.0 e.0 e.1 e.2 c.in_err-read_run.ensures.noted
+
+pub returns-in_err-read_run-clause-untouched : goal.returns-in_err-read_run-clause-untouched
+returns-in_err-read_run-clause-untouched g c =
+    untouched_then (g.F.Files.holds c.args.files.now) (g.F.Files.holds c.loop-run.files) (g.F.Files.holds c.read_run.new.files) c.args.table.now c.loop-run.table c.read_run.new.table c.loop-run.invariant.carried.same.name c.loop-run.invariant.untouched c.read_run.ensures.untouched
+
+pub returns-clause-untouched : goal.returns-clause-untouched
+returns-clause-untouched g c = c.loop-run.invariant.untouched

@@ -9,6 +9,8 @@ use Rattle.myi_table.specs.Table.{defs_in, IfHolds}
 use Rattle.myi_shell.specs.Stepping.{state_of, seen_by, read_by, writes_by, HasItsKinds, AreDone}
 use Rattle.myi_shell.proofs.CarryLemmas.{never_all}
 use Rattle.myi_shell.proofs.DoneLemmas.{AreRounds, together_done, readers_done}
+use Rattle.myi_shell.proofs.TouchLemmas.{touched_same, behind_ok}
+use Rattle.myi_shell.specs.declared.script_run.ScriptRun.{ScriptRun}
 use Rattle.myi_shell.proofs.script_run.ScriptRun.round.Goals as goal
 
 pub returns-in-Alone-clause-done : goal.returns-in-Alone-clause-done
@@ -47,3 +49,14 @@ returns-in-None-clause-done g c =
     let said = subst (λ (rs : List Run). IfHolds told old (λ m s. new.texts ≡ p.texts ++ texts_of (map (read_by (defs_in old) c.args.lines.now (seen_by p) s) (flat_map (λ (r : Run). r.steps) rs)))) c.as_slice.ensures c.in_ok-read_runs-in-Together.ensures.said in
     subst (λ (r : Round). AreRounds told old c.args.lines.now p c.args.counters r next c.read_runs.new.table new) (sym is)
     (readers_done told next old c.read_runs.new.table c.args.lines.now p new readers c.args.counters (subst HasItsKinds is c.requires.kinds) (ap state_of c.read_runs.ensures.only) c.read_runs.ensures.still said)
+
+pub returns-in-Some-clause-touched : goal.returns-in-Some-clause-touched
+returns-in-Some-clause-touched g c =
+    let told = g.F.Files.holds c.args.files.now in
+    let mid = g.F.Files.holds c.read_runs.new.files in
+    behind_ok told mid (g.F.Files.holds c.insert_run.new.files) c.args.table.now c.read_runs.new.table c.insert_run.new.table c.args.self.now.number c.read_runs.new.self.number c.insert_run.new.self.number c.insert_run.result
+    (touched_same told mid c.args.table.now c.read_runs.new.table c.args.self.now.number c.read_runs.new.self.number c.read_runs.ensures.carried.same.name (ap (λ (p : ScriptRun). p.number) c.read_runs.ensures.only) c.read_runs.ensures.untouched) c.insert_run.ensures.touched
+
+pub returns-in-None-clause-touched : goal.returns-in-None-clause-touched
+returns-in-None-clause-touched g c =
+    touched_same (g.F.Files.holds c.args.files.now) (g.F.Files.holds c.read_runs.new.files) c.args.table.now c.read_runs.new.table c.args.self.now.number c.read_runs.new.self.number c.read_runs.ensures.carried.same.name (ap (λ (p : ScriptRun). p.number) c.read_runs.ensures.only) c.read_runs.ensures.untouched

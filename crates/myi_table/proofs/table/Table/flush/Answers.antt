@@ -2,7 +2,8 @@ use Rattle.std.proofs.Common.{subst}
 use Rattle.std.specs.Prelude.{string_bytes}
 use Rattle.myi_base.specs.Holding.{Told}
 use Rattle.myi_table.specs.Table.{OpenTable, StillHolds, KeepsRows}
-use Rattle.myi_table.proofs.CloseLemmas.{with_trees, written_holds, written_tied, rows_kept}
+use Rattle.myi_table.proofs.ChangeLemmas.{rows_kept}
+use Rattle.myi_table.proofs.CloseLemmas.{with_trees, written_holds, written_tied}
 use Rattle.myi_table.proofs.table.Table.flush.Goals as goal
 
 pub invariant_of-self : goal.invariant_of-self

@@ -1,10 +1,11 @@
 use Rattle.std.proofs.Common.{◌≡◌, None, sym, subst}
 use Rattle.myi_table.specs.declared.fault.ChangeFault.{ChangeFault}
 use Rattle.std.specs.Prelude.{string_bytes}
+use Rattle.myi_base.specs.Holding.{Told}
 use Rattle.myi_state.specs.Changes.{update}
-use Rattle.myi_table.specs.Table.{OpenTable, IsKept, Makes, Refuses, IfReply, StillHolds}
+use Rattle.myi_table.specs.Table.{OpenTable, IsKept, Makes, Refuses, IfReply, StillHolds, KeepsRows}
 use Rattle.myi_table.specs.Faults.{broken_by_fault}
-use Rattle.myi_table.proofs.ChangeLemmas.{with_rows, makes_rows, refuses_rows, unchanged_rows, kept_made, kept_refused}
+use Rattle.myi_table.proofs.ChangeLemmas.{with_rows, makes_rows, refuses_rows, unchanged_rows, kept_made, kept_refused, refused_rows}
 use Rattle.myi_table.proofs.table.Table.update.Goals as goal
 
 pub returns-in-Ok-clause-made : goal.returns-in-Ok-clause-made
@@ -52,3 +53,12 @@ returns-in-Err-clause-kept g c =
     c.in-Err.ensures.refused c.in-Err.ensures.unchanged in
     let y = subst (λ (r : ChangeFault). IsKept next (with_rows t c.update-made.new.self t.changed (broken_by_fault r c.fault_count.result t.broken))) (sym c.broken_by.ensures.told) x in
     subst (λ (n : OpenTable). IsKept next n) (sym c.broken_by.ensures.left) y
+
+pub returns-in-Err-clause-rows : goal.returns-in-Err-clause-rows
+returns-in-Err-clause-rows g c =
+    let told = g.F.Files.holds c.args.files.now in
+    let next = g.F.Files.holds c.update-made.new.files in
+    let i = c.self.inside in
+    let t : OpenTable = record { name = string_bytes i.name; setup = i.setup; header = i.header; lost = i.lost; rows = i.rows; changed = i.changed; broken = i.broken; added = i.added } in
+    let kept = subst (λ (r : ChangeFault). IfReply r (Told told next (KeepsRows t.name))) (sym c.broken_by.ensures.told) (refused_rows told next t i.defs (string_bytes i.index) c.in-Err.fault c.self.invariant c.in-Err.ensures.apart) in
+    subst (λ (u : OpenTable). IfReply c.broken_by.result (Told told next (KeepsRows u.name))) c.self.view_is kept
