@@ -1,0 +1,17 @@
+mod AheadLemmas
+mod CarryLemmas
+mod ChangeLemmas
+mod CloseLemmas
+mod FitLemmas
+mod FrameLemmas
+mod LeastLemmas
+mod LikeLemmas
+mod ListLemmas
+mod LoadLemmas
+mod MergedLists
+mod MergeLemmas
+mod RangeLemmas
+mod ReadLemmas
+mod RefuseLemmas
+mod ScanLemmas
+mod TableLemmas

@@ -1,0 +1,91 @@
+//! Inserting a row in a MERGE list, and closing it.
+use crate::fault::MergeInsertFault;
+use crate::merge::{Merge, table_is_sound};
+use myi_io::Files;
+use myi_mergelist::InsertMethod;
+use myi_pack::Row;
+use myi_table::{ChangeFault, tables_rest_on_their_files};
+
+impl Merge {
+    ghost use Rattle.std.specs.Prelude.{◌≡◌, ◌≢◌, ◌<◌, length, true, None, Err, slice_get, IfOk, IfErr, IfSome, OnOk, IsTrue};
+    ghost use Rattle.myi_base.specs.Holding.{IfTold};
+    ghost use Rattle.myi_base.specs.Causes.{HasCause};
+    ghost use Rattle.myi_pack.specs.Spelling.{fits};
+    ghost use Rattle.myi_state.specs.Changes.{insert};
+    ghost use Rattle.myi_table.specs.declared.fault.ChangeFault.{ChangeFault};
+    ghost use Rattle.myi_table.specs.declared.fault.ChangeFault.TheVariants as change;
+    ghost use Rattle.myi_table.specs.Faults.{CutsOff};
+    ghost use Rattle.myi_table.specs.Table.{OpenTable, defs_in};
+    ghost use Rattle.myi_merge.specs.declared.fault.MergeInsertFault.TheVariants.{NoInsertMethod, Change};
+    ghost use Rattle.myi_merge.specs.Merged.{AreKept, AreWhole, IfHoldEach};
+    ghost use Rattle.myi_merge.specs.Changing.{target, Inserts, RefusesRow, EachClosed, ChangesTheirOwn};
+
+    /// Puts a new row into the first or the last table, as the list says, and answers that table's number, counted
+    /// from 1, and the row's position. The answer, also a refusal, is that of `Table::insert` there: a unique key
+    /// holds in that table alone.
+    pub fn insert<F: Files>(
+        &mut self,
+        files: &mut F,
+        row: &Row,
+    ) -> Result<(u32, u64), MergeInsertFault>
+        requires writable { IsTrue F.writable }
+        requires fits { IfSome (slice_get self.old.tables 0) (λ (t : OpenTable).
+            fits (defs_in t) row.now ≡ true) }
+        requires kept { AreKept (F.holds files.old) self.old.tables }
+        ensures made { IfOk result (Inserts (insert row.now) (F.holds files.old) (F.holds files.new)
+            self.old self.new) }
+        ensures refused { (f : ChangeFault) → result ≡ Err (Change f)
+            → RefusesRow (insert row.now) (F.holds files.old) (F.holds files.new)
+            self.old self.new f }
+        ensures nowhere { result ≡ Err NoInsertMethod → (self.old.method ≡ None)
+            × (self.new ≡ self.old) × (F.holds files.new ≡ F.holds files.old) }
+        ensures somewhere { OnOk result (self.old.method ≢ None) }
+        ensures kept { AreKept (F.holds files.new) self.new.tables }
+        ensures others { ChangesTheirOwn (F.holds files.old) (F.holds files.new) self.old.tables }
+        ensures cause { HasCause (Change change.File)
+            (F.faults files.old) (F.faults files.new) result }
+    {
+        tables_rest_on_their_files();
+        let Some(index) = self.target() else {
+            return Err(MergeInsertFault::NoInsertMethod);
+        };
+        let table = &mut self.tables[index];
+        let made = table.insert(files, row);
+        table_is_sound(table);
+        Ok((index as u32 + 1, made?))
+    }
+
+    // The number of the table that takes the rows, from 0.
+    fn target(&self) -> Option<usize>
+        ensures target { result ≡ target self.now }
+        ensures inside { IfSome result (λ index. index < length self.now.tables) }
+    {
+        match self.method {
+            None => None,
+            Some(InsertMethod::First) => Some(0),
+            Some(InsertMethod::Last) => Some(self.tables.len() - 1),
+        }
+    }
+
+    /// Closes the tables, one after the other. Where each stands for a state its two files stand for it then, and are
+    /// a clean pair. After a refusal the files are what the calls left; tables behind the one that was refused are not
+    /// closed.
+    pub fn close<F: Files>(self, files: &mut F) -> Result<(), ChangeFault>
+        requires writable { IsTrue F.writable }
+        requires kept { AreKept (F.holds files.old) self.tables }
+        ensures closed { OnOk result (IfHoldEach (F.holds files.old) self.tables (λ m ss.
+            IfTold (F.holds files.new) (EachClosed self.tables ss))) }
+        ensures refused { IfErr result (λ f.
+            IfHoldEach (F.holds files.old) self.tables (λ m ss. CutsOff f)) }
+        ensures whole { OnOk result (AreWhole self.tables) }
+        ensures others { ChangesTheirOwn (F.holds files.old) (F.holds files.new) self.tables }
+        ensures cause { HasCause change.File (F.faults files.old) (F.faults files.new) result }
+    {
+        tables_rest_on_their_files();
+        let _ = &self.alloc;
+        for table in self.into_tables() {
+            table.close(files)?;
+        }
+        Ok(())
+    }
+}
