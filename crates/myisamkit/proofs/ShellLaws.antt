@@ -38,7 +38,7 @@ use Rattle.myi_shell.specs.Running.{opening_on, IsPrinted, IsPrintedPart, AreClo
 use Rattle.myisamkit.specs.declared.status.Status.{Status}
 use Rattle.myisamkit.specs.declared.status.Status.TheVariants as status
 use Rattle.myisamkit.specs.Lines.{absent_line}
-use Rattle.myisamkit.specs.Shells.{Refusal, refusal, said_of, text_unless, text_by, text_of, text_in, Begins, IsRun, ComesTo, ShellComesTo, ShellSaid, ShellSaidPart, bits_behind, header_in, IsHeaderBehind, StandClean, ShellDone, ShellFails, IsReady}
+use Rattle.myisamkit.specs.Shells.{Refusal, refusal, said_of, text_unless, text_by, text_of, text_in, Begins, IsRun, ComesTo, ShellComesTo, ShellSaid, ShellSaidPart, bits_behind, header_in, KeepsRest, IsHeaderBehind, StandClean, ShellDone, ShellFails, IsReady}
 
 ok_same : {A E : Type 0} (x y : A) → ◌≡◌ {A = Result A E} (Ok x) (Ok y) → x ≡ y
 ok_same x y same = cc
@@ -214,6 +214,14 @@ header_so o was changes t m n defs header unchanged closed =
       mark = subst (λ (d : Defs). has_mark d (header_in d index) ≡ true) of_defs has.mark;
       bits = subst (λ (d : Defs). (state_of d (header_in d index)).changed ≡ bits_behind changes (state_of o.defs was).changed) of_defs
           (ap (λ (z : State). z.changed) has.state ∙ bits_now ∙ ap (λ (z : State). bits_behind changes z.changed) read);
+      kept = subst (λ (d : Defs). KeepsRest (state_of o.defs was) (state_of d (header_in d index))) of_defs (record {
+        open_count = ap (λ (z : State). z.open_count) has.state ∙ ap (λ (z : State). z.open_count) read;
+        sortkey = ap (λ (z : State). z.sortkey) has.state ∙ ap (λ (z : State). z.sortkey) read;
+        auto_increment = ap (λ (z : State). z.auto_increment) has.state ∙ ap (λ (z : State). z.auto_increment) read;
+        key_map = ap (λ (z : State). z.key_map) has.state ∙ ap (λ (z : State). z.key_map) read;
+        recover_time = ap (λ (z : State). z.recover_time) has.state ∙ ap (λ (z : State). z.recover_time) read;
+        rest = ap (λ (z : State). z.rest) has.state ∙ ap (λ (z : State). z.rest) read;
+      });
     }
 
 closed_so : AreCleanPairs → (name : List ℕ) (o : Opening) (was : List ℕ) (changes : List Change) (t : OpenTable) (m n : Holding) → t.name ≡ name → o.defs ≡ defs_in t → t.header ≡ state_of o.defs was → t.changed ≡ false → AreClosed o changes t m n → StandClean name o was changes n

@@ -8,6 +8,7 @@ use Rattle.myi_defs.specs.declared.types.Defs.{Defs}
 use Rattle.myi_defs.specs.declared.types.DefFault.{DefFault}
 use Rattle.myi_defs.specs.Elsewhere.{AgreeOutsideState}
 use Rattle.myi_deftext.specs.Text.{lines}
+use Rattle.myi_header.specs.declared.state.State.{State}
 use Rattle.myi_header.specs.Layout.{first_page_of}
 use Rattle.myi_header.specs.StateOf.{state_of, has_mark}
 use Rattle.myi_opening.specs.declared.fault.TableFault.{TableFault}
@@ -142,12 +143,23 @@ bits_behind (c ∷ cs) bits = changed_bits bits
 abbrev pub header_in : Defs → List ℕ → List ℕ
 header_in d index = take (first_page_of d) index
 
--- A header has the bytes of these definitions outside its state, the mark, and the changed bits behind these changes of a table whose
--- index file was this.
+-- what a script leaves of a table's state as it was: how many programs have the table open, the key that its rows were sorted by, the
+-- next number that a row would get of itself, which keys are in use, when it was repaired, and what follows these
+pub record KeepsRest (old new : State) : Type 0 where
+  pub open_count : new.open_count ≡ old.open_count
+  pub sortkey : new.sortkey ≡ old.sortkey
+  pub auto_increment : new.auto_increment ≡ old.auto_increment
+  pub key_map : new.key_map ≡ old.key_map
+  pub recover_time : new.recover_time ≡ old.recover_time
+  pub rest : new.rest ≡ old.rest
+
+-- A header has the bytes of these definitions outside its state, the mark, the changed bits behind these changes of a table whose index
+-- file was this, and of the state of that one what is no number of rows, pages or bytes, and no root.
 pub record IsHeaderBehind (d : Defs) (was : List ℕ) (changes : List Change) (header : List ℕ) : Type 0 where
   pub elsewhere : AgreeOutsideState d.raw header
   pub mark : has_mark d header ≡ true
   pub bits : (state_of d header).changed ≡ bits_behind changes (state_of d was).changed
+  pub kept : KeepsRest (state_of d was) (state_of d header)
 
 -- the two files of this name are a clean pair that stands for what these changes lead to, and the index file has such a header
 pub record StandClean (name : List ℕ) (o : Opening) (was : List ℕ) (changes : List Change) (m : Holding) : Type 0 where
