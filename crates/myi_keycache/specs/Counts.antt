@@ -4,6 +4,10 @@ use Rattle.std.specs.Prelude.{◌+◌, ◌-◌, ◌^◌, ℕ, min, List, Result,
 use Rattle.myi_keycache.specs.declared.setup.Counters.{Counters}
 use Rattle.myi_keycache.specs.Kept.{Page, is_kept, is_unwritten, unwritten_count}
 
+-- nothing was counted
+abbrev pub no_counts : Counters
+no_counts = record { read_requests = 0; reads = 0; write_requests = 0; writes = 0 }
+
 -- a counter that rose by a number; it stays at the end of its type
 abbrev pub raised : ℕ → ℕ → ℕ
 raised by count = min (count + by) (2 ^ 64 - 1)

@@ -299,7 +299,7 @@ impl KeyCache {
     ghost use Rattle.myi_keycache.specs.Kept.{kept, is_kept, is_unwritten, AddsOnly, SameKept};
     ghost use Rattle.myi_keycache.specs.Kept.{KeepsOthers, KeepsOtherFlags, ChangesNone, AllWritten};
     ghost use Rattle.myi_keycache.specs.Kept.{WrittenUpTo};
-    ghost use Rattle.myi_keycache.specs.Counts.{raised, puts_counted, flushes_counted};
+    ghost use Rattle.myi_keycache.specs.Counts.{no_counts, raised, puts_counted, flushes_counted};
     ghost use Rattle.myi_keycache.specs.Midpoint.{AreLists};
     ghost use Rattle.myi_keycache.specs.Caching.{pages_of, lists_of, IsAccess, IsLent, IsRead, IsCurrent};
     ghost use Rattle.myi_keycache.specs.Caching.{CanPut, Puts, Stays, Flushes, Gets, due, WritesOne, AllOrNone};
@@ -313,12 +313,7 @@ impl KeyCache {
         ensures setup { IfOk result (λ cache. cache.setup ≡ setup) }
         ensures pages { IfOk result (λ cache. pages_of cache ≡ []) }
         ensures accesses { IfOk result (λ cache. cache.accesses ≡ 0) }
-        ensures counters { IfOk result (λ cache. cache.counters ≡ record {
-          read_requests = 0;
-          reads = 0;
-          write_requests = 0;
-          writes = 0;
-        }) }
+        ensures counters { IfOk result (λ cache. cache.counters ≡ no_counts) }
         ensures current { IfOk result (λ cache. (m : Holding) → IsCurrent cache m) }
     {
         Ok(KeyCache {

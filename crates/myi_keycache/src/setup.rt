@@ -82,11 +82,11 @@ impl From<AllocError> for CacheFault {
 
 impl Counters {
     ghost use Rattle.std.specs.Prelude.{◌≡◌, if◌then◌else◌};
-    ghost use Rattle.myi_keycache.specs.Counts.{raised};
+    ghost use Rattle.myi_keycache.specs.Counts.{no_counts, raised};
 
     /// No request yet.
     pub(crate) fn none() -> Counters
-        ensures { result ≡ record { read_requests = 0; reads = 0; write_requests = 0; writes = 0 } }
+        ensures { result ≡ no_counts }
     {
         Counters {
             read_requests: 0,

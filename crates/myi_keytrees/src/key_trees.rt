@@ -48,6 +48,7 @@ impl KeyTrees {
     ghost use Rattle.myi_base.specs.Holding.{Holding, Told, OthersStay};
     ghost use Rattle.myi_base.specs.Causes.{HasCause};
     ghost use Rattle.myi_keycache.specs.Setup.{IsSetup};
+    ghost use Rattle.myi_keycache.specs.Counts.{no_counts};
     ghost use Rattle.myi_keycache.specs.Kept.{AllWritten};
     ghost use Rattle.myi_keycache.specs.Caching.{pages_of, IsCurrent, Stays};
     ghost use Rattle.myi_btree.specs.declared.fault.TreeFault.TheVariants.{File};
@@ -83,6 +84,7 @@ impl KeyTrees {
         ensures name { IfOk result (λ trees. trees.cache.name ≡ name.now) }
         ensures setup { IfOk result (λ trees. trees.cache.setup ≡ setup) }
         ensures kept { IfOk result (λ trees. pages_of trees.cache ≡ []) }
+        ensures counted { IfOk result (λ trees. trees.cache.counters ≡ no_counts) }
         ensures current { IfOk result (λ trees. (m : Holding) → IsCurrent trees.cache m) }
     {
         let cache = KeyCache::new(alloc, name, setup)?;

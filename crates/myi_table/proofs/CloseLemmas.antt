@@ -1,12 +1,11 @@
 -- What the two files of a table are when it is closed.
-use Rattle.std.proofs.Common.{◌≡◌, ◌≢◌, ℕ, Bool, true, zero, suc, ◌+◌, ◌^◌, ◌<◌, List, [], ◌∷◌, ◌++◌, length, take, drop, replicate, ◌-◌, map, All, HoldsAt, IfErr, Option, Some, Result, Ok, Err, refl, sym, ap, subst, ◌∙◌, arith}
+use Rattle.std.proofs.Common.{◌≡◌, ◌≢◌, ℕ, Bool, true, zero, suc, ◌+◌, ◌^◌, ◌<◌, List, [], ◌∷◌, ◌++◌, length, take, drop, replicate, ◌-◌, map, All, HoldsAt, Option, Some, refl, sym, ap, subst, ◌∙◌, arith}
 use Rattle.std.proofs.lemmas.Option.{same_Some}
 use Rattle.std.specs.Prelude.{unwrap_or}
 use Rattle.std.specs.List.{AllByRecursion}
 use Rattle.myi_base.specs.Holding.{Holding, bytes_of, overwritten, Told, IfTold, OthersStay, Cuts, Writes}
-use Rattle.myi_base.proofs.CallerLemmas.{told_more, told_then}
+use Rattle.myi_base.proofs.CallerLemmas.{told_then}
 use Rattle.myi_defs.specs.declared.types.Defs.{Defs}
-use Rattle.myi_defs.specs.Sound.{IsSound}
 use Rattle.myi_defs.specs.ReadDefs.{AreDefs}
 use Rattle.myi_defs.specs.Elsewhere.{AgreeOutsideState}
 use Rattle.myi_header.specs.declared.state.State.{State}
@@ -30,11 +29,9 @@ use Rattle.myi_keyedrows.specs.declared.keyed_rows.KeyedRows.{KeyedRows}
 use Rattle.myi_keyedrows.specs.KeyedRows.{defs_of, IsFit, IsLeft}
 use Rattle.myi_keyedrows.specs.Files.{AreOfKeys, HoldFiles, IsHeaderOf, closed_index, defs_with}
 use Rattle.myi_keyedrows.proofs.CallerLemmas.{look_stands}
-use Rattle.myi_table.specs.declared.fault.ChangeFault.{ChangeFault}
-use Rattle.myi_table.specs.Faults.{CutsOff}
 use Rattle.myi_table.specs.Table.{OpenTable, defs_in, HoldState, StillHolds, IfHolds, IsSame, KeepsRows}
 use Rattle.myi_table.specs.Closing.{closing_state, HasState, IsClosed}
-use Rattle.myi_table.specs.Tied.{IsTied, HasPlaces}
+use Rattle.myi_table.specs.Tied.{IsTied}
 use Rattle.myi_table.proofs.ChangeLemmas.{with_rows, still_rows, tied_again}
 
 -- ---- pages that were written
@@ -73,12 +70,6 @@ rows_closed told mid low end t now defs index h n tied name kept cut write =
 
 -- ---- the state
 
--- the tree at a number is one of them
-pub root_here : (ps : List Place) (i : ℕ) (p : Place) → i < length ps → HoldsAt (λ (q : Place). q ≡ p) ps i → AllByRecursion IsPlace (map (λ (q : Place). q.root) ps) → IsPlace p.root
-root_here [] i p few at all = absurd (omega (arith, few))
-root_here (q ∷ ps) zero p few at all = subst (λ (r : Place). IsPlace r.root) (at q) all.0
-root_here (q ∷ ps) (suc i) p few at all = root_here ps i p (omega (arith, few)) at all.1
-
 -- one root more
 root_more : (ps : List Place) (i : ℕ) (p : Place) → i < length ps → HoldsAt (λ (q : Place). q ≡ p) ps i → map (λ (q : Place). q.root) (take i ps) ++ (p.root ∷ []) ≡ map (λ (q : Place). q.root) (take (suc i) ps)
 root_more [] i p few at = absurd (omega (arith, few))
@@ -98,14 +89,6 @@ place_more (y ∷ xs) x all is (suc k) d few = place_more xs x (λ j e low. all 
 
 pub places_more : (old new : List (Option ℕ)) (x : Option ℕ) → new ≡ old ++ (x ∷ []) → All IsPlace old → IsPlace x → All IsPlace new
 places_more old new x more all is = subst (λ (xs : List (Option ℕ)). All IsPlace xs) (sym more) (place_more old x all is)
-
--- whatever the refusal is
-pub if_refused : {T : Type 0} (r : Result T ChangeFault) (P : ChangeFault → Type 0) → ((f : ChangeFault) → P f) → IfErr r P
-if_refused (Ok x) P each = tt
-if_refused (Err f) P each = each f
-
-pub if_err_is : {T : Type 0} (r : Result T ChangeFault) (x : ChangeFault) (P : ChangeFault → Type 0) → r ≡ Err x → P x → IfErr r P
-if_err_is r x P is holds = subst (λ (q : Result _ ChangeFault). IfErr q P) (sym is) holds
 
 -- what is lost and free is no more than the room begins at
 pub few_lost : (t : OpenTable) (s : TableState) (m : Holding) → HoldState t s m → t.rows.trees.room.end < 2 ^ 64 → t.lost + bytes_of_free t.rows.trees.room.free < 2 ^ 64
@@ -195,15 +178,3 @@ closed_here law told mid low end t now defs index h n tied same changed left sti
     let header = is_header now h has (few_lost now s k.0 k.2 small) in
     let cuts : Cuts index now.rows.trees.room.end k.0 c.0 = subst (λ (j : ℕ). Cuts index j k.0 c.0) is c.2 in
     subst (λ (q : Holding). IsClosed t s q) (same_Some w.0 p (sym w.1 ∙ ended)) (is_closed law t now s k.0 c.0 w.0 h defs index tied same.name same.defs (same_state t now h same changed left has) k.2 written header cuts w.2)
-
-abbrev pub FilesHavePlaces : Type 0
-FilesHavePlaces = (k : KeyedRows) (lost : ℕ) (own : ℕ → ℕ) (s : TableState) (m : Holding) → IsSound (defs_of k) → HoldFiles k lost own s m → AllWritten (pages_of k.trees.cache) → k.trees.room.end < 2 ^ 64
-    → AllByRecursion IsPlace (map (λ (p : Place). p.root) k.trees.places) × IsPlace k.rows.file.counts.dellink
-
--- a header is refused only where the call was cut off
-pub header_refused : FilesHavePlaces → (told mid : Option Holding) (t now : OpenTable) (defs : Defs) (index : List ℕ) (f : ChangeFault) (n : ℕ) → IsTied now defs index → StillHolds told mid t now → AllWritten (pages_of now.rows.trees.cache) → n ≡ now.rows.trees.room.end → n < 2 ^ 64
-    → (HasPlaces now → CutsOff f) → IfHolds told t (λ m s. CutsOff f)
-header_refused law told mid t now defs index f n tied still written is few refused = λ m held s hold.
-    let k = still m held s hold in
-    let p = law now.rows now.lost k.2.own s k.0 tied.fit.sound k.2.files written (subst (λ (j : ℕ). j < 2 ^ 64) is few) in
-    refused (record { roots = p.0; deleted = p.1 })

@@ -1,6 +1,7 @@
 -- Counters of a key cache together with others.
 use Rattle.myi_keycache.specs.declared.setup.Counters.{Counters}
 use Rattle.myi_keycache.specs.Counts.{raised}
+pub use Rattle.myi_keycache.specs.Counts.{no_counts}
 
 -- each count with the other; one that would pass 2^64 - 1 stays there
 abbrev pub sum_of : Counters → Counters → Counters
@@ -10,7 +11,3 @@ sum_of one other = record {
   write_requests = raised other.write_requests one.write_requests;
   writes = raised other.writes one.writes;
 }
-
--- nothing was counted
-abbrev pub no_counts : Counters
-no_counts = record { read_requests = 0; reads = 0; write_requests = 0; writes = 0 }

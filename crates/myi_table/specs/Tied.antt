@@ -1,11 +1,8 @@
--- What holds of each loaded table, whatever files tell: its rows and trees are those of its definitions and of its two files. And what
--- its header is made of when it is closed.
-use Rattle.std.specs.Prelude.{◌≡◌, ◌≤◌, ℕ, List, length, map}
-use Rattle.std.specs.List.{AllByRecursion}
+-- What holds of each loaded table, whatever files tell: its rows and trees are those of its definitions and of its two files.
+use Rattle.std.specs.Prelude.{◌≡◌, ◌≤◌, ℕ, List, length}
 use Rattle.myi_defs.specs.declared.types.Defs.{Defs}
 use Rattle.myi_defs.specs.ReadDefs.{AreDefs}
-use Rattle.myi_header.specs.StateOf.{IsPlace, rest_length}
-use Rattle.myi_btree.specs.declared.place.Place.{Place}
+use Rattle.myi_header.specs.StateOf.{rest_length}
 use Rattle.myi_opening.specs.Names.{rows_file, index_file}
 use Rattle.myi_keyedrows.specs.KeyedRows.{IsFit}
 use Rattle.myi_keyedrows.specs.Files.{AreOfKeys}
@@ -23,8 +20,3 @@ pub record IsTied (t : OpenTable) (read : Defs) (file : List ℕ) : Type 0 where
   pub rest : length t.header.rest ≡ rest_length read
   pub setup : t.rows.trees.cache.setup ≡ t.setup
   pub fewer : t.added.reads ≤ t.added.read_requests
-
--- no root and no first deleted block is the place that stands for none
-pub record HasPlaces (t : OpenTable) : Type 0 where
-  pub roots : AllByRecursion IsPlace (map (λ (p : Place). p.root) t.rows.trees.places)
-  pub deleted : IsPlace t.rows.rows.file.counts.dellink

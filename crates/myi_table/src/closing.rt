@@ -1,7 +1,7 @@
 //! Writing what a table has put, and closing it.
-ghost use Rattle.std.specs.Prelude.{◌≡◌, ◌≢◌, IfOk, IfErr};
+ghost use Rattle.std.specs.Prelude.{◌≡◌, IfOk, IfErr};
 ghost use Rattle.myi_header.specs.StateOf.{IsPlace};
-ghost use Rattle.myi_table.specs.declared.fault.ChangeFault.TheVariants.{File};
+ghost use Rattle.myi_table.specs.declared.fault.ChangeFault.TheVariants.{File, Memory};
 
 use crate::fault::ChangeFault;
 use crate::table::Table;
@@ -19,15 +19,15 @@ const NOT_OPTIMIZED_KEYS: u8 = 16;
 /// The changed bits that a change sets.
 const CHANGED: u8 = WAS_CHANGED | NOT_ANALYZED | NOT_OPTIMIZED_KEYS | NOT_SORTED_PAGES;
 
-// A place that a pointer of eight bytes can have; the greatest number stands for none.
+// A place that a pointer of eight bytes can have. The greatest number stands for none; only files that tell nothing
+// have a page or a deleted block there.
 fn checked(place: Option<u64>) -> Result<Option<u64>, ChangeFault>
     ensures same { IfOk result (λ p. p ≡ place) }
     ensures place { IfOk result (λ p. IsPlace p) }
-    ensures none { IfErr result (λ f. IsPlace place → ⊥) }
-    ensures unread { IfErr result (λ f. f ≢ File) }
+    ensures memory { IfErr result (λ f. f ≡ Memory) }
 {
     if place == Some(u64::MAX) {
-        return Err(ChangeFault::Damaged { at: u64::MAX });
+        return Err(ChangeFault::Memory);
     }
     Ok(place)
 }
@@ -35,7 +35,6 @@ fn checked(place: Option<u64>) -> Result<Option<u64>, ChangeFault>
 impl Table {
     ghost use Rattle.myi_table.specs.declared.fault.Cause.{Cause};
     ghost use Rattle.std.specs.Prelude.{None, Some, map, All, OnOk, IsTrue, if◌then◌else◌};
-    ghost use Rattle.std.specs.List.{AllByRecursion};
     ghost use Rattle.myi_base.specs.Holding.{IfTold, Told};
     ghost use Rattle.myi_base.specs.Causes.{HasCause};
     ghost use Rattle.myi_keycache.specs.Kept.{AllWritten};
@@ -46,7 +45,6 @@ impl Table {
     ghost use Rattle.myi_table.specs.Faults.{CutsOff};
     ghost use Rattle.myi_table.specs.Table.{IsKept, IfHolds, StillHolds, IsSame, KeepsRows, ChangesItsOwn};
     ghost use Rattle.myi_table.specs.Closing.{changed_bits, closing_state, HasState, IsClosed};
-    ghost use Rattle.myi_table.specs.Tied.{HasPlaces};
 
     /// Writes all pages that were put. The table stands for the same state afterwards, also after a refusal, and is
     /// not broken by it. The data file stays.
@@ -80,8 +78,7 @@ impl Table {
         ensures whole { OnOk result (self.broken ≡ None) }
         ensures first { IfErr result (λ f. (by : Cause) → self.broken ≡ Some by
             → (f ≡ ChangeFault.Broken by) × (F.holds files.new ≡ F.holds files.old)) }
-        ensures refused { IfErr result (λ f.
-            IfHolds (F.holds files.old) self (λ m s. CutsOff f)) }
+        ensures refused { IfErr result (λ f. self.broken ≡ None → CutsOff f) }
         ensures others { ChangesItsOwn (F.holds files.old) (F.holds files.new) self }
         ensures rows { OnOk result (Told (F.holds files.old) (F.holds files.new)
             (KeepsRows self.name)) }
@@ -102,8 +99,7 @@ impl Table {
     // The header with the numbers of the table.
     fn header(&self) -> Result<Vec<u8>, ChangeFault>
         ensures header { IfOk result (λ h. HasState self.now h.items) }
-        ensures refused { IfErr result (λ f. HasPlaces self.now → CutsOff f) }
-        ensures unread { IfErr result (λ f. f ≢ File) }
+        ensures memory { IfErr result (λ f. f ≡ Memory) }
     {
         let state = self.state()?;
         let header = print_state(self.alloc, &self.defs, &state)?;
@@ -115,8 +111,7 @@ impl Table {
         ensures state { IfOk result (λ state. state ≡ closing_state self.now) }
         ensures roots { IfOk result (λ state. All IsPlace state.roots) }
         ensures deleted { IfOk result (λ state. IsPlace state.dellink) }
-        ensures refused { IfErr result (λ f. HasPlaces self.now → CutsOff f) }
-        ensures unread { IfErr result (λ f. f ≢ File) }
+        ensures memory { IfErr result (λ f. f ≡ Memory) }
     {
         let counts = self.rows.rows.counts();
         let roots = self.roots()?;
@@ -157,9 +152,7 @@ impl Table {
         ensures roots { IfOk result (λ roots. roots.items
             ≡ map (λ (p : Place). p.root) self.now.rows.trees.places) }
         ensures places { IfOk result (λ roots. All IsPlace roots.items) }
-        ensures refused { IfErr result (λ f. AllByRecursion IsPlace
-            (map (λ (p : Place). p.root) self.now.rows.trees.places) → CutsOff f) }
-        ensures unread { IfErr result (λ f. f ≢ File) }
+        ensures memory { IfErr result (λ f. f ≡ Memory) }
     {
         let trees = &self.rows.trees;
         let mut roots = Vec::with_capacity(self.alloc, trees.count())?;

@@ -61,6 +61,7 @@ pub enum ChangeFault {
     /// A file call failed. The files' count of faults rose.
     #[error("a file of the table cannot be read or written")]
     File,
+    /// Out of memory; also where files that tell nothing have a page or a deleted block at 2^64 - 1, which no header can say.
     #[error("out of memory")]
     Memory,
 }

@@ -4,6 +4,7 @@ ghost use Rattle.std.specs.List.{AllByRecursion};
 ghost use Rattle.myi_base.specs.Holding.{Holding, IfTold};
 ghost use Rattle.myi_base.specs.Causes.{HasCause};
 ghost use Rattle.myi_defs.specs.Sound.{IsSound};
+ghost use Rattle.myi_keycache.specs.Counts.{no_counts};
 ghost use Rattle.myi_keycache.specs.Setup.{IsSetup};
 ghost use Rattle.myi_keycache.specs.Caching.{pages_of, IsCurrent};
 ghost use Rattle.myi_btree.specs.declared.place.Place.{Place};
@@ -13,7 +14,6 @@ ghost use Rattle.myi_slots.specs.SlotFile.{counts_in};
 ghost use Rattle.myi_rowtrees.specs.Places.{places_of};
 ghost use Rattle.myi_keyedrows.specs.Files.{used_end};
 ghost use Rattle.myi_table.specs.declared.fault.LoadFault.TheVariants as fault;
-ghost use Rattle.myi_table.specs.Counting.{no_counts};
 ghost use Rattle.myi_table.specs.Loading.{IsLoaded, IsRefused, IsCutOff};
 
 use crate::fault::LoadFault;
@@ -72,6 +72,8 @@ impl Table {
         ensures setup { IfOk result (λ t. t.setup ≡ setup) }
         ensures whole { IfOk result (λ t. t.broken ≡ None) }
         ensures unchanged { IfOk result (λ t. t.changed ≡ false) }
+        ensures pages { IfOk result (λ t. pages_of t.rows.trees.cache ≡ []) }
+        ensures counted { IfOk result (λ t. t.rows.trees.cache.counters ≡ no_counts) }
         ensures added { IfOk result (λ t. t.added ≡ no_counts) }
         ensures holds { F.holds files.new ≡ F.holds files.old }
         ensures cause { HasCause fault.File (F.faults files.old) (F.faults files.new) result }
@@ -147,6 +149,7 @@ fn open_trees(
     ensures name { IfOk result (λ trees. trees.cache.name ≡ index.now) }
     ensures setup { IfOk result (λ trees. trees.cache.setup ≡ setup) }
     ensures kept { IfOk result (λ trees. pages_of trees.cache ≡ []) }
+    ensures counted { IfOk result (λ trees. trees.cache.counters ≡ no_counts) }
     ensures current { IfOk result (λ trees. (m : Holding) → IsCurrent trees.cache m) }
 {
     let alloc = defs.raw.allocator();

@@ -10,7 +10,7 @@ returns-in_err-close-clause-refused g c =
     let e = err_from_is_err_and c.from_residual-in_err-close.result c.from_residual-in_err-close.ensures.1 in
     subst (λ r. IfErr r (λ f. CutsOff f ⊎ (g.F.Files.holds c.args.files.now ≡ None))) (sym e.1)
     (subst (λ f. CutsOff f ⊎ (g.F.Files.holds c.args.files.now ≡ None)) (sym e.2)
-    (close_refused c.args.count c.args.seed c.in_ok-blocks.blocks.items c.in_ok-table.table c.insert_rows.new.table _ _ _ _ c.in_ok-table.ensures.made c.in_ok-blocks.ensures.put c.in_err-close.ensures.refused))
+    (close_refused c.args.count c.args.seed c.in_ok-blocks.blocks.items c.in_ok-table.table c.insert_rows.new.table _ _ _ _ c.in_ok-table.ensures.made c.in_ok-blocks.ensures.put (λ m told s hold. c.in_err-close.ensures.refused hold.whole)))
 
 pub returns-clause-filled : goal.returns-clause-filled
 returns-clause-filled g c =

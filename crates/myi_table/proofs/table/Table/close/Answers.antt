@@ -1,30 +1,13 @@
-use Rattle.std.proofs.Common.{◌≡◌, ◌<◌, ◌^◌, ℕ, List, sym, subst, arith}
-use Rattle.std.proofs.lemmas.Result.{err_from_is_err_and}
+use Rattle.std.proofs.Common.{◌≡◌, ℕ, List, sym, subst}
 use Rattle.std.specs.Prelude.{string_bytes}
 use Rattle.myi_base.specs.Holding.{Told, Cuts, Writes}
 use Rattle.myi_keycache.specs.Kept.{AllWritten}
 use Rattle.myi_keycache.specs.Caching.{pages_of}
 use Rattle.myi_keyedrows.specs.KeyedRows.{IsLeft}
-use Rattle.myi_table.specs.declared.fault.ChangeFault.{ChangeFault}
 use Rattle.myi_table.specs.Table.{OpenTable, IsSame, StillHolds}
-use Rattle.myi_table.specs.Faults.{CutsOff}
-use Rattle.myi_table.specs.Tied.{HasPlaces}
 use Rattle.myi_table.specs.Closing.{HasState}
-use Rattle.myi_table.proofs.CloseLemmas.{closed_here, header_refused, if_err_is, rows_closed}
+use Rattle.myi_table.proofs.CloseLemmas.{closed_here, rows_closed}
 use Rattle.myi_table.proofs.table.Table.close.Goals as goal
-
-pub returns-in_err-header-clause-refused : goal.returns-in_err-header-clause-refused
-returns-in_err-header-clause-refused g c =
-    let told = g.F.Files.holds c.args.files.now in
-    let mid = g.F.Files.holds c.flush.new.files in
-    let i = c.table.inside in
-    let now : OpenTable = record { name = string_bytes i.name; setup = i.setup; header = i.header; lost = i.lost; rows = i.rows; changed = i.changed; broken = i.broken; added = i.added } in
-    let few : c.end-end.result < 2 ^ 64 = omega (arith, c.end-end.type_inv) in
-    let e = err_from_is_err_and c.from_residual-in_err-header.result c.from_residual-in_err-header.ensures.1 in
-    if_err_is c.from_residual-in_err-header.result e.0 _ e.1 (header_refused c.closed_files_stand.ensures.places told mid c.args.self now i.defs (string_bytes i.index) e.0 c.end-end.result c.table.invariant
-    (subst (λ (u : OpenTable). StillHolds told mid c.args.self u) (sym c.table.view_is) c.flush.ensures.still)
-    (subst (λ (u : OpenTable). AllWritten (pages_of u.rows.trees.cache)) (sym c.table.view_is) c.in_ok-flush.ensures.written)
-    c.end-end.ensures few (λ has. subst (λ (f : ChangeFault). CutsOff f) (sym e.2) (c.in_err-header.ensures.refused (subst HasPlaces c.table.view_is has))))
 
 pub returns-clause-closed : goal.returns-clause-closed
 returns-clause-closed g c =
