@@ -16,28 +16,28 @@ use Rattle.myi_shell.specs.declared.fault.ShellFault.{ShellFault}
 use Rattle.myi_shell.specs.declared.fault.ShellFault.TheVariants as fault
 use Rattle.myi_shell.specs.Damage.{IsPrintedDamage}
 use Rattle.myi_shell.specs.Carrying.{IsTouchedBy}
-use Rattle.myi_shell.specs.Running.{standing, HasEnded, IsPrinted, IsPrintedPart, AreClosed, AreClosedAtEnd, StandsBehind, AreClosedBehind, IfSink, ended}
+use Rattle.myi_shell.specs.Running.{standing, HasEnded, IsPrinted, IsPrintedPart, AreClosed, AreClosedAtEnd, StandsBehind, AreClosedBehind, IfSink, told_before, ended}
+
+and_so : (P Q : Type 0) (ran : Result (Unit {0}) ShellFault) → OnOk ran P → Q → OnOk ran (P × Q)
+and_so P Q (Ok done) p q = (p, q)
+and_so P Q (Err f) p q = tt
+
+never_ok : (P : Type 0) (ran : Result (Unit {0}) ShellFault) → OnOk (told_before ran) P
+never_ok P (Err (fault.Damaged at)) = tt
+never_ok P (Err fault.File) = tt
+never_ok P (Err fault.Sink) = tt
+never_ok P (Err fault.Memory) = tt
+never_ok P (Ok done) = tt
 
 both : (P Q : Type 0) (ran : Result (Unit {0}) ShellFault) (closed : Result (Unit {0}) ChangeFault) → OnOk ran P → OnOk closed Q → OnOk (ended ran closed) (P × Q)
-both P Q (Err (fault.Damaged at)) closed p q = tt
-both P Q (Err fault.File) closed p q = tt
-both P Q (Err fault.Memory) closed p q = tt
-both P Q (Err fault.Sink) (Ok done) p q = tt
-both P Q (Err fault.Sink) (Err (change.Broken by)) p q = tt
-both P Q (Err fault.Sink) (Err (change.NoRow at)) p q = tt
-both P Q (Err fault.Sink) (Err (change.Duplicate key at)) p q = tt
-both P Q (Err fault.Sink) (Err change.Full) p q = tt
-both P Q (Err fault.Sink) (Err (change.Damaged at)) p q = tt
-both P Q (Err fault.Sink) (Err change.File) p q = tt
-both P Q (Err fault.Sink) (Err change.Memory) p q = tt
-both P Q (Ok done) (Ok over) p q = (p, q)
-both P Q (Ok done) (Err (change.Broken by)) p q = tt
-both P Q (Ok done) (Err (change.NoRow at)) p q = tt
-both P Q (Ok done) (Err (change.Duplicate key at)) p q = tt
-both P Q (Ok done) (Err change.Full) p q = tt
-both P Q (Ok done) (Err (change.Damaged at)) p q = tt
-both P Q (Ok done) (Err change.File) p q = tt
-both P Q (Ok done) (Err change.Memory) p q = tt
+both P Q ran (Ok done) p q = and_so P Q ran p q
+both P Q ran (Err (change.Broken by)) p q = never_ok (P × Q) ran
+both P Q ran (Err (change.NoRow at)) p q = never_ok (P × Q) ran
+both P Q ran (Err (change.Duplicate key at)) p q = never_ok (P × Q) ran
+both P Q ran (Err change.Full) p q = never_ok (P × Q) ran
+both P Q ran (Err (change.Damaged at)) p q = never_ok (P × Q) ran
+both P Q ran (Err change.File) p q = tt
+both P Q ran (Err change.Memory) p q = tt
 
 on_ok : (P Q : Type 0) (result : Result (Unit {0}) ShellFault) → (P → Q) → OnOk result P → OnOk result Q
 on_ok P Q (Ok done) f p = f p
@@ -120,26 +120,22 @@ part_of_end told start mid printed old t o result ran done part =
 
 -- ---- the output failed
 
+never_sink : (ran : Result (Unit {0}) ShellFault) → told_before ran ≢ Err fault.Sink
+never_sink (Err (fault.Damaged at)) e = cc
+never_sink (Err fault.File) e = cc
+never_sink (Err fault.Sink) e = cc
+never_sink (Err fault.Memory) e = cc
+never_sink (Ok done) e = cc
+
 sink_ran : (ran : Result (Unit {0}) ShellFault) (closed : Result (Unit {0}) ChangeFault) → ended ran closed ≡ Err fault.Sink → (ran ≡ Err fault.Sink) × (closed ≡ Ok tt)
-sink_ran (Err (fault.Damaged at)) closed e = cc
-sink_ran (Err fault.File) closed e = cc
-sink_ran (Err fault.Memory) closed e = cc
-sink_ran (Err fault.Sink) (Ok done) e = (refl, refl)
-sink_ran (Err fault.Sink) (Err (change.Broken by)) e = cc
-sink_ran (Err fault.Sink) (Err (change.NoRow at)) e = cc
-sink_ran (Err fault.Sink) (Err (change.Duplicate key at)) e = cc
-sink_ran (Err fault.Sink) (Err change.Full) e = cc
-sink_ran (Err fault.Sink) (Err (change.Damaged at)) e = cc
-sink_ran (Err fault.Sink) (Err change.File) e = cc
-sink_ran (Err fault.Sink) (Err change.Memory) e = cc
-sink_ran (Ok done) (Ok over) e = cc
-sink_ran (Ok done) (Err (change.Broken by)) e = cc
-sink_ran (Ok done) (Err (change.NoRow at)) e = cc
-sink_ran (Ok done) (Err (change.Duplicate key at)) e = cc
-sink_ran (Ok done) (Err change.Full) e = cc
-sink_ran (Ok done) (Err (change.Damaged at)) e = cc
-sink_ran (Ok done) (Err change.File) e = cc
-sink_ran (Ok done) (Err change.Memory) e = cc
+sink_ran ran (Ok done) e = (e, refl)
+sink_ran ran (Err (change.Broken by)) e = absurd (never_sink ran e)
+sink_ran ran (Err (change.NoRow at)) e = absurd (never_sink ran e)
+sink_ran ran (Err (change.Duplicate key at)) e = absurd (never_sink ran e)
+sink_ran ran (Err change.Full) e = absurd (never_sink ran e)
+sink_ran ran (Err (change.Damaged at)) e = absurd (never_sink ran e)
+sink_ran ran (Err change.File) e = cc
+sink_ran ran (Err change.Memory) e = cc
 
 pub closed_behind : (told : Option Holding) (start : Option (List ℕ)) (mid next : Option Holding) (printed : Option (List ℕ)) (old t : OpenTable) (o : TableState → Opening) (result ran : Result (Unit {0}) ShellFault) (closed : Result (Unit {0}) ChangeFault) → result ≡ ended ran closed → IsSame old t
     → IfSink ran (IfHolds told old (λ m s. StandsBehind (o s) (standing start told old) mid t printed)) → OnOk closed (IfHolds mid t (λ m s. IfTold next (IsClosed t s))) → OnOk closed (Told mid next (KeepsRows t.name))
@@ -157,26 +153,22 @@ closed_behind told start mid next printed old t o result ran closed is same stan
 
 -- ---- damage
 
-damage_ended : (P : ShellFault → Type 0) (ran : Result (Unit {0}) ShellFault) (closed : Result (Unit {0}) ChangeFault) → P fault.File → P fault.Sink → P fault.Memory → IfErr ran P → IfErr (ended ran closed) P
-damage_ended P (Err (fault.Damaged at)) closed file sink memory h = h
-damage_ended P (Err fault.File) closed file sink memory h = file
-damage_ended P (Err fault.Memory) closed file sink memory h = memory
-damage_ended P (Err fault.Sink) (Ok over) file sink memory h = sink
-damage_ended P (Err fault.Sink) (Err (change.Broken by)) file sink memory h = memory
-damage_ended P (Err fault.Sink) (Err (change.NoRow at)) file sink memory h = memory
-damage_ended P (Err fault.Sink) (Err (change.Duplicate key at)) file sink memory h = memory
-damage_ended P (Err fault.Sink) (Err change.Full) file sink memory h = memory
-damage_ended P (Err fault.Sink) (Err (change.Damaged at)) file sink memory h = memory
-damage_ended P (Err fault.Sink) (Err change.File) file sink memory h = file
-damage_ended P (Err fault.Sink) (Err change.Memory) file sink memory h = memory
-damage_ended P (Ok done) (Ok over) file sink memory h = tt
-damage_ended P (Ok done) (Err (change.Broken by)) file sink memory h = memory
-damage_ended P (Ok done) (Err (change.NoRow at)) file sink memory h = memory
-damage_ended P (Ok done) (Err (change.Duplicate key at)) file sink memory h = memory
-damage_ended P (Ok done) (Err change.Full) file sink memory h = memory
-damage_ended P (Ok done) (Err (change.Damaged at)) file sink memory h = memory
-damage_ended P (Ok done) (Err change.File) file sink memory h = file
-damage_ended P (Ok done) (Err change.Memory) file sink memory h = memory
+damage_told : (P : ShellFault → Type 0) (ran : Result (Unit {0}) ShellFault) → P fault.File → P fault.Memory → IfErr ran P → IfErr (told_before ran) P
+damage_told P (Err (fault.Damaged at)) file memory h = h
+damage_told P (Err fault.File) file memory h = file
+damage_told P (Err fault.Sink) file memory h = memory
+damage_told P (Err fault.Memory) file memory h = memory
+damage_told P (Ok done) file memory h = memory
+
+damage_ended : (P : ShellFault → Type 0) (ran : Result (Unit {0}) ShellFault) (closed : Result (Unit {0}) ChangeFault) → P fault.File → P fault.Memory → IfErr ran P → IfErr (ended ran closed) P
+damage_ended P ran (Ok done) file memory h = h
+damage_ended P ran (Err (change.Broken by)) file memory h = damage_told P ran file memory h
+damage_ended P ran (Err (change.NoRow at)) file memory h = damage_told P ran file memory h
+damage_ended P ran (Err (change.Duplicate key at)) file memory h = damage_told P ran file memory h
+damage_ended P ran (Err change.Full) file memory h = damage_told P ran file memory h
+damage_ended P ran (Err (change.Damaged at)) file memory h = damage_told P ran file memory h
+damage_ended P ran (Err change.File) file memory h = file
+damage_ended P ran (Err change.Memory) file memory h = memory
 
 pub damage_of_end : (start printed : Option (List ℕ)) (result ran : Result (Unit {0}) ShellFault) (closed : Result (Unit {0}) ChangeFault) → result ≡ ended ran closed → IfErr ran (IsPrintedDamage start printed) → IfErr result (IsPrintedDamage start printed)
-damage_of_end start printed result ran closed is h = subst (λ r. IfErr r (IsPrintedDamage start printed)) (sym is) (damage_ended (IsPrintedDamage start printed) ran closed tt tt tt h)
+damage_of_end start printed result ran closed is h = subst (λ r. IfErr r (IsPrintedDamage start printed)) (sym is) (damage_ended (IsPrintedDamage start printed) ran closed tt tt h)

@@ -149,21 +149,21 @@ abbrev pub of_sink : SinkErr → ShellFault
 of_sink sink.Failed = fault.Sink
 of_sink sink.Memory = fault.Memory
 
--- the fault of closing the table, which is that a file call failed or memory was wanting, or else this
-abbrev pub by_closing : Result (Unit {0}) ChangeFault → Result (Unit {0}) ShellFault → Result (Unit {0}) ShellFault
-by_closing (Ok done) ran = ran
-by_closing (Err (change.Broken by)) ran = Err fault.Memory
-by_closing (Err (change.NoRow at)) ran = Err fault.Memory
-by_closing (Err (change.Duplicate key at)) ran = Err fault.Memory
-by_closing (Err change.Full) ran = Err fault.Memory
-by_closing (Err (change.Damaged at)) ran = Err fault.Memory
-by_closing (Err change.File) ran = Err fault.File
-by_closing (Err change.Memory) ran = Err fault.Memory
+-- A run that broke its table has told the fault. A table that is not broken is refused for a file fault or want of memory alone.
+abbrev pub told_before : Result (Unit {0}) ShellFault → Result (Unit {0}) ShellFault
+told_before (Err (fault.Damaged at)) = Err (fault.Damaged at)
+told_before (Err fault.File) = Err fault.File
+told_before (Err fault.Sink) = Err fault.Memory
+told_before (Err fault.Memory) = Err fault.Memory
+told_before (Ok done) = Err fault.Memory
 
--- a fault of the rounds but of the output goes first, then one of closing the table
+-- the fault of closing the table, where there is one, and else what the run answers
 abbrev pub ended : Result (Unit {0}) ShellFault → Result (Unit {0}) ChangeFault → Result (Unit {0}) ShellFault
-ended (Err (fault.Damaged at)) closed = Err (fault.Damaged at)
-ended (Err fault.File) closed = Err fault.File
-ended (Err fault.Memory) closed = Err fault.Memory
-ended (Err fault.Sink) closed = by_closing closed (Err fault.Sink)
-ended (Ok done) closed = by_closing closed (Ok done)
+ended ran (Ok done) = ran
+ended ran (Err (change.Broken by)) = told_before ran
+ended ran (Err (change.NoRow at)) = told_before ran
+ended ran (Err (change.Duplicate key at)) = told_before ran
+ended ran (Err change.Full) = told_before ran
+ended ran (Err (change.Damaged at)) = told_before ran
+ended ran (Err change.File) = Err fault.File
+ended ran (Err change.Memory) = Err fault.Memory

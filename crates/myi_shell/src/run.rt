@@ -29,10 +29,11 @@ use std::alloc::{AllocError, Global};
 /// printed is the text of the script, with numbers within their bounds, and the files are a clean
 /// pair that stands for the table that the history leads to; with no accepted change the data file
 /// stays byte for byte. A run that is cut off has printed a first part of such a text. Where the
-/// output failed, the table is closed too, behind the round whose lines were being printed; where
-/// closing it fails, its fault is the answer. `gate` is called before and after each step. Over
-/// files that tell nothing of what they hold a step may meet damage: the lines of its round so far
-/// are printed then, one of which says so, and nothing follows.
+/// output failed, the table is closed too, behind the round whose lines were being printed. Where
+/// closing a table fails that no fault broke, that is the answer, whatever happened before. `gate`
+/// is called before and after each step. Over files that tell nothing of what they hold a step may
+/// meet damage: the lines of its round so far are printed then, one of which says so, and nothing
+/// follows.
 pub fn run_script<F: Files, O: Sink, G: Gate>(
     alloc: Global,
     table: Table,
@@ -86,13 +87,14 @@ fn ended(ran: Result<(), ShellFault>, closed: Result<(), ChangeFault>) -> Result
     ensures { result ≡ ended ran closed }
 {
     match (ran, closed) {
-        (Err(ShellFault::Damaged { at }), _) => Err(ShellFault::Damaged { at }),
-        (Err(ShellFault::File), _) => Err(ShellFault::File),
-        (Err(ShellFault::Memory), _) => Err(ShellFault::Memory),
-        (_, Err(ChangeFault::File)) => Err(ShellFault::File),
-        // A table that is closed is refused for nothing else.
-        (_, Err(_)) => Err(ShellFault::Memory),
         (ran, Ok(())) => ran,
+        (_, Err(ChangeFault::File)) => Err(ShellFault::File),
+        (_, Err(ChangeFault::Memory)) => Err(ShellFault::Memory),
+        // A fault that broke the table was told.
+        (Err(ShellFault::Damaged { at }), Err(_)) => Err(ShellFault::Damaged { at }),
+        (Err(ShellFault::File), Err(_)) => Err(ShellFault::File),
+        // A table that is not broken is refused for nothing else.
+        (_, Err(_)) => Err(ShellFault::Memory),
     }
 }
 
