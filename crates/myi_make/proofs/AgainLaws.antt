@@ -32,15 +32,13 @@ use Rattle.myi_pair.specs.Trees.{block_of_key, place_of}
 use Rattle.myi_pair.specs.RebuiltBytes.{placed_from, LaidTrees, pages_then, laid_trees, key_lists, new_trees, without_free_pages, new_state, rebuilt_state, rebuilt_index}
 use Rattle.myi_pair.specs.RecoveredBytes.{kept, new_data, new_index}
 use Rattle.myi_pair.specs.Recovered.{IsRepairable}
-use Rattle.myi_pair.proofs.CallerLemmas.{recovered}
-use Rattle.myi_pair.proofs.RebuiltLaws.{IsLike, front_number, layout_same, first_same, state_same, header_like}
-use Rattle.myi_pair.proofs.SameDefs.{readable_same, list_same}
-use Rattle.myi_pair.proofs.SecondLaws.{kept_same}
+use Rattle.myi_pair.proofs.CallerLemmas.{recovered, with_raw, IsLike, front_number, layout_same, first_same, state_same, header_like, readable_same, list_same, kept_same}
 use Rattle.myi_repair.specs.declared.report.Report.{Report}
 use Rattle.myi_repair.specs.Names.{names_for, Holds}
 use Rattle.myi_repair.specs.Gathering.{report_of}
 use Rattle.myi_repair.specs.Repaired.{Repaired}
-use Rattle.myi_make.specs.Again.{with_raw, header_in, IsAgain}
+use Rattle.myi_keyedrows.specs.Files.{defs_with}
+use Rattle.myi_make.specs.Again.{IsAgain}
 
 -- ---- what definitions with another header say of rows that are stored, and of trees
 
@@ -193,7 +191,7 @@ near_page n = omega arith
 
 -- it is one but for the state, where it agrees outside the state and keeps these three of it
 pub again_of : (d : Defs) (y : List ℕ) → IsSound d → AgreeOutsideState d.raw (take (first_page_of d) y) → (state_of d (take (first_page_of d) y)).sortkey ≡ (state_of d d.raw).sortkey → (state_of d (take (first_page_of d) y)).auto_increment ≡ (state_of d d.raw).auto_increment
-    → (state_of d (take (first_page_of d) y)).rest ≡ (state_of d d.raw).rest → IsAgain d (header_in d y)
+    → (state_of d (take (first_page_of d) y)).rest ≡ (state_of d d.raw).rest → IsAgain d (defs_with d y).raw
 again_of d y sound same sortkey auto rest =
     let n : ℕ = num_at 6 2 d.raw in
     let h : List ℕ = take (first_page_of d) y in

@@ -1,7 +1,6 @@
 -- The block of a row, and what it is to put it behind the end of a file.
-use Rattle.std.proofs.Common.{◌≡◌, ◌<◌, ◌≤◌, ◌++◌, ◌+◌, ◌-◌, ◌∙◌, ◌^◌, ◌%◌, ◌==◌, ℕ, Bool, true, false, List, [], length, take, drop, ap, refl, arith}
-use Rattle.std.proofs.lemmas.List.{take_all, drop_all, append-nil, length-replicate}
-use Rattle.myi_base.specs.Holding.{overwritten}
+use Rattle.std.proofs.Common.{◌≡◌, ◌<◌, ◌≤◌, ◌-◌, ◌^◌, ◌%◌, ◌==◌, ℕ, Bool, true, false, List, length, refl, arith}
+use Rattle.std.proofs.lemmas.List.{length-replicate}
 use Rattle.myi_frames.specs.Sizes.{least_size}
 use Rattle.myi_frames.specs.Writing.{whole_spec}
 use Rattle.myi_frames.proofs.CallerLemmas.{length-block, least-writable, least-least, least-sized}
@@ -26,9 +25,6 @@ length-row_block row short = length-own (spelling defs row) (omega (arith, short
 pub least_short : (n : ℕ) → n ≤ 248 → least_size n ≤ 252
 least_short n short = omega (arith, least-least n 248 (least_size 248) short (least-sized 248), longest)
 
-pub own_short : (b : List ℕ) → length b ≤ 248 → length (own_block b) ≤ 252
-own_short b short = omega (arith, length-own b (omega (arith, short)), least_short (length b) short)
-
 pub block_short : (row : Values) → length (spelling defs row) ≤ 248 → length (row_block row) ≤ 252
 block_short row short = omega (arith, length-row_block row short, least_short (length (spelling defs row)) short)
 
@@ -41,10 +37,3 @@ length-left i block = by (i % 10 == 0) refl
     by false e = rw e refl
 
 -- ---- behind the end
-
-pub written_at_end : (bytes d : List ℕ) (at : ℕ) → length d ≡ at → overwritten at bytes d ≡ d ++ bytes
-written_at_end bytes d at long =
-    let none : at - length d ≡ 0 = omega (arith, long) in
-    let whole : take at d ≡ d = take_all at d (omega (arith, long)) in
-    let past : drop (at + length bytes) d ≡ [] = drop_all (at + length bytes) d (omega (arith, long)) in
-    rw none (rw whole (rw past (append-nil _ ∙ ap (λ k. k ++ bytes) (append-nil d))))

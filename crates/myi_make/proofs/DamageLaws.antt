@@ -1,11 +1,11 @@
 -- Bytes FF over blocks of a file, one block after the other, and over every tenth one of the rows.
 use Rattle.std.proofs.Common.{◌≡◌, ◌<◌, ◌≤◌, ◌++◌, ◌∷◌, ◌+◌, ◌-◌, ◌%◌, ◌==◌, ◌∙◌, ℕ, zero, suc, Bool, true, false, List, [], Option, HoldsAt, get_or, length, take, drop, ap, subst, sym, refl, arith}
 use Rattle.std.specs.Prelude.{replicate, unwrap_or, if◌then◌else◌}
-use Rattle.std.proofs.lemmas.List.{append_assoc, append-nil, length-append, drop_all, take-replicate, length-replicate}
+use Rattle.std.proofs.lemmas.List.{append_assoc, append-nil, length-append, take-replicate, length-replicate}
 use Rattle.myi_base.specs.Holding.{Holding, Told, OthersStay, Writes, bytes_of, overwritten}
-use Rattle.myi_base.proofs.CallerLemmas.{told_same, told_then, told_more}
+use Rattle.myi_base.proofs.CallerLemmas.{told_then}
 use Rattle.myi_make.specs.MadeTable.{next_number, row_of, row_block, left_block, blocks_behind, damaged_file}
-use Rattle.myi_make.specs.Filling.{Block, rows_behind, if_tenth, tenths, damaged_over, Damages}
+use Rattle.myi_make.specs.Filling.{Block, rows_behind, if_tenth, tenths, damaged_over}
 use Rattle.myi_make.proofs.BlockLaws.{length-left}
 
 -- ---- one block after the other
@@ -14,9 +14,6 @@ use Rattle.myi_make.proofs.BlockLaws.{length-left}
 pub record DamagesSoFar (name : List ℕ) (blocks : List Block) (i : ℕ) (m n : Holding) : Type 0 where
   pub others : OthersStay name m n
   pub whole : damaged_over (drop i blocks) (bytes_of name n) ≡ damaged_over blocks (bytes_of name m)
-
-pub none_damaged : (name : List ℕ) (blocks : List Block) (old : Option Holding) → Told old old (DamagesSoFar name blocks 0)
-none_damaged name blocks old = told_same old old (DamagesSoFar name blocks 0) refl (λ m held. record { others = λ q apart. refl; whole = refl })
 
 next_block : (blocks : List Block) (i : ℕ) (b : Block) → i < length blocks → HoldsAt (λ (c : Block). c ≡ b) blocks i → drop i blocks ≡ b ∷ drop (i + 1) blocks
 next_block [] i b few at = absurd (omega (arith, few))
@@ -42,15 +39,6 @@ damaged_more name bytes blocks i b l m n few at is was writes = record {
 
 pub one_damaged : (name bytes : List ℕ) (blocks : List Block) (i : ℕ) (b : Block) (old mid new : Option Holding) → i < length blocks → HoldsAt (λ (c : Block). c ≡ b) blocks i → bytes ≡ take b.1 (replicate 256 255) → b.1 ≤ 256 → Told old mid (DamagesSoFar name blocks i) → Told mid new (Writes name b.0 bytes) → Told old new (DamagesSoFar name blocks (i + 1))
 one_damaged name bytes blocks i b old mid new few at is less was writes = told_then old mid new _ _ (DamagesSoFar name blocks (i + 1)) was writes (λ l m n so wrote. damaged_more name bytes blocks i b l m n few at (is ∙ take-replicate b.1 256 255 less) so wrote)
-
-all_over : (name : List ℕ) (blocks : List Block) (i : ℕ) (m n : Holding) → i ≡ length blocks → DamagesSoFar name blocks i m n → Damages name blocks m n
-all_over name blocks i m n last so = record {
-  here = ap (λ (bs : List Block). damaged_over bs (bytes_of name n)) (sym (drop_all i blocks (omega (arith, last)))) ∙ so.whole;
-  others = so.others;
-}
-
-pub all_damaged : (name : List ℕ) (blocks : List Block) (i : ℕ) (old new : Option Holding) → i ≡ length blocks → Told old new (DamagesSoFar name blocks i) → Told old new (Damages name blocks)
-all_damaged name blocks i old new last told = told_more old new _ (Damages name blocks) told (λ m n held so. all_over name blocks i m n last so)
 
 -- ---- every tenth block of the rows
 

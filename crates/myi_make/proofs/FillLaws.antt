@@ -3,7 +3,7 @@ use Rattle.std.proofs.Common.{◌≡◌, ◌⊎◌, ◌∙◌, ℕ, Bool, List, 
 use Rattle.std.specs.Prelude.{Result, unwrap_or}
 use Rattle.std.proofs.lemmas.Option.{same_Some}
 use Rattle.myi_base.specs.Holding.{Holding, IfTold, Told, bytes_of}
-use Rattle.myi_base.proofs.CallerLemmas.{told_then, told_more}
+use Rattle.myi_base.proofs.CallerLemmas.{told_then}
 use Rattle.myi_defs.specs.declared.types.Defs.{Defs}
 use Rattle.myi_defs.specs.declared.types.DefFault.{DefFault}
 use Rattle.myi_defs.specs.ReadDefs.{read_defs, AreDefs}
@@ -15,7 +15,6 @@ use Rattle.myi_header.specs.StateOf.{state_of}
 use Rattle.myi_opening.specs.Names.{rows_file, index_file}
 use Rattle.myi_opening.specs.Opening.{Table, table}
 use Rattle.myi_opening.proofs.CallerLemmas.{table_opened}
-use Rattle.myi_create.specs.Creating.{PutsPart}
 use Rattle.myi_create.specs.Names as creating
 use Rattle.myi_pack.specs.Packed.{Values}
 use Rattle.myi_state.specs.State.{TableState, empty_table}
@@ -26,7 +25,7 @@ use Rattle.myi_table.specs.declared.fault.LoadFault.{LoadFault}
 use Rattle.myi_table.specs.declared.fault.ChangeFault.{ChangeFault}
 use Rattle.myi_table.specs.declared.fault.ChangeFault.TheVariants as change
 use Rattle.myi_table.specs.Faults as faults
-use Rattle.myi_table.specs.Table.{OpenTable, defs_in, HoldState, IfHolds, Makes, Refuses, IsSame, KeepsOthers, KeepsRows}
+use Rattle.myi_table.specs.Table.{OpenTable, defs_in, HoldState, IfHolds, Refuses, IsSame, KeepsOthers, KeepsRows}
 use Rattle.myi_table.specs.Creating.{empty_defs, MakesEmpty}
 use Rattle.myi_table.specs.Loading.{marked_by, loaded_by, table_in, IsCutOff, IsRefused, IsLoaded}
 use Rattle.myi_table.specs.Closing.{closing_state, IsClosed}
@@ -35,20 +34,11 @@ use Rattle.myi_make.specs.declared.fault.MakeFault.{MakeFault}
 use Rattle.myi_make.specs.MadeTable.{defs, header}
 use Rattle.myi_make.specs.Again.{HasIndex}
 use Rattle.myi_make.specs.Faults.{CutsOff, of_load, of_change}
-use Rattle.myi_make.specs.Filling.{Block, rows_behind, IsEmpty, HasPut, TakesRow, RefusesRow, HasFilled}
+use Rattle.myi_make.specs.Filling.{Block, rows_behind, IsEmpty, HasPut, RefusesRow, HasFilled}
 use Rattle.myi_make.proofs.TextLaws.{header_read, printed, defs_are, defs_sound, empty_read}
 use Rattle.myi_make.proofs.AgainLaws.{again_of}
 
 -- ---- faults
-
--- where files tell nothing after a step, they told nothing before
-pub untold_before : {P : Holding → Holding → Type 0} (f : MakeFault) (old mid : Option Holding) → Told old mid P → CutsOff f ⊎ (mid ≡ None) → CutsOff f ⊎ (old ≡ None)
-untold_before f old mid told (inl cut) = inl cut
-untold_before f old mid told (inr none) = inr (by old refl)
-  where
-    by : (o : Option Holding) → old ≡ o → o ≡ None
-    by None e = refl
-    by (Some m) e = let t = told.told m e in let clash : ◌≡◌ {A = Option Holding} (Some t.0) None = sym t.1 ∙ none in cc
 
 change_cut : (f : ChangeFault) → faults.CutsOff f → CutsOff (of_change f)
 change_cut (change.Broken cause) cut = absurd cut
@@ -68,9 +58,6 @@ row_reply row told t change.Full refused = inr (λ m held s holds. (_, refused m
 row_reply row told t (change.Damaged at) refused = inr (λ m held s holds. absurd (refused m held s holds))
 row_reply row told t change.File refused = inl (inl refl)
 row_reply row told t change.Memory refused = inl (inr refl)
-
-pub row_taken : (row : Values) (told next : Option Holding) (old new : OpenTable) (at : ℕ) → Makes (insert row) told next old new at → TakesRow row told next old new
-row_taken row told next old new at made = λ m held s holds. (made m held s holds).state
 
 -- ---- the table without rows
 
@@ -138,12 +125,6 @@ never_unlike name d t f old mid is makes loaded other = inr (by old refl)
         absurd (other (ap (λ (x : Defs). x.raw) (loaded_defs name d t m one.0 is one.2 (loaded one.0 one.1) ∙ sym is)))
 
 -- ---- the files of other names
-
-pub made_keeps : (name : List ℕ) (d : Defs) (old mid : Option Holding) → Told old mid (MakesEmpty name d) → Told old mid (KeepsBut (names_for name))
-made_keeps name d old mid makes = told_more old mid _ (KeepsBut (names_for name)) makes (λ m n held made q rows index new_rows new_index. made.made.others q rows index new_index)
-
-pub part_keeps : (name : List ℕ) (old new : Option Holding) → Told old new (PutsPart (creating.names_for name)) → Told old new (KeepsBut (names_for name))
-part_keeps name old new told = told_more old new _ (KeepsBut (names_for name)) told (λ m n held part q rows index new_rows new_index. part.others q rows index new_index)
 
 pub keeps_then : (name : List ℕ) (t : OpenTable) (old mid new : Option Holding) → t.name ≡ name → Told old mid (KeepsBut (names_for name)) → Told mid new (KeepsOthers t.name) → Told old new (KeepsBut (names_for name))
 keeps_then name t old mid new named first second = told_then old mid new _ _ (KeepsBut (names_for name)) first second (λ m n k one two q rows index new_rows new_index. two q (λ e. rows (e ∙ ap rows_file named)) (λ e. index (e ∙ ap index_file named)) ∙ one q rows index new_rows new_index)

@@ -3,7 +3,7 @@ use Rattle.std.proofs.Common.{◌≡◌, ◌≢◌, ◌⊎◌, ◌<◌, ◌≤�
 use Rattle.std.specs.Prelude.{codes, Result, unwrap_or}
 use Rattle.std.proofs.lemmas.List.{length-append, append_cancel_left}
 use Rattle.myi_base.specs.Numbers.{num_at, AreBytes}
-use Rattle.myi_base.specs.Holding.{Holding, HoldsBytes, IfTold, Told, OthersStay, bytes_of}
+use Rattle.myi_base.specs.Holding.{Holding, HoldsBytes, IfTold, Told, bytes_of}
 use Rattle.myi_base.proofs.CallerLemmas.{told_then}
 use Rattle.myi_defs.specs.declared.types.Defs.{Defs}
 use Rattle.myi_defs.specs.Addressable.{is_addressable}
@@ -14,8 +14,7 @@ use Rattle.myi_opening.specs.declared.fault.TableFault.{TableFault}
 use Rattle.myi_opening.proofs.CallerLemmas.{table_opened}
 use Rattle.myi_pair.specs.declared.finding.Finding.{Finding}
 use Rattle.myi_pair.specs.Recovered.{IsRepairable}
-use Rattle.myi_pair.proofs.CallerLemmas.{none_where_clean}
-use Rattle.myi_pair.proofs.SameDefs.{addressable_same}
+use Rattle.myi_pair.proofs.CallerLemmas.{none_where_clean, with_raw, addressable_same}
 use Rattle.myi_check.specs.Checking.{findings_by, findings_in, Finds, Refuses}
 use Rattle.myi_repair.specs.declared.fault.RepairFault.{RepairFault}
 use Rattle.myi_repair.specs.declared.report.Report.{Report}
@@ -24,11 +23,11 @@ use Rattle.myi_repair.specs.Opening.{Table, table_in, table_by, IsTable}
 use Rattle.myi_repair.specs.Opening as repair
 use Rattle.myi_repair.specs.Outcome.{IsRefused}
 use Rattle.myi_repair.specs.Repaired.{Repaired, LeavesRepaired}
+use Rattle.myi_keyedrows.specs.Files.{defs_with}
 use Rattle.myi_make.specs.declared.fault.MakeFault.{MakeFault}
 use Rattle.myi_make.specs.Faults.{CutsOff, of_repair, of_check}
 use Rattle.myi_make.specs.MadeTable.{defs, next_number, row_of, row_block, left_block, blocks_behind, damaged_file}
 use Rattle.myi_make.specs.Making.{LeavesMade}
-use Rattle.myi_make.specs.Again.{with_raw, header_in}
 use Rattle.myi_make.specs.Filling.{Block, rows_behind, damaged_over, HasFilled, Damages, HasDamaged}
 use Rattle.myi_make.specs.declared.make.Made.{Made}
 use Rattle.myi_make.proofs.TextLaws.{defs_are, header_bytes, reached}
@@ -71,9 +70,6 @@ there (Some x) b is some = ap Some is
 apart : (name : List ℕ) → index_file name ≢ rows_file name
 apart name same = let other = ap (λ xs. get_or xs 3 0) (append_cancel_left name (codes ".MYI") (codes ".MYD") same) in omega (arith, other)
 
-pub others_keep : (name file : List ℕ) (old mid new : Option Holding) → file ≡ rows_file name → Told old mid (KeepsBut (names_for name)) → Told mid new (OthersStay file) → Told old new (KeepsBut (names_for name))
-others_keep name file old mid new is first second = told_then old mid new _ _ (KeepsBut (names_for name)) first second (λ m n k one stay q rows index new_rows new_index. stay q (λ e. rows (e ∙ is)) ∙ one q rows index new_rows new_index)
-
 pub keeps_then : (name : List ℕ) (old mid new : Option Holding) → Told old mid (KeepsBut (names_for name)) → Told mid new (KeepsBut (names_for name)) → Told old new (KeepsBut (names_for name))
 keeps_then name old mid new first second = told_then old mid new _ _ (KeepsBut (names_for name)) first second (λ m n k one two q rows index new_rows new_index. two q rows index new_rows new_index ∙ one q rows index new_rows new_index)
 
@@ -99,7 +95,7 @@ damaged_told name file count seed blocks old mid new some is first second = told
 
 -- the definitions of the table, as they are read of its index file
 abbrev read_again : (name : List ℕ) (count seed : ℕ) (m n : Holding) → HasDamaged name count seed m n → Defs
-read_again name count seed m n has = with_raw defs (header_in defs has.index.index)
+read_again name count seed m n has = defs_with defs has.index.index
 
 reached_again : (r : List ℕ) (end : ℕ) → end ≤ 2 ^ 40 → is_addressable (with_raw defs r) end ≡ true
 reached_again r end less = addressable_same defs r end ∙ reached end less
@@ -109,7 +105,7 @@ unfolding table_in
 table_is name count seed m n few has =
     let d = damaged_file count seed in
     let again = read_again name count seed m n has in
-    let near : is_addressable again (length d) ≡ true = reached_again (header_in defs has.index.index) (length d) (omega (arith, file_short count seed, few)) in
+    let near : is_addressable again (length d) ≡ true = reached_again (defs_with defs has.index.index).raw (length d) (omega (arith, file_short count seed, few)) in
     let by : table_by (Ok (opening.table again d has.index.index)) ≡ Ok (again, d) = rw near refl in
     ap table_by (table_opened (index_file name) (rows_file name) has.index.index d again n has.index.there has.rows has.index.read) ∙ by
 
@@ -130,7 +126,7 @@ repaired_is name count seed now said l m n few time bytes has left =
     let again = read_again name count seed l m has in
     let same = same_table (left.0, left.1) (again, damaged_file count seed) (sym left.2 ∙ table_is name count seed l m few has) in
     let made : Repaired name false now again (damaged_file count seed) said n = subst (λ (t : Table). Repaired name false now t.0 t.1 said n) same left.3 in
-    repaired_again defs (header_in defs has.index.index) has.index.again name false now (damaged_file count seed) said n (can_repair name count seed now l m few time bytes has) made
+    repaired_again defs (defs_with defs has.index.index).raw has.index.again name false now (damaged_file count seed) said n (can_repair name count seed now l m few time bytes has) made
 
 pub repaired_told : (name : List ℕ) (count seed now : ℕ) (said : Report) (old mid new : Option Holding) → count ≤ 100000 → now < 2 ^ 64 → IfTold mid HoldsBytes → Told old mid (HasDamaged name count seed) → Told mid new (LeavesRepaired name false now said) → Told old new (λ m n. Repaired name false now defs (damaged_file count seed) said n)
 repaired_told name count seed now said old mid new few time bytes first second = record {

@@ -1,20 +1,12 @@
 -- An index file whose header has the definitions of a table, with another state.
 use Rattle.std.specs.Prelude.{◌≡◌, ◌+◌, ℕ, List, length, take, drop, Some, Ok}
-use Rattle.myi_base.specs.Numbers.{num_at}
 use Rattle.myi_base.specs.Holding.{Holding}
 use Rattle.myi_defs.specs.declared.types.Defs.{Defs}
 use Rattle.myi_defs.specs.ReadDefs.{read_defs}
 use Rattle.myi_header.specs.Parts.{part}
 use Rattle.myi_header.specs.Layout.{layout_of}
 use Rattle.myi_header.specs.StateOf.{state_of}
-
--- the same definitions, with another header
-abbrev pub with_raw : Defs → List ℕ → Defs
-with_raw d r = record d { raw = r }
-
--- the header of an index file
-abbrev pub header_in : Defs → List ℕ → List ℕ
-header_in d y = take (num_at 6 2 d.raw) y
+use Rattle.myi_keyedrows.specs.Files.{defs_with}
 
 -- Two headers are one but for the state and the mark, and of the state what a repair leaves as it is is the same.
 pub record IsAgain (d : Defs) (r : List ℕ) : Type 0 where
@@ -30,5 +22,5 @@ pub record IsAgain (d : Defs) (r : List ℕ) : Type 0 where
 pub record HasIndex (d : Defs) (name : List ℕ) (n : Holding) : Type 0 where
   pub index : List ℕ
   pub there : n name ≡ Some index
-  pub read : read_defs index ≡ Ok (with_raw d (header_in d index))
-  pub again : IsAgain d (header_in d index)
+  pub read : read_defs index ≡ Ok (defs_with d index)
+  pub again : IsAgain d (defs_with d index).raw
