@@ -70,7 +70,7 @@ same_name file name m n apart keeps = ap (λ o. unwrap_or o []) (keeps name apar
 rows_same : (s : TableScan) (m n : Holding) → bytes_of s.name n ≡ bytes_of s.name m → rows_ahead s n ≡ rows_ahead s m
 rows_same s m n same = ap rows_of (ahead_same s m n same)
 
-sized_same : (s : TableScan) (m n : Holding) → bytes_of s.name n ≡ bytes_of s.name m → sized_ahead s n ≡ sized_ahead s m
+pub sized_same : (s : TableScan) (m n : Holding) → bytes_of s.name n ≡ bytes_of s.name m → sized_ahead s n ≡ sized_ahead s m
 sized_same s m n same = ap (map (sized_row s.test)) (rows_same s m n same)
 
 -- a row that was answered was read

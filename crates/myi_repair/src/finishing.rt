@@ -52,7 +52,7 @@ pub fn finish<F: Files>(
 
 /// The same for the table of these files, whose working files are taken away after a refusal, each as far
 /// as that succeeds.
-pub(crate) fn finish_table<F: Files>(
+pub fn finish_table<F: Files>(
     files: &mut F,
     table: &TableFiles,
     gathered: &Gathered,

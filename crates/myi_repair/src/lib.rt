@@ -40,13 +40,14 @@ mod trees;
 mod writing;
 
 pub use fault::RepairFault;
-pub use finishing::finish;
+pub use finishing::{finish, finish_table};
 pub use gathering::{Gathered, gather, gather_table, gathered_of_all, take_row};
 pub use laid::complete_laid;
 pub use laws::{completed_tables_are_repaired, laid_trees_are_finished, names_of_files_are_apart};
 pub use names::TableFiles;
 pub use new_rows::NewRows;
 pub use next_row::NextRow;
+pub use opening::open_reached;
 pub use repair::{complete, recover};
 pub use report::Report;
 pub use trees::place_of;

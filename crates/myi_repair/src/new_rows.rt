@@ -43,6 +43,7 @@ impl NewRows {
     ghost use Rattle.std.specs.Prelude.{◌≡◌, ℕ, Bool, true, false, List, [], length, OnOk, IsTrue};
     ghost use Rattle.myi_base.specs.Holding.{Told};
     ghost use Rattle.myi_defs.specs.declared.types.Defs.{Defs};
+    ghost use Rattle.myi_defs.specs.Addressable.{is_addressable};
     ghost use Rattle.myi_defs.specs.ReadDefs.{AreDefs};
     ghost use Rattle.myi_defs.specs.Sound.{IsSound};
     ghost use Rattle.myi_pack.specs.Spelling.{fits};
@@ -63,8 +64,8 @@ impl NewRows {
         }
     }
 
-    /// Writes a row at the end of the file.
-    pub(crate) fn put<F: Files>(
+    /// Writes a row at the end of the file, which row pointers reach afterwards.
+    pub fn put<F: Files>(
         &mut self,
         files: &mut F,
         file: &str,
@@ -78,6 +79,7 @@ impl NewRows {
             × HasWritten defs.now choose rows self.old }
         ensures added { OnOk result ((row : SizedRow) → IsPrepared defs.now row next.now
             → Adds defs.now true row self.old self.new) }
+        ensures reached { OnOk result (is_addressable defs.now self.new.end ≡ true) }
         ensures written { OnOk result (Told (F.holds files.old) (F.holds files.new)
             (λ m n. (row : SizedRow) → IsPrepared defs.now row next.now
             → WritesIf defs.now file.now true row self.old m n)) }

@@ -66,7 +66,7 @@ impl NextRow {
     }
 
     /// Reads and spells the next row of a scan, and says whether there was one.
-    pub(crate) fn read<F: Files>(
+    pub fn read<F: Files>(
         &mut self,
         files: &mut F,
         scan: &mut DataScan,

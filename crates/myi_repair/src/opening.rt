@@ -15,7 +15,7 @@ use myi_opening::{OpenedTable, open_table};
 use std::alloc::Global;
 
 /// Opens a table whose row pointers reach the whole data file. The files stay as they are.
-pub(crate) fn open_reached<F: Files>(
+pub fn open_reached<F: Files>(
     alloc: Global,
     files: &mut F,
     table: &TableFiles,

@@ -54,3 +54,6 @@ returns-clause-written g c =
     let sizes = c.deref-2.ensures.value ∙ prepared.sizes in
     written_one d row c.args.self.now c.args.file.now m n (sound d c.requires.defs)
     (subst (λ b. Writes c.args.file.now c.args.self.now.end b m n) (put_bytes d row c.args.self.now.end c.deref-2.result.now c.deref.result.now bytes sizes) wrote))
+
+pub returns-clause-reached : goal.returns-clause-reached
+returns-clause-reached g c = sym c.addressable.ensures ∙ c.if-not-addressable.false
