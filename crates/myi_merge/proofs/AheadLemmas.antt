@@ -10,7 +10,8 @@ use Rattle.myi_table.specs.Table.{OpenTable, defs_in, HoldState, IfHolds}
 use Rattle.myi_table.specs.Reading.{IsAhead, begun}
 use Rattle.myi_merge.specs.declared.ranges.Reading.{Reading}
 use Rattle.myi_merge.specs.Merged.{IsSoundTable}
-use Rattle.myi_merge.specs.Merging.{Reads, ReadEach, AheadEach, Keeps, KeepEach, KeepBut}
+use Rattle.myi_merge.specs.Changing.{Keeps, KeepEach}
+use Rattle.myi_merge.specs.Merging.{Reads, ReadEach, AheadEach, KeepBut}
 use Rattle.myi_merge.proofs.FrameLemmas.{Rests, still_one}
 
 -- both files of a table hold what they held, the other way round

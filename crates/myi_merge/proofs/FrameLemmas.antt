@@ -9,7 +9,8 @@ use Rattle.myi_opening.specs.Names.{rows_file, index_file}
 use Rattle.myi_state.specs.State.{TableState}
 use Rattle.myi_table.specs.Table.{OpenTable, HoldState, KeepsOthers}
 use Rattle.myi_merge.specs.Merged.{IsSoundTable, HoldEach}
-use Rattle.myi_merge.specs.Merging.{Keeps, KeepEach, KeepBut}
+use Rattle.myi_merge.specs.Changing.{Keeps, KeepEach}
+use Rattle.myi_merge.specs.Merging.{KeepBut}
 
 -- a table stands for a state where its two files hold what they held
 abbrev pub Rests : Type 0

@@ -1,7 +1,9 @@
 mod AheadLemmas
+pub mod CallerLemmas
 mod CarryLemmas
 mod ChangeLemmas
 mod CloseLemmas
+mod FewLemmas
 mod FitLemmas
 mod FrameLemmas
 mod LeastLemmas
@@ -14,4 +16,5 @@ mod RangeLemmas
 mod ReadLemmas
 mod RefuseLemmas
 mod ScanLemmas
+mod TargetLemmas
 mod TableLemmas

@@ -5,7 +5,7 @@ use Rattle.myi_base.specs.Holding.{Holding, Measures, IsFront}
 use Rattle.myi_mergelist.specs.declared.list.ListFault.{ListFault}
 use Rattle.myi_mergelist.specs.declared.list.ListFault.TheVariants as list
 use Rattle.myi_mergelist.specs.MergeList.{IsNoList}
-use Rattle.myi_merge.specs.Loading.{list_file, of_list, RefusesList}
+use Rattle.myi_merge.specs.Loading.{list_file, of_list, RefusesList, TellsOfList}
 
 pub text_is : (file front : List ℕ) (m : Holding) (size : Option ℕ) (n : ℕ) → size ≡ Some n → Measures (m file) size → IsFront file n front m → m file ≡ Some front
 text_is file front m None n is measured read = absurd cc
@@ -18,3 +18,7 @@ text_is file front m (Some k) n is measured read =
 pub no_list : (name bytes : List ℕ) (m : Holding) (e : ListFault) → m (list_file name) ≡ Some bytes → (e ≡ list.List → IsNoList bytes) → RefusesList name (of_list e) m
 no_list name bytes m list.List there none = (bytes, there, none refl)
 no_list name bytes m list.Memory there none = tt
+
+pub list_tells : (name : List ℕ) (e : ListFault) → TellsOfList name (of_list e)
+list_tells name list.List = tt
+list_tells name list.Memory = tt

@@ -26,8 +26,8 @@ use Rattle.myi_table.specs.Reading.{IsSameReading, begun, bounds_of}
 use Rattle.myi_merge.specs.declared.ranges.Head.{Head}
 use Rattle.myi_merge.specs.declared.ranges.Reading.{Reading}
 use Rattle.myi_merge.specs.Merged.{IsLike, IsSoundTable, HoldEach}
-use Rattle.myi_merge.specs.Reading.{MergedRow, numbered, all_rows, placed_cmp, merged_cmp, AreMerged}
-use Rattle.myi_merge.specs.Merging.{comes_before, IsNextOf, IsLeast, Reads, of_table, ReadEach}
+use Rattle.myi_merge.specs.Reading.{MergedRow, of_table, numbered, all_rows, placed_cmp, merged_cmp, AreMerged}
+use Rattle.myi_merge.specs.Merging.{comes_before, IsNextOf, IsLeast, IsThere, Reads, ReadEach}
 use Rattle.myi_merge.proofs.MergedLists.{Chain, IfLast, chain_push, last_push, last_weaker, sorted_chain, chain_sorted, of_kind, kind_push, chain_kinds, by_kinds, IsWithin, kinds_are_all}
 use Rattle.myi_merge.proofs.FrameLemmas.{as_many}
 use Rattle.myi_merge.proofs.ReadLemmas.{RowsMatch, reads_more, reads_all}
@@ -51,14 +51,14 @@ table_again n (r ∷ found) = by (r.table == n) refl (table_again n found)
     by false e more = more
 
 -- one row more, of that table or of another
-table_same : (n : ℕ) (found : List MergedRow) (q : StoredRow) → of_table n (found ++ record { table = n; row = q } ∷ []) ≡ of_table n found ++ q ∷ []
+pub table_same : (n : ℕ) (found : List MergedRow) (q : StoredRow) → of_table n (found ++ record { table = n; row = q } ∷ []) ≡ of_table n found ++ q ∷ []
 table_same n found q =
     let x : MergedRow = record { table = n; row = q } in
     let itself : (n == n) ≡ true = grind (arith, nat_tests) in
     ap (map (λ (r : MergedRow). r.row)) (kind_push number_of n found x ∙ ap (λ (b : Bool). of_kind number_of n found ++ cond b (x ∷ []) []) itself)
     ∙ map-append (λ (r : MergedRow). r.row) (of_kind number_of n found) (x ∷ [])
 
-table_other : (n m : ℕ) (found : List MergedRow) (q : StoredRow) → m ≢ n → of_table n (found ++ record { table = m; row = q } ∷ []) ≡ of_table n found
+pub table_other : (n m : ℕ) (found : List MergedRow) (q : StoredRow) → m ≢ n → of_table n (found ++ record { table = m; row = q } ∷ []) ≡ of_table n found
 table_other n m found q apart =
     let x : MergedRow = record { table = m; row = q } in
     let off : (m == n) ≡ false = grind (arith, nat_tests, apart) in
@@ -94,7 +94,7 @@ pub record Merges (d : Defs) (range : Range) (ts : List OpenTable) (ss : List Ta
 -- ---- one row more
 
 -- of the table at an index, whose number is that much further on
-row_of_index : (range : Range) (n i : ℕ) (ts : List OpenTable) (ss : List TableState) (rs : List Reading) (found : List MergedRow) (r : Reading) → ReadEach range n ts ss rs found → slice_get rs i ≡ Some r
+pub row_of_index : (range : Range) (n i : ℕ) (ts : List OpenTable) (ss : List TableState) (rs : List Reading) (found : List MergedRow) (r : Reading) → ReadEach range n ts ss rs found → slice_get rs i ≡ Some r
     → (t : OpenTable) × (s : TableState) × (slice_get ts i ≡ Some t) × (slice_get ss i ≡ Some s) × Reads (defs_in t) s (begun range) r (of_table (n + i) found)
 row_of_index range n i [] [] [] found r each at = absurd cc
 row_of_index range n i [] [] (q ∷ rs) found r each at = elim each [ ]
@@ -235,6 +235,10 @@ all_push : {A : Type 0} (P : A → Type 0) (xs : List A) (x : A) → AllByRecurs
 all_push P [] x all p = (p, tt)
 all_push P (y ∷ ys) x all p = (all.0, all_push P ys x all.1 p)
 
+all_last : {A : Type 0} (P : A → Type 0) (xs : List A) (x : A) → AllByRecursion P (xs ++ x ∷ []) → P x
+all_last P [] x all = all.0
+all_last P (y ∷ ys) x all = all_last P ys x all.1
+
 -- what is known of the table and the state at an index
 abbrev pub AtIndex : List OpenTable → List TableState → ℕ → (OpenTable → TableState → Type 0) → Type 0
 AtIndex ts ss i P = (t : OpenTable) (s : TableState) → slice_get ts i ≡ Some t → slice_get ss i ≡ Some s → P t s
@@ -242,7 +246,7 @@ AtIndex ts ss i P = (t : OpenTable) (s : TableState) → slice_get ts i ≡ Some
 -- the least of the next rows came
 pub merges_more : (d : Defs) (range : Range) (ts : List OpenTable) (ss : List TableState) (rs : List Reading) (i : ℕ) (found : List MergedRow) (old new : Reading) (h : Head) → slice_get rs i ≡ Some old → old.head ≡ Some h → IsLeast rs i
     → IsSameReading old.rows new.rows → AtIndex ts ss i (λ t s. AllByRecursion (IsRow (defs_in t)) s.rows) → AtIndex ts ss i (λ t s. IsLike d (defs_in t)) → AtIndex ts ss i (λ t s. IsNextOf (defs_in t) s old.rows new.rows new.head) → Merges d range ts ss rs found
-    → (q : StoredRow) × (q.at ≡ h.at) × (q.values ≡ h.row) × Merges d range ts ss (set rs i new) (found ++ record { table = 1 + i; row = q } ∷ [])
+    → (q : StoredRow) × (q.at ≡ h.at) × (q.values ≡ h.row) × AtIndex ts ss i (λ t s. IsThere s q) × Merges d range ts ss (set rs i new) (found ++ record { table = 1 + i; row = q } ∷ [])
 merges_more d range ts ss rs i found old new h at head l same rows like next m =
     let k : ℕ = suc range.key in
     let o = row_of_index range 1 i ts ss rs found old m.reads at in
@@ -256,6 +260,7 @@ merges_more d range ts ss rs i found old new h at head l same rows like next m =
       q,
       more.1,
       more.2,
+      λ u v at_u at_v. subst (λ (w : TableState). IsThere w q) (same_Some s v (sym o.3 ∙ at_v)) (all_last (IsThere s) (of_table (1 + i) found) q more.4.there),
       record {
         reads = reads_set range 1 i ts ss rs found t s new q m.reads o.2 o.3 more.4;
         rises = chain_push (λ v w. v.table ≢ w.table → Rises d k v w) found x m.rises

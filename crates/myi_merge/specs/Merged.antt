@@ -79,6 +79,13 @@ HoldEachThen told ts ss = (m : Holding) × (told ≡ Some m) × HoldEach ts ss m
 abbrev pub StillHoldEach : Option Holding → Option Holding → List OpenTable → List OpenTable → Type 0
 StillHoldEach told next old new = IfHoldEach told old (λ m ss. HoldEachThen next new ss)
 
+-- of each table, as it was and as it is, this holds
+abbrev pub OfEach : List OpenTable → List OpenTable → (OpenTable → OpenTable → Type 0) → Type 0
+OfEach [] [] P = Unit {0}
+OfEach [] (u ∷ us) P = ⊥
+OfEach (t ∷ ts) [] P = ⊥
+OfEach (t ∷ ts) (u ∷ us) P = P t u × OfEach ts us P
+
 -- ---- refusals
 
 -- no table is broken

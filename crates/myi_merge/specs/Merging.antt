@@ -1,5 +1,5 @@
 -- The next rows of several tables that are read at the same time, and what calls on the tables leave of these.
-use Rattle.std.specs.Prelude.{◌≡◌, ◌+◌, ◌<◌, ◌==◌, ℕ, zero, suc, Bool, true, false, List, [], ◌∷◌, ◌++◌, map, filter, slice_get, slice_set, IsSome, Option, Some, None}
+use Rattle.std.specs.Prelude.{◌≡◌, ◌+◌, ◌<◌, ◌≤◌, ℕ, zero, suc, Bool, true, false, List, [], ◌∷◌, ◌++◌, length, map, slice_get, slice_set, IsSome, Option, Some, None}
 use Rattle.std.specs.Ordering.{is_lt}
 use Rattle.std.specs.List.{AllByRecursion}
 use Rattle.myi_defs.specs.declared.types.Defs.{Defs}
@@ -7,18 +7,18 @@ use Rattle.myi_keys.specs.Order.{key_cmp}
 use Rattle.myi_data.specs.Keys.{key_of}
 use Rattle.myi_pack.specs.Packed.{Values}
 use Rattle.myi_state.specs.State.{StoredRow, TableState, row_at}
-use Rattle.myi_tablestate.specs.Listed.{pair_of_row}
+use Rattle.myi_tablestate.specs.Listed.{pair_of_row, listed}
 use Rattle.myi_ranges.specs.declared.ranges.RangeRows.{RangeRows}
-use Rattle.myi_ranges.specs.Ranges.{coming, Answers}
+use Rattle.myi_ranges.specs.Ranges.{coming, Answers, searches, row_cost, RoseBySearches}
 use Rattle.myi_table.specs.declared.ranges.Range.{Range}
 use Rattle.myi_table.specs.declared.fault.ReadFault.{ReadFault}
 use Rattle.myi_table.specs.declared.fault.ReadFault.TheVariants as fault
-use Rattle.myi_table.specs.Reading.{IsAhead, IsSameReading, begun}
+use Rattle.myi_table.specs.Reading.{IsAhead, IsSameReading, begun, cost_of}
 use Rattle.myi_base.specs.Holding.{Holding, Told}
-use Rattle.myi_opening.specs.Names.{rows_file, index_file}
 use Rattle.myi_table.specs.Table.{OpenTable, defs_in, IfHolds}
 use Rattle.myi_merge.specs.Merged.{FirstBroken}
-use Rattle.myi_merge.specs.Reading.{MergedRow}
+use Rattle.myi_merge.specs.Changing.{Keeps, KeepEach}
+use Rattle.myi_merge.specs.Reading.{MergedRow, of_table}
 use Rattle.myi_merge.specs.declared.ranges.Head.{Head}
 use Rattle.myi_merge.specs.declared.ranges.Reading.{Reading}
 
@@ -77,10 +77,6 @@ pub record Reads (d : Defs) (s : TableState) (b : RangeRows) (r : Reading) (came
 
 -- ---- what came of all tables
 
--- the rows of one table among these
-abbrev pub of_table : ℕ → List MergedRow → List StoredRow
-of_table n found = map (λ (r : MergedRow). r.row) (filter (λ (r : MergedRow). r.table == n) found)
-
 -- of each table these rows came, and its reading goes on; tables are numbered from this number on
 abbrev pub ReadEach : Range → ℕ → List OpenTable → List TableState → List Reading → List MergedRow → Type 0
 ReadEach range n [] [] [] found = Unit {0}
@@ -89,6 +85,26 @@ ReadEach range n [] [] (r ∷ rs) found = ⊥
 ReadEach range n [] (s ∷ ss) rs found = ⊥
 ReadEach range n (t ∷ ts) [] rs found = ⊥
 ReadEach range n (t ∷ ts) (s ∷ ss) [] found = ⊥
+
+-- how many reads the row that is read ahead may count for
+abbrev pub head_cost : Defs → TableState → Option Head → ℕ
+head_cost d s None = 0
+head_cost d s (Some h) = row_cost d (row_at h.at s.rows)
+
+-- behind a row the next one is found by one search at most
+abbrev pub SearchesOnce : RangeRows → Option Head → Type 0
+SearchesOnce r None = Unit {0}
+SearchesOnce r (Some h) = searches r.reached ≤ 1
+
+-- a count rose, table by table, by no more than the rows that came and the one that is read ahead may count for
+abbrev pub ReadInFewEach : Range → ℕ → List OpenTable → List TableState → List Reading → List MergedRow → ℕ → ℕ → Type 0
+ReadInFewEach range n [] [] [] found before now = now ≤ before
+ReadInFewEach range n (t ∷ ts) (s ∷ ss) (r ∷ rs) found before now =
+    (mid : ℕ) × RoseBySearches (length (of_table n found) + 2) (length (listed (defs_in t) (suc range.key) s.rows)) (cost_of (defs_in t) (of_table n found) + head_cost (defs_in t) s r.head) before mid × ReadInFewEach range (n + 1) ts ss rs found mid now
+ReadInFewEach range n [] [] (r ∷ rs) found before now = ⊥
+ReadInFewEach range n [] (s ∷ ss) rs found before now = ⊥
+ReadInFewEach range n (t ∷ ts) [] rs found before now = ⊥
+ReadInFewEach range n (t ∷ ts) (s ∷ ss) [] found before now = ⊥
 
 -- what each reading has read ahead comes next in its table
 abbrev pub AheadEach : Option Holding → List OpenTable → List Reading → Type 0
@@ -117,17 +133,7 @@ IsNotBroken fault.Memory = Unit {0}
 abbrev pub AtTable : List OpenTable → ℕ → (OpenTable → Type 0) → Type 0
 AtTable ts i P = (t : OpenTable) → slice_get ts i ≡ Some t → P t
 
--- both files of a table hold what they held
-pub record Keeps (t : OpenTable) (m n : Holding) : Type 0 where
-  pub rows : n (rows_file t.name) ≡ m (rows_file t.name)
-  pub index : n (index_file t.name) ≡ m (index_file t.name)
-
--- and those of all these tables
-abbrev pub KeepEach : List OpenTable → Holding → Holding → Type 0
-KeepEach [] m n = Unit {0}
-KeepEach (t ∷ ts) m n = Keeps t m n × KeepEach ts m n
-
--- and those of all but the one of that number
+-- both files of all tables but the one of that number hold what they held
 abbrev pub KeepBut : ℕ → List OpenTable → Holding → Holding → Type 0
 KeepBut i [] m n = Unit {0}
 KeepBut zero (t ∷ ts) m n = KeepEach ts m n

@@ -7,20 +7,28 @@ use std::alloc::{AllocError, AllocFailed};
 use thiserror::Error;
 
 /// Why a MERGE list is not loaded. Nothing is changed.
-#[derive(Drop)]
+#[derive(Debug, Drop, Error)]
 pub enum MergeFault {
     /// This file is not there: that of the list, or one of a table.
+    #[error("{file} is not there")]
     Absent { file: String },
     /// The text is no list.
+    #[error("the text is no list of tables")]
     List,
     /// The table of this name has another row format, other fields or other keys than the first.
+    #[error("{table} has another row format, other fields or other keys than the first table")]
     Differs { table: String },
-    /// The definitions of the table of this name are refused, not for want of memory.
+    /// The definitions of the table of this name are refused so.
+    #[error("the definitions of {table} are refused")]
     Def { table: String, fault: DefFault },
     /// The index file of the table of this name has not the mark.
+    #[error("the index file of {table} is foreign")]
     Foreign { table: String },
     /// A file call failed. The files' count of faults rose.
+    #[error("a file cannot be read")]
     File,
+    /// Out of memory; also where the index file of a table leaves no room for a page below 2^64.
+    #[error("out of memory")]
     Memory,
 }
 

@@ -3,7 +3,7 @@ ghost use Rattle.std.specs.Prelude.{◌≡◌, map, string_bytes, IfOk, IfErr};
 ghost use Rattle.myi_base.specs.Holding.{IfTold};
 ghost use Rattle.myi_base.specs.Causes.{HasCause};
 ghost use Rattle.myi_merge.specs.declared.fault.MergeFault.TheVariants as fault;
-ghost use Rattle.myi_merge.specs.Loading.{IsListIn, SomeText, RefusesList};
+ghost use Rattle.myi_merge.specs.Loading.{IsListIn, SomeText, RefusesList, TellsOfList};
 
 use crate::fault::MergeFault;
 use myi_io::{Files, read_front};
@@ -21,6 +21,7 @@ pub(crate) fn read_list<F: Files>(
     ensures sound { IfOk result (λ l.
         SomeText (map (λ s. string_bytes s) l.members.items) l.method) }
     ensures refused { IfErr result (λ f. IfTold (F.holds files.old) (RefusesList name.now f)) }
+    ensures tells { IfErr result (TellsOfList name.now) }
     ensures holds { F.holds files.new ≡ F.holds files.old }
     ensures cause { HasCause fault.File (F.faults files.old) (F.faults files.new) result }
 {

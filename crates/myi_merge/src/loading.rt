@@ -1,5 +1,5 @@
 //! Loading a MERGE list.
-ghost use Rattle.std.specs.Prelude.{◌≡◌, ◌↔◌, map, string_bytes, IfOk, IfErr, IsTrue};
+ghost use Rattle.std.specs.Prelude.{◌≡◌, ◌↔◌, [], map, string_bytes, IfOk, IfErr, IsTrue};
 ghost use Rattle.myi_base.specs.Holding.{IfTold};
 ghost use Rattle.myi_base.specs.Causes.{HasCause};
 ghost use Rattle.myi_keycache.specs.Setup.{IsSetup};
@@ -7,9 +7,12 @@ ghost use Rattle.myi_table.specs.Table.{OpenTable};
 ghost use Rattle.myi_table.specs.Loading.{IsLoaded};
 ghost use Rattle.myi_merge.specs.declared.fault.MergeFault.TheVariants as fault;
 ghost use Rattle.std.specs.List.{AllByRecursion};
-ghost use Rattle.myi_merge.specs.Merged.{IsLike, IsLikeFirst, AreAlike, IsSoundTable};
+ghost use Rattle.myi_table.specs.Counting.{no_counts};
+ghost use Rattle.myi_merge.specs.Merged.{IsLike, IsLikeFirst, AreAlike, IsSoundTable, counted_by};
 ghost use Rattle.myi_merge.specs.Loading.{EachLoaded, IsFresh, StopsAtMember, StopsAmong};
 ghost use Rattle.myi_merge.specs.Loading.{HasMembers, RefusesList, IsLoadedMerge, RefusesMerge};
+ghost use Rattle.myi_merge.specs.Loading.{SomeText, SomeNames, TellsOfList, TellsOfMember, MayDiffer};
+ghost use Rattle.myi_merge.specs.Loading.{TellsAmong, TellsOf};
 
 use crate::fault::MergeFault;
 use crate::list_file::read_list;
@@ -74,6 +77,8 @@ fn load_table<F: Files>(
     ensures fresh { IfOk result (IsFresh setup) }
     ensures sound { IfOk result IsSoundTable }
     ensures refused { IfErr result (λ f. IfTold (F.holds files.old) (StopsAtMember name.now f)) }
+    ensures tells { IfErr result (TellsOfMember name.now) }
+    ensures alone { IfErr result (MayDiffer []) }
     ensures holds { F.holds files.new ≡ F.holds files.old }
     ensures cause { HasCause fault.File (F.faults files.old) (F.faults files.new) result }
 {
@@ -116,6 +121,7 @@ fn load_tables<F: Files>(
         ≡ map (λ s. string_bytes s) names.now) }
     ensures refused { IfErr result (λ f. IfTold (F.holds files.old)
         (StopsAmong (map (λ s. string_bytes s) names.now) f)) }
+    ensures tells { IfErr result (TellsAmong (map (λ s. string_bytes s) names.now)) }
     ensures holds { F.holds files.new ≡ F.holds files.old }
     ensures cause { HasCause fault.File (F.faults files.old) (F.faults files.new) result }
 {
@@ -132,7 +138,7 @@ fn load_tables<F: Files>(
 }
 
 impl Merge {
-    /// The names of the tables of a list, in its order. No table is opened.
+    /// The names of the tables of a list, in its order: one or more, up to 65,535, each another.
     pub fn members<F: Files>(
         alloc: Global,
         files: &mut F,
@@ -140,7 +146,9 @@ impl Merge {
     ) -> Result<Vec<String>, MergeFault>
         ensures names { IfOk result (λ names. IfTold (F.holds files.old)
             (HasMembers name.now (map (λ s. string_bytes s) names.items))) }
+        ensures some { IfOk result (λ names. SomeNames (map (λ s. string_bytes s) names.items)) }
         ensures refused { IfErr result (λ f. IfTold (F.holds files.old) (RefusesList name.now f)) }
+        ensures tells { IfErr result (TellsOfList name.now) }
         ensures holds { F.holds files.new ≡ F.holds files.old }
         ensures cause { HasCause fault.File (F.faults files.old) (F.faults files.new) result }
     {
@@ -148,8 +156,9 @@ impl Merge {
         Ok(list.members)
     }
 
-    /// The list of that name. Nothing is read of the rows and trees of its tables yet. Where files tell what they
-    /// hold, and the files of each table stand for a state, that table stands for that state.
+    /// The list of that name. Its tables have the names in the text, in their order; their key caches keep no page and
+    /// counted nothing yet. Where files tell what they hold, and the files of a table stand for a state, that table
+    /// stands for that state.
     pub fn load<F: Files>(
         alloc: Global,
         files: &mut F,
@@ -158,8 +167,12 @@ impl Merge {
     ) -> Result<Merge, MergeFault>
         requires setup { IsSetup setup }
         ensures loaded { IfOk result (λ g. IfTold (F.holds files.old) (IsLoadedMerge name.now g)) }
+        ensures named { IfOk result (λ g.
+            SomeText (map (λ (t : OpenTable). t.name) g.tables) g.method) }
         ensures fresh { IfOk result (λ g. AllByRecursion (IsFresh setup) g.tables) }
+        ensures counted { IfOk result (λ g. counted_by g.tables ≡ no_counts) }
         ensures refused { IfErr result (λ f. IfTold (F.holds files.old) (RefusesMerge name.now f)) }
+        ensures tells { IfErr result (TellsOf name.now) }
         ensures holds { F.holds files.new ≡ F.holds files.old }
         ensures cause { HasCause fault.File (F.faults files.old) (F.faults files.new) result }
     {

@@ -1,20 +1,22 @@
 //! Reading the rows of a MERGE list whose key lies between bounds: of the next rows of all tables the one with the least
 //! key comes first, and of those with one key that of the first table.
 ghost use Rattle.std.specs.Prelude.{◌≡◌, ◌+◌, true, None, IfOk, IfErr, IfSome, IfNone, OnOk, IsTrue};
+ghost use Rattle.myi_ranges.specs.Ranges.{ReadInFew};
 ghost use Rattle.std.specs.List.{AllByRecursion};
 ghost use Rattle.myi_merge.specs.declared.ranges.Reading.{Reading};
 ghost use Rattle.myi_base.specs.Causes.{HasCause};
 ghost use Rattle.myi_defs.specs.Sound.{IsSound};
 ghost use Rattle.myi_data.specs.Keys.{IsKeyNumber, key_of};
 ghost use Rattle.myi_pack.specs.Spelling.{fits};
-ghost use Rattle.myi_table.specs.Table.{defs_in, IsKept, IfHolds, StillHolds, IsSame};
+ghost use Rattle.myi_table.specs.Table.{defs_in, IsKept, IfHolds};
 ghost use Rattle.myi_base.specs.Holding.{Told, OthersStay};
 ghost use Rattle.myi_opening.specs.Names.{index_file};
 ghost use Rattle.myi_table.specs.Reading.{HasKey, IsAhead, IsSameReading};
 ghost use Rattle.myi_table.specs.Faults.{NeverDamaged, IsBrokenFor};
 ghost use Rattle.myi_merge.specs.Merged.{IsSoundTable};
 ghost use Rattle.myi_table.specs.declared.fault.ReadFault.TheVariants.{File};
-ghost use Rattle.myi_merge.specs.Merging.{comes_before, IsLeast, IsNextOf};
+ghost use Rattle.myi_merge.specs.Reading.{IsOnlyRead};
+ghost use Rattle.myi_merge.specs.Merging.{answer_of, comes_before, IsLeast, IsNextOf, SearchesOnce};
 
 use crate::merge::{Merge, table_is_sound};
 use myi_data::key_of;
@@ -96,13 +98,15 @@ fn next_head<F: Files>(
     ensures head { IfOk result (λ head. IfHolds (F.holds files.old) table.old (λ m s.
         IsNextOf (defs_in table.old) s rows.old rows.new head)) }
     ensures ahead { IfHolds (F.holds files.new) table.new (λ m s. IsAhead table.new rows.new s) }
+    ensures few { IfOk result (λ head. IfHolds (F.holds files.old) table.old (λ m s.
+        ReadInFew (defs_in table.old) s rows.old (answer_of head)
+        (F.reads files.old) (F.reads files.new))) }
+    ensures once { IfOk result (SearchesOnce rows.new) }
     ensures reading { IsSameReading rows.old rows.new }
     ensures first { IfErr result (IsBrokenFor table.old.broken) }
     ensures never { IfErr result (NeverDamaged (F.holds files.old)) }
-    ensures still { StillHolds (F.holds files.old) (F.holds files.new) table.old table.new }
+    ensures only { IsOnlyRead (F.holds files.old) (F.holds files.new) table.old table.new }
     ensures kept { IsKept (F.holds files.new) table.new }
-    ensures same { IsSame table.old table.new }
-    ensures broken { table.new.broken ≡ table.old.broken }
     ensures sound { IsSoundTable table.new }
     ensures others { Told (F.holds files.old) (F.holds files.new)
         (OthersStay (index_file table.old.name)) }
@@ -157,13 +161,17 @@ impl Merge {
     ghost use Rattle.myi_table.specs.declared.fault.ReadFault.TheVariants.{File};
     ghost use Rattle.myi_table.specs.Faults.{NeverDamaged, IsBrokenFor};
     ghost use Rattle.myi_table.specs.Table.{OpenTable, defs_in, IfHolds};
-    ghost use Rattle.myi_table.specs.Reading.{IsAhead, IsSameReading, begun};
+    ghost use Rattle.myi_ranges.specs.Ranges.{ReadInFew};
+    ghost use Rattle.myi_table.specs.Reading.{IsAhead, IsSameReading, IfBroken, begun};
     ghost use Rattle.myi_merge.specs.Merged.{AreKept, AreWhole, IsRefusedFor, IfHoldEach};
-    ghost use Rattle.myi_merge.specs.Merging.{IsNextOf, ReadEach, AheadEach, AtTable, IsOneRead, IsNotBroken};
+    ghost use Rattle.myi_merge.specs.Merging.{answer_of, IsNextOf, ReadEach, AheadEach, AtTable, IsOneRead, IsNotBroken};
+    ghost use Rattle.myi_merge.specs.Merging.{SearchesOnce, ReadInFewEach};
     ghost use Rattle.myi_merge.specs.Reading.{AnswersMerged, AreCarried};
 
     /// The rows that match, each with the number of its table and its position, in order of the key, then of these
-    /// numbers, then of the positions. They are read table by table as they come.
+    /// numbers, then of the positions. Keys are counted from 0, tables from 1. The first table that is broken is the
+    /// refusal before any other, and nothing is changed then. Else the tables are not changed but for their key caches,
+    /// and of the files only their index files may be, by pages that these write.
     pub fn range<F: Files>(
         &mut self,
         files: &mut F,
@@ -175,9 +183,12 @@ impl Merge {
         requires kept { AreKept (F.holds files.old) self.old.tables }
         ensures rows { IfOk result (λ rows. IfHoldEach (F.holds files.old) self.old.tables (λ m ss.
             IfSome (slice_get self.old.tables 0) (λ (t : OpenTable).
-            AnswersMerged (defs_in t) ss range.now rows.items))) }
+            AnswersMerged (defs_in t) self.old.tables ss range.now
+            (F.reads files.old) (F.reads files.new) rows.items))) }
         ensures whole { OnOk result (AreWhole self.old.tables) }
         ensures first { IfErr result (IsRefusedFor self.old.tables) }
+        ensures unread { IfErr result (λ f. IfBroken f ((self.new ≡ self.old)
+            × (F.holds files.new ≡ F.holds files.old))) }
         ensures never { IfErr result (NeverDamaged (F.holds files.old)) }
         ensures carried { AreCarried (F.holds files.old) (F.holds files.new)
             self.old.tables self.new.tables }
@@ -210,6 +221,11 @@ impl Merge {
             ReadEach range.now 1 self.old.tables ss rs.items [])) }
         ensures same { IfOk result (λ rs. AllByRecursion (λ (r : Reading).
             IsSameReading (begun range.now) r.rows) rs.items) }
+        ensures few { IfOk result (λ rs. IfHoldEach (F.holds files.old) self.old.tables (λ m ss.
+            ReadInFewEach range.now 1 self.old.tables ss rs.items []
+            (F.reads files.old) (F.reads files.new))) }
+        ensures once { IfOk result (λ rs. AllByRecursion (λ (r : Reading).
+            SearchesOnce r.rows r.head) rs.items) }
         ensures ahead { IfOk result (λ rs.
             AheadEach (F.holds files.new) self.new.tables rs.items) }
         ensures carried { AreCarried (F.holds files.old) (F.holds files.new)
@@ -248,6 +264,11 @@ impl Merge {
         ensures head { IfOk result (λ head. AtTable self.old.tables index (λ t.
             IfHolds (F.holds files.old) t (λ m s.
             IsNextOf (defs_in t) s rows.old rows.new head))) }
+        ensures few { IfOk result (λ head. AtTable self.old.tables index (λ t.
+            IfHolds (F.holds files.old) t (λ m s.
+            ReadInFew (defs_in t) s rows.old (answer_of head)
+            (F.reads files.old) (F.reads files.new)))) }
+        ensures once { IfOk result (SearchesOnce rows.new) }
         ensures ahead { AtTable self.new.tables index (λ t. IfHolds (F.holds files.new) t (λ m s.
             IsAhead t rows.new s)) }
         ensures reading { IsSameReading rows.old rows.new }

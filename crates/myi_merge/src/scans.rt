@@ -29,8 +29,9 @@ impl Merge {
     ghost use Rattle.myi_merge.specs.Merged.{AreKept, AreWhole, IsRefusedFor, IfHoldEach};
     ghost use Rattle.myi_merge.specs.Reading.{AnswersAll, NotDamaged};
 
-    /// All rows, each with the number of its table and its position: table by table in the order of the list, those
-    /// of each in the order of their positions. Each data file is read once.
+    /// All rows, each with the number of its table, counted from 1, and its position: table by table in the order of
+    /// the list, those of each in the order of their positions. The first table that is broken is the refusal before
+    /// any other.
     pub fn scan<F: Files>(&self, files: &mut F) -> Result<Vec<(u32, u64, Row)>, ReadFault>
         requires kept { AreKept (F.holds files.old) self.now.tables }
         ensures rows { IfOk result (λ rows. IfHoldEach (F.holds files.old) self.now.tables (λ m ss.

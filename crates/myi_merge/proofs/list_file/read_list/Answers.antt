@@ -4,8 +4,8 @@ use Rattle.myi_base.specs.Holding.{IfTold, Measures, IsFront}
 use Rattle.myi_mergelist.specs.MergeList.{IsMergeList, IsNoList}
 use Rattle.myi_mergelist.specs.declared.list.ListFault.TheVariants as list
 use Rattle.myi_merge.specs.declared.fault.MergeFault.{MergeFault}
-use Rattle.myi_merge.specs.Loading.{list_file, RefusesList}
-use Rattle.myi_merge.proofs.ListLemmas.{text_is, no_list}
+use Rattle.myi_merge.specs.Loading.{list_file, RefusesList, TellsOfList}
+use Rattle.myi_merge.proofs.ListLemmas.{text_is, no_list, list_tells}
 use Rattle.myi_merge.proofs.list_file.read_list.Goals as goal
 
 pub returns-in_err-list-clause-refused : goal.returns-in_err-list-clause-refused
@@ -32,3 +32,8 @@ returns-clause-list g c = λ m held.
       there = text_is (list_file c.args.name.now) bytes m c.in_ok-length.field-0 c.in-Some.length c.in-Some.is measured front;
       list = subst (λ (b : List ℕ). IsMergeList b (map (λ s. string_bytes s) c.in_ok-list.list.members.items) c.in_ok-list.list.method) c.deref.ensures.value c.in_ok-list.ensures.inside;
     }
+
+pub returns-in_err-list-clause-tells : goal.returns-in_err-list-clause-tells
+returns-in_err-list-clause-tells g c =
+    let e = err_from_is_err_and c.from_residual-in_err-list.result c.from_residual-in_err-list.ensures.1 in
+    subst (λ r. IfErr r (TellsOfList c.args.name.now)) (sym e.1) (subst (TellsOfList c.args.name.now) (sym e.2) (list_tells c.args.name.now c.in_err-list.field-0.0))

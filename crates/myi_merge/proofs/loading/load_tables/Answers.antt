@@ -1,4 +1,4 @@
-use Rattle.std.proofs.Common.{◌≡◌, ℕ, ◌+◌, true, false, List, [], ◌∷◌, ◌++◌, map, take, drop, get_or, string_bytes, String, Global, Err, sym, ap, subst, ◌∙◌, arith}
+use Rattle.std.proofs.Common.{◌≡◌, ℕ, ◌+◌, ◌<◌, true, false, List, [], ◌∷◌, ◌++◌, length, map, take, drop, get_or, string_bytes, String, Global, Err, sym, ap, subst, ◌∙◌, arith}
 use Rattle.std.specs.Prelude.{IfErr}
 use Rattle.std.specs.List.{AllByRecursion}
 use Rattle.std.proofs.lemmas.List.{map-append, take_all}
@@ -8,8 +8,8 @@ use Rattle.myi_table.specs.Table.{OpenTable}
 use Rattle.myi_table.specs.Loading.{IsLoaded}
 use Rattle.myi_merge.specs.declared.fault.MergeFault.{MergeFault}
 use Rattle.myi_merge.specs.Merged.{IsLikeFirst, AreAlike, IsSoundTable}
-use Rattle.myi_merge.specs.Loading.{EachLoaded, IsFresh, StopsAtMember, StopsAmong}
-use Rattle.myi_merge.proofs.LoadLemmas.{all_push, alike_push, each_push, names_more, names_around, stops_member}
+use Rattle.myi_merge.specs.Loading.{EachLoaded, IsFresh, StopsAtMember, StopsAmong, TellsOfMember, TellsAmong}
+use Rattle.myi_merge.proofs.LoadLemmas.{all_push, alike_push, each_push, names_more, names_around, stops_member, may_differ, like_none, tells_among}
 use Rattle.myi_merge.proofs.loading.load_tables.Goals as goal
 
 pub returns-in_err-table-clause-refused : goal.returns-in_err-table-clause-refused
@@ -119,3 +119,54 @@ pub returns-clause-loaded : goal.returns-clause-loaded
 returns-clause-loaded g c = λ m held.
     subst (λ (ss : List (String Global)). EachLoaded (map (λ (q : String Global). string_bytes q) ss) c.loop-name.tables.items m) (take_all c.loop-name.name-index c.args.names.now c.loop-name-test.false)
     (c.loop-name.invariant.loaded m held)
+
+pub returns-in_err-table-clause-tells : goal.returns-in_err-table-clause-tells
+returns-in_err-table-clause-tells g c =
+    let names : List (String Global) = c.args.names.now in
+    let i : ℕ = c.loop-name.name-index in
+    let s : String Global = c.name-item.result in
+    let named : c.as_str.result.now ≡ string_bytes (get_or names i s) = c.as_str.ensures.value ∙ ap (λ (q : String Global). string_bytes q) c.name-item.is in
+    let all : List (List ℕ) = map (λ (q : String Global). string_bytes q) names in
+    let f : MergeFault = c.in_err-table.field-0.0 in
+    let e = err_from_is_err_and c.from_residual-in_err-table.result c.from_residual-in_err-table.ensures.1 in
+    subst (λ r. IfErr r (TellsAmong all)) (sym e.1)
+    (subst (TellsAmong all) (sym e.2) (tells_among all f (record {
+      before = map (λ (q : String Global). string_bytes q) (take i names);
+      name = string_bytes (get_or names i s);
+      after = map (λ (q : String Global). string_bytes q) (drop (i + 1) names);
+      parts = names_around (λ (q : String Global). string_bytes q) names i s c.loop-name-test.true;
+      tells = subst (λ (q : List ℕ). TellsOfMember q f) named c.in_err-table.ensures.tells;
+      behind = may_differ (map (λ (q : String Global). string_bytes q) (take i names)) f c.in_err-table.ensures.alone;
+    })))
+
+pub returns-then-not-is_like_first-clause-tells : goal.returns-then-not-is_like_first-clause-tells
+returns-then-not-is_like_first-clause-tells g c =
+    let was = c.loop-name.invariant in
+    let names : List (String Global) = c.args.names.now in
+    let i : ℕ = c.loop-name.name-index in
+    let s : String Global = c.name-item.result in
+    let ts : List OpenTable = c.loop-name.tables.items in
+    let t : OpenTable = c.in_ok-table.table in
+    record {
+      before = map (λ (q : String Global). string_bytes q) (take i names);
+      name = string_bytes (get_or names i s);
+      after = map (λ (q : String Global). string_bytes q) (drop (i + 1) names);
+      parts = names_around (λ (q : String Global). string_bytes q) names i s c.loop-name-test.true;
+      tells = c.in_ok-table-2.ensures.ok ∙ c.as_str-then-not-is_like_first.ensures.value ∙ ap (λ (q : String Global). string_bytes q) c.name-item.is;
+      behind = λ none.
+          let like : IsLikeFirst ts t = like_none ts t (was.named ∙ none) in
+          let no : false ≡ true = sym c.if-not-is_like_first.true ∙ c.is_like_first.ensures.1 (subst (λ (us : List OpenTable). IsLikeFirst us t) (sym c.deref.ensures.value) like) in
+          absurd cc;
+    }
+
+pub returns-in_err-table-2-clause-tells : goal.returns-in_err-table-2-clause-tells
+returns-in_err-table-2-clause-tells g c =
+    let all : List (List ℕ) = map (λ (q : String Global). string_bytes q) c.args.names.now in
+    let e = err_from_is_err_and c.from_residual-in_err-table-2.result c.from_residual-in_err-table-2.ensures.1 in
+    subst (λ r. IfErr r (TellsAmong all)) (sym (e.1 ∙ ap Err e.2)) tt
+
+pub returns-in_err-push-clause-tells : goal.returns-in_err-push-clause-tells
+returns-in_err-push-clause-tells g c =
+    let all : List (List ℕ) = map (λ (q : String Global). string_bytes q) c.args.names.now in
+    let e = err_from_is_err_and c.from_residual-in_err-push.result c.from_residual-in_err-push.ensures.1 in
+    subst (λ r. IfErr r (TellsAmong all)) (sym (e.1 ∙ ap Err e.2)) tt
