@@ -4,3 +4,4 @@ pub mod RunLaws
 pub mod StepLemmas
 pub mod RowLemmas
 pub mod RowLaws
+pub mod CallerLemmas

@@ -1,0 +1,4 @@
+pub mod CallerLemmas
+pub mod RowLaws
+pub mod PieceLemmas
+pub mod WordLemmas
