@@ -1,0 +1,11 @@
+pub mod PairLaws
+pub mod KeyLaws
+pub mod HeldLaws
+pub mod RowLaws
+pub mod OpenLaws
+pub mod TreeLaws
+pub mod HeaderLaws
+pub mod CleanLaws
+pub mod TakeLaws
+pub mod FillLaws
+pub mod EndLaws
