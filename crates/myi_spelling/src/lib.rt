@@ -17,6 +17,8 @@
 //! rows.read_on(&words);
 //! assert_eq!(rt; rows.row(1), b"d");
 //! ```
+//!
+//! `crates/myi_tail_tests/src/spelling.rt` runs it.
 #![tactic(auto)]
 
 mod laws;

@@ -8,6 +8,7 @@ use myi_defs::{Defs, definitions_are_sound};
 use myi_header::State;
 use myi_keycache::{CacheSetup, Counters};
 use myi_keyedrows::KeyedRows;
+use myi_state::Counts;
 use std::alloc::Global;
 use std::marker::Model;
 
@@ -75,7 +76,7 @@ impl Model for Table {
 }
 
 impl Table {
-    ghost use Rattle.std.specs.Prelude.{◌≡◌, ◌≢◌, ◌≤◌, ◌<◌, is_some, length, HoldsAt};
+    ghost use Rattle.std.specs.Prelude.{◌≡◌, ◌≢◌, ◌≤◌, ◌<◌, ◌%◌, is_some, length, HoldsAt};
     ghost use Rattle.myi_btree.specs.declared.place.Place.{Place};
     ghost use Rattle.myi_defs.specs.ReadDefs.{AreDefs};
     ghost use Rattle.myi_defs.specs.Sound.{IsSound};
@@ -125,6 +126,22 @@ impl Table {
         ensures file { self.now.rows.rows.file.name ≡ rows_file self.now.name }
     {
         self.rows.rows.counts().length
+    }
+
+    /// The numbers of its data file, which an object that reads the same file is to have.
+    pub fn counts(&self) -> Counts
+        ensures { result ≡ self.now.rows.rows.file.counts }
+    {
+        self.rows.rows.counts()
+    }
+
+    /// Where the room behind all pages of its index file begins. Pages stand at multiples of 1024, and none ends
+    /// behind it.
+    pub fn pages_end(&self) -> u64
+        ensures end { result ≡ self.now.rows.trees.room.end }
+        ensures whole { result % 1024 ≡ 0 }
+    {
+        self.rows.trees.end()
     }
 
     /// Whether a slot or block is deleted, so that the next row goes there.

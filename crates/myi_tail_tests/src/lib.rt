@@ -10,6 +10,8 @@ mod job;
 mod round;
 mod run;
 #[cfg(test)]
+mod spelling;
+#[cfg(test)]
 mod tests;
 
 pub use job::{Append, Job, ROW_WORDS, ROWS, Read, expected_word};
