@@ -1,61 +1,32 @@
 -- Writing all unwritten pages.
-use Rattle.std.proofs.Common.{◌≡◌, ℕ, zero, suc, ◌+◌, ◌≤◌, ◌<◌, Bool, true, false, cond, List, [], ◌∷◌, ◌++◌, length, map, take, drop, slice_get, get_or, Option, Some, refl, sym, ap, subst, ◌∙◌, arith, inl, inr, append_assoc, append-nil}
-use Rattle.std.specs.Prelude.{◌&&◌, ◌==◌, IfSome, if◌then◌else◌}
+use Rattle.std.proofs.Common.{◌≡◌, ℕ, zero, suc, ◌+◌, ◌≤◌, ◌<◌, Bool, true, false, cond, List, [], ◌∷◌, ◌++◌, length, take, drop, slice_get, get_or, Option, Some, refl, sym, ap, subst, ◌∙◌, arith, inl, inr}
+use Rattle.std.specs.Prelude.{◌&&◌, ◌==◌, if◌then◌else◌}
 use Rattle.std.specs.List.{AllByRecursion, list_any}
 use Rattle.std.proofs.lemmas.Bool.{cases_Bool, and_parts, eqb-true, eq-eqb, or_left, or_right}
 use Rattle.std.proofs.lemmas.List.{map-append, length-map}
 use Rattle.std.proofs.lemmas.Option.{same_Some}
 use Rattle.myi_base.specs.Holding.{Holding, bytes_of, Told}
 use Rattle.myi_base.proofs.CallerLemmas.{told_more}
-use Rattle.myi_keycache.specs.declared.setup.CacheSetup.{CacheSetup}
 use Rattle.myi_keycache.specs.declared.setup.Counters.{Counters}
-use Rattle.myi_keycache.specs.declared.blocks.PageName.{PageName}
-use Rattle.myi_keycache.specs.declared.blocks.Block.{Block}
-use Rattle.myi_keycache.specs.Setup.{IsSetup}
 use Rattle.myi_keycache.specs.Caching.{Caching, pages_of, IsCurrent, Stays, Flushes}
 use Rattle.std.specs.List.Sorted.{IsPermutation, IsNonDecreasingBy}
 use Rattle.std.proofs.lemmas.List.Elements.{recursion_from_All, All-from_recursion}
 use Rattle.std.proofs.lemmas.List.Sorted.{list_any-IsPermutation, All-permutation}
 use Rattle.std.proofs.lemmas.List.Sums.{sum_by-cons}
 use Rattle.myi_keycache.specs.Kept.{Page, KeptPage, is_page, is_unwritten, unwritten_count, AllWritten, WrittenUpTo}
-use Rattle.myi_keycache.specs.Order.{Order, Split, with_page, as_written, contents_of, unwritten_from, page_in, IsStored, IsOrdered, Pairs, cache_of}
+use Rattle.myi_keycache.specs.Order.{Order, Split, with_page, as_written, contents_of, cache_of}
 use Rattle.myi_keycache.proofs.LentLemmas.{all_written}
 use Rattle.myi_keycache.proofs.FrontLemmas.{unwritten_out, unwritten_count_out}
 use Rattle.myi_keycache.proofs.StaysLemmas.{written}
-use Rattle.myi_keycache.proofs.OrderLemmas.{split, get_middle}
-use Rattle.myi_keycache.proofs.HitLemmas.{contents_at}
-use Rattle.myi_keycache.proofs.CacheLemmas.{at_split, pages_eq}
+use Rattle.myi_keycache.proofs.CacheLemmas.{pages_eq}
 use Rattle.myi_keycache.proofs.GetLemmas.{contents_back}
 
 -- ---- the places of the unwritten pages
 
-drop_at : (pages : List Page) (i : ℕ) (p : Page) → slice_get pages i ≡ Some p → drop i pages ≡ p ∷ drop (suc i) pages
-drop_at [] i p at = absurd cc
-drop_at (x ∷ pages) zero p at = let same : x ≡ p = cc in ap (λ (t : Page). t ∷ pages) same
-drop_at (x ∷ pages) (suc i) p at = drop_at pages i p at
-
-pub found_more : (pages : List Page) (found : List (ℕ × ℕ)) (all : List (ℕ × ℕ)) (i : ℕ) (p : Page) (at : ℕ) → slice_get pages i ≡ Some p → p.unwritten ≡ true → at ≡ p.at → found ++ unwritten_from i (drop i pages) ≡ all → (found ++ (at, i) ∷ []) ++ unwritten_from (i + 1) (drop (i + 1) pages) ≡ all
-found_more pages found all i p at got u is e =
-    let one : i + 1 ≡ suc i = omega arith in
-    let step : unwritten_from i (drop i pages) ≡ (p.at, i) ∷ unwritten_from (suc i) (drop (suc i) pages) = ap (unwritten_from i) (drop_at pages i p got) ∙ ap (λ (b : Bool). if b then (p.at, i) ∷ unwritten_from (suc i) (drop (suc i) pages) else unwritten_from (suc i) (drop (suc i) pages)) u in
-    append_assoc found ((at, i) ∷ []) (unwritten_from (i + 1) (drop (i + 1) pages))
-    ∙ (λ j. found ++ (is j, i) ∷ unwritten_from (one j) (drop (one j) pages))
-    ∙ ap (λ l. found ++ l) (sym step) ∙ e
-
-pub found_same : (pages : List Page) (found : List (ℕ × ℕ)) (all : List (ℕ × ℕ)) (i : ℕ) (p : Page) → slice_get pages i ≡ Some p → p.unwritten ≡ false → found ++ unwritten_from i (drop i pages) ≡ all → found ++ unwritten_from (i + 1) (drop (i + 1) pages) ≡ all
-found_same pages found all i p got u e =
-    let one : i + 1 ≡ suc i = omega arith in
-    let step : unwritten_from i (drop i pages) ≡ unwritten_from (suc i) (drop (suc i) pages) = ap (unwritten_from i) (drop_at pages i p got) ∙ ap (λ (b : Bool). if b then (p.at, i) ∷ unwritten_from (suc i) (drop (suc i) pages) else unwritten_from (suc i) (drop (suc i) pages)) u in
-    (λ j. found ++ unwritten_from (one j) (drop (one j) pages)) ∙ ap (λ l. found ++ l) (sym step) ∙ e
-
-pub found_all : (pages : List Page) (found : List (ℕ × ℕ)) (all : List (ℕ × ℕ)) (i : ℕ) → length pages ≤ i → found ++ unwritten_from i (drop i pages) ≡ all → found ≡ all
-found_all pages found all i le e = sym (append-nil found) ∙ ap (λ l. found ++ unwritten_from i l) (sym (gone pages i le)) ∙ e
-  where
-    gone : (pages : List Page) (i : ℕ) → length pages ≤ i → drop i pages ≡ []
-    gone [] zero le = refl
-    gone [] (suc i) le = refl
-    gone (x ∷ pages) zero le = absurd (omega arith)
-    gone (x ∷ pages) (suc i) le = gone pages i (omega arith)
+-- each with its index counted from a number on
+abbrev pub unwritten_from : ℕ → List Page → List (ℕ × ℕ)
+unwritten_from i [] = []
+unwritten_from i (p ∷ ps) = if p.unwritten then (p.at, i) ∷ unwritten_from (suc i) ps else unwritten_from (suc i) ps
 
 -- ---- the pages that are still to be written
 
@@ -196,23 +167,6 @@ others_same old new at j q n w h lt =
     other : (front : List Page) → w.page.at < q → is_unwritten (front ++ written w.page ∷ w.back) q n ≡ is_unwritten (front ++ w.page ∷ w.back) q n
     other front below = unwritten_out front (written w.page) w.back q n ∙ first (front ++ w.back) below ∙ sym (unwritten_out front w.page w.back q n)
 
--- one step of looking for the unwritten pages
-pub found_push : (pages : List KeptPage) (found found1 all : List (ℕ × ℕ)) (i : ℕ) (b : Bool) (at : ℕ) (bytes : List ℕ) → i < length pages → IfSome (slice_get pages i) (λ p. b ≡ p.page.unwritten) → b ≡ true → IfSome (slice_get pages i) (λ p. (at ≡ p.page.at) × (bytes ≡ p.page.bytes))
-    → found1 ≡ found ++ (at, i) ∷ [] → found ++ unwritten_from i (drop i (contents_of pages)) ≡ all → found1 ++ unwritten_from (i + 1) (drop (i + 1) (contents_of pages)) ≡ all
-found_push pages found found1 all i b at bytes lt u set place is e =
-    let s = split pages i lt in
-    let got = contents_at pages i s.page (ap (λ l. slice_get l i) s.is ∙ get_middle s.front s.page s.back i s.long) in
-    ap (λ l. l ++ unwritten_from (i + 1) (drop (i + 1) (contents_of pages))) is
-    ∙ found_more (contents_of pages) found all i s.page.page at got (sym (at_split pages i s _ u) ∙ set) (at_split pages i s _ place).0 e
-
-pub found_skip : (pages : List KeptPage) (found found1 all : List (ℕ × ℕ)) (i : ℕ) (b : Bool) → i < length pages → IfSome (slice_get pages i) (λ p. b ≡ p.page.unwritten) → b ≡ false
-    → found1 ≡ found → found ++ unwritten_from i (drop i (contents_of pages)) ≡ all → found1 ++ unwritten_from (i + 1) (drop (i + 1) (contents_of pages)) ≡ all
-found_skip pages found found1 all i b lt u no_more is e =
-    let s = split pages i lt in
-    let got = contents_at pages i s.page (ap (λ l. slice_get l i) s.is ∙ get_middle s.front s.page s.back i s.long) in
-    ap (λ l. l ++ unwritten_from (i + 1) (drop (i + 1) (contents_of pages))) is
-    ∙ found_same (contents_of pages) found all i s.page.page got (sym (at_split pages i s _ u) ∙ no_more) e
-
 -- ---- the loop
 
 pub record Writing (o now : Order) (found : List (ℕ × ℕ)) (i : ℕ) : Type 0 where
@@ -345,7 +299,3 @@ pub refused_told : (before after : Option Holding) (name text : List ℕ) (o new
 refused_told before after name text o new c d cache is same told =
     subst (λ k. Told before after (λ m n. IsCurrent k m → Stays k (cache_of text new d) m n)) is
     (subst (λ t. Told before after (λ m n. IsCurrent (cache_of name o c) m → Stays (cache_of name o c) (cache_of t new d) m n)) same told)
-
-pub no_order : (setup : CacheSetup) (es : List (PageName × Block)) → es ≡ [] → IsSetup setup → AllByRecursion IsStored es × IsOrdered (record { setup = setup; pages = map page_in es; warm = 0; accesses = 0 })
-unfolding Pairs
-no_order setup es none is = subst (λ l. AllByRecursion IsStored l × IsOrdered (record { setup = setup; pages = map page_in l; warm = 0; accesses = 0 })) (sym none) (tt, record { setup = is; differ = tt; warm = omega arith; few = omega arith })

@@ -1,6 +1,6 @@
 -- The cache after a get.
 use Rattle.std.proofs.Common.{◌≡◌, ℕ, zero, suc, ◌^◌, ◌<◌, true, false, List, [], ◌∷◌, ◌++◌, length, slice_get, position, Option, None, Some, Ok, Err, refl, sym, ap, subst, ◌∙◌, arith, inl, inr}
-use Rattle.std.specs.Prelude.{◌⊎◌, is_some, IfSome, MatchOption, if◌then◌else◌}
+use Rattle.std.specs.Prelude.{◌⊎◌, is_some, MatchOption, if◌then◌else◌}
 use Rattle.std.specs.List.{AllByRecursion}
 use Rattle.std.specs.Option.{option_len}
 use Rattle.std.proofs.lemmas.Bool.{and_parts, eqb-true}
@@ -15,13 +15,13 @@ use Rattle.myi_keycache.specs.Lent.{bytes_at, Has, lent}
 use Rattle.myi_keycache.specs.Counts.{raised, writes_after, flushes_counted}
 use Rattle.myi_keycache.specs.Midpoint.{midpoint}
 use Rattle.myi_keycache.specs.Caching.{Caching, pages_of, CanGet, IsLent, Stays, Gets, IsRead, due, AllOrNone}
-use Rattle.myi_keycache.specs.Order.{Order, contents_of, lists_in, has_name, page_of, room_in, due_in, counts_one, Pairs, Differ, Alike, PagesStay, WritesOnly, WroteOut, cache_of}
+use Rattle.myi_keycache.specs.Order.{Order, contents_of, lists_in, has_name, page_of, room_in, due_in, counts_one, Pairs, Differ, Alike, PagesStay, WritesOnly, WroteOut, cache_of, Split}
 use Rattle.myi_keycache.proofs.LentLemmas.{stays_on}
 use Rattle.myi_keycache.proofs.StaysLemmas.{keeping_alike, lent_kept}
 use Rattle.myi_keycache.proofs.KeptLemmas.{kept_first, kept_later}
 use Rattle.myi_keycache.proofs.OrderLemmas.{split, get_middle}
 use Rattle.myi_keycache.proofs.MidpointLemmas.{named}
-use Rattle.myi_keycache.proofs.HitLemmas.{contents_at}
+use Rattle.myi_keycache.proofs.HitLemmas.{contents_at, index_within}
 use Rattle.myi_keycache.proofs.CacheLemmas.{pages_eq, stays_of}
 use Rattle.myi_keycache.proofs.LoadLemmas.{Room, loaded, read_lent, read_none, adds_only, changes_none, count_taken, not_kept}
 use Rattle.myi_keycache.proofs.OthersLemmas.{same_bytes, taken_bytes, taken_there}
@@ -188,10 +188,17 @@ contents_back [] i p at = absurd cc
 contents_back (x ∷ pages) zero p at = (x, refl, same_Some x.page p at, omega arith)
 contents_back (x ∷ pages) (suc i) p at = let r = contents_back pages i p at in (r.0, r.1, r.2, let lt = r.3 in omega (arith, lt))
 
-pub shown_bytes : (pages : List KeptPage) (i : ℕ) (p : Page) (bytes : List ℕ) (at : ℕ) → slice_get (contents_of pages) i ≡ Some p → IfSome (slice_get pages i) (λ q. (at ≡ q.page.at) × (bytes ≡ q.page.bytes)) → bytes ≡ p.bytes
-shown_bytes pages i p bytes at there shown =
-    let b = contents_back pages i p there in
-    (subst (λ (o : Option KeptPage). IfSome o (λ q. (at ≡ q.page.at) × (bytes ≡ q.page.bytes))) b.1 shown).1 ∙ ap (λ (x : Page). x.bytes) b.2
+-- the page of bytes that are kept
+pub kept_place : (pages : List KeptPage) (at len : ℕ) (bytes : List ℕ) → kept (contents_of pages) at len ≡ Some bytes → (i : ℕ) × (position (has_name at len) pages ≡ Some i) × ((s : Split pages i) × (s.page.page.bytes ≡ bytes))
+kept_place pages at len bytes k = by (position (has_name at len) pages) refl
+  where
+    by : (o : Option ℕ) → position (has_name at len) pages ≡ o → (i : ℕ) × (position (has_name at len) pages ≡ Some i) × ((s : Split pages i) × (s.page.page.bytes ≡ bytes))
+    by None e = let both : None ≡ Some bytes = sym (not_kept at len pages e) ∙ k in absurd cc
+    by (Some i) e =
+        let s = split pages i (index_within at len pages i e) in
+        let n = named at len pages i s e in
+        let here = ap (λ l. kept (contents_of l) at len) s.is ∙ kept_here s.front s.page s.back at len n.before n.here in
+        (i, e, (s, same_Some _ _ (sym here ∙ k)))
 
 pub gets_ok : {T U E F : Type 0} (before after : Option Holding) (at len : ℕ) (x : T) (y : U) (old new old1 new1 : Caching) → old ≡ old1 → new ≡ new1 → Gets {T = T} {E = E} before after at len (Ok x) old new → Gets {T = U} {E = F} before after at len (Ok y) old1 new1
 gets_ok {T} {U} {E} {F} before after at len x y old new old1 new1 a b g =

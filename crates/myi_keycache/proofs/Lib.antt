@@ -2,9 +2,13 @@ pub mod CallerLemmas
 pub mod RangeLemmas
 pub mod KeptLemmas
 pub mod LentLemmas
+pub mod RingLemmas
+pub mod LinkLemmas
 pub mod FrontLemmas
 pub mod StaysLemmas
 pub mod OrderLemmas
+pub mod SlotLemmas
+pub mod MoveLemmas
 pub mod ListsLemmas
 pub mod LeaveLemmas
 pub mod OnceLemmas
@@ -20,5 +24,6 @@ pub mod FlagLemmas
 pub mod GetLemmas
 pub mod PutLemmas
 pub mod FlushLemmas
+pub mod NameLemmas
 pub mod TurnLemmas
 pub mod ReadLemmas

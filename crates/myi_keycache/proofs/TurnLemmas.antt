@@ -17,9 +17,9 @@ use Rattle.myi_keycache.specs.Kept.{Page, is_page, is_unwritten, unwritten_count
 use Rattle.myi_keycache.specs.Counts.{raised, writes_after, flushes_counted}
 use Rattle.myi_keycache.specs.Caching.{Caching, pages_of, if_unwritten, WritesOne}
 use Rattle.myi_keycache.specs.Flushing.{unwritten_of, AreInTurn, after_writes, WritesEach, WritesPartOfFirst, FlushWrites}
-use Rattle.myi_keycache.specs.Order.{Order, contents_of, unwritten_at, unwritten_from, Pairs, counts_one, cache_of}
+use Rattle.myi_keycache.specs.Order.{Order, contents_of, unwritten_at, Pairs, counts_one, cache_of}
 use Rattle.myi_keycache.proofs.CacheLemmas.{pages_eq, after_write}
-use Rattle.myi_keycache.proofs.FlushLemmas.{Covers, OneWritten, at_other, drop_one, no_more}
+use Rattle.myi_keycache.proofs.FlushLemmas.{unwritten_from, Covers, OneWritten, at_other, drop_one, no_more}
 
 -- ---- the pages at indexes
 

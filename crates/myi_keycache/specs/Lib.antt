@@ -18,5 +18,7 @@ pub mod Caching
 pub mod Flushing
 -- what serves private contracts
 
+-- nodes in a ring, and the lists as one
+pub mod Ring
 -- the pages in one order, and other orders of the same pages
 pub mod Order

@@ -1,7 +1,8 @@
 -- The pages of a key cache in one order: the warm list, and behind it the hot list.
-use Rattle.std.specs.Prelude.{◌≡◌, ◌≤◌, ◌+◌, ◌-◌, ◌*◌, ◌&&◌, ◌||◌, ℕ, suc, Bool, true, false, nat_le, nat_lt, List, [], ◌∷◌, ◌++◌, length, map, take, drop, position, slice_get, Option, Some, None, IfSome, Result, IfOk, IfErr, OnOk, OnErr, if◌then◌else◌}
+use Rattle.std.specs.Prelude.{◌≡◌, ◌≤◌, ◌-◌, ◌*◌, ◌&&◌, ◌||◌, ℕ, zero, suc, Bool, true, false, nat_le, nat_lt, List, [], ◌∷◌, ◌++◌, length, map, filter, take, drop, position, slice_get, Option, Some, None, IfSome, Result, IfErr, OnOk, OnErr, if◌then◌else◌}
 use Rattle.std.specs.List.{AllByRecursion}
-use Rattle.std.specs.Option.{option_len}
+use Rattle.std.specs.List.Sorted.{IsPermutation}
+use Rattle.std.specs.Option.{option_len, option_map_or}
 use Rattle.myi_keycache.specs.declared.setup.CacheSetup.{CacheSetup}
 use Rattle.myi_keycache.specs.declared.setup.Counters.{Counters}
 use Rattle.myi_keycache.specs.declared.setup.CacheFault.{CacheFault}
@@ -9,6 +10,8 @@ use Rattle.myi_keycache.specs.declared.setup.CacheFault.TheVariants.{Short}
 use Rattle.myi_keycache.specs.declared.blocks.PageName.{PageName}
 use Rattle.myi_keycache.specs.declared.blocks.Block.{Block}
 use Rattle.myi_keycache.specs.Setup.{IsSetup}
+use Rattle.myi_keycache.specs.Ring.{Linked}
+use Rattle.myi_keycache.specs.Flushing.{unwritten_of}
 use Rattle.myi_base.specs.Holding.{Holding, IfTold, Told, OthersStay}
 use Rattle.myi_keycache.specs.Kept.{Page, KeptPage, is_page, kept, is_unwritten, SameKept, SameUnwritten, AddsOnly, KeepsOthers, KeepsFlags, KeepsOtherFlags, ChangesNone, AllWritten, unwritten_count}
 use Rattle.myi_keycache.specs.Lent.{meets_unwritten, flushed}
@@ -34,13 +37,26 @@ lists_in order = record { warm = map listed_as (take order.warm order.pages); ho
 abbrev pub counted_in : Order → Lists
 counted_in order = record (lists_in order) { accesses = raised 1 order.accesses }
 
--- the index of a page after pages went to the warm beginning
-abbrev pub index_after : Order → Order → ℕ → ℕ
-index_after old new i = if nat_lt i old.warm then i + (new.warm - old.warm) else i
-
 -- the page that a block has under its name
 abbrev pub page_in : PageName × Block → KeptPage
 page_in e = record { page = record { at = e.0.at; bytes = e.1.bytes.items; unwritten = e.1.unwritten }; hits = e.1.hits; last = e.1.last }
+
+-- stands where there is no page
+abbrev pub no_page : KeptPage
+no_page = record { page = record { at = 0; bytes = []; unwritten = false }; hits = 0; last = 0 }
+
+-- the page that the map has at an index
+abbrev pub page_at : List (PageName × Block) → ℕ → KeptPage
+page_at entries index = option_map_or page_in (slice_get entries index) no_page
+
+-- the order of the pages whose indexes stand on the lists
+abbrev pub ordered_by : CacheSetup → List (PageName × Block) → Linked → ℕ → Order
+ordered_by setup entries lists accesses = record {
+  setup = setup;
+  pages = map (page_at entries) (lists.warm ++ lists.hot);
+  warm = length lists.warm;
+  accesses = accesses;
+}
 
 -- the length in the name is that of the bytes
 abbrev pub IsStored : PageName × Block → Type 0
@@ -50,6 +66,10 @@ IsStored e = e.0.size ≡ length e.1.bytes.items
 abbrev pub has_name : ℕ → ℕ → KeptPage → Bool
 has_name at len p = is_page at len p.page
 
+-- the page of a name stands at this index of the order
+abbrev pub IsAt : Order → PageName → ℕ → Type 0
+IsAt order name i = position (has_name name.at name.size) order.pages ≡ Some i
+
 -- the page at an index, and those before and behind it
 pub record Split (pages : List KeptPage) (index : ℕ) : Type 0 where
   pub front : List KeptPage
@@ -57,6 +77,10 @@ pub record Split (pages : List KeptPage) (index : ℕ) : Type 0 where
   pub back : List KeptPage
   pub is : pages ≡ front ++ page ∷ back
   pub long : length front ≡ index
+
+-- P holds of the page of a name and its index
+abbrev pub AtName : Order → PageName → (ℕ → KeptPage → Type 0) → Type 0
+AtName order name P = (i : ℕ) → IsAt order name i → (s : Split order.pages i) → P i s.page
 
 -- the pages with another one at that index
 abbrev pub with_page : {pages : List KeptPage} {index : ℕ} → Split pages index → KeptPage → List KeptPage
@@ -108,6 +132,22 @@ pub record IsOrdered (order : Order) : Type 0 where
   pub differ : Pairs Differ (contents_of order.pages)
   pub warm : order.warm ≤ length order.pages
   pub few : length order.pages ≤ order.setup.blocks
+
+-- the numbers below one
+abbrev pub below : ℕ → List ℕ
+below zero = []
+below (suc n) = below n ++ n ∷ []
+
+-- the same numbers in another order, and so those of them that pass a test
+abbrev pub SameNumbers : List ℕ → List ℕ → Type 0
+SameNumbers xs ys = (test : ℕ → Bool) → IsPermutation (filter test xs) (filter test ys)
+
+-- each page of the map stands on one of the lists, once
+pub record HoldsPages (setup : CacheSetup) (entries : List (PageName × Block)) (lists : Linked) (accesses : ℕ) : Type 0 where
+  pub stored : AllByRecursion IsStored entries
+  pub listed : SameNumbers (below (length entries)) (lists.warm ++ lists.hot)
+  pub room : length entries ≤ lists.room
+  pub ordered : IsOrdered (ordered_by setup entries lists accesses)
 
 -- the same pages, in another order
 pub record Alike (old new : List Page) : Type 0 where
@@ -177,18 +217,21 @@ pub record IsAnswer (before : Option Holding) (at len : ℕ) (old : Caching) (by
   pub lent : IfTold before (IsLent old at len (Some bytes))
   pub read : IsRead before old at len (Some bytes)
 
--- a get that answers the index of its page
-pub record Finds (before after : Option Holding) (at len : ℕ) (result : Result ℕ CacheFault) (old new : Caching) : Type 0 where
-  pub there : IfOk result (λ index. (p : Page) × (slice_get (pages_of new) index ≡ Some p) × IsAnswer before at len old p.bytes)
+-- a get of a page, which is kept afterwards
+pub record Finds {T : Type 0} (before after : Option Holding) (at len : ℕ) (result : Result T CacheFault) (old new : Caching) : Type 0 where
+  pub there : OnOk result ((x : List ℕ) × (kept (pages_of new) at len ≡ Some x) × IsAnswer before at len old x)
   pub short : IfErr result (λ e. (p : ℕ) → e ≡ Short p → (p ≡ at) × IsShort before after at len old)
   pub clean : AllWritten (pages_of old) → after ≡ before
   pub one : WritesOne before after old.name (due old at len) result
   pub gets : Gets before after at len result old new
 
--- the places of the unwritten pages, each with its index counted from a number on
-abbrev pub unwritten_from : ℕ → List Page → List (ℕ × ℕ)
-unwritten_from i [] = []
-unwritten_from i (p ∷ ps) = if p.unwritten then (p.at, i) ∷ unwritten_from (suc i) ps else unwritten_from (suc i) ps
+-- the names of the pages that the file has yet to get
+abbrev pub unwritten_names : List Page → List PageName
+unwritten_names pages = map (λ (p : Page). record { at = p.at; size = length p.bytes }) (unwritten_of pages)
+
+-- the same of the entries of the map
+abbrev pub names_in : List (PageName × Block) → List PageName
+names_in entries = map (λ (e : PageName × Block). e.0) (filter (λ (e : PageName × Block). e.1.unwritten) entries)
 
 -- the cache after a call of put, and what was written
 pub record Stores {T E : Type 0} (before after : Option Holding) (at : ℕ) (bytes : List ℕ) (result : Result T E) (old new : Caching) : Type 0 where

@@ -4,7 +4,7 @@
 //! there is read into a buffer, then the page that is to leave is written, and only then is the new one taken in,
 //! so that a refusal leaves the lists.
 ghost use Rattle.std.specs.Prelude.{◌≡◌, ◌≤◌, ◌<◌, ◌⊎◌, ◌+◌, ◌^◌, ℕ, true, Some, None, length, position};
-ghost use Rattle.std.specs.Prelude.{nat_le, vec_len, IfErr, OnOk, OnErr, IsOk, IsTrue};
+ghost use Rattle.std.specs.Prelude.{nat_le, vec_len, IfErr, IsSome, OnOk, OnErr, IsOk, IsTrue};
 ghost use Rattle.myi_base.specs.Holding.{IfTold};
 ghost use Rattle.myi_base.specs.Causes.{HasCause};
 ghost use Rattle.myi_keycache.specs.declared.setup.CacheFault.TheVariants.{Short, File, Memory};
@@ -12,7 +12,7 @@ ghost use Rattle.myi_keycache.specs.Kept.{is_kept, AllWritten, WrittenUpTo};
 ghost use Rattle.myi_keycache.specs.Lent.{Has};
 ghost use Rattle.myi_keycache.specs.Caching.{due, WritesOne};
 ghost use Rattle.myi_keycache.specs.Flushing.{FlushWrites};
-ghost use Rattle.myi_keycache.specs.Order.{contents_of, unwritten_at, due_in, counts_one, has_name, cache_of};
+ghost use Rattle.myi_keycache.specs.Order.{contents_of, unwritten_at, due_in, counts_one, has_name, cache_of, IsAt};
 ghost use Rattle.myi_keycache.specs.Order.{Pairs, Differ, Split, with_page, as_written, IsFirstWritten};
 ghost use Rattle.myi_keycache.specs.Order.{PagesStay, WritesOnly, WroteOut, Finds, Stores};
 
@@ -72,33 +72,34 @@ fn write_page<F: Files>(
     name: &str,
     blocks: &mut Blocks,
     counters: &mut Counters,
-    index: usize,
+    page: PageName,
 ) -> Result<(), CacheFault>
-    requires index { index < length blocks.old.pages }
+    requires kept { IsSome (position (has_name page.at page.size) blocks.old.pages) }
     requires writable { IsTrue F.writable ⊎ AllWritten (contents_of blocks.old.pages) }
     requires writes { counters.old.writes < 2 ^ 64 }
-    ensures ok { OnOk result ((s : Split blocks.old.pages index)
+    ensures ok { OnOk result ((i : ℕ) → IsAt blocks.old page i → (s : Split blocks.old.pages i)
         → blocks.new ≡ record blocks.old { pages = with_page s (as_written s.page) }) }
     ensures err { OnErr result (blocks.new ≡ blocks.old) }
     ensures stay { PagesStay blocks.old blocks.new }
     ensures writes { WritesOnly (F.holds files.old) (F.holds files.new)
         (cache_of name.now blocks.old counters.old) (cache_of name.now blocks.new counters.new) }
-    ensures one { WritesOne (F.holds files.old) (F.holds files.new) name.now
-        (unwritten_at blocks.old index) result }
-    ensures quiet { unwritten_at blocks.old index ≡ None → files.new ≡ files.old }
-    ensures counted { OnOk result
-        (counters.new ≡ counts_one (unwritten_at blocks.old index) counters.old) }
+    ensures one { (i : ℕ) → IsAt blocks.old page i
+        → WritesOne (F.holds files.old) (F.holds files.new) name.now
+        (unwritten_at blocks.old i) result }
+    ensures quiet { (i : ℕ) → IsAt blocks.old page i
+        → unwritten_at blocks.old i ≡ None → files.new ≡ files.old }
+    ensures counted { OnOk result ((i : ℕ) → IsAt blocks.old page i
+        → counters.new ≡ counts_one (unwritten_at blocks.old i) counters.old) }
     ensures uncounted { OnErr result (counters.new ≡ counters.old) }
     ensures faults { IfErr result (λ e. (e ≡ File) ⊎ (e ≡ Memory)) }
     ensures cause { HasCause File (F.faults files.old) (F.faults files.new) result }
     ensures reads { F.reads files.new ≡ F.reads files.old }
 {
-    if !blocks.is_unwritten(index) {
+    if !blocks.is_unwritten(page) {
         return Ok(());
     }
-    let (at, bytes) = blocks.page(index);
-    files.write_at(name, at, bytes)?;
-    blocks.set_written(index);
+    files.write_at(name, page.at, blocks.page(page))?;
+    blocks.set_written(page);
     counters.count_write();
     Ok(())
 }
@@ -130,12 +131,13 @@ fn make_room<F: Files>(
     ensures reads { F.reads files.new ≡ F.reads files.old }
 {
     if blocks.is_full() {
-        write_page(files, name, blocks, counters, 0)?;
+        let first = blocks.first();
+        write_page(files, name, blocks, counters, first)?;
     }
     Ok(())
 }
 
-// A get of a page that is not kept: reads it, and takes it in. Answers its index.
+// A get of a page that is not kept: reads it, and takes it in.
 fn load<F: Files>(
     files: &mut F,
     name: &str,
@@ -143,7 +145,7 @@ fn load<F: Files>(
     buffer: &mut Vec<u8>,
     counters: &mut Counters,
     page: PageName,
-) -> Result<usize, CacheFault>
+) -> Result<(), CacheFault>
     requires limit { page.size ≤ 16384 }
     requires none { position (has_name page.at page.size) blocks.old.pages ≡ None }
     requires differ { Pairs Differ (contents_of blocks.old.pages) }
@@ -157,12 +159,12 @@ fn load<F: Files>(
 {
     read_page(files, name, page.at, page.size, buffer)?;
     make_room(files, name, blocks, counters)?;
-    let index = blocks.take_in(page.at, buffer, false)?;
+    blocks.take_in(page.at, buffer, false)?;
     counters.count_get(true);
-    Ok(index)
+    Ok(())
 }
 
-// A get of a page. Answers its index.
+// A get of a page, which is then kept.
 fn find<F: Files>(
     files: &mut F,
     name: &str,
@@ -170,7 +172,7 @@ fn find<F: Files>(
     buffer: &mut Vec<u8>,
     counters: &mut Counters,
     page: PageName,
-) -> Result<usize, CacheFault>
+) -> Result<(), CacheFault>
     requires limit { page.size ≤ 16384 }
     requires writable { IsTrue F.writable ⊎ AllWritten (contents_of blocks.old.pages) }
     requires writes { counters.old.writes < 2 ^ 64 }
@@ -182,12 +184,12 @@ fn find<F: Files>(
     ensures reads { F.reads files.old ≤ F.reads files.new }
     ensures once { F.reads files.new ≤ F.reads files.old + 1 }
 {
-    let Some(index) = blocks.index_of(page) else {
+    if !blocks.is_kept(page) {
         return load(files, name, blocks, buffer, counters, page);
-    };
-    let now = blocks.hit(index);
+    }
+    blocks.hit(page);
     counters.count_get(false);
-    Ok(now)
+    Ok(())
 }
 
 // A put of the page in the buffer, which is not kept: takes it in.
@@ -241,8 +243,7 @@ fn write_all<F: Files>(
 {
     let found = blocks.unwritten()?;
     for i in 0..found.len() {
-        let (_, index) = found[i];
-        write_page(files, name, blocks, counters, index)?;
+        write_page(files, name, blocks, counters, found[i])?;
     }
     Ok(())
 }
@@ -318,7 +319,7 @@ impl KeyCache {
     {
         Ok(KeyCache {
             name: String::from_str(alloc, name)?,
-            blocks: Blocks::new(alloc, setup),
+            blocks: Blocks::new(alloc, setup)?,
             buffer: Vec::new(alloc),
             counters: Counters::none(),
         })
@@ -360,15 +361,16 @@ impl KeyCache {
         ensures* after { sem 𝓛 (Rests the_row self.entry
             (Gets (F.holds files.old) (F.holds files.new) at size result self.old)) }
     {
-        let index = find(
+        let page = PageName { at, size };
+        find(
             files,
             self.name.as_str(),
             &mut self.blocks,
             &mut self.buffer,
             &mut self.counters,
-            PageName { at, size },
+            page,
         )?;
-        Ok(self.blocks.page(index).1)
+        Ok(self.blocks.page(page))
     }
 
     /// Puts these bytes as the page of a place, whose length is theirs, and keeps it. Of other pages no bytes
@@ -413,8 +415,11 @@ impl KeyCache {
         ensures cause { HasCause File (F.faults files.old) (F.faults files.new) result }
         ensures reads { F.reads files.new ≡ F.reads files.old }
     {
-        let size = bytes.len();
-        let Some(index) = self.blocks.index_of(PageName { at, size }) else {
+        let page = PageName {
+            at,
+            size: bytes.len(),
+        };
+        if !self.blocks.is_kept(page) {
             self.buffer.clear();
             self.buffer.extend_from_slice(bytes)?;
             store(
@@ -426,9 +431,9 @@ impl KeyCache {
                 at,
             )?;
             return Ok(());
-        };
-        self.blocks.overwrite(index, bytes);
-        self.blocks.hit(index);
+        }
+        self.blocks.overwrite(page, bytes);
+        self.blocks.hit(page);
         self.counters.count_put();
         Ok(())
     }

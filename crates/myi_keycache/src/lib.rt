@@ -24,6 +24,7 @@
 mod blocks;
 mod cache;
 mod laws;
+mod lists;
 mod setup;
 
 pub use cache::KeyCache;

@@ -1,10 +1,12 @@
-use Rattle.std.proofs.Common.{◌≡◌, ℕ, false, List, Some, None, Err, length, slice_get, refl, sym, ap, subst, ◌∙◌, arith}
+use Rattle.std.proofs.Common.{◌≡◌, ℕ, false, List, Some, None, Err, length, refl, sym, ap, subst, ◌∙◌, arith}
 use Rattle.std.proofs.lemmas.Result.{err_from_is_err_and}
 use Rattle.myi_base.proofs.CallerLemmas.{ok_not_err}
 use Rattle.myi_keycache.specs.declared.setup.CacheFault.{CacheFault}
-use Rattle.myi_keycache.specs.Order.{WritesOnly, due_in, cache_of, page_of}
+use Rattle.myi_keycache.specs.Kept.{kept}
+use Rattle.myi_keycache.specs.Order.{WritesOnly, due_in, cache_of, contents_of}
 use Rattle.myi_keycache.proofs.CacheLemmas.{pages_eq, stay_same, nothing_only}
-use Rattle.myi_keycache.proofs.LoadLemmas.{room_is}
+use Rattle.myi_keycache.proofs.LoadLemmas.{Room, room_is}
+use Rattle.myi_keycache.proofs.OthersLemmas.{taken_there}
 use Rattle.myi_keycache.proofs.FlagLemmas.{none_or, wrote_or, flags_of, refused_flags}
 use Rattle.myi_keycache.proofs.OneLemmas.{one_due, one_ok, one_kept, one_refused, one_err}
 use Rattle.myi_keycache.proofs.GetLemmas.{refused_gets, short_lent, read_answer, read_missing, load_gets, not_short, memory_not_short}
@@ -49,16 +51,16 @@ returns-in_err-make_room-clause-finds g c =
           (refused_flags c.args.name.now c.args.blocks.now c.make_room.new.blocks c.args.counters.now c.make_room.new.counters _ h.err) (none_or _ _ _ c.args.name.now c.args.blocks.now c.make_room.new.blocks c.args.counters.now c.make_room.new.counters h.err h.uncounted);
     })
 
-pub returns-in_err-index-clause-finds : goal.returns-in_err-index-clause-finds
-returns-in_err-index-clause-finds g c =
-    let fault : CacheFault = c.in_err-index.field-0.0 in
-    let e = err_from_is_err_and c.from_residual-in_err-index.result c.from_residual-in_err-index.ensures.1 in
-    let same : c.from_residual-in_err-index.result ≡ Err fault = e.1 ∙ ap Err e.2 in
+pub returns-in_err-take_in-clause-finds : goal.returns-in_err-take_in-clause-finds
+returns-in_err-take_in-clause-finds g c =
+    let fault : CacheFault = c.in_err-take_in.field-0.0 in
+    let e = err_from_is_err_and c.from_residual-in_err-take_in.result c.from_residual-in_err-take_in.ensures.1 in
+    let same : c.from_residual-in_err-take_in.result ≡ Err fault = e.1 ∙ ap Err e.2 in
     let h = c.in_ok-make_room.ensures in
     let w = subst (λ h. WritesOnly h (g.F.Files.holds c.make_room.new.files) (cache_of c.args.name.now c.args.blocks.now c.args.counters.now) (cache_of c.args.name.now c.make_room.new.blocks c.make_room.new.counters)) c.in_ok-read_page.ensures.holds h.writes in
-    rw (same, c.in_err-index.ensures.err) (record {
+    rw (same, c.in_err-take_in.ensures.err) (record {
       there = tt;
-      short = λ p is. absurd (memory_not_short fault p c.in_err-index.ensures.fault is);
+      short = λ p is. absurd (memory_not_short fault p c.in_err-take_in.ensures.fault is);
       clean = w.clean;
       one = one_due _ _ _ c.args.name.now c.args.blocks.now c.args.counters.now c.args.page.at c.args.page.size _ c.requires.none c.in_ok-read_page.ensures.holds (one_refused _ _ c.args.name.now (due_in c.args.blocks.now) _ fault h.one);
       gets = refused_gets _ _ c.args.name.now c.args.blocks.now c.make_room.new.blocks c.args.counters.now c.make_room.new.counters c.args.page.at c.args.page.size fault h.stay w
@@ -75,12 +77,13 @@ returns g c =
     let room = room_is c.args.blocks.now c.make_room.new.blocks c.args.page.at c.args.page.size c.requires.differ c.requires.none c.in_ok-make_room.ensures.stay c.in_ok-make_room.ensures.ok in
     let shown = read_answer (g.F.Files.holds c.args.files.now) c.args.name.now c.args.blocks.now c.args.counters.now c.args.page.at c.args.page.size bytes c.requires.none long c.in_ok-read_page.ensures.page in
     let read = read_missing (g.F.Files.holds c.args.files.now) c.args.name.now c.args.blocks.now c.args.counters.now c.args.page.at c.args.page.size (Some bytes) c.requires.none c.in_ok-read_page.ensures.page in
-    let t = c.in_ok-index.ensures in
+    let t = c.in_ok-take_in.ensures in
     record {
       finds = record {
         there = (
-          page_of c.args.page.at bytes false,
-          subst (λ l. slice_get l c.in_ok-index.index ≡ Some (page_of c.args.page.at bytes false)) (sym (pages_eq c.args.name.now c.take_in.new.self c.count_get.new.self)) t.there,
+          bytes,
+          subst (λ l. kept l c.args.page.at c.args.page.size ≡ Some bytes) (sym (pages_eq c.args.name.now c.take_in.new.self c.count_get.new.self))
+              (subst (λ n. kept (contents_of c.take_in.new.self.pages) c.args.page.at n ≡ Some bytes) long (taken_there c.args.blocks.now c.make_room.new.blocks c.take_in.new.self c.args.page.at bytes false (subst (Room c.args.blocks.now c.make_room.new.blocks c.args.page.at) (sym long) room) t.alike)),
           record { long = long; lent = shown; read = read },
         );
         short = tt;

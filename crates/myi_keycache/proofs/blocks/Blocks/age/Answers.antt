@@ -20,9 +20,9 @@ returns-then-is_first_old c =
     let s = split c.args.self.now.pages c.args.self.now.warm lt in
     let a = went c.args.self.now c.move_to_warm_beginning.new.self s (sym (c.is_first_old.ensures.old s) ∙ c.if-is_first_old.true)
     (first_moves c.args.self.now c.clear_hits.new.self c.move_to_warm_beginning.new.self s (c.clear_hits.ensures s) c.move_to_warm_beginning.ensures) in
-    record { lists = a.lists; setup = a.setup; alike = a.alike; long = a.long; warm = a.warm; fresh = a.fresh }
+    record { lists = a.lists; setup = a.setup; alike = a.alike }
 
 pub returns-else-is_first_old : goal.returns-else-is_first_old
 returns-else-is_first_old c =
     let a = still c.args.self.now c.is_first_old.result c.if-is_first_old.false c.is_first_old.ensures.old in
-    record { lists = a.lists; setup = a.setup; alike = a.alike; long = a.long; warm = a.warm; fresh = a.fresh }
+    record { lists = a.lists; setup = a.setup; alike = a.alike }

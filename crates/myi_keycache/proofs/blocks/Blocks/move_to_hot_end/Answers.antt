@@ -1,27 +1,31 @@
-use Rattle.std.proofs.Common.{◌-◌, Bool, ap, sym, arith}
-use Rattle.std.specs.Prelude.{nat_lt, if◌then◌else◌}
-use Rattle.std.proofs.lemmas.Bool.{lt-ltb, le-ltb}
-use Rattle.myi_keycache.proofs.OrderLemmas.{lt_entries, warm_entries, holds_moved_to, moved_last}
+use Rattle.std.proofs.Common.{◌++◌, ◌∷◌, [], ap, ◌∙◌, arith}
+use Rattle.myi_keycache.specs.Ring.{Linked}
+use Rattle.myi_keycache.proofs.HitLemmas.{some_index}
+use Rattle.myi_keycache.proofs.SlotLemmas.{named_there, named_found, same_place}
+use Rattle.myi_keycache.proofs.MoveLemmas.{side, few_left, to_hot}
 use Rattle.myi_keycache.proofs.blocks.Blocks.move_to_hot_end.Goals as goal
+
+pub unwrap-index-requires : goal.unwrap-index-requires
+unwrap-index-requires c =
+    named_there c.self.inside.setup c.self.inside.pages.entries c.self.inside.lists c.self.inside.accesses c.args.name c.args.self.now c.self.view_is c.self.invariant c.get_index_of.result c.get_index_of.ensures.index c.requires
+
+pub take_off-requires : goal.take_off-requires
+take_off-requires c =
+    let f = named_found c.self.inside.setup c.self.inside.pages.entries c.self.inside.lists c.self.inside.accesses c.args.name c.unwrap-index.result c.self.invariant c.get_index_of.result c.get_index_of.ensures.index c.unwrap-index.ensures in
+    (side c.self.inside.pages.entries c.self.inside.lists c.unwrap-index.result f.i f.placed).on
+
+pub put_at_hot_end-requires-clause-few : goal.put_at_hot_end-requires-clause-few
+put_at_hot_end-requires-clause-few c =
+    let f = named_found c.self.inside.setup c.self.inside.pages.entries c.self.inside.lists c.self.inside.accesses c.args.name c.unwrap-index.result c.self.invariant c.get_index_of.result c.get_index_of.ensures.index c.unwrap-index.ensures in
+    omega (arith, few_left c.self.inside.setup c.self.inside.pages.entries c.self.inside.lists c.take_off.new.self c.self.inside.accesses c.unwrap-index.result f.i c.self.invariant f.placed c.take_off.ensures.warm c.take_off.ensures.hot)
 
 pub invariant_of-self : goal.invariant_of-self
 invariant_of-self c =
-    let le = warm_entries _ _ _ _ c.self.invariant in
-    holds_moved_to _ _ _ c.self.inside.warm (c.self.inside.warm - 1) c.self.inside.accesses c.args.index _ (lt_entries _ _ _ _ c.args.index c.args.self.now c.self.view_is c.requires) c.move_index.ensures.entries (omega (arith, le)) c.self.invariant
+    let x = some_index _ c.requires in
+    let p = same_place c.self.inside.pages.entries c.self.inside.lists c.self.inside.setup c.self.inside.accesses c.args.name.at c.args.name.size c.unwrap-index.result c.args.self.now c.self.view_is (named_found c.self.inside.setup c.self.inside.pages.entries c.self.inside.lists c.self.inside.accesses c.args.name c.unwrap-index.result c.self.invariant c.get_index_of.result c.get_index_of.ensures.index c.unwrap-index.ensures) x.0 x.1 in
+    (to_hot c.self.inside.setup c.self.inside.pages.entries c.self.inside.lists c.put_at_hot_end.new.self c.self.inside.accesses c.unwrap-index.result x.0 c.args.self.now c.self.view_is c.self.invariant p ((λ f b e. c.put_at_hot_end.ensures ∙ ap (λ (l : Linked). record l { hot = l.hot ++ c.unwrap-index.result ∷ [] }) (c.take_off.ensures.warm f b e)), (λ f b e. c.put_at_hot_end.ensures ∙ ap (λ (l : Linked). record l { hot = l.hot ++ c.unwrap-index.result ∷ [] }) (c.take_off.ensures.hot f b e)))).0
 
-pub invariant_of-self-else-index-self : goal.invariant_of-self-else-index-self
-invariant_of-self-else-index-self c =
-    let le = warm_entries _ _ _ _ c.self.invariant in
-    holds_moved_to _ _ _ c.self.inside.warm c.self.inside.warm c.self.inside.accesses c.args.index _ (lt_entries _ _ _ _ c.args.index c.args.self.now c.self.view_is c.requires) c.move_index.ensures.entries le c.self.invariant
-
-pub returns-then-index-self : goal.returns-then-index-self
-returns-then-index-self c =
-    let lt = lt_entries _ _ _ _ c.args.index c.args.self.now c.self.view_is c.requires in
-    moved_last _ _ _ _ _ _ c.args.index _ (λ n. if nat_lt c.args.index n then n - 1 else n) c.args.self.now c.self.view_is lt c.move_index.ensures.entries
-    (ap (λ (b : Bool). if b then c.self.inside.warm - 1 else c.self.inside.warm) (sym (lt-ltb c.args.index c.self.inside.warm c.if-index-self.true))) (omega (arith, lt, c.len-last.ensures.len))
-
-pub returns-else-index-self : goal.returns-else-index-self
-returns-else-index-self c =
-    let lt = lt_entries _ _ _ _ c.args.index c.args.self.now c.self.view_is c.requires in
-    moved_last _ _ _ _ _ _ c.args.index _ (λ n. if nat_lt c.args.index n then n - 1 else n) c.args.self.now c.self.view_is lt c.move_index.ensures.entries
-    (ap (λ (b : Bool). if b then c.self.inside.warm - 1 else c.self.inside.warm) (sym (le-ltb c.args.index c.self.inside.warm c.if-index-self.false))) (omega (arith, lt, c.len-last.ensures.len))
+pub returns : goal.returns
+returns c i at s =
+    let p = same_place c.self.inside.pages.entries c.self.inside.lists c.self.inside.setup c.self.inside.accesses c.args.name.at c.args.name.size c.unwrap-index.result c.args.self.now c.self.view_is (named_found c.self.inside.setup c.self.inside.pages.entries c.self.inside.lists c.self.inside.accesses c.args.name c.unwrap-index.result c.self.invariant c.get_index_of.result c.get_index_of.ensures.index c.unwrap-index.ensures) i at in
+    (to_hot c.self.inside.setup c.self.inside.pages.entries c.self.inside.lists c.put_at_hot_end.new.self c.self.inside.accesses c.unwrap-index.result i c.args.self.now c.self.view_is c.self.invariant p ((λ f b e. c.put_at_hot_end.ensures ∙ ap (λ (l : Linked). record l { hot = l.hot ++ c.unwrap-index.result ∷ [] }) (c.take_off.ensures.warm f b e)), (λ f b e. c.put_at_hot_end.ensures ∙ ap (λ (l : Linked). record l { hot = l.hot ++ c.unwrap-index.result ∷ [] }) (c.take_off.ensures.hot f b e)))).1 s

@@ -1,13 +1,12 @@
 use Rattle.std.proofs.Common.{◌≡◌, ℕ, true, length, refl, sym, ap, ◌∙◌, arith}
 use Rattle.std.specs.Prelude.{string_bytes, is_some}
 use Rattle.std.proofs.lemmas.Result.{err_from_is_err_and}
-use Rattle.std.proofs.lemmas.Bool.{and_parts, eqb-true}
 use Rattle.myi_base.proofs.CallerLemmas.{ok_not_err}
 use Rattle.myi_keycache.specs.declared.setup.CacheFault.{CacheFault}
 use Rattle.myi_keycache.specs.Kept.{is_kept}
 use Rattle.myi_keycache.specs.Order.{contents_of}
 use Rattle.myi_keycache.proofs.OrderLemmas.{split}
-use Rattle.myi_keycache.proofs.MidpointLemmas.{named}
+use Rattle.myi_keycache.proofs.HitLemmas.{some_index, index_within, none_of}
 use Rattle.myi_keycache.proofs.OneLemmas.{due_kept, never_hit, one_none, one_kept}
 use Rattle.myi_keycache.proofs.FlagLemmas.{none_still, flags_still}
 use Rattle.myi_keycache.proofs.OthersLemmas.{same_keeps, same_changes}
@@ -15,26 +14,27 @@ use Rattle.myi_keycache.proofs.GetLemmas.{hit_page}
 use Rattle.myi_keycache.proofs.PutLemmas.{renewed, hit_stores, stores_on}
 use Rattle.myi_keycache.proofs.cache.KeyCache.put.Goals as goal
 
-pub overwrite-requires-clause-long : goal.overwrite-requires-clause-long
-overwrite-requires-clause-long g c s =
-    let n = named c.args.at (length c.args.bytes.now) c.self.inside.blocks.pages c.in-Some.index s (sym c.in-Some.ensures.index) in
-    sym (eqb-true _ _ (and_parts _ _ n.here).1)
+pub overwrite-requires-clause-kept : goal.overwrite-requires-clause-kept
+overwrite-requires-clause-kept g c = sym c.is_kept.ensures.kept ∙ c.if-not-is_kept.false
 
 pub hit-requires : goal.hit-requires
 hit-requires g c =
-    let s = split c.self.inside.blocks.pages c.in-Some.index c.in-Some.ensures.within in
-    let r = renewed c.self.inside.blocks c.overwrite.new.self c.in-Some.index c.args.at c.args.bytes.now s c.in-Some.ensures.ordered.differ (sym c.in-Some.ensures.index) (c.overwrite.ensures s) in
-    let lt = c.in-Some.ensures.within in
-    omega (arith, lt, r.long)
+    let x = some_index _ (sym c.is_kept.ensures.kept ∙ c.if-not-is_kept.false) in
+    let lt = index_within c.args.at (length c.args.bytes.now) c.self.inside.blocks.pages x.0 x.1 in
+    let s = split c.self.inside.blocks.pages x.0 lt in
+    let r = renewed c.self.inside.blocks c.overwrite.new.self x.0 c.args.at c.args.bytes.now s c.is_kept.ensures.ordered.differ x.1 (c.overwrite.ensures x.0 x.1 s) in
+    ap is_some r.found
 
 pub returns : goal.returns
 returns g c =
-    let s = split c.self.inside.blocks.pages c.in-Some.index c.in-Some.ensures.within in
-    let r = renewed c.self.inside.blocks c.overwrite.new.self c.in-Some.index c.args.at c.args.bytes.now s c.in-Some.ensures.ordered.differ (sym c.in-Some.ensures.index) (c.overwrite.ensures s) in
+    let x = some_index _ (sym c.is_kept.ensures.kept ∙ c.if-not-is_kept.false) in
+    let lt = index_within c.args.at (length c.args.bytes.now) c.self.inside.blocks.pages x.0 x.1 in
+    let s = split c.self.inside.blocks.pages x.0 lt in
+    let r = renewed c.self.inside.blocks c.overwrite.new.self x.0 c.args.at c.args.bytes.now s c.is_kept.ensures.ordered.differ x.1 (c.overwrite.ensures x.0 x.1 s) in
     let e = c.hit.ensures in
-    let there : is_kept (contents_of c.self.inside.blocks.pages) c.args.at (length c.args.bytes.now) ≡ true = ap is_some (hit_page c.self.inside.blocks c.in-Some.index c.args.at (length c.args.bytes.now) c.in-Some.ensures.within (sym c.in-Some.ensures.index)).3 in
+    let there : is_kept (contents_of c.self.inside.blocks.pages) c.args.at (length c.args.bytes.now) ≡ true = ap is_some (hit_page c.self.inside.blocks x.0 c.args.at (length c.args.bytes.now) lt x.1).3 in
     let t = stores_on {T = ℕ} {U = ℕ} {E = CacheFault} {F = CacheFault} (g.F.Files.holds c.args.files.now) (g.F.Files.holds c.args.files.now) c.args.at c.args.bytes.now 0 0 _ _ c.args.self.now _ c.self.view_is refl
-    (hit_stores {T = ℕ} {E = CacheFault} _ _ (string_bytes c.self.inside.name) c.self.inside.blocks c.overwrite.new.self c.hit.new.self c.self.inside.counters c.count_put.new.self c.in-Some.index c.args.at c.args.bytes.now 0 refl r there c.self.invariant.1 e.setup (e.lists c.args.at (length c.args.bytes.now) r.found) e.alike c.count_put.ensures) in
+    (hit_stores {T = ℕ} {E = CacheFault} _ _ (string_bytes c.self.inside.name) c.self.inside.blocks c.overwrite.new.self c.hit.new.self c.self.inside.counters c.count_put.new.self x.0 c.args.at c.args.bytes.now 0 refl r there c.self.invariant.1 e.setup e.lists e.alike c.count_put.ensures) in
     record {
       ok = t.ok;
       err = tt;
@@ -61,13 +61,13 @@ returns g c =
     }
 
 pub returns-in_err-extend_from_slice-clause-hit : goal.returns-in_err-extend_from_slice-clause-hit
-returns-in_err-extend_from_slice-clause-hit g c kept = absurd (never_hit (string_bytes c.self.inside.name) c.self.inside.blocks c.self.inside.counters c.args.self.now c.args.at (length c.args.bytes.now) c.self.view_is (sym c.index_of.ensures.index ∙ c.in_default.is) kept)
+returns-in_err-extend_from_slice-clause-hit g c kept = absurd (never_hit (string_bytes c.self.inside.name) c.self.inside.blocks c.self.inside.counters c.args.self.now c.args.at (length c.args.bytes.now) c.self.view_is (none_of _ (sym c.is_kept.ensures.kept ∙ c.if-not-is_kept.true)) kept)
 
 pub returns-in_err-store-clause-hit : goal.returns-in_err-store-clause-hit
-returns-in_err-store-clause-hit g c kept = absurd (never_hit (string_bytes c.self.inside.name) c.self.inside.blocks c.self.inside.counters c.args.self.now c.args.at (length c.args.bytes.now) c.self.view_is (sym c.index_of.ensures.index ∙ c.in_default.is) kept)
+returns-in_err-store-clause-hit g c kept = absurd (never_hit (string_bytes c.self.inside.name) c.self.inside.blocks c.self.inside.counters c.args.self.now c.args.at (length c.args.bytes.now) c.self.view_is (none_of _ (sym c.is_kept.ensures.kept ∙ c.if-not-is_kept.true)) kept)
 
-pub returns-in_default-clause-hit : goal.returns-in_default-clause-hit
-returns-in_default-clause-hit g c kept = absurd (never_hit (string_bytes c.self.inside.name) c.self.inside.blocks c.self.inside.counters c.args.self.now c.args.at (length c.args.bytes.now) c.self.view_is (sym c.index_of.ensures.index ∙ c.in_default.is) kept)
+pub returns-then-not-is_kept-clause-hit : goal.returns-then-not-is_kept-clause-hit
+returns-then-not-is_kept-clause-hit g c kept = absurd (never_hit (string_bytes c.self.inside.name) c.self.inside.blocks c.self.inside.counters c.args.self.now c.args.at (length c.args.bytes.now) c.self.view_is (none_of _ (sym c.is_kept.ensures.kept ∙ c.if-not-is_kept.true)) kept)
 
 pub returns-in_err-extend_from_slice-clause-one : goal.returns-in_err-extend_from_slice-clause-one
 returns-in_err-extend_from_slice-clause-one g c =

@@ -1,0 +1,35 @@
+use Rattle.std.proofs.Common.{◌+◌, [], refl, sym, ap, subst, arith}
+use Rattle.myi_keycache.specs.Ring.{IsLinked, Linked, ring_of}
+use Rattle.myi_keycache.proofs.LinkLemmas.{can_hot, put_hot_end}
+use Rattle.myi_keycache.proofs.lists.PageLists.put_at_hot_end.Goals as goal
+
+pub overflow_add-node : goal.overflow_add-node
+overflow_add-node c =
+    let v = c.self.inside.links in
+    let there = c.requires.off.there in
+    let room = ap (λ (l : Linked). l.room) c.self.view_is in
+    omega (arith, there, room, v.ok.0, v.ok.1, v.small)
+
+pub link_before-requires : goal.link_before-requires
+link_before-requires c =
+    let links = c.self.inside.links.items in
+    let o = c.args.self.now in
+    let inv = subst (IsLinked links c.self.inside.warm c.self.inside.hot) c.self.view_is c.self.invariant in
+    let room = sym (ap (λ (l : Linked). l.room) c.self.view_is) in
+    (ring_of o.warm o.hot, [], can_hot links c.self.inside.warm c.self.inside.hot o c.args.index inv c.requires.off room)
+
+pub invariant_of-self : goal.invariant_of-self
+invariant_of-self c =
+    let links = c.self.inside.links.items in
+    let o = c.args.self.now in
+    let inv = subst (IsLinked links c.self.inside.warm c.self.inside.hot) c.self.view_is c.self.invariant in
+    let room = sym (ap (λ (l : Linked). l.room) c.self.view_is) in
+    (put_hot_end links c.link_before.new.links.items c.set_hot.new.links.items c.self.inside.warm c.self.inside.hot (c.self.inside.hot + 1) o c.args.index inv room c.requires.off c.link_before.ensures.ring (record { mid_hot = c.link_before.ensures.hot; before = c.set_hot.ensures.before; behind = c.set_hot.ensures.behind; hot = c.set_hot.ensures.hot }) refl).holds
+
+pub returns : goal.returns
+returns c =
+    let links = c.self.inside.links.items in
+    let o = c.args.self.now in
+    let inv = subst (IsLinked links c.self.inside.warm c.self.inside.hot) c.self.view_is c.self.invariant in
+    let room = sym (ap (λ (l : Linked). l.room) c.self.view_is) in
+    (put_hot_end links c.link_before.new.links.items c.set_hot.new.links.items c.self.inside.warm c.self.inside.hot (c.self.inside.hot + 1) o c.args.index inv room c.requires.off c.link_before.ensures.ring (record { mid_hot = c.link_before.ensures.hot; before = c.set_hot.ensures.before; behind = c.set_hot.ensures.behind; hot = c.set_hot.ensures.hot }) refl).is
