@@ -1,5 +1,6 @@
 pub mod HoldLemmas
 pub mod StepLemmas
+pub mod CauseLemmas
 pub mod CheckLemmas
 pub mod RowLemmas
 pub mod FaultLemmas

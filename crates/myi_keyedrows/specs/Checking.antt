@@ -9,6 +9,7 @@ use Rattle.myi_state.specs.declared.counts.Counts.{Counts}
 use Rattle.myi_state.specs.State.{StoredRow, row_at}
 use Rattle.myi_state.specs.Changes.{Change, insert, insert_at_end}
 use Rattle.myi_slots.specs.SlotFile.{SlotFile, Adds, AddsNew}
+use Rattle.myi_rows.specs.Refusals.{FindsBad}
 use Rattle.myi_pair.specs.KeyList.{pointer}
 use Rattle.myi_tablestate.specs.Keyed.{Holder}
 use Rattle.myi_rowtrees.specs.RowLists.{row_pairs}
@@ -31,6 +32,11 @@ next_at false c = unwrap_or c.dellink c.length
 abbrev pub AddsTo : Bool → SlotFile → SlotFile → Values → Holding → Holding → Type 0
 AddsTo true f g values m n = Adds f g values m n
 AddsTo false f g values m n = AddsNew f g values m n
+
+-- what stands at a place is not what a new row needs there, behind the end or where it goes
+abbrev pub FindsNewBad : Bool → SlotFile → Values → Option Holding → ℕ → Type 0
+FindsNewBad true f values h p = ⊥
+FindsNewBad false f values h p = FindsBad f values h p
 
 -- a row stands at the position, and these are its pairs
 abbrev pub HasPairsAt : Defs → ℕ → List StoredRow → List Pair → Type 0

@@ -6,6 +6,8 @@ pub mod KeyedRows
 pub mod Files
 -- how the refusals of the calls on the two files are told
 pub mod Faults
+-- why a change is refused, over any files
+pub mod Refusals
 -- What serves private contracts.
 
 -- a row that is tested in the unique keys

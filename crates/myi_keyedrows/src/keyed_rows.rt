@@ -4,10 +4,12 @@ ghost use Rattle.myi_base.specs.Holding.{IfTold, Told, OthersStay};
 ghost use Rattle.myi_base.specs.Causes.{HasCause};
 ghost use Rattle.myi_pack.specs.Spelling.{fits};
 ghost use Rattle.myi_slots.specs.declared.fault.DataFault.TheVariants as read;
-ghost use Rattle.myi_slots.specs.SlotFile.{IsLong, IfRefused, is_reached};
+ghost use Rattle.myi_slots.specs.SlotFile.{IsLong, IfRefused, Never, is_reached};
+ghost use Rattle.myi_slots.specs.SlotFile as slots;
 ghost use Rattle.myi_blocks.specs.Places.{StepsNoted, RefusesNoted};
 ghost use Rattle.myi_rows.specs.RowFile.{SaysNoRow};
-ghost use Rattle.myi_keyedrows.specs.Checking.{come, next_at, AddsTo};
+ghost use Rattle.myi_keyedrows.specs.Refusals.{LacksPlace};
+ghost use Rattle.myi_keyedrows.specs.Checking.{come, next_at, AddsTo, FindsNewBad};
 
 use crate::fault::KeyedFault;
 use myi_defs::Defs;
@@ -60,6 +62,9 @@ fn put_in_file<F: Files>(
     ensures inside { IfOk result (λ at. at ≤ rows.new.file.counts.length) }
     ensures room { OnOk result (is_reached rows.new.file.counts.length rows.old.file ≡ true) }
     ensures rows { IfErr result (λ f. SaysNoRow f → ⊥) }
+    ensures causes { IfErr result (slots.ByCause Never
+        (LacksPlace at_end rows.old.file row.now (F.holds files.old))
+        (FindsNewBad at_end rows.old.file row.now (F.holds files.old))) }
     ensures object { rows.new.file ≡ record rows.old.file { counts = rows.new.file.counts } }
     ensures unchanged { IfErr result (λ f. IfRefused f
         (F.holds files.new ≡ F.holds files.old)) }
@@ -94,12 +99,14 @@ impl KeyedRows {
     ghost use Rattle.myi_search.specs.Counting.{CountsOn};
     ghost use Rattle.myi_state.specs.State.{row_at};
     ghost use Rattle.myi_state.specs.Changes.{insert, insert_at_end, delete, update};
-    ghost use Rattle.myi_slots.specs.SlotFile.{Adds, AddsNew};
+    ghost use Rattle.myi_slots.specs.SlotFile.{Adds, AddsNew, Never};
+    ghost use Rattle.myi_rows.specs.Refusals.{LacksRoom, LacksEnd, LacksOther, LacksReach};
     ghost use Rattle.myi_pair.specs.FirstRows.{key_numbers};
     ghost use Rattle.myi_tablestate.specs.Keyed.{first_holder};
     ghost use Rattle.myi_rowtrees.specs.RowLists.{row_pairs};
     ghost use Rattle.myi_rowtrees.specs.Duplicates.{others};
     ghost use Rattle.myi_keyedrows.specs.declared.fault.KeyedFault.TheVariants.{File};
+    ghost use Rattle.myi_keyedrows.specs.Refusals.{ByCause, FindsNoneAt, LacksPlace};
     ghost use Rattle.myi_keyedrows.specs.KeyedRows.{IsFit, IsKept, IfHold, StillHold, Makes, Refuses, IfReply, IsLeft, IsSameTable, ChangesItsOwn};
     ghost use Rattle.myi_keytrees.specs.Trees.{SameKinds};
     ghost use Rattle.myi_keyedrows.specs.Checking.{come, AddsTo, IsHeldBy, Looks, HasPairsAt, IsAbsent};
@@ -126,6 +133,7 @@ impl KeyedRows {
             (values : Values) (pointer : ℕ) → pairs.now ≡ row_pairs defs.now values pointer
             → IsHeldBy (first_holder defs.now values
             (others defs.now own s.rows) (key_numbers defs.now)) f)) }
+        ensures causes { IfErr result (ByCause Never (Unit {0}) ⊥) }
         ensures looks { Looks (F.holds files.old) (F.holds files.new) self.old self.new }
         ensures cause { HasCause File (F.faults files.old) (F.faults files.new) result }
         ensures reads { F.reads files.old ≤ F.reads files.new }
@@ -160,6 +168,8 @@ impl KeyedRows {
             (AddsTo at_end self.old.rows.file self.new.rows.file row.now)) }
         ensures refused { IfErr result (Refuses (come at_end row.now) (F.holds files.old)
             self.old) }
+        ensures causes { IfErr result (ByCause Never (Unit {0})
+            (LacksPlace at_end self.old.rows.file row.now (F.holds files.old))) }
         ensures unchanged { IfErr result (λ f. IfReply f
             (StillHold (F.holds files.old) (F.holds files.new) self.old self.new)) }
         ensures apart { IfErr result (λ f. IfReply f
@@ -206,6 +216,8 @@ impl KeyedRows {
         ensures appended { OnOk result (Told (F.holds files.old) (F.holds files.new)
             (AddsNew self.old.rows.file self.new.rows.file row.now)) }
         ensures refused { IfErr result (Refuses (insert row.now) (F.holds files.old) self.old) }
+        ensures causes { IfErr result (ByCause Never (Unit {0})
+            (LacksRoom self.old.rows.file row.now (F.holds files.old))) }
         ensures unchanged { IfErr result (λ f. IfReply f
             (StillHold (F.holds files.old) (F.holds files.new) self.old self.new)) }
         ensures apart { IfErr result (λ f. IfReply f
@@ -241,6 +253,8 @@ impl KeyedRows {
             (Adds self.old.rows.file self.new.rows.file row.now)) }
         ensures refused { IfErr result (Refuses (insert_at_end row.now) (F.holds files.old)
             self.old) }
+        ensures causes { IfErr result (ByCause Never (Unit {0})
+            (LacksEnd self.old.rows.file row.now)) }
         ensures unchanged { IfErr result (λ f. IfReply f
             (StillHold (F.holds files.old) (F.holds files.new) self.old self.new)) }
         ensures apart { IfErr result (λ f. IfReply f
@@ -272,6 +286,8 @@ impl KeyedRows {
         ensures each { IfOk result (λ pairs. length pairs.items ≡ length defs.now.keys) }
         ensures absent { IfErr result (λ f. IfHold (F.holds files.old) self.old (λ m own s.
             IsAbsent at (row_at at s.rows) f)) }
+        ensures causes { IfErr result (ByCause (FindsNoneAt self.old.rows.file
+            self.new.rows.places at (F.holds files.old)) ⊥ ⊥) }
         ensures still { StillHold (F.holds files.old) (F.holds files.new) self.old self.new }
         ensures file { self.new.rows.file ≡ self.old.rows.file }
         ensures trees { self.new.trees ≡ self.old.trees }
@@ -300,6 +316,9 @@ impl KeyedRows {
         ensures made { OnOk result (Makes (delete at) (F.holds files.old) (F.holds files.new)
             self.old self.new at) }
         ensures refused { IfErr result (Refuses (delete at) (F.holds files.old) self.old) }
+        ensures causes { IfErr result (ByCause (FindsNoneAt self.old.rows.file
+            self.new.rows.places at (F.holds files.old)) ⊥
+            (LacksReach self.old.rows.file self.new.rows.places at)) }
         ensures unchanged { IfErr result (λ f. IfReply f
             (StillHold (F.holds files.old) (F.holds files.new) self.old self.new)) }
         ensures apart { IfErr result (λ f. IfReply f (F.holds files.new ≡ F.holds files.old)) }
@@ -340,6 +359,9 @@ impl KeyedRows {
         ensures made { OnOk result (Makes (update at row.now) (F.holds files.old)
             (F.holds files.new) self.old self.new at) }
         ensures refused { IfErr result (Refuses (update at row.now) (F.holds files.old) self.old) }
+        ensures causes { IfErr result (ByCause (FindsNoneAt self.old.rows.file
+            self.new.rows.places at (F.holds files.old)) (Unit {0})
+            (LacksOther self.old.rows.file self.new.rows.places at row.now (F.holds files.old))) }
         ensures unchanged { IfErr result (λ f. IfReply f
             (StillHold (F.holds files.old) (F.holds files.new) self.old self.new)) }
         ensures apart { IfErr result (λ f. IfReply f

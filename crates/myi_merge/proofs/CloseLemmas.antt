@@ -256,8 +256,8 @@ nothing_done told now next t fault.Memory refuses stays keeps = tt
 
 -- closing stops there
 pub stops_at : (told now next : Option Holding) (i : ℕ) (ts : List OpenTable) (t : OpenTable) (f : ChangeFault) → IsDistinct bytes_eq (map (λ (u : OpenTable). u.name) ts) → i < length ts → get_or ts i t ≡ t → Told now next (KeepsOthers t.name) → AreWhole (take i ts)
-    → ((by : Cause) → t.broken ≡ Some by → (f ≡ fault.Broken by) × (next ≡ now)) → (t.broken ≡ None → CutsOff f) → StopsAt told now i ts → StopsAtTable told next ts f
-stops_at told now next i ts t f once lt at others whole first cuts was =
+    → ((by : Cause) → t.broken ≡ Some by → (f ≡ fault.Broken by) × (next ≡ now)) → (t.broken ≡ None → CutsOff f) → Told now next (KeepsRows t.name) → StopsAt told now i ts → StopsAtTable told next ts f
+stops_at told now next i ts t f once lt at others whole first cuts stays was =
     let but = before_still now next i ts t once lt at others in
     let refuses = refuses_closing t f (λ by is. (first by is).0) cuts in
     let around : ts ≡ take i ts ++ get_or ts i t ∷ drop (i + 1) ts = sym (take-append-drop i ts) ∙ ap (λ (q : List OpenTable). take i ts ++ q) (rw (add-one, drop-cons ts i t lt) refl) in
@@ -271,6 +271,7 @@ stops_at told now next i ts t f once lt at others whole first cuts was =
       closed = closed_before told now next i ts but was;
       rows = rows_before told now next i ts but was;
       behind = files_behind told now next i ts but was;
+      kept = told_then told now next (KeepEach (drop i ts)) (KeepsRows t.name) (KeepsRows t.name) was.behind stays (λ m n k one two. two ∙ (subst (λ (u : OpenTable). Keeps u m n) at (keep_at i ts t m n lt one)).rows);
       nothing = nothing_done told now next t f refuses (λ by is. (first by is).1) (record {
         told = λ m held. let then = was.behind.told m held in (then.0, then.1, subst (λ (u : OpenTable). Keeps u m then.0) at (keep_at i ts t m then.0 lt then.2));
         untold = was.behind.untold;

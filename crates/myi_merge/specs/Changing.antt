@@ -138,8 +138,8 @@ IfBroken (fault.Damaged at) P = Unit {0}
 IfBroken fault.File P = Unit {0}
 IfBroken fault.Memory P = Unit {0}
 
--- Closing stops at the first table that refuses it: those before it are closed, and their data files hold what they held, as both files of
--- those behind it do. What the files of the refused one hold is free where it was not broken.
+-- Closing stops at the first table that refuses it: those before it are closed, and their data files hold what they held, as its own does
+-- and both files of those behind it. What its index file holds is free where it was not broken.
 pub record StopsAtTable (told next : Option Holding) (ts : List OpenTable) (f : ChangeFault) : Type 0 where
   pub before : List OpenTable
   pub table : OpenTable
@@ -150,6 +150,7 @@ pub record StopsAtTable (told next : Option Holding) (ts : List OpenTable) (f : 
   pub closed : AllByRecursion (ClosesOne told next) before
   pub rows : Told told next (KeepEachRows before)
   pub behind : Told told next (KeepEach after)
+  pub kept : Told told next (KeepsRows table.name)
   pub nothing : IfBroken f (Told told next (Keeps table))
 
 -- a file is one of those of the tables of these names

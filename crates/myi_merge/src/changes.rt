@@ -14,10 +14,13 @@ impl Merge {
     ghost use Rattle.myi_pack.specs.Spelling.{fits};
     ghost use Rattle.myi_search.specs.Counting.{CountsOn};
     ghost use Rattle.myi_state.specs.Changes.{insert};
-    ghost use Rattle.myi_slots.specs.SlotFile.{AddsNew};
+    ghost use Rattle.myi_slots.specs.SlotFile.{AddsNew, Never};
+    ghost use Rattle.myi_rows.specs.Refusals.{LacksRoom};
+    ghost use Rattle.myi_keyedrows.specs.KeyedRows.{IsLeft};
     ghost use Rattle.myi_table.specs.declared.fault.ChangeFault.{ChangeFault};
     ghost use Rattle.myi_table.specs.declared.fault.ChangeFault.TheVariants as change;
     ghost use Rattle.myi_table.specs.Faults.{CutsOff};
+    ghost use Rattle.myi_table.specs.Refusals.{ByCause};
     ghost use Rattle.myi_table.specs.Table.{OpenTable, defs_in, StillHolds, IsSame, KeepsRows};
     ghost use Rattle.myi_merge.specs.declared.fault.MergeInsertFault.TheVariants.{NoInsertMethod, Change};
     ghost use Rattle.myi_merge.specs.Merged.{AreKept, AreWhole, IfHoldEach};
@@ -61,6 +64,11 @@ impl Merge {
             (StillHolds (F.holds files.old) (F.holds files.new)))) }
         ensures rows { IfErr result (λ f. IfReplied f (OfTarget self.old self.new (λ t u.
             Told (F.holds files.old) (F.holds files.new) (KeepsRows t.name)))) }
+        ensures causes { (f : ChangeFault) → result ≡ Err (Change f) → OfTarget self.old self.new
+            (λ t u. ByCause Never (Unit {0}) (LacksRoom t.rows.rows.file row.now
+            (F.holds files.old)) f) }
+        ensures left { IfErr result (λ f. IfReplied f (OfTarget self.old self.new (λ t u.
+            IsLeft t.rows u.rows))) }
         ensures broken { OfTarget self.old self.new (λ t u.
             u.broken ≡ broken_behind result (F.faults files.new) t.broken) }
         ensures same { OfTarget self.old self.new IsSame }
@@ -97,8 +105,8 @@ impl Merge {
 
     /// Closes the tables, in the order of the list, up to the first that refuses it. Where each stands for a state its
     /// two files stand for it then, and are a clean pair. After a refusal those before that table are closed, the
-    /// files of those behind it are as they were, and what its own hold is what the calls left. A broken table refuses
-    /// to be closed, and its files are as they were. Memory comes where a call found none, and where files that tell
+    /// files of those behind it are as they were, and its own index file is what the calls left. Data files stay. A
+    /// broken table refuses to be closed, and its files are as they were. Memory comes where a call found none, and where files that tell
     /// nothing have a page or a deleted block at 2^64 - 1. A list that is dropped without `close` writes nothing: the
     /// headers, and pages that the key caches still hold, stay unwritten, so the index files of changed tables are no
     /// longer those of their data files.

@@ -26,7 +26,7 @@ use Rattle.myi_ranges.specs.declared.fault.RangeFault.TheVariants.{Index}
 use Rattle.myi_ranges.specs.declared.ranges.Reached.{Reached}
 use Rattle.myi_ranges.specs.declared.ranges.Reached.TheVariants.{Behind, End}
 use Rattle.myi_ranges.specs.declared.ranges.RangeRows.{RangeRows}
-use Rattle.myi_ranges.specs.Ranges.{IsNext, ReadsAhead, ComesTo, coming, position_within, HasTable, Searched, Answers, NeverDamaged, searches, RoseBySearches, row_cost, ReadInFew}
+use Rattle.myi_ranges.specs.Ranges.{IsNext, ReadsAhead, ComesTo, coming, position_within, HasTable, Searched, Answers, NeverDamaged, searches, RoseBySearches, row_cost, ReadInFew, FailsInFew}
 use Rattle.myi_ranges.proofs.CostLemmas.{row_read, rose_more}
 use Rattle.myi_ranges.proofs.LeftLemmas.{come_none, come_next, come_past}
 use Rattle.myi_ranges.proofs.RowLemmas.{RowsStand, RowOf, listed_row, file_stays, file_long, has_row, row_values, position_is}
@@ -190,6 +190,28 @@ few_row told next d old t u f c pair at values start mid after pointed stand sou
     let there : row_at at s.rows ≡ Some w.row = subst (λ (p : ℕ). row_at p s.rows ≡ Some w.row) (sym (place ∙ w.place)) w.there in
     let read : after ≤ mid + row_cost d (row_at at s.rows) = subst (λ (q : Defs). after ≤ mid + row_cost q (row_at at s.rows)) same (row_read f s n at w.row mid after stand w.file there (few n then.1)) in
     rose_more (searches old.reached) (length pairs) (row_cost d (row_at at s.rows)) start mid after (rose_in d old t f s m told start mid h held rose) read
+
+-- where no pair was come to
+pub failed_none : (told : Option Holding) (d : Defs) (old : RangeRows) (t : Trees) (f : SlotFile) (before after : ℕ) → Rose told t old before after → IfTold told (λ m. (s : TableState) → HasTable d old t f s m → FailsInFew d s old before after)
+failed_none told d old t f before after rose = λ m held s h. record { next = None; comes = tt; few = rose_in d old t f s m told before after h held rose }
+
+-- where the row of the first pair could not be read
+pub failed_row : (told next : Option Holding) (d : Defs) (old : RangeRows) (t u : Trees) (f : SlotFile) (c : CursorAt) (pair : Pair) (at : ℕ) (start mid after : ℕ) → Pointed → RowsStand → IsSound d → f.defs ≡ d → f.name ≢ t.cache.name → Searched told next t u
+    → Comes told t old (Some c) → c.last ≡ Some pair → stays_below old.to pair.key ≡ true → at ≡ position_within d f.counts.length pair.row → Rose told t old start mid → IfTold next (ReadsFew f at mid after)
+    → IfTold told (λ m. (s : TableState) → HasTable d old t f s m → FailsInFew d s old start after)
+failed_row told next d old t u f c pair at start mid after pointed stand sound same off g comes is may place rose few = λ m held s h.
+    let then = g.others.told m held in
+    let n : Holding = then.0 in
+    let pairs : List Pair = listed d (suc old.key) s.rows in
+    let list = next_pair old.reached pairs c pair is (next_in d old t f s m told (Some c) h held comes) in
+    let w = met d old t f s m n pair pointed stand sound same off then.2 h list in
+    let there : row_at at s.rows ≡ Some w.row = subst (λ (p : ℕ). row_at p s.rows ≡ Some w.row) (sym (place ∙ w.place)) w.there in
+    let all = few_row told next d old t u f c pair at w.row.values start mid after pointed stand sound same off g comes is place rose few m held s h in
+    record {
+      next = Some w.row;
+      comes = (w.there, coming d (record old { reached = Behind c }) s.rows, come_next old.reached old.to pairs pair c list may is ∙ ap (λ (p : Pair). p ∷ coming d (record old { reached = Behind c }) s.rows) (sym w.is));
+      few = subst (λ (o : Option StoredRow). RoseBySearches (searches old.reached) (length pairs) (row_cost d o) start after) there all;
+    }
 
 -- ---- refusals
 

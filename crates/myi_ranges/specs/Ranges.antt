@@ -1,6 +1,6 @@
 -- A reading of the rows whose key lies between bounds: how far it came, which pairs of the key's tree are still to come, what is
 -- asked of the two files of the table, and how often these are asked.
-use Rattle.std.specs.Prelude.{◌≡◌, ◌+◌, ◌*◌, ◌^◌, ◌≤◌, ℕ, suc, Bool, true, false, ◌&&◌, min, List, [], ◌∷◌, filter, length, Option, Some, None}
+use Rattle.std.specs.Prelude.{◌≡◌, ◌+◌, ◌*◌, ◌^◌, ◌≤◌, ℕ, suc, Bool, true, false, ◌&&◌, min, List, [], ◌∷◌, filter, length, Option, Some, None, MatchOption}
 use Rattle.std.specs.Ordering.{is_lt}
 use Rattle.myi_base.specs.Holding.{Holding, Told, OthersStay, blocks}
 use Rattle.myi_defs.specs.declared.types.RowFormat.{RowFormat}
@@ -159,3 +159,14 @@ row_cost d (Some r) = row_cost_by d.format d.slot_length r
 abbrev pub ReadInFew : Defs → TableState → RangeRows → Option (ℕ × Values) → ℕ → ℕ → Type 0
 ReadInFew d s old None before after = RoseBySearches (searches old.reached) (length (listed d (suc old.key) s.rows)) 0 before after
 ReadInFew d s old (Some (at, values)) before after = RoseBySearches (searches old.reached) (length (listed d (suc old.key) s.rows)) (row_cost d (row_at at s.rows)) before after
+
+-- the row is the first to come
+abbrev pub IsFirstToCome : Defs → TableState → RangeRows → StoredRow → Type 0
+IsFirstToCome d s old r = (row_at r.at s.rows ≡ Some r) × (others : List Pair) × (coming d old s.rows ≡ pair_of_row d (suc old.key) r ∷ others)
+
+-- Where a fault is answered: the files were read no more often than the searches of the tree may count for, and, where it was come to, the
+-- first row to come.
+pub record FailsInFew (d : Defs) (s : TableState) (old : RangeRows) (before after : ℕ) : Type 0 where
+  pub next : Option StoredRow
+  pub comes : MatchOption next (Unit {0}) (IsFirstToCome d s old)
+  pub few : RoseBySearches (searches old.reached) (length (listed d (suc old.key) s.rows)) (row_cost d next) before after

@@ -17,7 +17,7 @@ ghost use Rattle.myi_keytrees.specs.Standing.{list_of, IfStand, CanSearch};
 ghost use Rattle.myi_tablestate.specs.Matching.{stays_below};
 ghost use Rattle.myi_ranges.specs.declared.fault.RangeFault.TheVariants.{Index, Data};
 ghost use Rattle.myi_ranges.specs.declared.ranges.Reached.TheVariants.{Key, Behind, End};
-ghost use Rattle.myi_ranges.specs.Ranges.{begin_at, is_left, ReadsAhead, ComesTo, coming, position_within, Searched, HasTable, Answers, NeverDamaged, searches, RoseBySearches, ReadInFew};
+ghost use Rattle.myi_ranges.specs.Ranges.{begin_at, is_left, ReadsAhead, ComesTo, coming, position_within, Searched, HasTable, Answers, NeverDamaged, searches, RoseBySearches, ReadInFew, FailsInFew};
 
 use crate::fault::RangeFault;
 use myi_blocks::rows_of_states_stand;
@@ -252,7 +252,8 @@ impl RangeRows {
 
     /// The next row and its position, and None where none is to come. The files are those of one table, of whose pairs
     /// the next ones were read ahead (`HasTable`), and are so afterwards. After a refusal the reading is at its end, and
-    /// answers None from then on. What a row takes is said where one is answered, and what searches take always.
+    /// answers None from then on. What a row takes is said where one is answered or could not be read, and what searches
+    /// take always.
     pub fn next_row<F: Files>(
         &mut self,
         files: &mut F,
@@ -283,6 +284,9 @@ impl RangeRows {
         ensures few { IfOk result (λ row. IfTold (F.holds files.old) (λ m. (s : TableState)
             → HasTable defs.now self.old trees.old rows.old.file s m
             → ReadInFew defs.now s self.old row (F.reads files.old) (F.reads files.new))) }
+        ensures failed { IfErr result (λ f. IfTold (F.holds files.old) (λ m. (s : TableState)
+            → HasTable defs.now self.old trees.old rows.old.file s m
+            → FailsInFew defs.now s self.old (F.reads files.old) (F.reads files.new))) }
         ensures asked { IfStand (F.holds files.old) trees.old (λ m own lists.
             RoseBySearches (searches self.old.reached) (length (list_of lists self.old.key)) 0
             trees.old.cache.counters.read_requests trees.new.cache.counters.read_requests) }

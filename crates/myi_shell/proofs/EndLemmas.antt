@@ -46,6 +46,10 @@ on_ok P Q (Err e) f p = tt
 told_ok : (P : Type 0) (result mine : Result (Unit {0}) ShellFault) → result ≡ mine → OnOk mine P → OnOk result P
 told_ok P result mine is h = subst (λ r. OnOk r P) (sym is) h
 
+pub in_ok : {T E : Type 0} (result : Result T E) (P : Type 0) → P → OnOk result P
+in_ok (Ok x) P p = p
+in_ok (Err e) P p = tt
+
 always : {T E : Type 0} (result : Result T E) → OnOk result (Unit {0})
 always (Ok done) = tt
 always (Err e) = tt

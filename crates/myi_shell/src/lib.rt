@@ -6,9 +6,10 @@
 //! script's text, with the numbers of reads and counters within their bounds.
 //!
 //! One thread does all steps here. In a round of kind Together the reads of all sessions go first,
-//! and then the inserts; callers may rely on the bounds of the numbers alone. A session that holds
-//! READ or READ LOCAL sees the rows that stood below the length that the data file had when it
-//! took the lock.
+//! and then the inserts; callers may rely on the bounds of the numbers alone, but where the output
+//! failed: of that the contract tells with the numbers of one thread. A session that holds READ or
+//! READ LOCAL sees the rows that stood below the length that the data file had when it took the
+//! lock.
 //!
 //! - `ScriptRun` (`script_run.rt`): the locks, the number of changes, and what the sessions' locks
 //!   see; its methods do one step, one run and one round.

@@ -1,11 +1,10 @@
 -- All rows between bounds, by a reading that is run to its end.
-use Rattle.std.proofs.Common.{◌≡◌, ◌≢◌, ℕ, zero, suc, ◌+◌, ◌*◌, ◌<◌, ◌≤◌, Bool, true, false, Option, Some, None, Result, Ok, Err, List, [], ◌∷◌, ◌++◌, length, map, slice_index_or, refl, sym, ap, subst, ◌∙◌, arith, inr, append_assoc}
-use Rattle.std.specs.Prelude.{nat_lt, sum_by, IfSome}
+use Rattle.std.proofs.Common.{◌≡◌, ◌≢◌, ℕ, zero, suc, ◌+◌, ◌*◌, ◌<◌, ◌≤◌, Bool, true, false, Option, Some, None, List, [], ◌∷◌, ◌++◌, length, map, refl, sym, ap, subst, ◌∙◌, arith, append_assoc}
+use Rattle.std.specs.Prelude.{nat_lt, IfSome, MatchOption}
 use Rattle.std.specs.List.{AllByRecursion}
 use Rattle.std.proofs.lemmas.Bool.Decides.{nat_tests}
 use Rattle.std.proofs.lemmas.List.{append-nil, map-append, length_push}
 use Rattle.std.proofs.lemmas.List.Sums.{sum_by_push}
-use Rattle.std.proofs.lemmas.Option.{same_Some}
 use Rattle.myi_base.specs.Holding.{Holding, Told, OthersStay}
 use Rattle.myi_base.proofs.CallerLemmas.{told_then}
 use Rattle.myi_defs.specs.declared.types.Defs.{Defs}
@@ -20,7 +19,7 @@ use Rattle.myi_tablestate.specs.Keyed.{IsTable}
 use Rattle.myi_tablestate.specs.Listed.{placed, pair_of_row, listed}
 use Rattle.myi_tablestate.specs.Matching.{Bounds, AreMatching}
 use Rattle.myi_ranges.specs.declared.ranges.RangeRows.{RangeRows}
-use Rattle.myi_ranges.specs.Ranges.{begin_at, searches, coming, ReadsAhead, Answers, RoseBySearches, ReadInFew, row_cost_by, row_cost}
+use Rattle.myi_ranges.specs.Ranges.{begin_at, searches, coming, ReadsAhead, Answers, RoseBySearches, ReadInFew, IsFirstToCome, FailsInFew, row_cost_by, row_cost}
 use Rattle.myi_opening.specs.Names.{index_file}
 use Rattle.myi_keyedrows.specs.declared.keyed_rows.KeyedRows.{KeyedRows}
 use Rattle.myi_keyedrows.specs.KeyedRows.{IsLeft}
@@ -30,7 +29,7 @@ use Rattle.myi_table.specs.declared.fault.ReadFault.{ReadFault}
 use Rattle.myi_table.specs.declared.fault.ReadFault.TheVariants as reading
 use Rattle.myi_table.specs.Faults.{NeverDamaged, IsBrokenFor}
 use Rattle.myi_table.specs.Table.{OpenTable, defs_in, IfHolds, StillHolds, IsSame}
-use Rattle.myi_table.specs.Reading.{IsAhead, IsSameReading, begun, bounds_of, cost_of, AnswersRange}
+use Rattle.myi_table.specs.Reading.{IsAhead, IsSameReading, IfBroken, begun, bounds_of, cost_of, AnswersRange, ReadsInRange}
 
 -- ---- all rows
 
@@ -181,6 +180,13 @@ never_before told mid P reading.Memory is never = tt
 pub broken_before : (old half : Option Cause) (f : ReadFault) → half ≡ old → IsBrokenFor half f → IsBrokenFor old f
 broken_before old half f same is = subst (λ (o : Option Cause). IsBrokenFor o f) same is
 
+-- a table that is not broken does not refuse a reading for that
+pub not_for_broken : (broken : Option Cause) (P : Type 0) (f : ReadFault) → broken ≡ None → IsBrokenFor broken f → IfBroken f P
+not_for_broken broken P (reading.Broken by) none is = absurd (let e : ◌≡◌ {A = Option Cause} None (Some by) = sym none ∙ is in cc)
+not_for_broken broken P (reading.Damaged at) none is = tt
+not_for_broken broken P reading.File none is = tt
+not_for_broken broken P reading.Memory none is = tt
+
 -- a row more was answered
 pub came_next : (told mid : Option Holding) (old half : OpenTable) (range : Range) (now next : RangeRows) (before middle after : ℕ) (rows : List (ℕ × Values)) (answer : Option (ℕ × Values)) (row : ℕ × Values)
     → answer ≡ Some row → IsSame old half → IsSameReading (begun range) now → IfSome answer (λ found. searches next.reached ≤ 1) → StillHolds told mid old half → IfHolds told old (λ m s. Came (defs_in old) s (begun range) now before middle rows)
@@ -203,3 +209,61 @@ came_end told mid old half range now next before middle after rows answer is law
     let answered = subst (λ (d : Defs). Answers d s now next None) same.defs (subst (λ (o : Option (ℕ × Values)). Answers (defs_in half) s now next o) is (answers then.0 then.1 s then.2)) in
     let cheap = subst (λ (d : Defs). ReadInFew d s now None middle after) same.defs (subst (λ (o : Option (ℕ × Values)). ReadInFew (defs_in half) s now o middle after) is (few then.0 then.1 s then.2)) in
     came_all (defs_in old) s range now next before middle after rows law sound h.files.table.table (ap (λ (q : RangeRows). q.key) reading) (came m held s h) answered cheap
+
+-- ---- how often the files are read, whatever is answered
+
+pub reads_none : (d : Defs) (s : TableState) (range : Range) (at : ℕ) → ReadsInRange d s range at at
+reads_none d s range at = record {
+  read = [];
+  others = coming d (begun range) s.rows;
+  first = refl;
+  few = record { levels = 0; fit = omega arith; few = omega arith };
+}
+
+reads_so_far : (d : Defs) (s : TableState) (range : Range) (now : RangeRows) (before at : ℕ) (rows : List (ℕ × Values)) → Came d s (begun range) now before at rows → ReadsInRange d s range before at
+reads_so_far d s range now before at rows c = record {
+  read = c.found;
+  others = coming d now s.rows;
+  first = c.coming;
+  few = rose_less c.times (length c.found + 2) (length (listed d (suc range.key) s.rows)) (cost_of d c.found) before at (let left = c.left in omega (arith, left)) c.few;
+}
+
+-- and those that a call which answers no row may count for
+reads_failed : (d : Defs) (s : TableState) (range : Range) (now : RangeRows) (before mid after : ℕ) (rows : List (ℕ × Values)) → now.key ≡ range.key → Came d s (begun range) now before mid rows → FailsInFew d s now mid after → ReadsInRange d s range before after
+reads_failed d s range now before mid after rows key c failed = by failed.next failed.comes (subst (λ (k : ℕ). RoseBySearches (searches now.reached) (length (listed d (suc k) s.rows)) (row_cost d failed.next) mid after) key failed.few)
+  where
+    by : (o : Option StoredRow) → MatchOption o (Unit {0}) (IsFirstToCome d s now) → RoseBySearches (searches now.reached) (length (listed d (suc range.key) s.rows)) (row_cost d o) mid after → ReadsInRange d s range before after
+    by None none few =
+        let all = rose_both c.times (searches now.reached) (length (listed d (suc range.key) s.rows)) (cost_of d c.found) 0 before mid after c.few few in
+        let same : cost_of d c.found + 0 ≡ cost_of d c.found = omega arith in
+        record {
+          read = c.found;
+          others = coming d now s.rows;
+          first = c.coming;
+          few = rose_less (c.times + searches now.reached) (length c.found + 2) (length (listed d (suc range.key) s.rows)) (cost_of d c.found) before after c.left (subst (λ (n : ℕ). RoseBySearches (c.times + searches now.reached) (length (listed d (suc range.key) s.rows)) n before after) same all);
+        }
+    by (Some r) (there, others, order) few =
+        let all = rose_both c.times (searches now.reached) (length (listed d (suc range.key) s.rows)) (cost_of d c.found) (row_cost_by d.format d.slot_length r) before mid after c.few few in
+        let sum : cost_of d (c.found ++ r ∷ []) ≡ cost_of d c.found + row_cost_by d.format d.slot_length r = sum_by_push (λ (q : StoredRow). row_cost_by d.format d.slot_length q) c.found r in
+        record {
+          read = c.found ++ r ∷ [];
+          others = others;
+          first = c.coming ∙ ap (λ (q : List Pair). map (pair_of_row d (suc range.key)) c.found ++ q) (order ∙ ap (λ (k : ℕ). pair_of_row d (suc k) r ∷ others) key)
+              ∙ sym (append_assoc (map (pair_of_row d (suc range.key)) c.found) (pair_of_row d (suc range.key) r ∷ []) others) ∙ ap (λ (q : List Pair). q ++ others) (sym (map-append (pair_of_row d (suc range.key)) c.found (r ∷ [])));
+          few = rose_less (c.times + searches now.reached) (length (c.found ++ r ∷ []) + 2) (length (listed d (suc range.key) s.rows)) (cost_of d (c.found ++ r ∷ [])) before after (let left = c.left in let long = length_push c.found r in omega (arith, left, long))
+              (subst (λ (n : ℕ). RoseBySearches (c.times + searches now.reached) (length (listed d (suc range.key) s.rows)) n before after) (sym sum) all);
+        }
+
+pub reads_now : (told : Option Holding) (old : OpenTable) (range : Range) (now : RangeRows) (before at : ℕ) (rows : List (ℕ × Values)) → IfHolds told old (λ m s. Came (defs_in old) s (begun range) now before at rows) → IfHolds told old (λ m s. ReadsInRange (defs_in old) s range before at)
+reads_now told old range now before at rows came = λ m held s h. reads_so_far (defs_in old) s range now before at rows (came m held s h)
+
+pub reads_fail : (told mid : Option Holding) (old half : OpenTable) (range : Range) (now : RangeRows) (before middle after : ℕ) (rows : List (ℕ × Values)) → IsSame old half → IsSameReading (begun range) now → StillHolds told mid old half
+    → IfHolds told old (λ m s. Came (defs_in old) s (begun range) now before middle rows) → IfHolds mid half (λ m s. FailsInFew (defs_in half) s now middle after) → IfHolds told old (λ m s. ReadsInRange (defs_in old) s range before after)
+reads_fail told mid old half range now before middle after rows same reading still came failed = λ m held s h.
+    let then = still m held s h in
+    reads_failed (defs_in old) s range now before middle after rows (ap (λ (q : RangeRows). q.key) reading) (came m held s h) (subst (λ (d : Defs). FailsInFew d s now middle after) same.defs (failed then.0 then.1 s then.2))
+
+pub reads_end : (told mid : Option Holding) (old half : OpenTable) (range : Range) (now : RangeRows) (before middle after : ℕ) (rows : List (ℕ × Values)) (answer : Option (ℕ × Values)) → answer ≡ None → IsSame old half → IsSameReading (begun range) now → StillHolds told mid old half
+    → IfHolds told old (λ m s. Came (defs_in old) s (begun range) now before middle rows) → IfHolds mid half (λ m s. ReadInFew (defs_in half) s now answer middle after) → IfHolds told old (λ m s. ReadsInRange (defs_in old) s range before after)
+reads_end told mid old half range now before middle after rows answer is same reading still came few =
+    reads_fail told mid old half range now before middle after rows same reading still came (λ m held s h. record { next = None; comes = tt; few = subst (λ (o : Option (ℕ × Values)). ReadInFew (defs_in half) s now o middle after) is (few m held s h) })

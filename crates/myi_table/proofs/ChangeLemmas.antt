@@ -17,8 +17,9 @@ use Rattle.myi_opening.specs.Names.{rows_file}
 use Rattle.myi_keyedrows.specs.declared.keyed_rows.KeyedRows.{KeyedRows}
 use Rattle.myi_keyedrows.specs.declared.fault.KeyedFault.{KeyedFault}
 use Rattle.myi_keyedrows.specs.declared.fault.KeyedFault.TheVariants as kf
-use Rattle.myi_keyedrows.specs.KeyedRows.{defs_of, HoldThen, IsSameTable}
+use Rattle.myi_keyedrows.specs.KeyedRows.{defs_of, HoldThen, IsSameTable, IsLeft}
 use Rattle.myi_keyedrows.specs.KeyedRows as keyed
+use Rattle.myi_keyedrows.specs.Refusals as causes
 use Rattle.myi_keyedrows.specs.Files.{AreOfKeys}
 use Rattle.myi_keyedrows.proofs.CallerLemmas.{step_reached, still_files}
 use Rattle.myi_table.specs.declared.fault.Cause.{Cause}
@@ -26,6 +27,7 @@ use Rattle.myi_table.specs.declared.fault.ChangeFault.{ChangeFault}
 use Rattle.myi_table.specs.declared.fault.ChangeFault.TheVariants as fault
 use Rattle.myi_table.specs.Faults.{of_rows, broken_by_fault}
 use Rattle.myi_table.specs.Table.{OpenTable, defs_in, HoldState, HoldsThen, IsKept, StillHolds, Makes, IsReplyOf, Refuses, IfReply, IsBroken, IsSame, KeepsRows, ChangesItsOwn}
+use Rattle.myi_table.specs.Refusals.{ByCause}
 use Rattle.myi_table.specs.Tied.{IsTied}
 
 -- the table with other rows and trees
@@ -131,6 +133,7 @@ tied_again old rows changed broken defs index t fit made counted same = record {
   index = t.index;
   rest = t.rest;
   setup = counted.setup ∙ t.setup;
+  allowed = t.allowed;
   fewer = t.fewer;
 }
 
@@ -169,3 +172,25 @@ refused_rows told next t defs index f tied apart = if_reply f _ _ (rows_kept tol
 -- and so does one that changes no file
 pub untouched_rows : (told next : Option Holding) (t : OpenTable) (f : KeyedFault) → keyed.IfReply f (next ≡ told) → IfReply (of_rows f) (Told told next (KeepsRows t.name))
 untouched_rows told next t f same = if_reply f _ _ (λ e. subst (λ (q : Option Holding). Told told q (KeepsRows t.name)) (sym e) (record { told = λ m held. (m, held, refl); untold = λ none. none })) same
+
+-- ---- over any files
+
+pub by_rows : (N : ℕ → Type 0) (H P : Type 0) (f : KeyedFault) → causes.ByCause N H P f → ByCause N H P (of_rows f)
+by_rows N H P (kf.Duplicate key at) by = by
+by_rows N H P (kf.NoRow at) by = by
+by_rows N H P kf.Full by = by
+by_rows N H P (kf.Damaged at) by = tt
+by_rows N H P kf.File by = tt
+by_rows N H P kf.Memory by = tt
+
+pub any_room : (N : ℕ → Type 0) (H P : Type 0) (f : ChangeFault) → ByCause N H P f → ByCause N H (Unit {0}) f
+any_room N H P (fault.Broken cause) by = tt
+any_room N H P (fault.NoRow at) by = by
+any_room N H P (fault.Duplicate key at) by = by
+any_room N H P fault.Full by = tt
+any_room N H P (fault.Damaged at) by = tt
+any_room N H P fault.File by = tt
+any_room N H P fault.Memory by = tt
+
+pub left_rows : (old : OpenTable) (rows : KeyedRows) (broken : Option Cause) (f : KeyedFault) → keyed.IfReply f (IsLeft old.rows rows) → IfReply (of_rows f) (IsLeft old.rows (with_rows old rows old.changed broken).rows)
+left_rows old rows broken f left = if_reply f _ _ (λ l. l) left

@@ -1,12 +1,13 @@
 -- What the two files of a table are when it is closed.
-use Rattle.std.proofs.Common.{◌≡◌, ◌≢◌, ℕ, Bool, true, zero, suc, ◌+◌, ◌^◌, ◌<◌, List, [], ◌∷◌, ◌++◌, length, take, drop, replicate, ◌-◌, map, All, HoldsAt, Option, Some, refl, sym, ap, subst, ◌∙◌, arith}
+use Rattle.std.proofs.Common.{◌≡◌, ◌≢◌, ℕ, Bool, true, zero, suc, ◌+◌, ◌^◌, ◌<◌, List, [], ◌∷◌, ◌++◌, length, take, drop, replicate, ◌-◌, map, All, HoldsAt, Option, Some, refl, sym, ap, subst, ◌∙◌, arith, inl, inr}
 use Rattle.std.proofs.lemmas.Option.{same_Some}
 use Rattle.std.specs.Prelude.{unwrap_or}
 use Rattle.std.specs.List.{AllByRecursion}
-use Rattle.myi_base.specs.Holding.{Holding, bytes_of, overwritten, Told, IfTold, OthersStay, Cuts, Writes}
+use Rattle.myi_base.specs.Holding.{Holding, bytes_of, overwritten, Told, IfTold, OthersStay, Cuts, CutsOrKeeps, Writes, WritesPart}
 use Rattle.myi_base.proofs.CallerLemmas.{told_then}
 use Rattle.myi_defs.specs.declared.types.Defs.{Defs}
 use Rattle.myi_defs.specs.ReadDefs.{AreDefs}
+use Rattle.myi_defs.specs.Sound.{IsSound}
 use Rattle.myi_defs.specs.Elsewhere.{AgreeOutsideState}
 use Rattle.myi_header.specs.declared.state.State.{State}
 use Rattle.myi_header.specs.Layout.{first_page_of}
@@ -21,8 +22,10 @@ use Rattle.myi_state.specs.State.{TableState}
 use Rattle.myi_slots.specs.SlotFile.{SlotFile, counts_in}
 use Rattle.myi_state.specs.declared.counts.Counts.{Counts}
 use Rattle.myi_keytrees.specs.Trees.{Trees, kinds}
-use Rattle.myi_keytrees.specs.Standing.{StillStand}
-use Rattle.myi_keytrees.specs.InFile.{bytes_of_free}
+use Rattle.myi_keylist.specs.declared.pair.Pair.{Pair}
+use Rattle.myi_keytrees.specs.Standing.{Stand, StillStand}
+use Rattle.myi_keytrees.specs.InFile.{bytes_of_free, StandIn}
+use Rattle.myi_rowtrees.specs.RowLists.{lists_of}
 use Rattle.myi_tablestate.specs.Standing.{StandForTable}
 use Rattle.myi_opening.specs.Names.{rows_file, index_file}
 use Rattle.myi_keyedrows.specs.declared.keyed_rows.KeyedRows.{KeyedRows}
@@ -30,7 +33,7 @@ use Rattle.myi_keyedrows.specs.KeyedRows.{defs_of, IsFit, IsLeft}
 use Rattle.myi_keyedrows.specs.Files.{AreOfKeys, HoldFiles, IsHeaderOf, closed_index, defs_with}
 use Rattle.myi_keyedrows.proofs.CallerLemmas.{look_stands}
 use Rattle.myi_table.specs.Table.{OpenTable, defs_in, HoldState, StillHolds, IfHolds, IsSame, KeepsRows}
-use Rattle.myi_table.specs.Closing.{closing_state, HasState, IsClosed}
+use Rattle.myi_table.specs.Closing.{closing_state, HasState, TreesStand, IsClosed}
 use Rattle.myi_table.specs.Tied.{IsTied}
 use Rattle.myi_table.proofs.ChangeLemmas.{with_rows, still_rows, tied_again}
 
@@ -60,6 +63,23 @@ pub written_tied : (t : OpenTable) (trees : Trees) (defs : Defs) (index : List �
 written_tied t trees defs index tied places room name counted =
     tied_again t (record { rows = t.rows.rows; trees = trees }) t.changed t.broken defs index tied (written_fit t.rows trees tied.fit places room name) (ap kinds places) counted (record { defs = refl; file = refl; index = name })
 
+some_page : (d : Defs) → IsSound d → 0 < first_page_of d
+some_page d s = omega (arith, s.header, s.base_inside, s.base)
+
+-- where all pages are written the trees stand in the file
+abbrev pub WrittenStand : Type 0
+WrittenStand = (trees : Trees) (m : Holding) (own : ℕ → ℕ) (lists : List (List Pair)) (first : ℕ) → 0 < first → AllWritten (pages_of trees.cache) → ((x : ℕ) → x < first → own x ≡ 0) → (s : Stand trees m own lists) → StandIn (bytes_of trees.cache.name m) first trees.room.end trees.places lists s.pages
+
+pub written_stand : (told next : Option Holding) (old new : OpenTable) (defs : Defs) (index : List ℕ) → WrittenStand → IsTied new defs index → AllWritten (pages_of new.rows.trees.cache) → StillHolds told next old new → IfHolds told old (λ m s. IfTold next (TreesStand new s))
+written_stand told next old new defs index law tied written still = λ m held s h n then.
+    let g = still m held s h in
+    let here : HoldState new s n = subst (λ (q : Holding). HoldState new s q) (same_Some g.0 n (sym g.1 ∙ then)) g.2 in
+    let trees = here.files.table.trees in (
+      trees.pages,
+      subst (λ (name : List ℕ). StandIn (bytes_of name n) (first_page_of (defs_in new)) new.rows.trees.room.end new.rows.trees.places (lists_of (defs_in new) s.rows) trees.pages) tied.index_named
+          (law new.rows.trees n here.own (lists_of (defs_in new) s.rows) (first_page_of (defs_in new)) (some_page (defs_in new) tied.fit.sound) written here.files.behind trees),
+    )
+
 -- ---- the data file
 
 -- it stays where the index file is cut and its header is written
@@ -67,6 +87,21 @@ pub rows_closed : (told mid low end : Option Holding) (t now : OpenTable) (defs 
 rows_closed told mid low end t now defs index h n tied name kept cut write =
     let apart : rows_file t.name ≢ index = λ e. tied.fit.apart (tied.rows_named ∙ ap rows_file name ∙ e ∙ tied.index ∙ sym tied.index_named) in
     told_then told low end _ _ (KeepsRows t.name) (told_then told mid low _ _ (KeepsRows t.name) kept cut (λ l m k keeps cuts. cuts.others (rows_file t.name) apart ∙ keeps)) write (λ l m k keeps writes. writes.others (rows_file t.name) apart ∙ keeps)
+
+-- a call that failed changed no other file
+pub cut_stays : (name : List ℕ) (size : ℕ) (m n : Holding) → CutsOrKeeps name size m n → OthersStay name m n
+cut_stays name size m n (inl keeps) q other = ap (λ (h : Holding). h q) keeps
+cut_stays name size m n (inr cuts) q other = cuts.others q other
+
+pub write_stays : (name : List ℕ) (at : ℕ) (bytes : List ℕ) (m n : Holding) → WritesPart name at bytes m n → OthersStay name m n
+write_stays name at bytes m n (inl keeps) q other = ap (λ (h : Holding). h q) keeps
+write_stays name at bytes m n (inr (k, few, writes)) q other = writes.others q other
+
+-- and where another file alone is changed
+pub rows_stay : (told mid next : Option Holding) (t now : OpenTable) (defs : Defs) (index other : List ℕ) → IsTied now defs index → now.name ≡ t.name → other ≡ index → Told told mid (KeepsRows t.name) → Told mid next (OthersStay other) → Told told next (KeepsRows t.name)
+rows_stay told mid next t now defs index other tied name is kept stay =
+    let apart : rows_file t.name ≢ other = λ e. tied.fit.apart (tied.rows_named ∙ ap rows_file name ∙ e ∙ is ∙ tied.index ∙ sym tied.index_named) in
+    told_then told mid next _ _ (KeepsRows t.name) kept stay (λ l m k keeps stays. stays (rows_file t.name) apart ∙ keeps)
 
 -- ---- the state
 

@@ -7,3 +7,4 @@ pub mod RangeLemmas
 pub mod ScanLemmas
 pub mod AllLemmas
 pub mod OtherFiles
+pub mod AgainLemmas

@@ -42,6 +42,7 @@ use Rattle.myi_table.specs.declared.fault.LoadFault.TheVariants as load
 use Rattle.myi_table.specs.Faults.{of_opening, of_state}
 use Rattle.myi_table.specs.Table.{OpenTable, defs_in}
 use Rattle.myi_table.specs.Loading.{marked_by, loaded_by, table_in, IsLoaded, IsCutOff, IsRefused}
+use Rattle.myi_keycache.specs.Setup.{IsSetup}
 use Rattle.myi_table.specs.Tied.{IsTied}
 
 ok_same : {A E : Type 0} (x y : A) → ◌≡◌ {A = Result A E} (Ok x) (Ok y) → x ≡ y
@@ -224,6 +225,7 @@ pub record AreFirst (t : OpenTable) (d : Defs) : Type 0 where
   pub pointers : AllByRecursion (λ (p : Place). p.rec_ref ≡ d.rec_ref) t.rows.trees.places
   pub whole : IsWhole t.rows.trees.room
   pub setup : t.rows.trees.cache.setup ≡ t.setup
+  pub allowed : IsSetup t.setup
   pub fewer : t.added.reads ≤ t.added.read_requests
 
 pub is_tied : (t : OpenTable) (d : Defs) (begin : ℕ) (index : List ℕ) → AreDefs d → AreOpened t d begin → AreFirst t d → IsRead d d.raw t.header → index ≡ index_file t.name → IsTied t d index
@@ -248,6 +250,7 @@ is_tied t d begin index are o f read named =
       index = named;
       rest = ap (λ (s : State). length s.rest) read.state ∙ state-rest d d.raw good (omega arith);
       setup = f.setup;
+      allowed = f.allowed;
       fewer = f.fewer;
     }
 

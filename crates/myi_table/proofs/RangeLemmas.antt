@@ -1,10 +1,6 @@
 -- Reading the rows between bounds: one row more.
-use Rattle.std.proofs.Common.{◌≡◌, ◌≢◌, ℕ, zero, suc, ◌+◌, ◌*◌, ◌<◌, ◌≤◌, Bool, true, false, Option, Some, None, Result, Ok, Err, List, [], ◌∷◌, ◌++◌, length, map, slice_index_or, refl, sym, ap, subst, ◌∙◌, arith, inr, append_assoc}
-use Rattle.std.specs.Prelude.{nat_lt, sum_by, IsTrue, IfErr}
-use Rattle.std.specs.List.{AllByRecursion}
-use Rattle.std.proofs.lemmas.Bool.Decides.{nat_tests}
-use Rattle.std.proofs.lemmas.List.{append-nil, map-append, length_push}
-use Rattle.std.proofs.lemmas.List.Sums.{sum_by-append}
+use Rattle.std.proofs.Common.{◌≡◌, ◌≢◌, ℕ, zero, suc, ◌+◌, ◌*◌, ◌<◌, ◌≤◌, Bool, false, Option, None, Err, List, [], ◌∷◌, ◌++◌, length, map, slice_index_or, refl, sym, ap, subst, ◌∙◌, arith, inr}
+use Rattle.std.specs.Prelude.{IsTrue}
 use Rattle.std.proofs.lemmas.Option.{same_Some}
 use Rattle.myi_base.specs.Holding.{Holding, IfTold, Told}
 use Rattle.myi_base.specs.Causes.{HasCause}
@@ -15,25 +11,19 @@ use Rattle.myi_keylist.specs.declared.pair.Pair.{Pair}
 use Rattle.myi_data.specs.Readable.{readable}
 use Rattle.myi_btree.specs.declared.fault.TreeFault.TheVariants as tree
 use Rattle.myi_slots.specs.declared.fault.DataFault.TheVariants as read
-use Rattle.myi_state.specs.State.{StoredRow, TableState, row_at}
-use Rattle.myi_state.specs.Sound.{IsRow}
+use Rattle.myi_state.specs.State.{StoredRow, TableState}
 use Rattle.myi_state.specs.Standing.{StandsFor, stored_row}
-use Rattle.myi_state.proofs.CallerLemmas.{found-is}
-use Rattle.myi_pair.specs.FirstRows.{key_numbers, numbers_from}
+use Rattle.myi_pair.specs.FirstRows.{numbers_from}
 use Rattle.myi_keytrees.specs.Trees.{Trees}
 use Rattle.myi_keytrees.specs.Standing.{list_of, CanSearch}
-use Rattle.myi_tablestate.specs.Keyed.{IsTable}
-use Rattle.myi_tablestate.specs.Listed.{placed, pair_of_row, listed}
-use Rattle.myi_tablestate.specs.Matching.{Bounds, AreMatching}
+use Rattle.myi_tablestate.specs.Listed.{listed}
 use Rattle.myi_rowtrees.specs.RowLists.{lists_of}
 use Rattle.myi_ranges.specs.declared.fault.RangeFault.{RangeFault}
 use Rattle.myi_ranges.specs.declared.fault.RangeFault.TheVariants as range
 use Rattle.myi_ranges.specs.declared.ranges.RangeRows.{RangeRows}
-use Rattle.myi_ranges.specs.Ranges.{begin_at, searches, ReadsAhead, Answers, HasTable, RoseBySearches, ReadInFew, row_cost_by, row_cost}
+use Rattle.myi_ranges.specs.Ranges.{ReadsAhead, Answers, HasTable, ReadInFew, FailsInFew}
 use Rattle.myi_ranges.specs.Ranges as ranges
-use Rattle.myi_ranges.specs.Ranges.{coming}
 use Rattle.myi_keyedrows.specs.KeyedRows.{IsFit}
-use Rattle.myi_table.specs.declared.ranges.Range.{Range}
 use Rattle.myi_table.specs.declared.fault.Cause.{Cause}
 use Rattle.myi_table.specs.declared.fault.ReadFault.{ReadFault}
 use Rattle.myi_table.specs.declared.fault.ReadFault.TheVariants as reading
@@ -82,6 +72,14 @@ row_answered told t r next d row same fit key ahead call = λ m held s h. subst 
 pub row_in_few : (told : Option Holding) (t : OpenTable) (r : RangeRows) (d : Defs) (row : Option (ℕ × Values)) (before after : ℕ) → defs_in t ≡ d → IsFit t.rows → HasKey t r → IfHolds told t (λ m s. IsAhead t r s)
     → IfTold told (λ m. (s : TableState) → HasTable d r t.rows.trees t.rows.rows.file s m → ReadInFew d s r row before after) → IfHolds told t (λ m s. ReadInFew (defs_in t) s r row before after)
 row_in_few told t r d row before after same fit key ahead call = λ m held s h. subst (λ (e : Defs). ReadInFew e s r row before after) (sym same) (call m held s (has_table t r s m d same fit key h (ahead m held s h)))
+
+pub row_failed : (told : Option Holding) (t : OpenTable) (r : RangeRows) (d : Defs) (before after : ℕ) → defs_in t ≡ d → IsFit t.rows → HasKey t r → IfHolds told t (λ m s. IsAhead t r s)
+    → IfTold told (λ m. (s : TableState) → HasTable d r t.rows.trees t.rows.rows.file s m → FailsInFew d s r before after) → IfHolds told t (λ m s. FailsInFew (defs_in t) s r before after)
+row_failed told t r d before after same fit key ahead call = λ m held s h. subst (λ (e : Defs). FailsInFew e s r before after) (sym same) (call m held s (has_table t r s m d same fit key h (ahead m held s h)))
+
+-- of a broken table nothing is read
+pub unread_failed : (told : Option Holding) (t : OpenTable) (r : RangeRows) (at : ℕ) → IfHolds told t (λ m s. FailsInFew (defs_in t) s r at at)
+unread_failed told t r at = λ m held s h. record { next = None; comes = tt; few = record { levels = 0; fit = omega arith; few = omega arith } }
 
 -- what is read in a file that stands for a state are its rows
 abbrev pub RowsAreRead : Type 0

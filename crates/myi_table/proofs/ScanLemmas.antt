@@ -1,8 +1,7 @@
 -- Reading all rows of a table, one after the other.
-use Rattle.std.proofs.Common.{◌≡◌, ℕ, ◌+◌, ◌<◌, ◌≤◌, false, List, [], ◌∷◌, ◌++◌, length, take, map, Option, Some, None, Result, Ok, Err, unwrap_or, refl, sym, ap, subst, ◌∙◌, arith, append_assoc}
+use Rattle.std.proofs.Common.{◌≡◌, ℕ, ◌+◌, ◌<◌, ◌≤◌, false, List, [], ◌∷◌, ◌++◌, length, map, Option, Some, None, Result, Ok, Err, unwrap_or, inl, inr, refl, sym, ap, subst, ◌∙◌, arith, append_assoc}
 use Rattle.std.proofs.lemmas.List.{append-nil, take_all}
 use Rattle.myi_base.specs.Holding.{Holding, IfTold, bytes_of}
-use Rattle.myi_base.specs.Causes.{HasCause}
 use Rattle.myi_defs.specs.declared.types.Defs.{Defs}
 use Rattle.myi_defs.specs.Sound.{IsSound}
 use Rattle.myi_pack.specs.Packed.{Values}
@@ -17,20 +16,20 @@ use Rattle.myi_chain.specs.Readable as chains
 use Rattle.myi_chain.specs.ScanModel.{fresh_scan, IsSameScan, as_item, as_items}
 use Rattle.myi_chain.proofs.CallerLemmas.{row_first}
 use Rattle.myi_data.specs.Readable.{items_in, readable}
-use Rattle.myi_data.specs.Scanning.{TableScan, items_ahead, rows_ahead, IsAsKnown, AfterTable}
+use Rattle.myi_data.specs.Scanning.{TableScan, items_ahead, rows_ahead, AfterTable}
 use Rattle.myi_data.proofs.CallerLemmas.{fresh_ahead, fresh_known}
 use Rattle.myi_state.specs.declared.counts.Counts.{Counts}
 use Rattle.myi_state.specs.State.{StoredRow, TableState}
 use Rattle.myi_state.specs.Numbers.{counts_of}
-use Rattle.myi_state.specs.Standing.{StandsFor, stored_row}
+use Rattle.myi_state.specs.Standing.{stored_row}
 use Rattle.myi_pair.specs.Clean.{values_of, placed_row}
 use Rattle.myi_tablestate.specs.Listed.{placed}
 use Rattle.myi_table.specs.declared.fault.Cause.{Cause}
 use Rattle.myi_table.specs.declared.fault.ReadFault.{ReadFault}
 use Rattle.myi_table.specs.declared.fault.ReadFault.TheVariants as reading
-use Rattle.myi_table.specs.Faults.{of_scan, ScanIsRefused}
+use Rattle.myi_table.specs.Faults.{of_scan}
 use Rattle.myi_table.specs.Table.{OpenTable, defs_in, HoldState}
-use Rattle.myi_table.specs.Reading.{rows_to_come, IsFirst, BeginsWithAll, GoesOn}
+use Rattle.myi_table.specs.Reading.{rows_to_come, IsFirst, BeginsWithAll, ScanStays}
 use Rattle.myi_table.proofs.RangeLemmas.{RowsAreRead}
 
 -- ---- where a scan begins
@@ -79,6 +78,28 @@ first_row d h old new found view bytes tested answer shows read = λ m told.
 
 pub no_row : (h : Option Holding) (old new : TableScan) → AfterTable Rows h old (Ok None) new → IfTold h (λ m. IsFirst (rows_to_come old m) (rows_to_come new m) None)
 no_row h old new answer = λ m told. ap (map (placed_row old.test)) (answer.0.told m told).0
+
+-- ---- refusals
+
+stays_same : (old new : TableScan) (m : Holding) → new.test ≡ old.test → items_ahead new m ≡ items_ahead old m → rows_to_come new m ≡ rows_to_come old m
+stays_same old new m test items = ap (λ (d : Defs). map (placed_row d) (rows_ahead new m)) test ∙ ap (λ (q : List chains.Item). map (placed_row old.test) (rows_of q)) items
+
+pub same_scan : (s : TableScan) → IsSameScan s s
+same_scan s = record { name = refl; test = refl; extend = refl; end = omega arith }
+
+pub broken_stays : (h : Option Holding) (s : TableScan) (f : ReadFault) (cause : Cause) → f ≡ reading.Broken cause → ScanStays f h s s
+broken_stays h s f cause is = subst (λ (e : ReadFault). ScanStays e h s s) (sym is) refl
+
+-- nothing was answered
+pub failed_stays : (h : Option Holding) (old new : TableScan) (e : ScanFault) → AfterTable Rows h old (Err e) new → ScanStays (of_scan e) h old new
+failed_stays h old new scan.File leaves = λ m told. stays_same old new m leaves.0.same.test (leaves.0.told m told)
+failed_stays h old new scan.Memory leaves = λ m told. inl (stays_same old new m leaves.0.same.test (leaves.0.told m told))
+
+-- a row was read, and could not be kept
+pub passed_stays : (d : Defs) (h : Option Holding) (old new : TableScan) (found : ℕ × Piece) (f : ReadFault) → AfterTable Rows h old (Ok (Some (as_item found))) new → f ≡ reading.Memory → ScanStays f h old new
+passed_stays d h old new found f leaves is = subst (λ (e : ReadFault). ScanStays e h old new) (sym is) (λ m told.
+    let given = row_first (items_ahead old m) (items_ahead new m) found.0 found.1 old.blocks new.blocks (leaves.0.told m told) in
+    inr (placed_row old.test given.0, ap (map (placed_row old.test)) given.1 ∙ ap (λ (u : Defs). placed_row old.test given.0 ∷ map (placed_row u) (rows_ahead new m)) (sym leaves.0.same.test)))
 
 -- ---- all rows
 

@@ -10,7 +10,8 @@ use Rattle.myi_btree.specs.declared.place.Place.{Place}
 use Rattle.myi_state.specs.State.{TableState}
 use Rattle.myi_tablestate.specs.Standing.{StandForTable}
 use Rattle.myi_opening.specs.Names.{rows_file, index_file}
-use Rattle.myi_keytrees.specs.InFile.{bytes_of_free}
+use Rattle.myi_keytrees.specs.InFile.{bytes_of_free, StandIn}
+use Rattle.myi_rowtrees.specs.RowLists.{lists_of}
 use Rattle.myi_keyedrows.specs.Files.{defs_with}
 use Rattle.myi_table.specs.Table.{OpenTable, defs_in}
 
@@ -52,6 +53,10 @@ pub record HasState (t : OpenTable) (h : List ℕ) : Type 0 where
   pub mark : has_mark (defs_in t) h ≡ true
   pub elsewhere : AgreeOutsideState (defs_in t).raw h
   pub state : state_of (defs_in t) h ≡ closing_state t
+
+-- The trees stand in the index file as it is, behind its header, each at its place with the pairs of its key.
+abbrev pub TreesStand : OpenTable → TableState → Holding → Type 0
+TreesStand t s m = (pages : List (List ℕ)) × StandIn (bytes_of (index_file t.name) m) (first_page_of (defs_in t)) t.rows.trees.room.end t.rows.trees.places (lists_of (defs_in t) s.rows) pages
 
 -- the two files stand for a state, by the definitions of the table with another header, which the index file begins with
 pub record IsClosed (t : OpenTable) (s : TableState) (m : Holding) : Type 0 where

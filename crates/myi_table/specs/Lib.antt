@@ -2,6 +2,8 @@
 
 -- a table that is loaded: when it stands for a state, and what a change does
 pub mod Table
+-- why a change is refused, over any files
+pub mod Refusals
 -- what the files of an empty table are when it is made
 pub mod Creating
 -- when a table is loaded, and why it is refused

@@ -1,16 +1,17 @@
 -- Reading the rows of a table, one after the other: which are still to come, and how often the files are asked for them.
-use Rattle.std.specs.Prelude.{◌≡◌, ◌+◌, ◌<◌, ◌≤◌, ℕ, suc, List, [], ◌∷◌, length, map, sum_by, Option, Some, None}
-use Rattle.myi_base.specs.Holding.{Holding}
+use Rattle.std.specs.Prelude.{◌≡◌, ◌⊎◌, ◌+◌, ◌<◌, ◌≤◌, ℕ, suc, List, [], ◌∷◌, ◌++◌, length, map, sum_by, Option, Some, None}
+use Rattle.myi_base.specs.Holding.{Holding, IfTold}
 use Rattle.myi_defs.specs.declared.types.Defs.{Defs}
 use Rattle.myi_pack.specs.Packed.{Values}
+use Rattle.myi_keylist.specs.declared.pair.Pair.{Pair}
 use Rattle.myi_pair.specs.Clean.{placed_row}
 use Rattle.myi_data.specs.Scanning.{TableScan, rows_ahead, IsAsKnown}
 use Rattle.myi_state.specs.State.{StoredRow, TableState}
-use Rattle.myi_tablestate.specs.Listed.{placed, listed}
+use Rattle.myi_tablestate.specs.Listed.{placed, pair_of_row, listed}
 use Rattle.myi_tablestate.specs.Matching.{Bounds, AreMatching}
 use Rattle.myi_ranges.specs.declared.ranges.RangeRows.{RangeRows}
 use Rattle.myi_ranges.specs.declared.ranges.Reached.TheVariants.{End}
-use Rattle.myi_ranges.specs.Ranges.{begin_at, ReadsAhead, RoseBySearches, row_cost_by}
+use Rattle.myi_ranges.specs.Ranges.{begin_at, coming, ReadsAhead, RoseBySearches, row_cost_by}
 use Rattle.myi_table.specs.declared.ranges.Range.{Range}
 use Rattle.myi_table.specs.declared.fault.ReadFault.{ReadFault}
 use Rattle.myi_table.specs.declared.fault.ReadFault.TheVariants as fault
@@ -36,6 +37,18 @@ pub record BeginsWithAll (scan : TableScan) (s : TableState) (m : Holding) : Typ
 abbrev pub GoesOn : TableScan → TableScan → Option (ℕ × Values) → Type 0
 GoesOn old new None = new.place ≡ new.end
 GoesOn old new (Some row) = (old.place < new.place) × (new.place ≤ new.end)
+
+-- the same rows are to come, or those behind the first of them
+abbrev pub ComeOrPassed : List (ℕ × Values) → List (ℕ × Values) → Type 0
+ComeOrPassed old new = (new ≡ old) ⊎ ((row : ℕ × Values) × (old ≡ row ∷ new))
+
+-- After a failed file call the same rows are to come; where memory was wanting the first of them may have been passed; of a broken
+-- table nothing was read.
+abbrev pub ScanStays : ReadFault → Option Holding → TableScan → TableScan → Type 0
+ScanStays (fault.Broken cause) told old new = new ≡ old
+ScanStays (fault.Damaged at) told old new = ⊥
+ScanStays fault.File told old new = IfTold told (λ m. rows_to_come new m ≡ rows_to_come old m)
+ScanStays fault.Memory told old new = IfTold told (λ m. ComeOrPassed (rows_to_come old m) (rows_to_come new m))
 
 -- ---- the rows of a key
 
@@ -88,3 +101,11 @@ pub record AnswersRange (d : Defs) (s : TableState) (range : Range) (before afte
   pub rows : answer ≡ map placed found
   pub matching : AreMatching d (suc range.key) (bounds_of range) s.rows found
   pub few : RoseBySearches (length found + 2) (length (listed d (suc range.key) s.rows)) (cost_of d found) before after
+
+-- The files were read no more often than some of the rows that match, the first ones, and two searches more than there are of these may
+-- count for.
+pub record ReadsInRange (d : Defs) (s : TableState) (range : Range) (before after : ℕ) : Type 0 where
+  pub read : List StoredRow
+  pub others : List Pair
+  pub first : coming d (begun range) s.rows ≡ map (pair_of_row d (suc range.key)) read ++ others
+  pub few : RoseBySearches (length read + 2) (length (listed d (suc range.key) s.rows)) (cost_of d read) before after

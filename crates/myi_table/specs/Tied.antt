@@ -4,6 +4,7 @@ use Rattle.myi_defs.specs.declared.types.Defs.{Defs}
 use Rattle.myi_defs.specs.ReadDefs.{AreDefs}
 use Rattle.myi_header.specs.StateOf.{rest_length}
 use Rattle.myi_opening.specs.Names.{rows_file, index_file}
+use Rattle.myi_keycache.specs.Setup.{IsSetup}
 use Rattle.myi_keyedrows.specs.KeyedRows.{IsFit}
 use Rattle.myi_keyedrows.specs.Files.{AreOfKeys}
 use Rattle.myi_table.specs.Table.{OpenTable, defs_in}
@@ -19,4 +20,5 @@ pub record IsTied (t : OpenTable) (read : Defs) (file : List ℕ) : Type 0 where
   pub index : file ≡ index_file t.name
   pub rest : length t.header.rest ≡ rest_length read
   pub setup : t.rows.trees.cache.setup ≡ t.setup
+  pub allowed : IsSetup t.setup
   pub fewer : t.added.reads ≤ t.added.read_requests

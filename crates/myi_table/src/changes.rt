@@ -12,9 +12,13 @@ impl Table {
     ghost use Rattle.myi_pack.specs.Spelling.{fits};
     ghost use Rattle.myi_search.specs.Counting.{CountsOn};
     ghost use Rattle.myi_state.specs.Changes.{insert, insert_at_end, delete, update};
-    ghost use Rattle.myi_slots.specs.SlotFile.{Adds, AddsNew};
+    ghost use Rattle.myi_slots.specs.SlotFile.{Adds, AddsNew, Never};
+    ghost use Rattle.myi_rows.specs.Refusals.{LacksRoom, LacksEnd, LacksOther, LacksReach};
+    ghost use Rattle.myi_keyedrows.specs.KeyedRows.{IsLeft};
+    ghost use Rattle.myi_keyedrows.specs.Refusals.{FindsNoneAt};
     ghost use Rattle.myi_table.specs.declared.fault.ChangeFault.TheVariants.{File};
     ghost use Rattle.myi_table.specs.Faults.{of_rows, broken_by_fault, broken_after};
+    ghost use Rattle.myi_table.specs.Refusals.{ByCause};
     ghost use Rattle.myi_table.specs.Table.{defs_in, IsKept, StillHolds, Makes, Refuses, IfReply, IsBroken, IsSame, KeepsRows, ChangesItsOwn};
 
     // Refuses a table that a change was cut off from.
@@ -56,6 +60,9 @@ impl Table {
         ensures appended { OnOk result (Told (F.holds files.old) (F.holds files.new)
             (AddsNew self.old.rows.rows.file self.new.rows.rows.file row.now)) }
         ensures refused { IfErr result (Refuses (insert row.now) (F.holds files.old) self.old) }
+        ensures causes { IfErr result (ByCause Never (Unit {0})
+            (LacksRoom self.old.rows.rows.file row.now (F.holds files.old))) }
+        ensures left { IfErr result (λ f. IfReply f (IsLeft self.old.rows self.new.rows)) }
         ensures unchanged { IfErr result (λ f. IfReply f
             (StillHolds (F.holds files.old) (F.holds files.new) self.old self.new)) }
         ensures rows { IfErr result (λ f. IfReply f
@@ -96,6 +103,9 @@ impl Table {
             (Adds self.old.rows.rows.file self.new.rows.rows.file row.now)) }
         ensures refused { IfErr result (Refuses (insert_at_end row.now) (F.holds files.old)
             self.old) }
+        ensures causes { IfErr result (ByCause Never (Unit {0})
+            (LacksEnd self.old.rows.rows.file row.now)) }
+        ensures left { IfErr result (λ f. IfReply f (IsLeft self.old.rows self.new.rows)) }
         ensures unchanged { IfErr result (λ f. IfReply f
             (StillHolds (F.holds files.old) (F.holds files.new) self.old self.new)) }
         ensures rows { IfErr result (λ f. IfReply f
@@ -132,6 +142,10 @@ impl Table {
         ensures made { OnOk result (Makes (delete at) (F.holds files.old) (F.holds files.new)
             self.old self.new at) }
         ensures refused { IfErr result (Refuses (delete at) (F.holds files.old) self.old) }
+        ensures causes { IfErr result (ByCause (FindsNoneAt self.old.rows.rows.file
+            self.new.rows.rows.places at (F.holds files.old)) ⊥
+            (LacksReach self.old.rows.rows.file self.new.rows.rows.places at)) }
+        ensures left { IfErr result (λ f. IfReply f (IsLeft self.old.rows self.new.rows)) }
         ensures unchanged { IfErr result (λ f. IfReply f
             (StillHolds (F.holds files.old) (F.holds files.new) self.old self.new)) }
         ensures rows { IfErr result (λ f. IfReply f
@@ -169,6 +183,11 @@ impl Table {
         ensures made { OnOk result (Makes (update at row.now) (F.holds files.old)
             (F.holds files.new) self.old self.new at) }
         ensures refused { IfErr result (Refuses (update at row.now) (F.holds files.old) self.old) }
+        ensures causes { IfErr result (ByCause (FindsNoneAt self.old.rows.rows.file
+            self.new.rows.rows.places at (F.holds files.old)) (Unit {0})
+            (LacksOther self.old.rows.rows.file self.new.rows.rows.places at row.now
+            (F.holds files.old))) }
+        ensures left { IfErr result (λ f. IfReply f (IsLeft self.old.rows self.new.rows)) }
         ensures unchanged { IfErr result (λ f. IfReply f
             (StillHolds (F.holds files.old) (F.holds files.new) self.old self.new)) }
         ensures rows { IfErr result (λ f. IfReply f

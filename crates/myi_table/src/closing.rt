@@ -9,6 +9,7 @@ use myi_base::Sequence;
 use myi_header::{NOT_ANALYZED, NOT_SORTED_PAGES, State, print_state};
 use myi_io::Files;
 use myi_keyedrows::closed_files_stand;
+use myi_keytrees::written_trees_stand_in_the_file;
 
 /// The changed bit that says that the table was changed.
 const WAS_CHANGED: u8 = 1;
@@ -44,14 +45,16 @@ impl Table {
     ghost use Rattle.myi_keyedrows.specs.KeyedRows.{IsLeft};
     ghost use Rattle.myi_table.specs.Faults.{CutsOff};
     ghost use Rattle.myi_table.specs.Table.{IsKept, IfHolds, StillHolds, IsSame, KeepsRows, ChangesItsOwn};
-    ghost use Rattle.myi_table.specs.Closing.{changed_bits, closing_state, HasState, IsClosed};
+    ghost use Rattle.myi_table.specs.Closing.{changed_bits, closing_state, HasState, TreesStand, IsClosed};
 
-    /// Writes all pages that were put. The table stands for the same state afterwards, also after a refusal, and is
-    /// not broken by it. The data file stays.
+    /// Writes all pages that were put, so that the tree of each key stands in the index file, at its `place`. The table
+    /// stands for the same state afterwards, also after a refusal, and is not broken by it. The data file stays.
     pub fn flush<F: Files>(&mut self, files: &mut F) -> Result<(), ChangeFault>
         requires writable { IsTrue F.writable }
         requires whole { self.old.broken ≡ None }
         ensures written { OnOk result (AllWritten (pages_of self.new.rows.trees.cache)) }
+        ensures stand { OnOk result (IfHolds (F.holds files.old) self.old (λ m s.
+            IfTold (F.holds files.new) (TreesStand self.new s))) }
         ensures still { StillHolds (F.holds files.old) (F.holds files.new) self.old self.new }
         ensures same { IsSame self.old self.new }
         ensures whole { self.new.broken ≡ None }
@@ -64,12 +67,14 @@ impl Table {
         ensures counted { CountsOn self.old.rows.trees.cache self.new.rows.trees.cache }
         ensures cause { HasCause File (F.faults files.old) (F.faults files.new) result }
     {
+        written_trees_stand_in_the_file();
         self.rows.trees.flush(files)?;
         Ok(())
     }
 
     /// Writes all pages, and then the header with the numbers of the table. Where the table stands for a state the two
-    /// files stand for it then, and are a clean pair; the data file stays. After a refusal the files are what the calls left.
+    /// files stand for it then, and are a clean pair. The data file stays; after a refusal the index file is what the calls
+    /// left.
     pub fn close<F: Files>(self, files: &mut F) -> Result<(), ChangeFault>
         requires writable { IsTrue F.writable }
         requires kept { IsKept (F.holds files.old) self }
@@ -80,8 +85,7 @@ impl Table {
             → (f ≡ ChangeFault.Broken by) × (F.holds files.new ≡ F.holds files.old)) }
         ensures refused { IfErr result (λ f. self.broken ≡ None → CutsOff f) }
         ensures others { ChangesItsOwn (F.holds files.old) (F.holds files.new) self }
-        ensures rows { OnOk result (Told (F.holds files.old) (F.holds files.new)
-            (KeepsRows self.name)) }
+        ensures rows { Told (F.holds files.old) (F.holds files.new) (KeepsRows self.name) }
         ensures cause { HasCause File (F.faults files.old) (F.faults files.new) result }
     {
         closed_files_stand();

@@ -69,7 +69,7 @@ pub enum ChangeFault {
 /// Why a row of a table was not read. The table is as before, and is not broken by it.
 #[derive(Clone, Copy, Debug, PartialEq, Eq, Error)]
 pub enum ReadFault {
-    /// A change was cut off before, for this cause. Nothing is read.
+    /// A change was cut off before, for this cause. Nothing is changed.
     #[error("the table is broken")]
     Broken(Cause),
     /// What stands at this place of a file is not what the table needs there.

@@ -11,10 +11,12 @@ impl Table {
     ghost use Rattle.myi_pack.specs.Packed.{Values};
     ghost use Rattle.myi_pack.specs.Spelling.{fits};
     ghost use Rattle.myi_search.specs.Counting.{CountsOn};
+    ghost use Rattle.myi_slots.specs.SlotFile.{Never};
     ghost use Rattle.myi_tablestate.specs.Keyed.{after_keyed};
     ghost use Rattle.myi_table.specs.declared.fault.ChangeFault.TheVariants.{File};
     ghost use Rattle.myi_table.specs.Faults.{CutsOff, broken_after};
     ghost use Rattle.myi_table.specs.Folding.{appended, CanFold};
+    ghost use Rattle.myi_table.specs.Refusals.{ByCause};
     ghost use Rattle.myi_table.specs.Table.{defs_in, IsKept, IfHolds, HoldsThen, IsBroken, IsSame, ChangesItsOwn};
 
     /// Puts new rows behind the end in their order, whatever is deleted. Where the table stands for a state each of them
@@ -29,6 +31,7 @@ impl Table {
             HoldsThen (F.holds files.new) self.new
             (after_keyed (defs_in self.old) s (appended rows.now)))) }
         ensures cut { IfErr result (λ f. IfHolds (F.holds files.old) self.old (λ m s. CutsOff f)) }
+        ensures causes { IfErr result (ByCause Never (Unit {0}) (Unit {0})) }
         ensures whole { OnOk result (self.old.broken ≡ None) }
         ensures first { IfErr result (IsBroken self.old self.new
             (F.holds files.old) (F.holds files.new)) }

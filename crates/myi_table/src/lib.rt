@@ -14,6 +14,7 @@
 //! - `flush` writes what was put, `close` also the header.
 //! - `defs`, `name`, `length`, `place`, `setup`, `holes`, `broken`, `counters` tell what it is; `add_counters` adds what was
 //!   counted elsewhere.
+//! - `open_again` makes the rows and trees of the table again, for one that reads the same two files beside it.
 //!
 //! ```
 //! let mut table = Table::load(alloc, &mut files, "t", setup)?;
@@ -23,6 +24,7 @@
 //! ```
 #![tactic(auto)]
 
+mod again;
 mod changes;
 mod closing;
 mod creating;

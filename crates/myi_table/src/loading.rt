@@ -52,8 +52,8 @@ fn room_begin(used: u64) -> Option<u64>
 }
 
 impl Table {
-    /// The table of that name. Nothing is read of its rows and trees yet. Where files tell what they hold, and the
-    /// two files stand for a state, the table stands for that state.
+    /// The table of that name, of whose rows and trees nothing is kept yet. Where files tell what they hold, and the two
+    /// files stand for a state, the table stands for that state.
     pub fn load<F: Files>(
         alloc: Global,
         files: &mut F,

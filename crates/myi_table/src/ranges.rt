@@ -49,13 +49,13 @@ impl Table {
     ghost use Rattle.myi_search.specs.Counting.{CountsOn};
     ghost use Rattle.myi_defs.specs.declared.types.Defs.{Defs};
     ghost use Rattle.myi_state.specs.State.{StoredRow, TableState};
-    ghost use Rattle.myi_ranges.specs.Ranges.{Answers, ReadInFew, searches, coming};
+    ghost use Rattle.myi_ranges.specs.Ranges.{Answers, ReadInFew, FailsInFew, searches, coming};
     ghost use Rattle.myi_keyedrows.specs.KeyedRows.{IsLeft};
     ghost use Rattle.myi_opening.specs.Names.{index_file};
     ghost use Rattle.myi_table.specs.declared.fault.ReadFault.TheVariants.{File};
     ghost use Rattle.myi_table.specs.Faults.{NeverDamaged, IsBrokenFor};
     ghost use Rattle.myi_table.specs.Table.{OpenTable, defs_in, IsKept, IfHolds, StillHolds, IsSame};
-    ghost use Rattle.myi_table.specs.Reading.{HasKey, IsAhead, IsSameReading, IsAtEnd, StopsAt, IfBroken, AnswersRange};
+    ghost use Rattle.myi_table.specs.Reading.{HasKey, IsAhead, IsSameReading, IsAtEnd, StopsAt, IfBroken, AnswersRange, ReadsInRange};
 
     /// The next row of a reading and its position, and None where none is to come. What the reading has read ahead
     /// are the next pairs of the table (`ahead`): it has read nothing yet, or the table was not changed since. `forget_ahead`
@@ -82,6 +82,8 @@ impl Table {
             × (F.holds files.new ≡ F.holds files.old))) }
         ensures few { IfOk result (λ row. IfHolds (F.holds files.old) self.old (λ m s.
             ReadInFew (defs_in self.old) s rows.old row (F.reads files.old) (F.reads files.new))) }
+        ensures failed { IfErr result (λ f. IfHolds (F.holds files.old) self.old (λ m s.
+            FailsInFew (defs_in self.old) s rows.old (F.reads files.old) (F.reads files.new))) }
         ensures whole { OnOk result (self.old.broken ≡ None) }
         ensures first { IfErr result (IsBrokenFor self.old.broken) }
         ensures never { IfErr result (NeverDamaged (F.holds files.old)) }
@@ -128,6 +130,10 @@ impl Table {
         ensures rows { IfOk result (λ rows. IfHolds (F.holds files.old) self.old (λ m s.
             AnswersRange (defs_in self.old) s range.now
             (F.reads files.old) (F.reads files.new) rows.items)) }
+        ensures unread { IfErr result (λ f. IfBroken f ((self.new ≡ self.old)
+            × (F.holds files.new ≡ F.holds files.old))) }
+        ensures few { IfHolds (F.holds files.old) self.old (λ m s.
+            ReadsInRange (defs_in self.old) s range.now (F.reads files.old) (F.reads files.new)) }
         ensures whole { OnOk result (self.old.broken ≡ None) }
         ensures first { IfErr result (IsBrokenFor self.old.broken) }
         ensures never { IfErr result (NeverDamaged (F.holds files.old)) }

@@ -24,7 +24,7 @@ impl Table {
     ghost use Rattle.myi_table.specs.declared.fault.ReadFault.TheVariants.{File};
     ghost use Rattle.myi_table.specs.Faults.{ScanIsRefused};
     ghost use Rattle.myi_table.specs.Table.{defs_in, HoldState, IsKept, IfHolds};
-    ghost use Rattle.myi_table.specs.Reading.{rows_to_come, IsFirst, BeginsWithAll, GoesOn};
+    ghost use Rattle.myi_table.specs.Reading.{rows_to_come, IsFirst, BeginsWithAll, GoesOn, ScanStays};
 
     // Refuses to read a table that a change was cut off from.
     pub(crate) fn refuse_reading(&self) -> Result<(), ReadFault>
@@ -71,7 +71,7 @@ impl Table {
 
     /// The next row of a scan and its position, and None where none is to come. The data file is as the scan's last
     /// call left it, as it is until the table is changed. After a failed file call the next call answers as this one
-    /// would have.
+    /// would have; where memory was wanting it may answer the row behind.
     pub fn next_in_scan<F: Files>(
         &self,
         files: &mut F,
@@ -82,8 +82,9 @@ impl Table {
         ensures row { IfOk result (λ row. IfTold (F.holds files.old) (λ m.
             IsFirst (rows_to_come scan.old m) (rows_to_come scan.new m) row)) }
         ensures goes_on { IfOk result (GoesOn scan.old scan.new) }
-        ensures same { OnOk result (IsSameScan scan.old scan.new) }
-        ensures current { OnOk result (IfTold (F.holds files.old) (IsAsKnown scan.new)) }
+        ensures stays { IfErr result (λ f. ScanStays f (F.holds files.old) scan.old scan.new) }
+        ensures same { IsSameScan scan.old scan.new }
+        ensures current { IfTold (F.holds files.old) (IsAsKnown scan.new) }
         ensures whole { OnOk result (self.now.broken ≡ None) }
         ensures refused { IfErr result (ScanIsRefused self.now.broken) }
         ensures holds { F.holds files.new ≡ F.holds files.old }
@@ -98,7 +99,7 @@ impl Table {
         Ok(Some((at, row)))
     }
 
-    /// All rows with their positions, in order of these. The data file is read once.
+    /// All rows with their positions, in order of these, by one scan of the data file.
     pub fn scan<F: Files>(&self, files: &mut F) -> Result<Vec<(u64, Row)>, ReadFault>
         requires kept { IsKept (F.holds files.old) self.now }
         ensures rows { IfOk result (λ rows. IfHolds (F.holds files.old) self.now (λ m s.

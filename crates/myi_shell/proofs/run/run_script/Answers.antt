@@ -4,7 +4,7 @@ use Rattle.myi_script.specs.declared.types.Line.{Line}
 use Rattle.myi_table.specs.Table.{defs_in, IfHolds}
 use Rattle.myi_shell.specs.Running.{opening_on, IsPrinted, IsPrintedPart, AreClosedAtEnd, AreClosedBehind, IfSink}
 use Rattle.myi_shell.proofs.CarryLemmas.{others_then}
-use Rattle.myi_shell.proofs.EndLemmas.{text_of_end, table_of_end, part_of_end, closed_behind, damage_of_end}
+use Rattle.myi_shell.proofs.EndLemmas.{text_of_end, table_of_end, part_of_end, closed_behind, damage_of_end, in_ok}
 use Rattle.myi_shell.proofs.run.run_script.Goals as goal
 
 pub returns-clause-text : goal.returns-clause-text
@@ -22,7 +22,7 @@ returns-clause-table g c =
     let d = defs_in c.args.table in
     subst (λ (ls : List Line). OnOk c.ended.result (IfHolds told c.args.table (λ m s. IfTold next (AreClosedAtEnd (opening_on d ls c.args.setting s) c.args.table m)))) c.as_slice-lines.ensures
     (table_of_end told (g.O.Sink.written c.args.out.now) (g.F.Files.holds c.run-ran.new.files) next (g.O.Sink.written c.run-ran.new.out) c.args.table c.run-ran.new.table (λ s. opening_on d c.as_slice-lines.result.now c.args.setting s)
-    c.ended.result c.run-ran.result c.close-closed.result c.ended.ensures c.run-ran.ensures.carried.same c.run-ran.ensures.ran c.close-closed.ensures.closed c.close-closed.ensures.rows)
+    c.ended.result c.run-ran.result c.close-closed.result c.ended.ensures c.run-ran.ensures.carried.same c.run-ran.ensures.ran c.close-closed.ensures.closed (in_ok c.close-closed.result _ c.close-closed.ensures.rows))
 
 pub returns-clause-part : goal.returns-clause-part
 returns-clause-part g c =
@@ -44,7 +44,7 @@ returns-clause-closed g c =
     let printed = g.O.Sink.written c.run-ran.new.out in
     let d = defs_in c.args.table in
     subst (λ (ls : List Line). IfSink c.ended.result (IfHolds told c.args.table (λ m s. IfTold next (AreClosedBehind (opening_on d ls c.args.setting s) c.args.table start printed m)))) c.as_slice-lines.ensures
-    (closed_behind told start (g.F.Files.holds c.run-ran.new.files) next printed c.args.table c.run-ran.new.table (λ s. opening_on d c.as_slice-lines.result.now c.args.setting s) c.ended.result c.run-ran.result c.close-closed.result c.ended.ensures c.run-ran.ensures.carried.same c.run-ran.ensures.stands c.close-closed.ensures.closed c.close-closed.ensures.rows)
+    (closed_behind told start (g.F.Files.holds c.run-ran.new.files) next printed c.args.table c.run-ran.new.table (λ s. opening_on d c.as_slice-lines.result.now c.args.setting s) c.ended.result c.run-ran.result c.close-closed.result c.ended.ensures c.run-ran.ensures.carried.same c.run-ran.ensures.stands c.close-closed.ensures.closed (in_ok c.close-closed.result _ c.close-closed.ensures.rows))
 
 pub returns-clause-damaged : goal.returns-clause-damaged
 returns-clause-damaged g c = damage_of_end (g.O.Sink.written c.args.out.now) (g.O.Sink.written c.run-ran.new.out) c.ended.result c.run-ran.result c.close-closed.result c.ended.ensures c.run-ran.ensures.damaged

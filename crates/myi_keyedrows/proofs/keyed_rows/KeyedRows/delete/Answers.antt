@@ -1,4 +1,4 @@
-use Rattle.std.proofs.Common.{◌≡◌, refl, sym, ap, subst, ◌∙◌}
+use Rattle.std.proofs.Common.{◌≡◌, Option, refl, sym, ap, subst, ◌∙◌}
 use Rattle.std.proofs.lemmas.Result.{err_from_is_err_and}
 use Rattle.myi_slots.specs.SlotFile.{SlotFile}
 use Rattle.myi_state.specs.Changes.{delete}
@@ -11,6 +11,10 @@ use Rattle.myi_keyedrows.proofs.RowLemmas.{noted_holds}
 use Rattle.myi_keyedrows.proofs.StepLemmas.{half_made, half_whole, half_never, refuses_data, refuses_tree, reply_data}
 use Rattle.myi_keyedrows.proofs.AnswerLemmas.{Goes, goes_absent, goes_free, goes_follow, goes_never, has_as}
 use Rattle.myi_keyedrows.proofs.LawLemmas.{counted_none, counted_back, StepLaws, laws_of, both_fit, read_fit, read_kept}
+use Rattle.myi_base.specs.Holding.{Holding}
+use Rattle.myi_rows.specs.Refusals.{FindsNone, LacksReach, FindsRowBad}
+use Rattle.myi_keyedrows.specs.Refusals.{ByCause, FindsNoneAt}
+use Rattle.myi_keyedrows.proofs.CauseLemmas.{tree_cause, data_cause, none_cause}
 use Rattle.myi_keyedrows.proofs.keyed_rows.KeyedRows.delete.Goals as goal
 
 pub returns-in_err-had-clause-refused : goal.returns-in_err-had-clause-refused
@@ -146,3 +150,39 @@ returns-in_err-take_row-clause-counted g c = counted_back c.args.self.now c.pair
 
 pub returns-clause-counted : goal.returns-clause-counted
 returns-clause-counted g c = counted_back c.args.self.now c.pairs_at.new.self c.take_row.new.trees.cache c.in_ok-had.ensures.trees c.in_ok-take_row.ensures.counted
+
+pub returns-in_err-had-clause-causes : goal.returns-in_err-had-clause-causes
+returns-in_err-had-clause-causes g c =
+    let told = g.F.Files.holds c.args.files.now in
+    let file = c.args.self.now.rows.file in
+    let places = c.pairs_at.new.self.rows.places in
+    let e = err_from_is_err_and c.from_residual.result c.from_residual.ensures.1 in
+    if_err c.from_residual.result e.0 (λ f. ByCause (FindsNoneAt file places c.args.at told) ⊥ (LacksReach file places c.args.at) f) e.1
+    (subst (λ (f : KeyedFault). ByCause (FindsNoneAt file places c.args.at told) ⊥ (LacksReach file places c.args.at) f) (sym e.2)
+    (none_cause (FindsNoneAt file places c.args.at told) ⊥ (LacksReach file places c.args.at) c.in_err-had.field-0.0 c.in_err-had.ensures.causes))
+
+pub returns-in_err-delete_at-clause-causes : goal.returns-in_err-delete_at-clause-causes
+returns-in_err-delete_at-clause-causes g c =
+    let told = g.F.Files.holds c.args.files.now in
+    let then = g.F.Files.holds c.pairs_at.new.files in
+    let file = c.args.self.now.rows.file in
+    let mid = c.pairs_at.new.self.rows.file in
+    let same = c.in_ok-had.ensures.file in
+    let places = c.delete_at.new.self.places in
+    let at = c.args.at in
+    let e = err_from_is_err_and c.from_residual-in_err-delete_at.result c.from_residual-in_err-delete_at.ensures.1 in
+    if_err c.from_residual-in_err-delete_at.result e.0 (λ f. ByCause (FindsNoneAt file places at told) ⊥ (LacksReach file places at) f) e.1
+    (subst (λ (f : KeyedFault). ByCause (FindsNoneAt file places at told) ⊥ (LacksReach file places at) f) (sym e.2)
+    (data_cause (λ p. (p ≡ at) × FindsNone mid places at then) (FindsNoneAt file places at told) ⊥ (LacksReach mid places at) (LacksReach file places at) (FindsRowBad mid places at then) c.in_err-delete_at.field-0.0
+    (λ p none. (none.0, subst (λ (h : Option Holding). FindsNone file places at h) c.in_ok-had.ensures.holds (subst (λ (f : SlotFile). FindsNone f places at then) same none.1)))
+    (λ full. subst (λ (f : SlotFile). LacksReach f places at) same full) c.in_err-delete_at.ensures.causes))
+
+pub returns-in_err-take_row-clause-causes : goal.returns-in_err-take_row-clause-causes
+returns-in_err-take_row-clause-causes g c =
+    let told = g.F.Files.holds c.args.files.now in
+    let file = c.args.self.now.rows.file in
+    let places = c.delete_at.new.self.places in
+    let e = err_from_is_err_and c.from_residual-in_err-take_row.result c.from_residual-in_err-take_row.ensures.1 in
+    if_err c.from_residual-in_err-take_row.result e.0 (λ f. ByCause (FindsNoneAt file places c.args.at told) ⊥ (LacksReach file places c.args.at) f) e.1
+    (subst (λ (f : KeyedFault). ByCause (FindsNoneAt file places c.args.at told) ⊥ (LacksReach file places c.args.at) f) (sym e.2)
+    (tree_cause (FindsNoneAt file places c.args.at told) ⊥ (LacksReach file places c.args.at) c.in_err-take_row.field-0.0))

@@ -15,6 +15,10 @@ use Rattle.myi_keyedrows.proofs.RowLemmas.{pairs_long, pairs_fit}
 use Rattle.myi_keyedrows.proofs.StepLemmas.{half_made, half_whole, half_never, refuses_data, refuses_tree, reply_data}
 use Rattle.myi_keyedrows.proofs.AnswerLemmas.{may_come, comes_free, comes_held, comes, comes_follow, comes_never}
 use Rattle.myi_keyedrows.proofs.LawLemmas.{placed_pairs, StepLaws, laws_of, looked_defs, looked_file, looked_fit, looked_long, counted_fit, both_fit, refused_stays}
+use Rattle.myi_slots.specs.SlotFile.{Never}
+use Rattle.myi_keyedrows.specs.Refusals.{ByCause, LacksPlace}
+use Rattle.myi_keyedrows.specs.Checking.{FindsNewBad}
+use Rattle.myi_keyedrows.proofs.CauseLemmas.{tree_cause, data_cause, held_cause, place_back}
 use Rattle.myi_keyedrows.proofs.keyed_rows.KeyedRows.insert_row.Goals as goal
 
 pub refuse_duplicate-requires-clause-each : goal.refuse_duplicate-requires-clause-each
@@ -188,3 +192,29 @@ returns-clause-appended g c =
     let last = g.F.Files.holds c.put_row.new.files in
     let looks = c.in_ok-refuse_duplicate.ensures.looks in
     added_whole c.args.at_end c.args.self.now c.refuse_duplicate.new.self c.put_in_file.new.rows.file c.args.row.now told then next last c.requires.fit.apart looks.rows looks.name looks.others c.in_ok-at.ensures.appended c.in_ok-put_row.ensures.others
+
+pub returns-in_err-refuse_duplicate-clause-causes : goal.returns-in_err-refuse_duplicate-clause-causes
+returns-in_err-refuse_duplicate-clause-causes g c =
+    let e = err_from_is_err_and c.from_residual-in_err-refuse_duplicate.result c.from_residual-in_err-refuse_duplicate.ensures.1 in
+    if_err c.from_residual-in_err-refuse_duplicate.result e.0 (λ f. ByCause Never (Unit {0}) (LacksPlace c.args.at_end c.args.self.now.rows.file c.args.row.now (g.F.Files.holds c.args.files.now)) f) e.1
+    (subst (λ (f : KeyedFault). ByCause Never (Unit {0}) (LacksPlace c.args.at_end c.args.self.now.rows.file c.args.row.now (g.F.Files.holds c.args.files.now)) f) (sym e.2) (held_cause Never (LacksPlace c.args.at_end c.args.self.now.rows.file c.args.row.now (g.F.Files.holds c.args.files.now)) c.in_err-refuse_duplicate.field-0.0 c.in_err-refuse_duplicate.ensures.causes))
+
+pub returns-in_err-at-clause-causes : goal.returns-in_err-at-clause-causes
+returns-in_err-at-clause-causes g c =
+    let told = g.F.Files.holds c.args.files.now in
+    let then = g.F.Files.holds c.refuse_duplicate.new.files in
+    let old = c.args.self.now in
+    let mid = c.refuse_duplicate.new.self in
+    let looks = c.in_ok-refuse_duplicate.ensures.looks in
+    let same = looked_file told then old mid looks in
+    let e = err_from_is_err_and c.from_residual-in_err-at.result c.from_residual-in_err-at.ensures.1 in
+    if_err c.from_residual-in_err-at.result e.0 (λ f. ByCause Never (Unit {0}) (LacksPlace c.args.at_end c.args.self.now.rows.file c.args.row.now (g.F.Files.holds c.args.files.now)) f) e.1
+    (subst (λ (f : KeyedFault). ByCause Never (Unit {0}) (LacksPlace c.args.at_end c.args.self.now.rows.file c.args.row.now (g.F.Files.holds c.args.files.now)) f) (sym e.2)
+    (data_cause Never Never (Unit {0}) (LacksPlace c.args.at_end mid.rows.file c.args.row.now then) (LacksPlace c.args.at_end c.args.self.now.rows.file c.args.row.now (g.F.Files.holds c.args.files.now)) (FindsNewBad c.args.at_end mid.rows.file c.args.row.now then) c.in_err-at.field-0.0 (λ p none. none)
+    (λ lacks. place_back c.args.at_end old.rows.file c.args.row.now old.trees.cache.name told then c.requires.fit.apart looks.others (subst (λ (f : SlotFile). LacksPlace c.args.at_end f c.args.row.now then) same lacks)) c.in_err-at.ensures.causes))
+
+pub returns-in_err-put_row-clause-causes : goal.returns-in_err-put_row-clause-causes
+returns-in_err-put_row-clause-causes g c =
+    let e = err_from_is_err_and c.from_residual-in_err-put_row.result c.from_residual-in_err-put_row.ensures.1 in
+    if_err c.from_residual-in_err-put_row.result e.0 (λ f. ByCause Never (Unit {0}) (LacksPlace c.args.at_end c.args.self.now.rows.file c.args.row.now (g.F.Files.holds c.args.files.now)) f) e.1
+    (subst (λ (f : KeyedFault). ByCause Never (Unit {0}) (LacksPlace c.args.at_end c.args.self.now.rows.file c.args.row.now (g.F.Files.holds c.args.files.now)) f) (sym e.2) (tree_cause Never (Unit {0}) (LacksPlace c.args.at_end c.args.self.now.rows.file c.args.row.now (g.F.Files.holds c.args.files.now)) c.in_err-put_row.field-0.0))

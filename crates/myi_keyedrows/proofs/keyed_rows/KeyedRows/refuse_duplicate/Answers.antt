@@ -9,6 +9,9 @@ use Rattle.myi_keyedrows.specs.Checking.{IsHeldBy}
 use Rattle.myi_keyedrows.proofs.HoldLemmas.{kept_trees, look_stands}
 use Rattle.myi_keyedrows.proofs.FaultLemmas.{if_err}
 use Rattle.myi_keyedrows.proofs.AnswerLemmas.{OfHolder, Searches, none_found, row_found, tree_refuses}
+use Rattle.myi_slots.specs.SlotFile.{Never}
+use Rattle.myi_keyedrows.specs.Refusals.{ByCause}
+use Rattle.myi_keyedrows.proofs.CauseLemmas.{tree_cause}
 use Rattle.myi_keyedrows.proofs.keyed_rows.KeyedRows.refuse_duplicate.Goals as goal
 
 pub first_duplicate-requires-clause-kept : goal.first_duplicate-requires-clause-kept
@@ -67,3 +70,9 @@ returns-clause-looks g c = record {
   counted = c.in_ok-found.ensures.counted;
   others = c.in_ok-found.ensures.others;
 }
+
+pub returns-in_err-found-clause-causes : goal.returns-in_err-found-clause-causes
+returns-in_err-found-clause-causes g c =
+    let e = err_from_is_err_and c.from_residual.result c.from_residual.ensures.1 in
+    if_err c.from_residual.result e.0 (λ f. ByCause Never (Unit {0}) ⊥ f) e.1
+    (subst (λ (f : KeyedFault). ByCause Never (Unit {0}) ⊥ f) (sym e.2) (tree_cause Never (Unit {0}) ⊥ c.in_err-found.field-0.0))

@@ -1,4 +1,4 @@
-use Rattle.std.proofs.Common.{◌≡◌, ◌≤◌, ℕ, Some, None, true, length, refl, sym, ap, subst, ◌∙◌, arith}
+use Rattle.std.proofs.Common.{◌≡◌, ◌≤◌, ℕ, Option, Some, None, true, length, refl, sym, ap, subst, ◌∙◌, arith}
 use Rattle.std.proofs.lemmas.Result.{err_from_is_err_and}
 use Rattle.myi_defs.specs.declared.types.Defs.{Defs}
 use Rattle.myi_defs.specs.Sound.{IsSound}
@@ -6,6 +6,7 @@ use Rattle.myi_pack.specs.Spelling.{fits}
 use Rattle.myi_slots.specs.SlotFile.{SlotFile}
 use Rattle.myi_state.specs.Changes.{update}
 use Rattle.myi_pair.specs.KeyList.{pointer}
+use Rattle.myi_keytrees.specs.Trees.{Trees}
 use Rattle.myi_rowtrees.specs.RowLists.{row_pairs}
 use Rattle.myi_keyedrows.specs.declared.keyed_rows.KeyedRows.{KeyedRows}
 use Rattle.myi_keyedrows.specs.declared.fault.KeyedFault.{KeyedFault}
@@ -18,6 +19,10 @@ use Rattle.myi_keyedrows.proofs.RowLemmas.{pairs_long, pairs_fit, noted_holds}
 use Rattle.myi_keyedrows.proofs.StepLemmas.{half_made, half_whole, half_never, refuses_data, refuses_tree, reply_data, reply_any}
 use Rattle.myi_keyedrows.proofs.AnswerLemmas.{Back, OfHolder, Moves, stays_absent, stays_free, stays_held, moves_follow, moves_never, held_before, has_as}
 use Rattle.myi_keyedrows.proofs.LawLemmas.{counted_none, counted_back, StepLaws, laws_of, looked_defs, looked_file, looked_fit, looked_long, both_fit, read_fit, read_kept}
+use Rattle.myi_base.specs.Holding.{Holding, Told, OthersStay}
+use Rattle.myi_rows.specs.Refusals.{FindsNone, LacksOther, FindsOtherBad}
+use Rattle.myi_keyedrows.specs.Refusals.{ByCause, FindsNoneAt}
+use Rattle.myi_keyedrows.proofs.CauseLemmas.{tree_cause, data_cause, held_cause, none_cause, none_back, other_back}
 use Rattle.myi_keyedrows.proofs.keyed_rows.KeyedRows.update.Goals as goal
 
 pub returns-in_err-had-clause-refused : goal.returns-in_err-had-clause-refused
@@ -400,3 +405,61 @@ returns-in_err-move_row-clause-counted g c = counted_back c.args.self.now c.pair
 
 pub returns-clause-counted : goal.returns-clause-counted
 returns-clause-counted g c = counted_back c.args.self.now c.pairs_at.new.self c.move_row.new.trees.cache c.in_ok-had.ensures.trees (counts_on c.pairs_at.new.self.trees.cache c.refuse_duplicate.new.self.trees.cache c.move_row.new.trees.cache c.in_ok-refuse_duplicate.ensures.looks.counted c.in_ok-move_row.ensures.counted)
+
+pub returns-in_err-had-clause-causes : goal.returns-in_err-had-clause-causes
+returns-in_err-had-clause-causes g c =
+    let told = g.F.Files.holds c.args.files.now in
+    let file = c.args.self.now.rows.file in
+    let places = c.pairs_at.new.self.rows.places in
+    let at = c.args.at in
+    let row = c.args.row.now in
+    let e = err_from_is_err_and c.from_residual.result c.from_residual.ensures.1 in
+    if_err c.from_residual.result e.0 (λ f. ByCause (FindsNoneAt file places at told) (Unit {0}) (LacksOther file places at row told) f) e.1
+    (subst (λ (f : KeyedFault). ByCause (FindsNoneAt file places at told) (Unit {0}) (LacksOther file places at row told) f) (sym e.2)
+    (none_cause (FindsNoneAt file places at told) (Unit {0}) (LacksOther file places at row told) c.in_err-had.field-0.0 c.in_err-had.ensures.causes))
+
+pub returns-in_err-refuse_duplicate-clause-causes : goal.returns-in_err-refuse_duplicate-clause-causes
+returns-in_err-refuse_duplicate-clause-causes g c =
+    let told = g.F.Files.holds c.args.files.now in
+    let file = c.args.self.now.rows.file in
+    let places = c.refuse_duplicate.new.self.rows.places in
+    let at = c.args.at in
+    let row = c.args.row.now in
+    let e = err_from_is_err_and c.from_residual-in_err-refuse_duplicate.result c.from_residual-in_err-refuse_duplicate.ensures.1 in
+    if_err c.from_residual-in_err-refuse_duplicate.result e.0 (λ f. ByCause (FindsNoneAt file places at told) (Unit {0}) (LacksOther file places at row told) f) e.1
+    (subst (λ (f : KeyedFault). ByCause (FindsNoneAt file places at told) (Unit {0}) (LacksOther file places at row told) f) (sym e.2)
+    (held_cause (FindsNoneAt file places at told) (LacksOther file places at row told) c.in_err-refuse_duplicate.field-0.0 c.in_err-refuse_duplicate.ensures.causes))
+
+pub returns-in_err-update_at-clause-causes : goal.returns-in_err-update_at-clause-causes
+returns-in_err-update_at-clause-causes g c =
+    let told = g.F.Files.holds c.args.files.now in
+    let read = g.F.Files.holds c.pairs_at.new.files in
+    let then = g.F.Files.holds c.refuse_duplicate.new.files in
+    let first = c.pairs_at.new.self in
+    let looks = c.in_ok-refuse_duplicate.ensures.looks in
+    let file = c.args.self.now.rows.file in
+    let mid = c.refuse_duplicate.new.self.rows.file in
+    let same = looked_file read then first c.refuse_duplicate.new.self looks ∙ c.in_ok-had.ensures.file in
+    let index = c.args.self.now.trees.cache.name in
+    let stays = subst (λ (t : Trees). Told read then (OthersStay t.cache.name)) c.in_ok-had.ensures.trees looks.others in
+    let places = c.update_at.new.self.places in
+    let at = c.args.at in
+    let row = c.args.row.now in
+    let e = err_from_is_err_and c.from_residual-in_err-update_at.result c.from_residual-in_err-update_at.ensures.1 in
+    if_err c.from_residual-in_err-update_at.result e.0 (λ f. ByCause (FindsNoneAt file places at told) (Unit {0}) (LacksOther file places at row told) f) e.1
+    (subst (λ (f : KeyedFault). ByCause (FindsNoneAt file places at told) (Unit {0}) (LacksOther file places at row told) f) (sym e.2)
+    (data_cause (λ p. (p ≡ at) × FindsNone mid places at then) (FindsNoneAt file places at told) (Unit {0}) (LacksOther mid places at row then) (LacksOther file places at row told) (FindsOtherBad mid places at row then) c.in_err-update_at.field-0.0
+    (λ p none. (none.0, subst (λ (h : Option Holding). FindsNone file places at h) c.in_ok-had.ensures.holds (none_back file places at index read then c.requires.fit.apart stays (subst (λ (f : SlotFile). FindsNone f places at then) same none.1))))
+    (λ full. subst (λ (h : Option Holding). LacksOther file places at row h) c.in_ok-had.ensures.holds (other_back file places at row index read then c.requires.fit.apart stays (subst (λ (f : SlotFile). LacksOther f places at row then) same full))) c.in_err-update_at.ensures.causes))
+
+pub returns-in_err-move_row-clause-causes : goal.returns-in_err-move_row-clause-causes
+returns-in_err-move_row-clause-causes g c =
+    let told = g.F.Files.holds c.args.files.now in
+    let file = c.args.self.now.rows.file in
+    let places = c.update_at.new.self.places in
+    let at = c.args.at in
+    let row = c.args.row.now in
+    let e = err_from_is_err_and c.from_residual-in_err-move_row.result c.from_residual-in_err-move_row.ensures.1 in
+    if_err c.from_residual-in_err-move_row.result e.0 (λ f. ByCause (FindsNoneAt file places at told) (Unit {0}) (LacksOther file places at row told) f) e.1
+    (subst (λ (f : KeyedFault). ByCause (FindsNoneAt file places at told) (Unit {0}) (LacksOther file places at row told) f) (sym e.2)
+    (tree_cause (FindsNoneAt file places at told) (Unit {0}) (LacksOther file places at row told) c.in_err-move_row.field-0.0))

@@ -117,7 +117,7 @@ returns-in_err-close-clause-stops g c =
     let e = err_from_is_err_and c.from_residual.result c.from_residual.ensures.1 in
     subst (λ r. IfErr r (StopsAtTable told next ts)) (sym e.1)
     (subst (StopsAtTable told next ts) (sym e.2)
-    (stops_at told now next i ts t c.in_err-close.field-0.0 inv.named lt at c.close.ensures.others was.whole c.in_err-close.ensures.first c.in_err-close.ensures.refused was.stops))
+    (stops_at told now next i ts t c.in_err-close.field-0.0 inv.named lt at c.close.ensures.others was.whole c.in_err-close.ensures.first c.in_err-close.ensures.refused c.close.ensures.rows was.stops))
 
 pub returns-clause-each : goal.returns-clause-each
 returns-clause-each g c =

@@ -5,9 +5,12 @@ use Rattle.myi_pack.specs.Spelling.{fits}
 use Rattle.myi_state.specs.Changes.{insert}
 use Rattle.myi_table.specs.declared.fault.ChangeFault.{ChangeFault}
 use Rattle.myi_search.specs.Counting.{CountsOn}
-use Rattle.myi_slots.specs.SlotFile.{AddsNew}
+use Rattle.myi_slots.specs.SlotFile.{AddsNew, Never}
+use Rattle.myi_rows.specs.Refusals.{LacksRoom}
+use Rattle.myi_keyedrows.specs.KeyedRows.{IsLeft}
 use Rattle.myi_table.specs.Table.{OpenTable, defs_in, StillHolds, IsSame, KeepsRows, KeepsOthers}
 use Rattle.myi_table.specs.Faults.{broken_after}
+use Rattle.myi_table.specs.Refusals.{ByCause}
 use Rattle.myi_base.specs.Holding.{Told}
 use Rattle.myi_merge.specs.Merged.{OpenMerge, AreKept, IfHoldEach, HoldEachThen, StillHoldEach}
 use Rattle.myi_merge.specs.declared.fault.MergeInsertFault.{MergeInsertFault}
@@ -364,3 +367,37 @@ returns-in_default-clause-same g c = λ j u v takes. absurd (let bad : ◌≡◌
 
 pub returns-in_default-clause-counted : goal.returns-in_default-clause-counted
 returns-in_default-clause-counted g c = λ j u v takes. absurd (let bad : ◌≡◌ {A = Option ℕ} None (Some j) = sym c.in_default.is ∙ c.target.ensures.target ∙ takes in cc)
+
+pub returns-in_err-made-clause-left : goal.returns-in_err-made-clause-left
+returns-in_err-made-clause-left g c =
+    let told = g.F.Files.holds c.args.files.now in
+    let next = g.F.Files.holds c.insert-made.new.files in
+    let ts : List OpenTable = c.self.inside.tables.items in
+    let i : ℕ = c.in-Some.index in
+    let t : OpenTable = c.index_mut-table.result.now in
+    let new : OpenTable = c.insert-made.new.self in
+    let at : get_or ts i t ≡ t = sym c.index_mut-table.ensures.value in
+    let takes : target c.args.self.now ≡ Some i = sym c.target.ensures.target ∙ c.in-Some.is in
+    let e = err_from_is_err_and c.from_residual.result c.from_residual.ensures.1 in
+    let after : OpenMerge = record { tables = set ts i new; method = c.self.inside.method } in
+    let P : OpenTable → OpenTable → Type 0 = λ t u. IsLeft t.rows u.rows in
+    subst (λ r. IfErr r (λ f. IfReplied f (OfTarget c.args.self.now after P))) (sym e.1)
+    (subst (λ (f : MergeInsertFault). IfReplied f (OfTarget c.args.self.now after P)) (sym e.2)
+    (if_reply_more c.in_err-made.field-0.0 (P t new) (OfTarget c.args.self.now after P) (λ p. of_taker c.args.self.now ts c.self.inside.method i t new P c.self.view_is at takes p) c.in_err-made.ensures.left))
+
+pub returns-in_err-made-clause-causes : goal.returns-in_err-made-clause-causes
+returns-in_err-made-clause-causes g c = λ f is.
+    let told = g.F.Files.holds c.args.files.now in
+    let next = g.F.Files.holds c.insert-made.new.files in
+    let ts : List OpenTable = c.self.inside.tables.items in
+    let i : ℕ = c.in-Some.index in
+    let t : OpenTable = c.index_mut-table.result.now in
+    let new : OpenTable = c.insert-made.new.self in
+    let at : get_or ts i t ≡ t = sym c.index_mut-table.ensures.value in
+    let takes : target c.args.self.now ≡ Some i = sym c.target.ensures.target ∙ c.in-Some.is in
+    let e = err_from_is_err_and c.from_residual.result c.from_residual.ensures.1 in
+    let after : OpenMerge = record { tables = set ts i new; method = c.self.inside.method } in
+    let P : ChangeFault → OpenTable → OpenTable → Type 0 = λ f t u. ByCause Never (Unit {0}) (LacksRoom t.rows.rows.file c.args.row.now told) f in
+    let fault : c.in_err-made.field-0.0 ≡ f = (let q = sym (e.1 ∙ ap Err e.2) ∙ is in cc) in
+    subst (λ (f : ChangeFault). OfTarget c.args.self.now after (P f)) fault
+    (of_taker c.args.self.now ts c.self.inside.method i t new (P c.in_err-made.field-0.0) c.self.view_is at takes c.in_err-made.ensures.causes)

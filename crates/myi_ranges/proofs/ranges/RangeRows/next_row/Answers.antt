@@ -1,6 +1,6 @@
 use Rattle.std.proofs.Common.{Option, sym, ap, subst, ◌∙◌}
 use Rattle.std.proofs.lemmas.Result.{err_from_is_err_and}
-use Rattle.myi_base.specs.Holding.{Holding, Told}
+use Rattle.myi_base.specs.Holding.{Holding, IfTold, Told}
 use Rattle.myi_keys.specs.Comparing.{key_front}
 use Rattle.myi_keylist.specs.PairOrder.{pair_with}
 use Rattle.myi_search.specs.Cursor.{CursorAt}
@@ -10,8 +10,8 @@ use Rattle.myi_tablestate.specs.Matching.{stays_below}
 use Rattle.myi_ranges.specs.declared.fault.RangeFault.{RangeFault}
 use Rattle.myi_ranges.specs.declared.ranges.RangeRows.{RangeRows}
 use Rattle.myi_ranges.specs.declared.ranges.Reached.TheVariants.{Behind}
-use Rattle.myi_ranges.specs.Ranges.{NeverDamaged, HasTable, position_within}
-use Rattle.myi_ranges.proofs.AnswerLemmas.{Comes, there_after, long_after, answer_none, answer_past, answer_row, table_again, ahead_end, ahead_behind, few_none, few_row, never_index, if_err}
+use Rattle.myi_ranges.specs.Ranges.{NeverDamaged, HasTable, FailsInFew, position_within}
+use Rattle.myi_ranges.proofs.AnswerLemmas.{Comes, there_after, long_after, answer_none, answer_past, answer_row, table_again, ahead_end, ahead_behind, few_none, few_row, failed_none, failed_row, never_index, if_err}
 use Rattle.myi_ranges.proofs.CostLemmas.{one_behind}
 use Rattle.myi_ranges.proofs.ranges.RangeRows.next_row.Goals as goal
 
@@ -87,3 +87,23 @@ returns-clause-again g c =
 
 pub returns-clause-onward : goal.returns-clause-onward
 returns-clause-onward g c = one_behind c.in-Some.cursor.ahead
+
+pub returns-in_err-cursor-clause-failed : goal.returns-in_err-cursor-clause-failed
+returns-in_err-cursor-clause-failed g c =
+    let told = g.F.Files.holds c.args.files.now in
+    let before = g.F.Files.reads c.args.files.now in
+    let after = g.F.Files.reads c.next_pair.new.files in
+    let e = err_from_is_err_and c.from_residual.result c.from_residual.ensures.1 in
+    if_err c.from_residual.result e.0 (λ f. IfTold told (λ m. (s : TableState) → HasTable c.args.defs.now c.args.self.now c.args.trees.now c.args.rows.now.file s m → FailsInFew c.args.defs.now s c.args.self.now before after)) e.1
+    (failed_none told c.args.defs.now c.args.self.now c.args.trees.now c.args.rows.now.file before after c.in_err-cursor.ensures.few)
+
+pub returns-in_err-row-clause-failed : goal.returns-in_err-row-clause-failed
+returns-in_err-row-clause-failed g c =
+    let told = g.F.Files.holds c.args.files.now in
+    let before = g.F.Files.reads c.args.files.now in
+    let after = g.F.Files.reads c.row_at.new.files in
+    let e = err_from_is_err_and c.from_residual-in_err-row.result c.from_residual-in_err-row.ensures.1 in
+    if_err c.from_residual-in_err-row.result e.0 (λ f. IfTold told (λ m. (s : TableState) → HasTable c.args.defs.now c.args.self.now c.args.trees.now c.args.rows.now.file s m → FailsInFew c.args.defs.now s c.args.self.now before after)) e.1
+    (failed_row told (g.F.Files.holds c.next_pair.new.files) c.args.defs.now c.args.self.now c.args.trees.now c.next_pair.new.trees c.args.rows.now.file c.in-Some.cursor (pair_with (key_front c.pair_of-pointer.result.0.now) c.pair_of-pointer.result.1) c.position_of-at.result before (g.F.Files.reads c.next_pair.new.files) after
+    c.key_lists_are_in_order.ensures.pointed c.rows_of_states_stand.ensures c.requires.sound c.requires.defs c.requires.names c.in_ok-cursor.ensures.searched (subst (λ (o : Option CursorAt). Comes told c.args.trees.now c.args.self.now o) c.in-Some.is c.in_ok-cursor.ensures.next) c.pair_of-pointer.ensures
+    (ap (λ (r : RangeRows). stays_below r.to (key_front c.pair_of-pointer.result.0.now)) (sym c.in_ok-cursor.ensures.end) ∙ sym c.may_come.ensures ∙ c.if-not-may_come.false) (c.position_of-at.ensures ∙ ap (λ (n : Counts). position_within c.args.defs.now n.length c.pair_of-pointer.result.1) c.counts.ensures) c.in_ok-cursor.ensures.few c.row_at.ensures.few)

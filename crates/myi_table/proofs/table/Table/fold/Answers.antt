@@ -4,6 +4,9 @@ use Rattle.std.proofs.lemmas.Result.{err_from_is_err_and}
 use Rattle.myi_search.proofs.CallerLemmas.{counts_on}
 use Rattle.myi_table.specs.declared.fault.ChangeFault.{ChangeFault}
 use Rattle.myi_table.specs.Faults.{CutsOff}
+use Rattle.myi_slots.specs.SlotFile.{Never}
+use Rattle.myi_table.specs.Refusals.{ByCause}
+use Rattle.myi_table.proofs.ChangeLemmas.{any_room}
 use Rattle.myi_table.specs.Table.{IfHolds}
 use Rattle.myi_table.proofs.FoldLemmas.{folds_more, folds_all, folds_cut, same_then, others_then}
 use Rattle.myi_table.proofs.table.Table.fold.Goals as goal
@@ -16,6 +19,11 @@ returns-in_err-insert_at_end-clause-cut g c =
     (subst (λ (f : ChangeFault). IfHolds (g.F.Files.holds c.args.files.now) c.args.self.now (λ m s. CutsOff f)) (sym e.2)
     (folds_cut c.keyed_refusals_come_in_order.ensures.accepted c.args.rows.now c.loop-i.i c.index-rows-i.result (g.F.Files.holds c.args.files.now) (g.F.Files.holds c.loop-i.files) c.args.self.now c.loop-i.self c.in_err-insert_at_end.field-0.0
     c.loop-i-test.true (sym c.index-rows-i.is) k.same.defs c.requires.can k.folds c.in_err-insert_at_end.ensures.refused))
+
+pub returns-in_err-insert_at_end-clause-causes : goal.returns-in_err-insert_at_end-clause-causes
+returns-in_err-insert_at_end-clause-causes g c =
+    let e = err_from_is_err_and c.from_residual-in_err-insert_at_end.result c.from_residual-in_err-insert_at_end.ensures.1 in
+    subst (λ r. IfErr r (ByCause Never (Unit {0}) (Unit {0}))) (sym e.1) (subst (ByCause Never (Unit {0}) (Unit {0})) (sym e.2) (any_room Never (Unit {0}) _ c.in_err-insert_at_end.field-0.0 c.in_err-insert_at_end.ensures.causes))
 
 pub loop-i-preserved : goal.loop-i-preserved
 loop-i-preserved g c =

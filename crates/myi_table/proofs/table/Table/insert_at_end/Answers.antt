@@ -5,7 +5,11 @@ use Rattle.myi_base.specs.Holding.{Told}
 use Rattle.myi_state.specs.Changes.{insert_at_end}
 use Rattle.myi_table.specs.Table.{OpenTable, IsKept, Makes, Refuses, IfReply, StillHolds, KeepsRows}
 use Rattle.myi_table.specs.Faults.{broken_by_fault}
-use Rattle.myi_table.proofs.ChangeLemmas.{with_rows, makes_rows, refuses_rows, unchanged_rows, kept_made, kept_refused, refused_rows}
+use Rattle.myi_rows.specs.Refusals.{LacksEnd}
+use Rattle.myi_keyedrows.specs.KeyedRows.{IsLeft}
+use Rattle.myi_slots.specs.SlotFile.{Never}
+use Rattle.myi_table.specs.Refusals.{ByCause}
+use Rattle.myi_table.proofs.ChangeLemmas.{by_rows, left_rows, with_rows, makes_rows, refuses_rows, unchanged_rows, kept_made, kept_refused, refused_rows}
 use Rattle.myi_table.proofs.table.Table.insert_at_end.Goals as goal
 
 pub returns-in-Ok-clause-made : goal.returns-in-Ok-clause-made
@@ -62,3 +66,22 @@ returns-in-Err-clause-rows g c =
     let t : OpenTable = record { name = string_bytes i.name; setup = i.setup; header = i.header; lost = i.lost; rows = i.rows; changed = i.changed; broken = i.broken; added = i.added } in
     let kept = subst (λ (r : ChangeFault). IfReply r (Told told next (KeepsRows t.name))) (sym c.broken_by.ensures.told) (refused_rows told next t i.defs (string_bytes i.index) c.in-Err.fault c.self.invariant c.in-Err.ensures.apart) in
     subst (λ (u : OpenTable). IfReply c.broken_by.result (Told told next (KeepsRows u.name))) c.self.view_is kept
+
+pub returns-in-Err-clause-causes : goal.returns-in-Err-clause-causes
+returns-in-Err-clause-causes g c =
+    let told = g.F.Files.holds c.args.files.now in
+    let i = c.self.inside in
+    let t : OpenTable = record { name = string_bytes i.name; setup = i.setup; header = i.header; lost = i.lost; rows = i.rows; changed = i.changed; broken = i.broken; added = i.added } in
+    let x = by_rows Never (Unit {0}) (LacksEnd t.rows.rows.file c.args.row.now) c.in-Err.fault c.in-Err.ensures.causes in
+    let y = subst (λ (r : ChangeFault). ByCause Never (Unit {0}) (LacksEnd t.rows.rows.file c.args.row.now) r) (sym c.broken_by.ensures.told) x in
+    let z = subst (λ (n : OpenTable). ByCause Never (Unit {0}) (LacksEnd t.rows.rows.file c.args.row.now) c.broken_by.result) (sym c.broken_by.ensures.left) y in
+    subst (λ (u : OpenTable). ByCause Never (Unit {0}) (LacksEnd u.rows.rows.file c.args.row.now) c.broken_by.result) c.self.view_is z
+
+pub returns-in-Err-clause-left : goal.returns-in-Err-clause-left
+returns-in-Err-clause-left g c =
+    let i = c.self.inside in
+    let t : OpenTable = record { name = string_bytes i.name; setup = i.setup; header = i.header; lost = i.lost; rows = i.rows; changed = i.changed; broken = i.broken; added = i.added } in
+    let x = left_rows t c.insert_at_end-made.new.self (broken_by_fault c.broken_by.result c.fault_count.result t.broken) c.in-Err.fault c.in-Err.ensures.left in
+    let y = subst (λ (r : ChangeFault). IfReply r (IsLeft t.rows c.insert_at_end-made.new.self)) (sym c.broken_by.ensures.told) x in
+    let z = subst (λ (n : OpenTable). IfReply c.broken_by.result (IsLeft t.rows n.rows)) (sym c.broken_by.ensures.left) y in
+    subst (λ (u : OpenTable). IfReply c.broken_by.result (IsLeft u.rows c.broken_by.new.self.rows)) c.self.view_is z

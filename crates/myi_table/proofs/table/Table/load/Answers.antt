@@ -45,7 +45,7 @@ invariant_of-result g c =
     let opened : AreOpened t d c.in-Some.begin =
     are_opened t d c.as_str-3.result.now c.as_str-4.result.now c.used_end-used.result c.in-Some.begin (c.as_str-3.ensures.value ∙ data_named) (c.as_str-4.ensures.value ∙ index) c.used_end-used.ensures c.in-Some.ensures.begin small
     c.saturating_add-lost.ensures c.in_ok-rows.ensures.file c.in_ok-rows.ensures.noted c.in_ok-trees.ensures.places c.in_ok-trees.ensures.placed c.in_ok-trees.ensures.room c.in_ok-trees.ensures.name c.in_ok-trees.ensures.kept c.in_ok-trees.ensures.current refl in
-    let first : AreFirst t d = record { each = c.in_ok-trees.ensures.each; pointers = c.in_ok-trees.ensures.pointers; whole = c.in_ok-trees.ensures.whole; setup = c.in_ok-trees.ensures.setup; fewer = omega arith } in
+    let first : AreFirst t d = record { each = c.in_ok-trees.ensures.each; pointers = c.in_ok-trees.ensures.pointers; whole = c.in_ok-trees.ensures.whole; setup = c.in_ok-trees.ensures.setup; allowed = c.requires.setup; fewer = omega arith } in
     is_tied t d c.in-Some.begin (string_bytes c.in_ok-index.index) c.in_ok-opened.ensures.defs opened first read index
 
 pub returns-clause-loaded : goal.returns-clause-loaded

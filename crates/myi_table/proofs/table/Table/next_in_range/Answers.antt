@@ -1,13 +1,14 @@
 use Rattle.std.proofs.Common.{◌≡◌, None, sym, subst}
-use Rattle.std.specs.Prelude.{string_bytes}
+use Rattle.std.specs.Prelude.{string_bytes, IfErr}
+use Rattle.std.proofs.lemmas.Result.{err_from_is_err_and}
 use Rattle.myi_blocks.specs.Places.{NotedFile}
-use Rattle.myi_ranges.specs.Ranges.{Answers, ReadInFew}
+use Rattle.myi_ranges.specs.Ranges.{Answers, ReadInFew, FailsInFew}
 use Rattle.myi_table.specs.Table.{OpenTable, defs_in, IsKept, IfHolds, StillHolds}
 use Rattle.myi_table.specs.Reading.{HasKey, IsAhead}
 use Rattle.myi_table.specs.Tied.{IsTied}
 use Rattle.myi_table.proofs.ChangeLemmas.{with_rows, kept_then}
 use Rattle.myi_table.proofs.CloseLemmas.{with_trees, written_holds, written_tied}
-use Rattle.myi_table.proofs.RangeLemmas.{table_there, row_answered, row_in_few, ahead_then}
+use Rattle.myi_table.proofs.RangeLemmas.{table_there, row_answered, row_in_few, row_failed, unread_failed, ahead_then}
 use Rattle.myi_table.proofs.table.Table.next_in_range.Goals as goal
 
 pub next_row-requires-clause-table : goal.next_row-requires-clause-table
@@ -142,3 +143,24 @@ returns-clause-ahead g c =
     let still : StillHolds told next t (with_trees t trees) = written_holds told next t trees tied.fit c.next_row.ensures.searched.stand c.next_row.ensures.searched.others c.next_row.ensures.searched.name in
     let now = c.next_row.new.self in
     subst (λ (rows : NotedFile). IfHolds next (with_rows t (record { rows = rows; trees = trees }) t.changed t.broken) (λ m s. IsAhead (with_rows t (record { rows = rows; trees = trees }) t.changed t.broken) now s)) (sym c.next_row.ensures.rows) (ahead_then told next t trees r now i.defs c.standing_files_are_read.ensures.rows tied.defs tied.fit key whole kept ahead still c.next_row.ensures.again)
+
+pub returns-in_err-refuse_reading-clause-failed : goal.returns-in_err-refuse_reading-clause-failed
+returns-in_err-refuse_reading-clause-failed g c =
+    let e = err_from_is_err_and c.from_residual.result c.from_residual.ensures.1 in
+    subst (λ r. IfErr r (λ f. IfHolds (g.F.Files.holds c.args.files.now) c.args.self.now (λ m s. FailsInFew (defs_in c.args.self.now) s c.args.rows.now (g.F.Files.reads c.args.files.now) (g.F.Files.reads c.args.files.now)))) (sym e.1)
+    (unread_failed (g.F.Files.holds c.args.files.now) c.args.self.now c.args.rows.now (g.F.Files.reads c.args.files.now))
+
+pub returns-in_err-row-clause-failed : goal.returns-in_err-row-clause-failed
+returns-in_err-row-clause-failed g c =
+    let told = g.F.Files.holds c.args.files.now in
+    let i = c.self.inside in
+    let t : OpenTable = record { name = string_bytes i.name; setup = i.setup; header = i.header; lost = i.lost; rows = i.rows; changed = i.changed; broken = i.broken; added = i.added } in
+    let tied = c.self.invariant in
+    let r = c.args.rows.now in
+    let key = subst (λ (u : OpenTable). HasKey u r) (sym c.self.view_is) c.requires.key in
+    let ahead = subst (λ (u : OpenTable). IfHolds told u (λ m s. IsAhead u r s)) (sym c.self.view_is) c.requires.ahead in
+    let before = g.F.Files.reads c.args.files.now in
+    let after = g.F.Files.reads c.next_row.new.files in
+    let e = err_from_is_err_and c.from_residual-in_err-row.result c.from_residual-in_err-row.ensures.1 in
+    subst (λ r. IfErr r (λ f. IfHolds told c.args.self.now (λ m s. FailsInFew (defs_in c.args.self.now) s c.args.rows.now before after))) (sym e.1)
+    (subst (λ (u : OpenTable). IfHolds told u (λ m s. FailsInFew (defs_in u) s r before after)) c.self.view_is (row_failed told t r i.defs before after tied.defs tied.fit key ahead c.in_err-row.ensures.failed))

@@ -1,4 +1,4 @@
-use Rattle.std.proofs.Common.{◌≡◌, ◌<◌, ℕ, List, Option, refl, sym, ap, subst, ◌∙◌, arith}
+use Rattle.std.proofs.Common.{◌≡◌, ◌<◌, ◌∷◌, ◌++◌, [], ℕ, List, refl, sym, ap, subst, ◌∙◌, arith}
 use Rattle.std.specs.Prelude.{IfErr, length}
 use Rattle.std.proofs.lemmas.Result.{err_from_is_err_and}
 use Rattle.myi_base.specs.Holding.{OthersStay}
@@ -8,12 +8,11 @@ use Rattle.myi_pack.specs.Packed.{Values}
 use Rattle.myi_search.proofs.CallerLemmas.{counts_none, counts_on}
 use Rattle.myi_opening.specs.Names.{index_file}
 use Rattle.myi_ranges.specs.declared.ranges.RangeRows.{RangeRows}
-use Rattle.myi_table.specs.declared.fault.ReadFault.{ReadFault}
 use Rattle.myi_table.specs.Faults.{NeverDamaged, IsBrokenFor}
 use Rattle.myi_table.specs.Table.{OpenTable, defs_in, IfHolds}
-use Rattle.myi_table.specs.Reading.{IsAhead, begun}
+use Rattle.myi_table.specs.Reading.{IsAhead, IfBroken, begun}
 use Rattle.myi_table.proofs.FoldLemmas.{same_then}
-use Rattle.myi_table.proofs.AllLemmas.{Came, came_none, came_next, came_end, same_begun, begun_ahead, same_reading_then, still_then, left_then, others_stay_then, never_before, broken_before}
+use Rattle.myi_table.proofs.AllLemmas.{Came, came_none, came_next, came_end, same_begun, begun_ahead, same_reading_then, still_then, left_then, others_stay_then, never_before, broken_before, not_for_broken, reads_none, reads_now, reads_fail, reads_end}
 use Rattle.myi_table.proofs.table.Table.range.Goals as goal
 
 pub loop-rows-init : goal.loop-rows-init
@@ -132,3 +131,34 @@ pub returns-in_err-row-clause-first : goal.returns-in_err-row-clause-first
 returns-in_err-row-clause-first g c =
     let e = err_from_is_err_and c.from_residual-in_err-row.result c.from_residual-in_err-row.ensures.1 in
     subst (λ r. IfErr r (IsBrokenFor c.args.self.now.broken)) (sym e.1) (subst (IsBrokenFor c.args.self.now.broken) (sym e.2) (broken_before c.args.self.now.broken c.loop-rows.self.broken c.in_err-row.field-0.0 c.loop-rows.invariant.broken c.in_err-row.ensures.first))
+
+pub returns-in_err-refuse_reading-clause-few : goal.returns-in_err-refuse_reading-clause-few
+returns-in_err-refuse_reading-clause-few g c = λ m held s h. reads_none (defs_in c.args.self.now) s c.args.range.now (g.F.Files.reads c.args.files.now)
+
+pub returns-in_err-reading-clause-few : goal.returns-in_err-reading-clause-few
+returns-in_err-reading-clause-few g c = λ m held s h. reads_none (defs_in c.args.self.now) s c.args.range.now (g.F.Files.reads c.args.files.now)
+
+pub returns-in_err-row-clause-few : goal.returns-in_err-row-clause-few
+returns-in_err-row-clause-few g c =
+    let was = c.loop-rows.invariant in
+    reads_fail (g.F.Files.holds c.args.files.now) (g.F.Files.holds c.loop-rows.files) c.args.self.now c.loop-rows.self c.args.range.now c.loop-rows.reading (g.F.Files.reads c.args.files.now) (g.F.Files.reads c.loop-rows.files) (g.F.Files.reads c.next_in_range.new.files) c.loop-rows.rows.items
+    was.same was.reading was.still was.so_far c.in_err-row.ensures.failed
+
+pub returns-in_err-push-clause-few : goal.returns-in_err-push-clause-few
+returns-in_err-push-clause-few g c =
+    let was = c.loop-rows.invariant in
+    reads_now (g.F.Files.holds c.args.files.now) c.args.self.now c.args.range.now c.next_in_range.new.rows (g.F.Files.reads c.args.files.now) (g.F.Files.reads c.next_in_range.new.files) (c.loop-rows.rows.items ++ c.in-Some.row ∷ [])
+    (came_next (g.F.Files.holds c.args.files.now) (g.F.Files.holds c.loop-rows.files) c.args.self.now c.loop-rows.self c.args.range.now c.loop-rows.reading c.next_in_range.new.rows (g.F.Files.reads c.args.files.now) (g.F.Files.reads c.loop-rows.files) (g.F.Files.reads c.next_in_range.new.files) c.loop-rows.rows.items c.in_ok-row.field-0 c.in-Some.row
+    c.in-Some.is was.same was.reading c.in_ok-row.ensures.onward was.still was.so_far c.in_ok-row.ensures.row c.in_ok-row.ensures.few)
+
+pub returns-clause-few : goal.returns-clause-few
+returns-clause-few g c =
+    let was = c.loop-rows.invariant in
+    reads_end (g.F.Files.holds c.args.files.now) (g.F.Files.holds c.loop-rows.files) c.args.self.now c.loop-rows.self c.args.range.now c.loop-rows.reading (g.F.Files.reads c.args.files.now) (g.F.Files.reads c.loop-rows.files) (g.F.Files.reads c.next_in_range.new.files) c.loop-rows.rows.items c.in_ok-row.field-0
+    c.in_default.is was.same was.reading was.still was.so_far c.in_ok-row.ensures.few
+
+pub returns-in_err-row-clause-unread : goal.returns-in_err-row-clause-unread
+returns-in_err-row-clause-unread g c =
+    let e = err_from_is_err_and c.from_residual-in_err-row.result c.from_residual-in_err-row.ensures.1 in
+    let P = (c.next_in_range.new.self ≡ c.args.self.now) × (g.F.Files.holds c.next_in_range.new.files ≡ g.F.Files.holds c.args.files.now) in
+    subst (λ r. IfErr r (λ f. IfBroken f P)) (sym e.1) (subst (λ f. IfBroken f P) (sym e.2) (not_for_broken c.loop-rows.self.broken P c.in_err-row.field-0.0 (c.loop-rows.invariant.broken ∙ c.in_ok-refuse_reading.ensures.whole) c.in_err-row.ensures.first))
