@@ -1,5 +1,6 @@
 -- The pairs of a row, one key after the other.
-use Rattle.std.proofs.Common.{◌≡◌, ℕ, zero, suc, ◌+◌, ◌<◌, ◌≤◌, List, [], ◌∷◌, ◌++◌, length, map, take, Option, Some, refl, sym, ap, ◌∙◌, arith}
+use Rattle.std.proofs.Common.{◌≡◌, ℕ, zero, suc, ◌+◌, ◌<◌, ◌≤◌, List, [], ◌∷◌, ◌++◌, length, map, take, Option, Some, Result, Ok, Err, refl, sym, ap, ◌∙◌, arith}
+use Rattle.std.specs.Prelude.{OnOk}
 use Rattle.myi_defs.specs.declared.types.Defs.{Defs}
 use Rattle.myi_pack.specs.Packed.{Values}
 use Rattle.myi_keylist.specs.declared.pair.Pair.{Pair}
@@ -46,3 +47,8 @@ pairs_all d values pointer i all = let long = numbers_long 1 (length d.keys) in 
 
 pub some_values : (v w : Values) (o : Option Values) → o ≡ Some v → o ≡ Some w → v ≡ w
 some_values v w o a b = let e : Some v ≡ Some w = sym a ∙ b in cc
+
+-- what follows from what an Ok tells
+pub ok_more : {A E : Type 0} (r : Result A E) (P Q : Type 0) → (P → Q) → OnOk r P → OnOk r Q
+ok_more (Ok x) P Q f p = f p
+ok_more (Err e) P Q f p = tt

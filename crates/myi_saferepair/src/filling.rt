@@ -18,6 +18,7 @@ ghost use Rattle.myi_saferepair.specs.Filling.{IsFresh, IsFit, Took, RootFits, F
 
 use crate::fault::Stop;
 use crate::new_files::NewFiles;
+use crate::row_pairs::RowPairs;
 use myi_base::Sequence;
 use myi_chain::ScanSetup;
 use myi_data::DataScan;
@@ -147,11 +148,12 @@ fn take_rows<F: Files>(
     ensures cut { IfErr result TellsOfNone }
     ensures cause { HasCause (Cut repair.File) (F.faults files.old) (F.faults files.new) result }
 {
-    files.cut(file, 0)?;
     let mut next = NextRow::new(alloc);
+    let mut pairs = RowPairs::new(alloc, defs)?;
+    files.cut(file, 0)?;
     let mut repeats = 0;
     while next.read(files, scan, defs)? {
-        if !new.take(alloc, files, file, defs, &next)? {
+        if !new.take(files, file, defs, &next, &mut pairs)? {
             repeats += 1;
         }
     }

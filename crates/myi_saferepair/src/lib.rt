@@ -3,8 +3,8 @@
 //! `safe_recover` leaves what `myi_repair`'s `recover` leaves: the same data file, and trees with the same pairs;
 //! where their pages stand is its own (`specs/Recovered`). It holds no list of keys: a row's pairs are put into the
 //! trees before the next row is read, and whether a row repeats the unique key of one kept before is asked of the trees.
-//! So its memory is that of a key cache and of a row pointer for each row, and its time that of a search for each unique key
-//! and a change for each key of each row.
+//! So its memory is that of a key cache, of one row and its keys, and for each row of a dynamic table of a row pointer, and
+//! its time that of a search for each unique key and a change for each key of each row.
 //!
 //! Where a page that was put comes back as no page, as it may where somebody else writes the working index file, it
 //! takes the working files away and repairs as `recover` does.

@@ -9,7 +9,7 @@ ghost use Rattle.myi_saferepair.specs.Filling.{RootFits};
 
 use crate::fault::Stop;
 use crate::repeats::repeats_any;
-use crate::row_pairs::pairs_of;
+use crate::row_pairs::RowPairs;
 use myi_defs::Defs;
 use myi_header::first_page;
 use myi_io::Files;
@@ -19,10 +19,9 @@ use myi_repair::{NewRows, NextRow};
 use myi_rowtrees::{places_of, pointer_of, put_row};
 use std::alloc::Global;
 
-/// How the pages of the trees are kept. A page that is asked for moves in the list of all that are kept, so that few
-/// serve better than many.
+/// How the pages of the trees are kept.
 const SETUP: CacheSetup = CacheSetup {
-    blocks: 64,
+    blocks: 1_024,
     division: 100,
     age: 300,
 };
@@ -40,7 +39,7 @@ impl Drop for NewFiles {
 }
 
 impl NewFiles {
-    ghost use Rattle.std.specs.Prelude.{◌≡◌, ◌≢◌, map, List, IfOk, IfErr, OnOk, IsTrue};
+    ghost use Rattle.std.specs.Prelude.{◌≡◌, ◌≢◌, length, map, List, IfOk, IfErr, OnOk, IsTrue};
     ghost use Rattle.std.specs.List.{AllByRecursion};
     ghost use Rattle.myi_base.specs.Holding.{IfTold, Told, OthersStay};
     ghost use Rattle.myi_base.specs.Causes.{HasCause};
@@ -77,18 +76,19 @@ impl NewFiles {
     }
 
     /// Writes a row at the end of the file of that name and puts its pairs into the trees, but where it repeats the
-    /// unique key of a row that was written. Answers whether it was written.
+    /// unique key of a row that was written. Answers whether it was written. `pairs` takes the row's pairs.
     pub(crate) fn take<F: Files>(
         &mut self,
-        alloc: Global,
         files: &mut F,
         file: &str,
         defs: &Defs,
         next: &NextRow,
+        pairs: &mut RowPairs,
     ) -> Result<bool, Stop>
         requires writable { IsTrue F.writable }
         requires defs { AreDefs defs.now }
         requires row { (row : SizedRow) × IsPrepared defs.now row next.now }
+        requires each { length pairs.old ≡ length defs.now.keys }
         requires written { (rows : List SizedRow) × HasWritten defs.now all_chosen rows self.old.rows }
         requires fit { IsFit defs.now self.old }
         requires apart { self.old.trees.cache.name ≢ file.now }
@@ -98,6 +98,7 @@ impl NewFiles {
         ensures written { IfOk result (λ keeps.
             StaysWritten defs.now next.now keeps self.old self.new) }
         ensures fit { OnOk result (IsFit defs.now self.new) }
+        ensures each { OnOk result (length pairs.new ≡ length defs.now.keys) }
         ensures name { self.new.trees.cache.name ≡ self.old.trees.cache.name }
         ensures others { Told (F.holds files.old) (F.holds files.new)
             (WritesBoth file.now self.old.trees.cache.name) }
@@ -105,8 +106,8 @@ impl NewFiles {
         ensures cause { HasCause (Cut repair.File) (F.faults files.old) (F.faults files.new) result }
     {
         let pointer = pointer_of(defs, self.rows.end);
-        let made = pairs_of(alloc, defs, next, pointer)?;
-        let pairs = made.as_slice();
+        pairs.read(defs, next, pointer)?;
+        let pairs = pairs.as_slice();
         if repeats_any(files, &mut self.trees, defs, pairs)? {
             return Ok(false);
         }

@@ -50,7 +50,7 @@ struct Work {
     again: &'static [&'static str],
 }
 
-const REPAIRS: [Work; 2] = [
+const REPAIRS: [Work; 3] = [
     Work {
         mode: "--recover",
         same_as: "--recover",
@@ -60,6 +60,11 @@ const REPAIRS: [Work; 2] = [
         mode: "--parallel-recover",
         same_as: "--recover",
         again: &["--parallel-recover"],
+    },
+    Work {
+        mode: "--safe-recover",
+        same_as: "--safe-recover",
+        again: &["--safe-recover"],
     },
 ];
 

@@ -15,7 +15,7 @@ use Rattle.myisamkit.specs.declared.status.Status.TheVariants as status
 use Rattle.myisamkit.specs.declared.status.Stop.{Stop}
 use Rattle.myisamkit.specs.declared.status.Stop.TheVariants as stop
 use Rattle.myisamkit.proofs.TurnLaws.{repair_earlier}
-use Rattle.myisamkit.specs.Turns.{checked_text, checked_status, RepairStops, CheckStops, has_findings, checked_turn, check_turn_by, check_turn, goes_on, without_extend, recover_turn, RepairDone, CheckDone, CheckCutOff, CheckRecovers}
+use Rattle.myisamkit.specs.Turns.{checked_text, checked_status, RepairStops, CheckStops, has_findings, checked_turn, check_turn_by, check_turn, goes_on, without_extend, recover_turn, RepairDone, CheckDone, CheckDoneBy, CheckCutOff}
 
 -- the status says whether something was found
 pub found_by : (r : Result (List Finding) TableFault) → checked_status r ≡ status.Findings → has_findings r ≡ true
@@ -87,6 +87,11 @@ part_both o p now name line s m w0 w1 w2 forced found plain is text first second
     (subst (λ l. Appends l w1 b) text (first b was))
     (λ c e. subst (λ q. AppendsPart (recover_turn q now name m).text w2 c) plain (second c e)))
 
+-- the repair that follows was done
+pub done_behind : (o p : Options) (now : ℕ) (name : List ℕ) (s : Status) (m n : Holding) → o.force ≡ true → s ≡ status.Findings → p ≡ without_extend o → s ≡ checked_status (findings_in name m) → RepairDone p now name m n → CheckDone o now name m n
+done_behind o p now name s m n forced found plain is done =
+    subst (λ g. CheckDoneBy g o now name m n) (sym (follows o name m forced (sym is ∙ found))) (subst (λ q. RepairDone q now name m n) plain done)
+
 -- the repair that follows stopped
 pub stops_behind : (o p : Options) (now before at after : ℕ) (name : List ℕ) (s : Status) (m n : Holding) (stopped : Stop) → o.force ≡ true → s ≡ status.Findings → p ≡ without_extend o
     → s ≡ checked_status (findings_in name m) → before ≤ at → RepairStops p now at after name stopped m n → CheckStops o now before after name stopped m n
@@ -95,16 +100,10 @@ stops_behind o p now before at after name s m n stopped forced found plain is la
     goes : goes_on o name m ≡ true
     goes = follows o name m forced (sym is ∙ found)
 
-    done : RepairDone (without_extend o) now name m n → CheckDone o now name m n
-    done repaired = record {
-      files = subst (λ g. n ≡ (check_turn_by g o now name m).files) (sym goes) repaired.files;
-      recovers = subst (λ g. CheckRecovers g o now name m) (sym goes) repaired.recovers;
-    }
-
     by : (k : Stop) → RepairStops (without_extend o) now at after name k m n → CheckStops o now before after name k m n
     by stop.File cut = subst (λ g. CheckCutOff g o now 1 before after name m n) (sym goes) (repair_earlier (without_extend o) now 1 before at after name m n later cut)
     by stop.Memory cut = subst (λ g. CheckCutOff g o now 0 before after name m n) (sym goes) (repair_earlier (without_extend o) now 0 before at after name m n later cut)
-    by stop.Sink repaired = inr (done repaired)
+    by stop.Sink repaired = inr (subst (λ g. CheckDoneBy g o now name m n) (sym goes) repaired)
 
 pub on_ok_more : {A E : Type 0} (r : Result A E) (P Q : Type 0) → (P → Q) → OnOk r P → OnOk r Q
 on_ok_more (Ok x) P Q f p = f p

@@ -29,12 +29,13 @@ use Rattle.myi_order.specs.Sorting as sorting
 use Rattle.myi_sortindex.specs.declared.fault.SortFault.{SortFault}
 use Rattle.myi_sortindex.specs.Refusals as index_sorting
 use Rattle.myi_sortindex.specs.Sorting.{sorted_index}
-use Rattle.myisamkit.specs.Turns.{replaced, with_index, analyzed_turn, sorted_turn, pages_turn, repair_turn, without_extend, goes_on, check_turn_by, turn, turn_by, CheckCutOff, CutsTurnOff, CutsTurnOffBy, TurnDone, FailsInTurn, FailsInTurnBy}
+use Rattle.myisamkit.specs.Turns.{replaced, with_index, analyzed_turn, sorted_turn, pages_turn, without_extend, goes_on, RepairDone, CheckDoneBy, CheckCutOff, CutsTurnOff, CutsTurnOffBy, TurnDone, TurnDoneBy, FailsInTurn, FailsInTurnBy, turn}
 use Rattle.myisamkit.specs.Creates.{made, made_turn, CreateLeaves}
 use Rattle.myi_make.specs.MadeTable.{defs, damaged_file}
 use Rattle.myisamkit.specs.Makes.{MakeDone, MakeLeaves}
-use Rattle.myisamkit.specs.Shells.{ShellLeaves}
-use Rattle.myisamkit.specs.Runs.{TablesDone, CutsTablesOff, FailsInTables, TablesLeave, Leaves, IsApart, IsNoFileOf, KeepsOthers}
+use Rattle.myisamkit.specs.Shells.{ShellLeaves, ShellCutOff}
+use Rattle.myisamkit.specs.Statuses.{worse}
+use Rattle.myisamkit.specs.Runs.{TablesRun, CutsTablesOff, FailsInTables, TablesLeave, Leaves, IsApart, IsNoFileOf, KeepsOthers}
 
 pub other_name : (q name : List ℕ) → q ≢ name → bytes_eq q name ≡ false
 other_name q name apart = false_from_ne_true _ (λ same. apart ((bytes_eq-Decides q name).0 same))
@@ -49,9 +50,12 @@ replaced_keeps t d x m q apart = by_names (bytes_eq q t.rows) (bytes_eq q t.inde
     by_names false false false true rows index work trees = absurd cc
     by_names false false false false rows index work trees = refl
 
-repair_keeps : (o : Options) (now : ℕ) (name : List ℕ) (t : Result Table RepairFault) (m : Holding) (q : List ℕ) → IsApart q (names_for name) → (repair_turn o now name t m).files q ≡ m q
-repair_keeps o now name (Err f) m q apart = refl
-repair_keeps o now name (Ok t) m q apart = replaced_keeps (names_for name) (new_data t.0 o.extend t.1) (new_index t.0 o.extend t.1 now) m q apart
+repair_keeps : (o : Options) (now : ℕ) (name : List ℕ) (m n : Holding) (q : List ℕ) → IsApart q (names_for name) → RepairDone o now name m n → n q ≡ m q
+repair_keeps o now name m n q apart done = by_table (table_in (names_for name) m) refl
+  where
+    by_table : (t : Result Table RepairFault) → table_in (names_for name) m ≡ t → n q ≡ m q
+    by_table (Err f) is = ap (λ (h : Holding). h q) (done.refused f is)
+    by_table (Ok t) is = let r = done.repaired t.0 t.1 is in ap (λ (h : Holding). h q) r.files ∙ replaced_keeps (names_for name) (new_data t.0 o.extend t.1) r.index m q apart
 
 indexed_keeps : (name x : List ℕ) (m : Holding) (q : List ℕ) → IsApart q (names_for name) → with_index name x m q ≡ m q
 indexed_keeps name x m q apart = by_names (bytes_eq q (index_file name)) (bytes_eq q (new_index_file name)) (other_name q (index_file name) apart.index) (other_name q (new_index_file name) apart.new_index)
@@ -73,21 +77,21 @@ pages_keep : (o : Options) (name : List ℕ) (t : Result opening.Table SortFault
 pages_keep o name (Err f) m q apart = refl
 pages_keep o name (Ok t) m q apart = indexed_keeps name (sorted_index t.defs t.index) m q apart
 
-turn_keeps : (o : Options) (now : ℕ) (name : List ℕ) (m : Holding) (q : List ℕ) → IsApart q (names_for name) → (turn o now name m).files q ≡ m q
-unfolding turn
-turn_keeps o now name m q apart = by_mode o.mode
+turn_keeps : (o : Options) (now : ℕ) (name : List ℕ) (m n : Holding) (q : List ℕ) → IsApart q (names_for name) → TurnDone o now name m n → n q ≡ m q
+unfolding TurnDone
+turn_keeps o now name m n q apart done = by_mode o.mode done
   where
-    by_check : (b : Bool) → (check_turn_by b o now name m).files q ≡ m q
-    by_check false = refl
-    by_check true = repair_keeps (without_extend o) now name (table_in (names_for name) m) m q apart
+    by_check : (b : Bool) → CheckDoneBy b o now name m n → n q ≡ m q
+    by_check false same = ap (λ (h : Holding). h q) same
+    by_check true done = repair_keeps (without_extend o) now name m n q apart done
 
-    by_mode : (mode : Mode) → (turn_by mode o now name m).files q ≡ m q
-    by_mode (Recover parallel) = repair_keeps o now name (table_in (names_for name) m) m q apart
-    by_mode Check = by_check (goes_on o name m)
-    by_mode Describe = refl
-    by_mode Analyze = analyzed_keeps o name (analyzing.table_in name m) m q apart
-    by_mode (Sort key) = sorted_keeps o now key name (sorting.table_in name key m) m q apart
-    by_mode SortIndex = pages_keep o name (index_sorting.table_in name m) m q apart
+    by_mode : (mode : Mode) → TurnDoneBy mode o now name m n → n q ≡ m q
+    by_mode (Recover trees) done = repair_keeps o now name m n q apart done
+    by_mode Check done = by_check (goes_on o name m) done
+    by_mode Describe same = ap (λ (h : Holding). h q) same
+    by_mode Analyze done = ap (λ (h : Holding). h q) done.files ∙ analyzed_keeps o name (analyzing.table_in name m) m q apart
+    by_mode (Sort key) done = ap (λ (h : Holding). h q) done.files ∙ sorted_keeps o now key name (sorting.table_in name key m) m q apart
+    by_mode SortIndex done = ap (λ (h : Holding). h q) done.files ∙ pages_keep o name (index_sorting.table_in name m) m q apart
 
 cut_keeps : (o : Options) (now told before after : ℕ) (name : List ℕ) (m n : Holding) (q : List ℕ) → IsApart q (names_for name) → CutsTurnOff o now told before after name m n → n q ≡ m q
 unfolding CutsTurnOff
@@ -98,7 +102,7 @@ cut_keeps o now told before after name m n q apart cut = by_mode o.mode cut
     by_check true cut = cut.others q apart.rows apart.index apart.new_rows apart.new_index
 
     by_mode : (mode : Mode) → CutsTurnOffBy mode o now told before after name m n → n q ≡ m q
-    by_mode (Recover parallel) cut = cut.others q apart.rows apart.index apart.new_rows apart.new_index
+    by_mode (Recover trees) cut = cut.others q apart.rows apart.index apart.new_rows apart.new_index
     by_mode Check cut = by_check (goes_on o name m) cut
     by_mode Describe cut = ap (λ (h : Holding). h q) cut
     by_mode Analyze (inl none) = none.others q apart.index apart.new_index
@@ -112,10 +116,10 @@ unfolding FailsInTurn
 fail_keeps o now name m n q apart fails = by_mode o.mode fails
   where
     by_done : TurnDone o now name m n → n q ≡ m q
-    by_done done = ap (λ (h : Holding). h q) done.files ∙ turn_keeps o now name m q apart
+    by_done done = turn_keeps o now name m n q apart done
 
     by_mode : (mode : Mode) → FailsInTurnBy mode o now name m n → n q ≡ m q
-    by_mode (Recover parallel) done = by_done done
+    by_mode (Recover trees) done = by_done done
     by_mode Check (inl same) = ap (λ (h : Holding). h q) same
     by_mode Check (inr done) = by_done done
     by_mode Describe same = ap (λ (h : Holding). h q) same
@@ -123,29 +127,29 @@ fail_keeps o now name m n q apart fails = by_mode o.mode fails
     by_mode (Sort key) done = by_done done
     by_mode SortIndex done = by_done done
 
-done_keeps : (o : Options) (now : ℕ) (names : List (List ℕ)) (m n : Holding) (q : List ℕ) → IsNoFileOf q names → TablesDone o now names m n → n q ≡ m q
-done_keeps o now [] m n q apart done = ap (λ (h : Holding). h q) done
-done_keeps o now (name ∷ names) m n q apart done = done_keeps o now names (turn o now name m).files n q apart.1 done.1 ∙ turn_keeps o now name m q apart.0
+done_keeps : (s : Status) (o : Options) (now : ℕ) (names : List (List ℕ)) (m : Holding) (text : List ℕ) (t : Status) (n : Holding) (q : List ℕ) → IsNoFileOf q names → TablesRun s o now names m text t n → n q ≡ m q
+done_keeps s o now [] m text t n q apart done = ap (λ (h : Holding). h q) done.2
+done_keeps s o now (name ∷ names) m text t n q apart done = done_keeps (worse s (turn o now name m).status) o now names done.0 done.1 t n q apart.1 done.4 ∙ turn_keeps o now name m done.0 q apart.0 done.2
 
 off_keeps : (o : Options) (now told before after : ℕ) (names : List (List ℕ)) (m n : Holding) (q : List ℕ) → IsNoFileOf q names → CutsTablesOff o now told before after names m n → n q ≡ m q
 off_keeps o now told before after [] m n q apart off = absurd off
 off_keeps o now told before after (name ∷ names) m n q apart (inl cut) = cut_keeps o now told before after name m n q apart.0 cut
-off_keeps o now told before after (name ∷ names) m n q apart (inr off) = off_keeps o now told before after names (turn o now name m).files n q apart.1 off.1 ∙ turn_keeps o now name m q apart.0
+off_keeps o now told before after (name ∷ names) m n q apart (inr off) = off_keeps o now told before after names off.0 n q apart.1 off.2 ∙ turn_keeps o now name m off.0 q apart.0 off.1
 
 fails_keeps : (o : Options) (now : ℕ) (names : List (List ℕ)) (m n : Holding) (q : List ℕ) → IsNoFileOf q names → FailsInTables o now names m n → n q ≡ m q
 fails_keeps o now [] m n q apart fails = absurd fails
 fails_keeps o now (name ∷ names) m n q apart (inl fails) = fail_keeps o now name m n q apart.0 fails
-fails_keeps o now (name ∷ names) m n q apart (inr fails) = fails_keeps o now names (turn o now name m).files n q apart.1 fails.1 ∙ turn_keeps o now name m q apart.0
+fails_keeps o now (name ∷ names) m n q apart (inr fails) = fails_keeps o now names fails.0 n q apart.1 fails.2 ∙ turn_keeps o now name m fails.0 q apart.0 fails.1
 
 tables_keep : (o : Options) (now before after : ℕ) (names : List (List ℕ)) (s : Status) (m n : Holding) (q : List ℕ) → IsNoFileOf q names → TablesLeave o now before after names s m n → n q ≡ m q
 tables_keep o now before after names status.FileFault m n q apart leaves = off_keeps o now 1 before after names m n q apart leaves
 tables_keep o now before after names status.Memory m n q apart leaves = off_keeps o now 0 before after names m n q apart leaves
 tables_keep o now before after names status.SinkFault m n q apart leaves = fails_keeps o now names m n q apart leaves
-tables_keep o now before after names status.Ok m n q apart leaves = done_keeps o now names m n q apart leaves
-tables_keep o now before after names status.Findings m n q apart leaves = done_keeps o now names m n q apart leaves
-tables_keep o now before after names status.Usage m n q apart leaves = done_keeps o now names m n q apart leaves
-tables_keep o now before after names status.Refused m n q apart leaves = done_keeps o now names m n q apart leaves
-tables_keep o now before after names status.Absent m n q apart leaves = done_keeps o now names m n q apart leaves
+tables_keep o now before after names status.Ok m n q apart leaves = done_keeps status.Ok o now names m leaves.0 status.Ok n q apart leaves.1
+tables_keep o now before after names status.Findings m n q apart leaves = done_keeps status.Ok o now names m leaves.0 status.Findings n q apart leaves.1
+tables_keep o now before after names status.Usage m n q apart leaves = done_keeps status.Ok o now names m leaves.0 status.Usage n q apart leaves.1
+tables_keep o now before after names status.Refused m n q apart leaves = done_keeps status.Ok o now names m leaves.0 status.Refused n q apart leaves.1
+tables_keep o now before after names status.Absent m n q apart leaves = done_keeps status.Ok o now names m leaves.0 status.Absent n q apart leaves.1
 
 made_keeps : (name header : List ℕ) (m : Holding) (q : List ℕ) → IsApart q (names_for name) → made (making.names_for name) header m q ≡ m q
 made_keeps name header m q apart = by_names (bytes_eq q (names_for name).rows) (bytes_eq q (names_for name).index) (bytes_eq q (names_for name).new_index) (other_name q (names_for name).rows apart.rows) (other_name q (names_for name).index apart.index) (other_name q (names_for name).new_index apart.new_index)
@@ -184,9 +188,13 @@ make_keeps count seed name now status.Usage m n q apart left = done_making_keeps
 make_keeps count seed name now status.Refused m n q apart left = done_making_keeps count seed name now m n q apart left
 make_keeps count seed name now status.Absent m n q apart left = done_making_keeps count seed name now m n q apart left
 
+cut_shell_keeps : (name script : List ℕ) (m n : Holding) (q : List ℕ) → IsApart q (names_for name) → ShellCutOff name script m n → n q ≡ m q
+cut_shell_keeps name script m n q apart (inl same) = ap (λ (h : Holding). h q) same
+cut_shell_keeps name script m n q apart (inr (there, keeps)) = keeps q apart.rows apart.index
+
 shell_keeps : (setting : ℕ) (name script : List ℕ) (s : Status) (m n : Holding) (q : List ℕ) → IsApart q (names_for name) → ShellLeaves setting name script s m n → n q ≡ m q
-shell_keeps setting name script status.FileFault m n q apart left = left q apart.rows apart.index
-shell_keeps setting name script status.Memory m n q apart left = left q apart.rows apart.index
+shell_keeps setting name script status.FileFault m n q apart left = cut_shell_keeps name script m n q apart left
+shell_keeps setting name script status.Memory m n q apart left = cut_shell_keeps name script m n q apart left
 shell_keeps setting name script status.SinkFault m n q apart left = left q apart.rows apart.index
 shell_keeps setting name script status.Ok m n q apart left = left.others q apart.rows apart.index
 shell_keeps setting name script status.Findings m n q apart left = ap (λ (h : Holding). h q) left

@@ -1,17 +1,14 @@
 -- What the status and the files of a run make of a table that can be repaired.
-use Rattle.std.proofs.Common.{◌≡◌, ◌≢◌, ◌⊎◌, ◌++◌, get_or, arith, ℕ, Bool, true, false, List, [], ◌∷◌, take, Option, Some, None, Ok, refl, subst, ap, ◌∙◌, inl, inr}
+use Rattle.std.proofs.Common.{◌≡◌, ◌≢◌, ◌⊎◌, ◌++◌, get_or, arith, ℕ, Bool, true, false, List, [], ◌∷◌, Option, Some, None, Ok, refl, sym, subst, ap, ◌∙◌, inl, inr}
 use Rattle.std.specs.Prelude.{codes, ◌||◌, if◌then◌else◌}
 use Rattle.std.specs.Str.{bytes_eq}
 use Rattle.std.proofs.lemmas.Slice.Eq.{bytes_eq-Decides}
 use Rattle.std.proofs.lemmas.List.{append_cancel_left}
-use Rattle.myi_base.specs.Numbers.{num_at}
 use Rattle.myi_base.specs.Holding.{Holding, IfTold, Told}
 use Rattle.myi_defs.specs.declared.types.Defs.{Defs}
 use Rattle.myi_opening.specs.Names.{rows_file, index_file}
 use Rattle.myi_opening.proofs.CallerLemmas.{table_opened}
-use Rattle.myi_pair.specs.RecoveredBytes.{new_data, new_index}
-use Rattle.myi_pair.specs.Recovered.{Recovered}
-use Rattle.myi_pair.proofs.CallerLemmas.{none_where_clean}
+use Rattle.myi_pair.specs.RecoveredBytes.{new_data}
 use Rattle.myi_check.specs.Checking.{findings_by, findings_in, Finds}
 use Rattle.myi_repair.specs.Names.{names_for, new_rows_file, new_index_file}
 use Rattle.myisamkit.proofs.OtherLaws.{other_name}
@@ -20,13 +17,14 @@ use Rattle.myisamkit.specs.declared.status.Status.{Status}
 use Rattle.myisamkit.specs.declared.status.Status.TheVariants as status
 use Rattle.myisamkit.specs.declared.status.Stop.{Stop}
 use Rattle.myisamkit.specs.declared.status.Stop.TheVariants as stop
+use Rattle.myisamkit.specs.declared.options.TreeWork.{TreeWork}
 use Rattle.myisamkit.specs.declared.options.Mode.TheVariants.{Recover}
 use Rattle.myisamkit.specs.declared.options.Options.{Options}
 use Rattle.myisamkit.specs.Words.{Request, chk}
 use Rattle.myisamkit.specs.Statuses.{IsFault, worse}
 use Rattle.myisamkit.specs.Stops.{status_of_stop}
-use Rattle.myisamkit.specs.Turns.{replaced, turn, turn_by, repair_turn, TurnRecovers, TurnRecoversBy, TurnDone, FailsInTurn, FailsInTurnBy}
-use Rattle.myisamkit.specs.Runs.{IsOrFault, Leaves}
+use Rattle.myisamkit.specs.Turns.{replaced, turn, turn_by, repair_turn, AreSound, TurnDone, TurnDoneBy, FailsInTurn, FailsInTurnBy}
+use Rattle.myisamkit.specs.Runs.{TablesEnd, HasStatus, IsOrFault, Leaves}
 use Rattle.myisamkit.specs.Recovers.{IsRepaired, Recovers}
 
 -- what files hold that took a table's place
@@ -45,64 +43,59 @@ placed_index name d x m = by (bytes_eq (index_file name) (rows_file name)) (byte
     by false true other same = refl
 
 -- nothing is wrong with a table that a repair left
-sound_after : (name : List ℕ) (defs : Defs) (extend : Bool) (d : List ℕ) (now : ℕ) (m n : Holding) (e y : List ℕ) → n ≡ replaced (names_for name) e y m → Recovered defs extend d now e y → Finds name [] n
+sound_after : (name : List ℕ) (m n : Holding) (e y : List ℕ) → n ≡ replaced (names_for name) e y m → AreSound e y → Finds name [] n
 unfolding findings_in
-sound_after name defs extend d now m n e y files made =
-    let again = record defs { raw = take (num_at 6 2 defs.raw) y } in
+sound_after name m n e y files sound =
     let held = ap (λ (h : Holding). h (rows_file name)) files ∙ placed_rows name e y m in
     let keys = ap (λ (h : Holding). h (index_file name)) files ∙ placed_index name e y m in
-    ap findings_by (table_opened (index_file name) (rows_file name) y e again n keys held made.rebuilt.definitions)
-    ∙ ap Ok (none_where_clean again e y made.rebuilt.definitions made.rebuilt.clean)
+    ap findings_by (table_opened (index_file name) (rows_file name) y e sound.0 n keys held sound.1)
+    ∙ ap Ok sound.2
 
 -- the table had its turn
-repaired : (o : Options) (now : ℕ) (name : List ℕ) (defs : Defs) (d : List ℕ) (m n : Holding) (parallel : Bool) → o.mode ≡ Recover parallel → IsTable (names_for name) defs d m → n ≡ (turn o now name m).files → TurnRecovers o now name m → IsRepaired o now name defs d m n
-unfolding turn TurnRecovers
-repaired o now name defs d m n parallel mode table files recovers = record {
-  files = placed;
-  recovered = made;
-  sound = sound_after name defs o.extend d now m n (new_data defs o.extend d) (new_index defs o.extend d now) placed made;
-}
-  where
-    placed : n ≡ replaced (names_for name) (new_data defs o.extend d) (new_index defs o.extend d now) m
-    placed = subst (λ t. n ≡ (repair_turn o now name t m).files) table (subst (λ k. n ≡ (turn_by k o now name m).files) mode files)
-
-    made : Recovered defs o.extend d now (new_data defs o.extend d) (new_index defs o.extend d now)
-    made = (subst (λ k. TurnRecoversBy k o now name m) mode recovers defs d table).0
+repaired : (o : Options) (now : ℕ) (name : List ℕ) (defs : Defs) (d : List ℕ) (m n : Holding) (trees : TreeWork) → o.mode ≡ Recover trees → IsTable (names_for name) defs d m → TurnDone o now name m n → IsRepaired o now name defs d m n
+unfolding TurnDone
+repaired o now name defs d m n trees mode table done =
+    let r = (subst (λ k. TurnDoneBy k o now name m n) mode done).repaired defs d table in
+    record { index = r.index; files = r.files; made = r.made; sound = sound_after name m n (new_data defs o.extend d) r.index r.files r.sound }
 
 -- its status, where nothing cuts the run off
-status_of : (o : Options) (now : ℕ) (name : List ℕ) (defs : Defs) (d : List ℕ) (m : Holding) (parallel : Bool) → o.mode ≡ Recover parallel → IsTable (names_for name) defs d m → (turn o now name m).status ≡ status.Ok
+status_of : (o : Options) (now : ℕ) (name : List ℕ) (defs : Defs) (d : List ℕ) (m : Holding) (trees : TreeWork) → o.mode ≡ Recover trees → IsTable (names_for name) defs d m → (turn o now name m).status ≡ status.Ok
 unfolding turn
-status_of o now name defs d m parallel mode table = ap (λ k. (turn_by k o now name m).status) mode ∙ ap (λ t. (repair_turn o now name t m).status) table
+status_of o now name defs d m trees mode table = ap (λ k. (turn_by k o now name m).status) mode ∙ ap (λ t. (repair_turn o now name t m).status) table
 
 -- and so it had where the output failed in it
-failed : (o : Options) (now : ℕ) (name : List ℕ) (m n : Holding) (parallel : Bool) → o.mode ≡ Recover parallel → FailsInTurn o now name m n → TurnDone o now name m n
+failed : (o : Options) (now : ℕ) (name : List ℕ) (m n : Holding) (trees : TreeWork) → o.mode ≡ Recover trees → FailsInTurn o now name m n → TurnDone o now name m n
 unfolding FailsInTurn
-failed o now name m n parallel mode fails = subst (λ k. FailsInTurnBy k o now name m n) mode fails
+failed o now name m n trees mode fails = subst (λ k. FailsInTurnBy k o now name m n) mode fails
 
-ends : (o : Options) (now before after : ℕ) (name : List ℕ) (defs : Defs) (d : List ℕ) (s : Status) (m n : Holding) (parallel : Bool) → o.mode ≡ Recover parallel → IsTable (names_for name) defs d m
+-- the run of one table is its turn
+alone : (o : Options) (now : ℕ) (name : List ℕ) (m n : Holding) (s : Status) → TablesEnd o now (name ∷ []) s m n → TurnDone o now name m n
+alone o now name m n s run = subst (TurnDone o now name m) (sym run.1.4.2) run.1.2
+
+ends : (o : Options) (now before after : ℕ) (name : List ℕ) (defs : Defs) (d : List ℕ) (s : Status) (m n : Holding) (trees : TreeWork) → o.mode ≡ Recover trees → IsTable (names_for name) defs d m
     → IsFault s ⊎ (s ≡ status.Ok) → Leaves (chk o (name ∷ [])) now before after s m n
     → (s ≡ status.FileFault) ⊎ ((s ≡ status.Memory) ⊎ (((s ≡ status.Ok) ⊎ (s ≡ status.SinkFault)) × IsRepaired o now name defs d m n))
-ends o now before after name defs d status.FileFault m n parallel mode table is left = inl refl
-ends o now before after name defs d status.Memory m n parallel mode table is left = inr (inl refl)
-ends o now before after name defs d status.SinkFault m n parallel mode table is (inl fails) = let done = failed o now name m n parallel mode fails in inr (inr (inr refl, repaired o now name defs d m n parallel mode table done.files done.recovers))
-ends o now before after name defs d status.SinkFault m n parallel mode table is (inr none) = absurd none.1
-ends o now before after name defs d status.Ok m n parallel mode table is left = inr (inr (inl refl, repaired o now name defs d m n parallel mode table left.1 left.0))
-ends o now before after name defs d status.Findings m n parallel mode table (inl f) left = absurd f
-ends o now before after name defs d status.Findings m n parallel mode table (inr e) left = absurd cc
-ends o now before after name defs d status.Usage m n parallel mode table (inl f) left = absurd f
-ends o now before after name defs d status.Usage m n parallel mode table (inr e) left = absurd cc
-ends o now before after name defs d status.Refused m n parallel mode table (inl f) left = absurd f
-ends o now before after name defs d status.Refused m n parallel mode table (inr e) left = absurd cc
-ends o now before after name defs d status.Absent m n parallel mode table (inl f) left = absurd f
-ends o now before after name defs d status.Absent m n parallel mode table (inr e) left = absurd cc
+ends o now before after name defs d status.FileFault m n trees mode table is left = inl refl
+ends o now before after name defs d status.Memory m n trees mode table is left = inr (inl refl)
+ends o now before after name defs d status.SinkFault m n trees mode table is (inl fails) = let done = failed o now name m n trees mode fails in inr (inr (inr refl, repaired o now name defs d m n trees mode table done))
+ends o now before after name defs d status.SinkFault m n trees mode table is (inr none) = absurd none.2
+ends o now before after name defs d status.Ok m n trees mode table is left = inr (inr (inl refl, repaired o now name defs d m n trees mode table (alone o now name m n status.Ok left)))
+ends o now before after name defs d status.Findings m n trees mode table (inl f) left = absurd f
+ends o now before after name defs d status.Findings m n trees mode table (inr e) left = absurd cc
+ends o now before after name defs d status.Usage m n trees mode table (inl f) left = absurd f
+ends o now before after name defs d status.Usage m n trees mode table (inr e) left = absurd cc
+ends o now before after name defs d status.Refused m n trees mode table (inl f) left = absurd f
+ends o now before after name defs d status.Refused m n trees mode table (inr e) left = absurd cc
+ends o now before after name defs d status.Absent m n trees mode table (inl f) left = absurd f
+ends o now before after name defs d status.Absent m n trees mode table (inr e) left = absurd cc
 
 recovers : (request : Request) (now before after : ℕ) (s : Status) (m n : Holding) → IsOrFault request now s m → Leaves request now before after s m n → Recovers request now s m n
-recovers request now before after s m n is left o parallel name defs d asked mode table =
-    ends o now before after name defs d s m n parallel mode table (ok (subst (λ r. IsOrFault r now s m) asked is)) (subst (λ r. Leaves r now before after s m n) asked left)
+recovers request now before after s m n is left o trees name defs d asked mode table =
+    ends o now before after name defs d s m n trees mode table (ok (subst (λ r. IsOrFault r now s m) asked is)) (subst (λ r. Leaves r now before after s m n) asked left)
   where
-    ok : IsFault s ⊎ (s ≡ worse status.Ok (turn o now name m).status) → IsFault s ⊎ (s ≡ status.Ok)
+    ok : IsFault s ⊎ HasStatus (chk o (name ∷ [])) now s m → IsFault s ⊎ (s ≡ status.Ok)
     ok (inl f) = inl f
-    ok (inr e) = inr (e ∙ ap (worse status.Ok) (status_of o now name defs d m parallel mode table))
+    ok (inr run) = inr (run.1.1.4.1 ∙ ap (worse status.Ok) (status_of o now name defs d m trees mode table))
 
 -- a run
 pub recovers_told : (request : Request) (now before after : ℕ) (s : Status) (old new : Option Holding) → IfTold old (λ m. IsOrFault request now s m) → Told old new (Leaves request now before after s) → Told old new (Recovers request now s)

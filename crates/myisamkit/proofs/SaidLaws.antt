@@ -16,7 +16,7 @@ if_ok (Err e) P p = tt
 
 pub whole_said : (request : Request) (now : ℕ) (s : Status) (told : Option Holding) (old new : Option (List ℕ)) → (IsFault s → ⊥) → IfTold told (SaidText request now s old new) → IfTold told (SaysText request now old new s)
 whole_said usage now s told old new plain said = λ m held w was. inr (plain, said m held w was)
-whole_said (chk o names) now s told old new plain said = λ m held w was. inr (plain, said m held w was)
+whole_said (chk o names) now s told old new plain said = λ m held. inr (plain, said m held)
 whole_said (create name file) now s told old new plain said = λ m held w was. inr (plain, said m held w was)
 whole_said (dump name) now s told old new plain said = λ m held w was. inr (plain, said m held w was)
 whole_said (make count seed name) now s told old new plain said = λ m held w was. inr (plain, said m held w was)
@@ -24,7 +24,7 @@ whole_said (shell o name script) now s told old new plain said = λ m held. inr 
 
 pub part_said : (request : Request) (now : ℕ) (s : Status) (told : Option Holding) (old new : Option (List ℕ)) → IsFault s → IfTold told (SaidPart request now old new) → IfTold told (SaysText request now old new s)
 part_said usage now s told old new fault said = λ m held w was. inl (fault, said m held w was)
-part_said (chk o names) now s told old new fault said = λ m held w was. inl (fault, said m held w was)
+part_said (chk o names) now s told old new fault said = λ m held. inl (fault, said m held)
 part_said (create name file) now s told old new fault said = λ m held w was. inl (fault, said m held w was)
 part_said (dump name) now s told old new fault said = λ m held w was. inl (fault, said m held w was)
 part_said (make count seed name) now s told old new fault said = λ m held w was. inl (fault, said m held w was)

@@ -1,9 +1,9 @@
 -- Tables that have their turns one after the other: what is done and what is left give the whole.
-use Rattle.std.proofs.Common.{◌≡◌, ◌≤◌, ◌<◌, suc, None, drop, get_or, ℕ, Bool, true, false, List, [], ◌∷◌, ◌++◌, Option, Some, refl, sym, subst, ap, ◌∙◌, inl, inr, map, append_assoc, append-nil, take, length, length-append, arith, ◌+◌}
-use Rattle.std.specs.Prelude.{nat_lt, if◌then◌else◌}
-use Rattle.std.proofs.Math.Seq.{take-append-add, drop-cons}
+use Rattle.std.proofs.Common.{◌≡◌, ◌≤◌, ◌<◌, suc, None, drop, get_or, ℕ, Bool, true, false, List, [], ◌∷◌, ◌++◌, Option, Some, Result, Ok, Err, refl, sym, subst, ap, ◌∙◌, inl, inr, map, append_assoc, append-nil, take, length, ◌+◌}
+use Rattle.std.specs.Prelude.{nat_lt, if◌then◌else◌, IfOk}
+use Rattle.std.proofs.Math.Seq.{drop-cons}
 use Rattle.std.proofs.Common.{add-one}
-use Rattle.std.proofs.lemmas.List.{take-append-le}
+use Rattle.std.proofs.lemmas.List.{drop_all}
 use Rattle.myisamkit.proofs.TurnLaws.{cut_earlier}
 use Rattle.myi_base.specs.Holding.{Holding, IfTold, Told}
 use Rattle.myi_base.specs.Output.{AppendsPart}
@@ -12,34 +12,32 @@ use Rattle.myisamkit.specs.declared.status.Status.TheVariants as status
 use Rattle.myisamkit.specs.declared.status.Stop.{Stop}
 use Rattle.myisamkit.specs.declared.status.Stop.TheVariants as stop
 use Rattle.myisamkit.specs.declared.options.Options.{Options}
-use Rattle.myisamkit.specs.Statuses.{number_of, worse}
+use Rattle.myisamkit.specs.Statuses.{IsFault, number_of, worse}
 use Rattle.myisamkit.specs.declared.words.Names.{Names}
 use Rattle.myisamkit.specs.Words.{table_name}
 use Rattle.myisamkit.specs.Reading.{is_table, names_behind, tables_left}
 use Rattle.myisamkit.specs.Turns.{turn, TurnDone, TurnStops}
-use Rattle.myisamkit.specs.Runs.{tables_run, TablesDone, CutsTablesOff, FailsInTables, TablesStop}
-
--- what was written so far, and what the tables that are left will write, are the text
-pub record Said (text left : List ℕ) (before now : Option (List ℕ)) : Type 0 where
-  pub so_far : IfTold before (λ w. (so : List ℕ) × (now ≡ Some (w ++ so)) × (so ++ left ≡ text))
+use Rattle.myisamkit.specs.Runs.{TablesRun, TablesEnd, TablesSayPart, TablesSaid, TablesSaidPart, CutsTablesOff, FailsInTables, TablesStop, TablesLeave}
 
 -- Of these tables, whose run began on the files m0, the last ones are left, and the run stands at this status, these files and
--- this output.
+-- this output, to which it added these lines.
 pub record Reached (o : Options) (now : ℕ) (all left : List (List ℕ)) (s : Status) (m0 m : Holding) (w0 w : Option (List ℕ)) : Type 0 where
-  pub answer : (tables_run s o now left m).status ≡ (tables_run status.Ok o now all m0).status
-  pub done : (n : Holding) → TablesDone o now left m n → TablesDone o now all m0 n
+  pub so : List ℕ
+  pub said : IfTold w0 (λ b. w ≡ Some (b ++ so))
+  pub done : (text : List ℕ) (t : Status) (n : Holding) → TablesRun s o now left m text t n → TablesRun status.Ok o now all m0 (so ++ text) t n
+  pub part : (text : List ℕ) → TablesSayPart o now left text m → TablesSayPart o now all (so ++ text) m0
   pub off : (told before after : ℕ) (n : Holding) → CutsTablesOff o now told before after left m n → CutsTablesOff o now told before after all m0 n
   pub unsaid : (n : Holding) → FailsInTables o now left m n → FailsInTables o now all m0 n
-  pub said : Said (tables_run status.Ok o now all m0).text (tables_run s o now left m).text w0 w
 
 -- nothing was done
 pub reached_none : (o : Options) (now : ℕ) (all : List (List ℕ)) (m : Holding) (w : Option (List ℕ)) → Reached o now all all status.Ok m m w w
 reached_none o now all m w = record {
-  answer = refl;
-  done = λ n d. d;
+  so = [];
+  said = λ b was. was ∙ ap Some (sym (append-nil b));
+  done = λ text t n d. d;
+  part = λ text d. d;
   off = λ told before after n d. d;
   unsaid = λ n d. d;
-  said = record { so_far = λ b was. ([], was ∙ ap Some (sym (append-nil b)), refl) };
 }
 
 -- a table has its turn
@@ -48,28 +46,57 @@ pub reached_next : (o : Options) (now : ℕ) (all left : List (List ℕ)) (name 
     → ((b : List ℕ) → w ≡ Some b → v ≡ Some (b ++ (turn o now name m).text))
     → Reached o now all left (worse s table) m0 n w0 v
 reached_next o now all left name s table m0 m n w0 w v r is turned wrote =
-    subst (λ t. Reached o now all left (worse s t) m0 n w0 v) (sym is)
-    (subst (λ files. Reached o now all left (worse s (turn o now name m).status) m0 files w0 v) (sym turned.files) record {
-      answer = r.answer;
-      done = λ n d. r.done n (turned.recovers, d);
-      off = λ told before after n d. r.off told before after n (inr (turned.recovers, d));
-      unsaid = λ n d. r.unsaid n (inr (turned.recovers, d));
-      said = record { so_far = λ b was. let p = r.said.so_far b was in (p.0 ++ (turn o now name m).text, wrote _ p.1 ∙ ap Some (append_assoc b p.0 (turn o now name m).text), append_assoc p.0 (turn o now name m).text _ ∙ p.2) };
-    })
+    subst (λ t. Reached o now all left (worse s t) m0 n w0 v) (sym is) record {
+      so = r.so ++ (turn o now name m).text;
+      said = λ b was. wrote _ (r.said b was) ∙ ap Some (append_assoc b r.so (turn o now name m).text);
+      done = λ text t k d. subst (λ x. TablesRun status.Ok o now all m0 x t k) (sym (append_assoc r.so (turn o now name m).text text)) (r.done ((turn o now name m).text ++ text) t k (n, text, turned, refl, d));
+      part = λ text d. subst (λ x. TablesSayPart o now all x m0) (sym (append_assoc r.so (turn o now name m).text text)) (r.part ((turn o now name m).text ++ text) (inr (n, text, turned, refl, d)));
+      off = λ told before after k d. r.off told before after k (inr (n, turned, d));
+      unsaid = λ k d. r.unsaid k (inr (n, turned, d));
+    }
 
--- so much of the lines that are left, behind those that were written
-take_so : (so line rest : List ℕ) (k : ℕ) → k ≤ length line → take (length so + k) (so ++ (line ++ rest)) ≡ so ++ take k line
-take_so so line rest k within = take-append-add so (line ++ rest) k ∙ ap (λ l. so ++ l) (take-append-le k line rest within)
+-- no table is left
 
--- a part of a table's lines was written
-pub said_part : (text : List ℕ) (w0 w v : Option (List ℕ)) (line rest : List ℕ) → Said text (line ++ rest) w0 w
-    → ((b : List ℕ) → w ≡ Some b → AppendsPart line v b)
-    → (b : List ℕ) → w0 ≡ Some b → AppendsPart text v b
-said_part text w0 w v line rest said wrote b was =
-    let p = said.so_far b was in
-    let q = wrote _ p.1 in
-    subst (λ t. AppendsPart t v b) p.2
-    (length p.0 + q.0, omega (arith, q.1, length-append p.0 (line ++ rest), length-append line rest), q.2 ∙ ap Some (append_assoc b p.0 (take q.0 line) ∙ ap (λ l. b ++ l) (sym (take_so p.0 line rest q.0 q.1))))
+pub none_left : {X : Type 0} (f : X → List ℕ) (words : List X) (i : ℕ) (names : Names) → length words ≤ i → tables_left names (map f (drop i words)) ≡ []
+none_left f words i names all = ap (λ ws. tables_left names (map f ws)) (drop_all i words all)
+
+pub run_said : (o : Options) (now : ℕ) (all lefts : List (List ℕ)) (s : Status) (w0 w : Option (List ℕ)) (old here : Option Holding)
+    → lefts ≡ [] → IfTold old (λ m0. (m : Holding) × (here ≡ Some m) × Reached o now all lefts s m0 m w0 w)
+    → IfTold old (TablesSaid o now all s w0 w)
+run_said o now all lefts s w0 w old here none so_far m0 told b was =
+    let r = so_far m0 told in
+    let e = subst (λ l. Reached o now all l s m0 r.0 w0 w) none r.2 in
+    (e.so, (r.0, subst (λ x. TablesRun status.Ok o now all m0 x s r.0) (append-nil e.so) (e.done [] s r.0 (refl, refl, refl))), e.said b was)
+
+pub run_done : (o : Options) (now : ℕ) (all lefts : List (List ℕ)) (s : Status) (w0 w : Option (List ℕ)) (old here : Option Holding)
+    → lefts ≡ [] → (old ≡ None → here ≡ None) → IfTold old (λ m0. (m : Holding) × (here ≡ Some m) × Reached o now all lefts s m0 m w0 w)
+    → Told old here (TablesEnd o now all s)
+run_done o now all lefts s w0 w old here none untold so_far = record {
+  told = λ m0 told.
+      let r = so_far m0 told in
+      let e = subst (λ l. Reached o now all l s m0 r.0 w0 w) none r.2 in
+      (r.0, r.1, (e.so ++ [], e.done [] s r.0 (refl, refl, refl)));
+  untold = untold;
+}
+
+-- what a run that nothing cut off leaves
+pub ends_leave : (o : Options) (now before after : ℕ) (names : List (List ℕ)) (s : Status) (m n : Holding) → (IsFault s → ⊥) → TablesEnd o now names s m n → TablesLeave o now before after names s m n
+ends_leave o now before after names status.FileFault m n plain run = absurd (plain tt)
+ends_leave o now before after names status.Memory m n plain run = absurd (plain tt)
+ends_leave o now before after names status.SinkFault m n plain run = absurd (plain tt)
+ends_leave o now before after names status.Ok m n plain run = run
+ends_leave o now before after names status.Findings m n plain run = run
+ends_leave o now before after names status.Usage m n plain run = run
+ends_leave o now before after names status.Refused m n plain run = run
+ends_leave o now before after names status.Absent m n plain run = run
+
+pub ends_told : (r : Result Status Stop) (o : Options) (now before after : ℕ) (names : List (List ℕ)) (old new : Option Holding)
+    → IfOk r (λ s. IsFault s → ⊥) → IfOk r (λ s. Told old new (TablesEnd o now names s)) → IfOk r (λ s. Told old new (TablesLeave o now before after names s))
+ends_told (Ok s) o now before after names old new plain ends = record {
+  told = λ m told. let n = ends.told m told in (n.0, n.1, ends_leave o now before after names s m n.0 plain n.2);
+  untold = ends.untold;
+}
+ends_told (Err e) o now before after names old new plain ends = tt
 
 -- what holds of two statuses holds of the worse
 pub worse_keeps : (P : Status → Type 0) (a b : Status) → P a → P b → P (worse a b)
@@ -117,7 +144,10 @@ pub part_told : (o : Options) (now : ℕ) (all left lefts : List (List ℕ)) (na
     → lefts ≡ name ∷ left
     → IfTold old (λ m0. (m : Holding) × (here ≡ Some m) × Reached o now all lefts s m0 m w0 w)
     → IfTold here (λ m. IfTold w (AppendsPart (turn o now name m).text v))
-    → IfTold old (λ m0. IfTold w0 (AppendsPart (tables_run status.Ok o now all m0).text v))
-part_told o now all left lefts name s w0 w v old here first so_far part m0 told =
+    → IfTold old (TablesSaidPart o now all w0 v)
+part_told o now all left lefts name s w0 w v old here first so_far part m0 told b was =
     let r = so_far m0 told in
-    said_part _ w0 w v (turn o now name r.0).text _ (subst (λ l. Reached o now all l s m0 r.0 w0 w) first r.2).said (part r.0 r.1)
+    let e = subst (λ l. Reached o now all l s m0 r.0 w0 w) first r.2 in
+    let p = part r.0 r.1 (b ++ e.so) (e.said b was) in
+    let front = take p.0 (turn o now name r.0).text in
+    (e.so ++ front, e.part front (inl (p.0, p.1, refl)), p.2 ∙ ap Some (append_assoc b e.so front))

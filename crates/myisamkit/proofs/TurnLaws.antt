@@ -1,6 +1,6 @@
 -- What a table's turn leaves.
 use Rattle.std.proofs.Common.{arith, ◌≡◌, ◌≢◌, ◌≤◌, ◌+◌, ℕ, take, Bool, true, false, List, Option, Some, None, Result, Ok, Err, refl, sym, subst, ap, ◌∙◌, inl, inr, length}
-use Rattle.std.specs.Prelude.{◌||◌, if◌then◌else◌}
+use Rattle.std.specs.Prelude.{◌⊎◌, ◌||◌, if◌then◌else◌, IfOk, OnOk}
 use Rattle.std.specs.Str.{bytes_eq}
 use Rattle.std.proofs.Math.Path.{fun_ext}
 use Rattle.std.proofs.lemmas.Slice.Eq.{bytes_eq-Decides}
@@ -11,10 +11,12 @@ use Rattle.myi_pair.proofs.CallerLemmas.{none_where_clean}
 use Rattle.myi_pair.specs.RecoveredBytes.{new_data, new_index}
 use Rattle.myi_pair.specs.Recovered.{Recovered}
 use Rattle.myi_repair.specs.declared.report.Report.{Report}
+use Rattle.myi_repair.specs.declared.fault.RepairFault.{RepairFault}
 use Rattle.myi_repair.specs.Names.{FourNames, names_for, Holds, KeepsBut, Clears}
 use Rattle.myi_repair.specs.Faults.{RoseAtMost}
-use Rattle.myi_repair.specs.Opening.{table_in}
-use Rattle.myi_repair.specs.Repaired.{LeavesRepaired, OldOrNew}
+use Rattle.myi_repair.specs.Opening.{Table, table_in, IsTable, CutsOff}
+use Rattle.myi_repair.specs.Outcome.{IsRefused}
+use Rattle.myi_saferepair.specs.Recovered.{SafelyRecovered}
 use Rattle.myisamkit.specs.declared.options.Mode.{Mode}
 use Rattle.myisamkit.specs.declared.options.Mode.TheVariants.{Check, Recover, Describe, Analyze, Sort, SortIndex}
 use Rattle.myisamkit.specs.declared.options.Options.{Options}
@@ -29,7 +31,7 @@ use Rattle.myi_order.specs.Faults as order
 use Rattle.myi_order.specs.Sorting as sorting
 use Rattle.myi_order.specs.Numbers.{all_per, IsAnalyzed}
 use Rattle.myi_order.specs.KeyParts.{key_parts}
-use Rattle.myisamkit.specs.Turns.{AreSound, with_index, analyzed_turn, sorted_turn, AnalyzeDone, StoresNone, AnalyzeCutOff, SortDone, SortCutOff, SortsNone, replaced, repair_turn, without_extend, goes_on, RepairDone, RepairCutOff, CheckCutOff, CutsTurnOff, CutsTurnOffBy}
+use Rattle.myisamkit.specs.Turns.{AreSound, with_index, analyzed_turn, sorted_turn, AnalyzeDone, StoresNone, AnalyzeCutOff, SortDone, SortCutOff, SortsNone, replaced, without_extend, goes_on, is_row_by_row, MakesIndex, TableRepaired, RepairDone, LeavesRepaired, OldOrNew, RepairCutOff, CheckCutOff, CutsTurnOff, CutsTurnOffBy}
 
 -- what a name has that is none of these
 pub not_named : (q name : List ℕ) → bytes_eq q name ≡ false → q ≢ name
@@ -80,7 +82,7 @@ cut_earlier o now told before at after name m n later cut = by_mode o.mode cut
     by_check true cut = repair_earlier (without_extend o) now told before at after name m n later cut
 
     by_mode : (mode : Mode) → CutsTurnOffBy mode o now told at after name m n → CutsTurnOffBy mode o now told before after name m n
-    by_mode (Recover parallel) cut = repair_earlier o now told before at after name m n later cut
+    by_mode (Recover trees) cut = repair_earlier o now told before at after name m n later cut
     by_mode Check cut = by_check (goes_on o name m) cut
     by_mode Describe cut = cut
     by_mode Analyze (inl none) = inl (none_earlier told before at after name m n later none)
@@ -104,28 +106,70 @@ ok_same x y r a b = sym (ap (ok_or x) a) ∙ ap (ok_or x) b
 pub sound_of : (defs : Defs) (extend : Bool) (d : List ℕ) (now : ℕ) (e y : List ℕ) → Recovered defs extend d now e y → AreSound e y
 sound_of defs extend d now e y made = (record defs { raw = take (num_at 6 2 defs.raw) y }, made.rebuilt.definitions, none_where_clean _ e y made.rebuilt.definitions made.rebuilt.clean)
 
+pub sound_anyhow : (defs : Defs) (extend : Bool) (d : List ℕ) (now : ℕ) (e y : List ℕ) → SafelyRecovered defs extend d now e y → AreSound e y
+sound_anyhow defs extend d now e y made = (record defs { raw = take (num_at 6 2 defs.raw) y }, made.rebuilt.definitions, none_where_clean _ e y made.rebuilt.definitions made.rebuilt.clean)
+
+-- what is refused is not answered
+not_both : {A E : Type 0} (r : Result A E) (f : E) (x : A) → r ≡ Err f → r ≡ Ok x → ⊥
+not_both (Ok y) f x refused answered = cc
+not_both (Err g) f x refused answered = cc
+
+-- the new files of a table, whichever way its trees were made
+record HasNew (b : Bool) (o : Options) (now : ℕ) (name : List ℕ) (defs : Defs) (d : List ℕ) (n : Holding) : Type 0 where
+  pub index : List ℕ
+  pub holds : Holds (names_for name) (new_data defs o.extend d) index n
+  pub made : MakesIndex b o now defs d index
+  pub sound : AreSound (new_data defs o.extend d) index
+
+new_by : (b : Bool) (o : Options) (now : ℕ) (name : List ℕ) (said : Report) (m n : Holding) → LeavesRepaired b name o.extend now said m n → (defs : Defs) × (d : List ℕ) × IsTable (names_for name) defs d m × HasNew b o now name defs d n
+new_by false o now name said m n left =
+    (left.0, left.1, left.2, record { index = new_index left.0 o.extend left.1 now; holds = left.3.holds; made = (refl, left.3.recovered); sound = sound_of left.0 o.extend left.1 now _ _ left.3.recovered })
+new_by true o now name said m n left =
+    (left.0, left.1, left.2, record { index = left.3.index; holds = left.3.holds; made = left.3.recovered; sound = sound_anyhow left.0 o.extend left.1 now _ _ left.3.recovered })
+
+left_done : (o : Options) (now : ℕ) (name : List ℕ) (said : Report) (m n : Holding) → LeavesRepaired (is_row_by_row o.mode) name o.extend now said m n → KeepsBut (names_for name) m n → RepairDone o now name m n
+left_done o now name said m n left keeps =
+    let h = new_by (is_row_by_row o.mode) o now name said m n left in
+    record {
+      refused = λ f is. absurd (not_both (table_in (names_for name) m) f (h.0, h.1) is h.2);
+      repaired = λ defs d table.
+          subst (λ (t : Table). TableRepaired o now name t.0 t.1 m n) (ok_same (h.0, h.1) (defs, d) (table_in (names_for name) m) h.2 table)
+          (record { index = h.3.index; files = is_replaced (names_for name) _ _ m n h.3.holds keeps; made = h.3.made; sound = h.3.sound });
+    }
+
 -- a table was repaired
 pub repair_done : (o : Options) (now : ℕ) (name : List ℕ) (said : Report) (old new : Option Holding)
-    → Told old new (LeavesRepaired name o.extend now said) → Told old new (KeepsBut (names_for name)) → Told old new (RepairDone o now name)
+    → Told old new (LeavesRepaired (is_row_by_row o.mode) name o.extend now said) → Told old new (KeepsBut (names_for name)) → Told old new (RepairDone o now name)
 repair_done o now name said old new repaired others = record {
   told = λ m told.
       let r = repaired.told m told in
       let k = others.told m told in
-      let keeps = subst (λ n. KeepsBut (names_for name) m n) (some_same k.0 r.0 new k.1 r.1) k.2 in
-      let made = r.2.3 in (
-        r.0,
-        r.1,
-        record {
-          files = subst (λ t. r.0 ≡ (repair_turn o now name t m).files) (sym r.2.2) (is_replaced (names_for name) _ _ m r.0 made.holds keeps);
-          recovers = λ defs d table. let made_of = subst (λ t. Recovered t.0 o.extend t.1 now (new_data t.0 o.extend t.1) (new_index t.0 o.extend t.1 now)) (ok_same (r.2.0, r.2.1) (defs, d) (table_in (names_for name) m) r.2.2 table) made.recovered in (made_of, sound_of defs o.extend d now _ _ made_of);
-        },
-      );
+      (r.0, r.1, left_done o now name said m r.0 r.2 (subst (λ n. KeepsBut (names_for name) m n) (some_same k.0 r.0 new k.1 r.1) k.2));
   untold = repaired.untold;
 }
 
+-- a table was refused
+repair_refused : (o : Options) (now : ℕ) (name : List ℕ) (fault : RepairFault) (old new : Option Holding) → IsRefused (names_for name) fault old new → Told old new (RepairDone o now name)
+repair_refused o now name fault old new is = record {
+  told = λ m told. (
+    m,
+    is.same ∙ told,
+    record {
+      refused = λ f why. refl;
+      repaired = λ defs d table. absurd (not_both (table_in (names_for name) m) fault (defs, d) (is.reason m told) table);
+    },
+  );
+  untold = λ none. is.same ∙ none;
+}
+
+pub refused_done : {A E : Type 0} (r : Result A E) (o : Options) (now : ℕ) (name : List ℕ) (fault : RepairFault) (old new : Option Holding) → CutsOff fault ⊎ IsRefused (names_for name) fault old new → IfOk r (λ x. CutsOff fault → ⊥) → OnOk r (Told old new (RepairDone o now name))
+refused_done (Ok x) o now name fault old new (inl cut) never = absurd (never cut)
+refused_done (Ok x) o now name fault old new (inr is) never = repair_refused o now name fault old new is
+refused_done (Err e) o now name fault old new why never = tt
+
 -- a repair was cut off
 pub repair_cut : (o : Options) (now told before after : ℕ) (name : List ℕ) (old new : Option Holding)
-    → Told old new (OldOrNew name o.extend now) → Told old new (KeepsBut (names_for name))
+    → Told old new (OldOrNew (is_row_by_row o.mode) name o.extend now) → Told old new (KeepsBut (names_for name))
     → ((more : ℕ) → RoseAtMost (told + more) before after → Told old new (Clears more (names_for name)))
     → Told old new (RepairCutOff o now told before after name)
 repair_cut o now told before after name old new whole others cleared = record {

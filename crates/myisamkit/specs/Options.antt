@@ -3,24 +3,26 @@ use Rattle.std.specs.Prelude.{ℕ, Bool, true, false, List, [], ◌∷◌, take,
 use Rattle.std.specs.List.{list_all, list_any}
 use Rattle.std.specs.Str.{bytes_eq}
 use Rattle.myisamkit.specs.Numbers.{number_in}
+use Rattle.myisamkit.specs.declared.options.TreeWork.TheVariants.{InTurn, SideBySide, RowByRow}
 use Rattle.myisamkit.specs.declared.options.Mode.{Mode}
 use Rattle.myisamkit.specs.declared.options.Mode.TheVariants.{Check, Recover, Describe, Analyze, Sort, SortIndex}
 use Rattle.myisamkit.specs.declared.options.Flag.{Flag}
 use Rattle.myisamkit.specs.declared.options.Flag.TheVariants as flag
 use Rattle.myisamkit.specs.declared.options.Options.{Options}
 
--- what a letter says: c, r, p, d, a, S, e, f, s
+-- what a letter says: c, r, o, p, d, a, S, e, f, s
 abbrev pub letter_flag : ℕ → Option Flag
 letter_flag letter =
     if letter == 99 then Some (flag.Mode Check) else
-    (if letter == 114 then Some (flag.Mode (Recover false)) else
-    (if letter == 112 then Some (flag.Mode (Recover true)) else
+    (if letter == 114 then Some (flag.Mode (Recover InTurn)) else
+    (if letter == 111 then Some (flag.Mode (Recover RowByRow)) else
+    (if letter == 112 then Some (flag.Mode (Recover SideBySide)) else
     (if letter == 100 then Some (flag.Mode Describe) else
     (if letter == 97 then Some (flag.Mode Analyze) else
     (if letter == 83 then Some (flag.Mode SortIndex) else
     (if letter == 101 then Some flag.Extend else
     (if letter == 102 then Some flag.Force else
-    (if letter == 115 then Some flag.Silent else None))))))))
+    (if letter == 115 then Some flag.Silent else None)))))))))
 
 -- the number of a key, from 1 to 64
 abbrev pub key_of : List ℕ → Option ℕ
@@ -42,15 +44,16 @@ valued_flag name = if bytes_eq (take 13 name) sort_records then sort_flag (drop 
 abbrev pub long_flag : List ℕ → Option Flag
 long_flag name =
     if bytes_eq name (codes "check") then Some (flag.Mode Check) else
-    (if bytes_eq name (codes "recover") then Some (flag.Mode (Recover false)) else
-    (if bytes_eq name (codes "parallel-recover") then Some (flag.Mode (Recover true)) else
+    (if bytes_eq name (codes "recover") then Some (flag.Mode (Recover InTurn)) else
+    (if bytes_eq name (codes "safe-recover") then Some (flag.Mode (Recover RowByRow)) else
+    (if bytes_eq name (codes "parallel-recover") then Some (flag.Mode (Recover SideBySide)) else
     (if bytes_eq name (codes "description") then Some (flag.Mode Describe) else
     (if bytes_eq name (codes "analyze") then Some (flag.Mode Analyze) else
     (if bytes_eq name (codes "sort-index") then Some (flag.Mode SortIndex) else
     (if bytes_eq name (codes "extend-check") then Some flag.Extend else
     (if bytes_eq name (codes "force") then Some flag.Force else
     (if bytes_eq name (codes "silent") then Some flag.Silent else
-    valued_flag name))))))))
+    valued_flag name)))))))))
 
 -- Below, a list of options has None where one is not known.
 

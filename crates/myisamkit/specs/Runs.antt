@@ -1,6 +1,6 @@
 -- What a run says, answers and does, by what the words ask for and what the files hold: its tables have their turns one
 -- after the other, each on the files that the one before left.
-use Rattle.std.specs.Prelude.{◌≡◌, ◌≢◌, ◌⊎◌, ℕ, List, [], ◌∷◌, Option}
+use Rattle.std.specs.Prelude.{◌≡◌, ◌≢◌, ◌⊎◌, ◌≤◌, ℕ, List, [], ◌∷◌, ◌++◌, length, take, Option}
 use Rattle.myi_base.specs.Holding.{Holding, IfTold}
 use Rattle.myi_base.specs.Output.{Appends, AppendsPart}
 use Rattle.myi_repair.specs.Names.{FourNames, names_for}
@@ -16,17 +16,39 @@ use Rattle.myisamkit.specs.Creates.{create_turn, CreateLeaves}
 use Rattle.myisamkit.specs.Dumps.{dump_turn}
 use Rattle.myisamkit.specs.Makes.{make_turn, MakeLeaves}
 use Rattle.myisamkit.specs.Shells.{text_in, shell_begin_turn, ShellComesTo, ShellSaid, ShellSaidPart, ShellSays, ShellLeaves, ShellFails}
-use Rattle.myisamkit.specs.Turns.{Turn, then_turn, turn, MayFind, TurnRecovers, CutsTurnOff, FailsInTurn}
+use Rattle.myisamkit.specs.Turns.{Turn, turn, MayFind, TurnDone, CutsTurnOff, FailsInTurn}
 
--- the tables of these names, behind tables of this status: all lines, the greatest status, the files at the end
-abbrev pub tables_run : Status → Options → ℕ → List (List ℕ) → Holding → Turn
-tables_run s o now [] m = record { text = []; status = s; files = m }
-tables_run s o now (name ∷ names) m = then_turn (turn o now name m) (tables_run (worse s (turn o now name m).status) o now names (turn o now name m).files)
+-- ---- the tables of `chk`
 
--- what a run comes to that nothing cuts off; of a script what it comes to before its lines are read
+-- the tables of these names, behind tables of this status, had their turns, each on the files that the one before left: these are all
+-- lines, the greatest status, and the files at the end
+abbrev pub TablesRun : Status → Options → ℕ → List (List ℕ) → Holding → List ℕ → Status → Holding → Type 0
+TablesRun s o now [] m text t n = (text ≡ []) × (t ≡ s) × (n ≡ m)
+TablesRun s o now (name ∷ names) m text t n =
+    (k : Holding) × (rest : List ℕ) × TurnDone o now name m k × (text ≡ (turn o now name m).text ++ rest) × TablesRun (worse s (turn o now name m).status) o now names k rest t n
+
+-- the same by the status and the files at the end
+abbrev pub TablesEnd : Options → ℕ → List (List ℕ) → Status → Holding → Holding → Type 0
+TablesEnd o now names s m n = (text : List ℕ) × TablesRun status.Ok o now names m text s n
+
+-- the same by the status and all lines
+abbrev pub TablesSay : Options → ℕ → List (List ℕ) → List ℕ → Status → Holding → Type 0
+TablesSay o now names text s m = (n : Holding) × TablesRun status.Ok o now names m text s n
+
+-- these are lines of a run that was cut off: those of tables that had their turns, and a front of those of the next one
+abbrev pub TablesSayPart : Options → ℕ → List (List ℕ) → List ℕ → Holding → Type 0
+TablesSayPart o now [] part m = part ≡ []
+TablesSayPart o now (name ∷ names) part m =
+    ((front : ℕ) × (front ≤ length (turn o now name m).text) × (part ≡ take front (turn o now name m).text))
+    ⊎ ((k : Holding) × (rest : List ℕ) × TurnDone o now name m k × (part ≡ (turn o now name m).text ++ rest) × TablesSayPart o now names rest k)
+
+-- ---- any request
+
+-- what a run comes to that nothing cuts off; of tables and of a script what it comes to before the first table, and before its lines
+-- are read
 abbrev pub run_of : Request → ℕ → Holding → Turn
 run_of usage now m = record { text = usage_line; status = status.Usage; files = m }
-run_of (chk o names) now m = tables_run status.Ok o now names m
+run_of (chk o names) now m = record { text = []; status = status.Ok; files = m }
 run_of (create name file) now m = create_turn name file m
 run_of (dump name) now m = dump_turn name m
 run_of (make count seed name) now m = make_turn count seed name now m
@@ -43,20 +65,15 @@ MayFindAny (shell o name script) = ⊥
 
 -- ---- the files
 
--- each table had its turn
-abbrev pub TablesDone : Options → ℕ → List (List ℕ) → Holding → Holding → Type 0
-TablesDone o now [] m n = n ≡ m
-TablesDone o now (name ∷ names) m n = TurnRecovers o now name m × TablesDone o now names (turn o now name m).files n
-
 -- a file fault or want of memory cut the turn of one of the tables off; those before it had theirs, those behind it had none
 abbrev pub CutsTablesOff : Options → ℕ → ℕ → ℕ → ℕ → List (List ℕ) → Holding → Holding → Type 0
 CutsTablesOff o now told before after [] m n = ⊥
-CutsTablesOff o now told before after (name ∷ names) m n = CutsTurnOff o now told before after name m n ⊎ (TurnRecovers o now name m × CutsTablesOff o now told before after names (turn o now name m).files n)
+CutsTablesOff o now told before after (name ∷ names) m n = CutsTurnOff o now told before after name m n ⊎ ((k : Holding) × TurnDone o now name m k × CutsTablesOff o now told before after names k n)
 
 -- the output failed in the turn of one of the tables; those before it had theirs, those behind it had none
 abbrev pub FailsInTables : Options → ℕ → List (List ℕ) → Holding → Holding → Type 0
 FailsInTables o now [] m n = ⊥
-FailsInTables o now (name ∷ names) m n = FailsInTurn o now name m n ⊎ (TurnRecovers o now name m × FailsInTables o now names (turn o now name m).files n)
+FailsInTables o now (name ∷ names) m n = FailsInTurn o now name m n ⊎ ((k : Holding) × TurnDone o now name m k × FailsInTables o now names k n)
 
 -- what a stop leaves of the tables
 abbrev pub TablesStop : Options → ℕ → ℕ → ℕ → List (List ℕ) → Stop → Holding → Holding → Type 0
@@ -71,11 +88,11 @@ abbrev pub TablesLeave : Options → ℕ → ℕ → ℕ → List (List ℕ) →
 TablesLeave o now before after names status.FileFault m n = CutsTablesOff o now 1 before after names m n
 TablesLeave o now before after names status.Memory m n = CutsTablesOff o now 0 before after names m n
 TablesLeave o now before after names status.SinkFault m n = FailsInTables o now names m n
-TablesLeave o now before after names status.Ok m n = TablesDone o now names m n
-TablesLeave o now before after names status.Findings m n = TablesDone o now names m n
-TablesLeave o now before after names status.Usage m n = TablesDone o now names m n
-TablesLeave o now before after names status.Refused m n = TablesDone o now names m n
-TablesLeave o now before after names status.Absent m n = TablesDone o now names m n
+TablesLeave o now before after names status.Ok m n = TablesEnd o now names status.Ok m n
+TablesLeave o now before after names status.Findings m n = TablesEnd o now names status.Findings m n
+TablesLeave o now before after names status.Usage m n = TablesEnd o now names status.Usage m n
+TablesLeave o now before after names status.Refused m n = TablesEnd o now names status.Refused m n
+TablesLeave o now before after names status.Absent m n = TablesEnd o now names status.Absent m n
 
 abbrev pub Leaves : Request → ℕ → ℕ → ℕ → Status → Holding → Holding → Type 0
 Leaves usage now before after s m n = n ≡ m
@@ -99,12 +116,20 @@ FailsInScript (shell o name script) old new m n = ShellFails o.concurrent name s
 abbrev pub Says : List ℕ → Option (List ℕ) → Option (List ℕ) → Status → Type 0
 Says text old new s = IfTold old (λ w. (IsFault s × AppendsPart text new w) ⊎ ((IsFault s → ⊥) × Appends text new w))
 
+-- the same of the tables of `chk`
+abbrev pub TablesSaid : Options → ℕ → List (List ℕ) → Status → Option (List ℕ) → Option (List ℕ) → Holding → Type 0
+TablesSaid o now names s old new m = IfTold old (λ w. (text : List ℕ) × TablesSay o now names text s m × Appends text new w)
+
+-- the same where a fault cut the run off
+abbrev pub TablesSaidPart : Options → ℕ → List (List ℕ) → Option (List ℕ) → Option (List ℕ) → Holding → Type 0
+TablesSaidPart o now names old new m = IfTold old (λ w. (part : List ℕ) × TablesSayPart o now names part m × Appends part new w)
+
 -- ---- by the request
 
 -- what was written is a text that the words have on these files: of a script one with numbers within their bounds
 abbrev pub SaysText : Request → ℕ → Option (List ℕ) → Option (List ℕ) → Status → Holding → Type 0
 SaysText usage now old new s m = Says (run_of usage now m).text old new s
-SaysText (chk o names) now old new s m = Says (run_of (chk o names) now m).text old new s
+SaysText (chk o names) now old new s m = (IsFault s × TablesSaidPart o now names old new m) ⊎ ((IsFault s → ⊥) × TablesSaid o now names s old new m)
 SaysText (create name file) now old new s m = Says (run_of (create name file) now m).text old new s
 SaysText (dump name) now old new s m = Says (run_of (dump name) now m).text old new s
 SaysText (make count seed name) now old new s m = Says (run_of (make count seed name) now m).text old new s
@@ -113,7 +138,7 @@ SaysText (shell o name script) now old new s m = ShellSays o.concurrent name scr
 -- the same of a run that nothing cut off, with its status
 abbrev pub SaidText : Request → ℕ → Status → Option (List ℕ) → Option (List ℕ) → Holding → Type 0
 SaidText usage now s old new m = IfTold old (Appends (run_of usage now m).text new)
-SaidText (chk o names) now s old new m = IfTold old (Appends (run_of (chk o names) now m).text new)
+SaidText (chk o names) now s old new m = TablesSaid o now names s old new m
 SaidText (create name file) now s old new m = IfTold old (Appends (run_of (create name file) now m).text new)
 SaidText (dump name) now s old new m = IfTold old (Appends (run_of (dump name) now m).text new)
 SaidText (make count seed name) now s old new m = IfTold old (Appends (run_of (make count seed name) now m).text new)
@@ -122,7 +147,7 @@ SaidText (shell o name script) now s old new m = ShellSaid o.concurrent name scr
 -- the same of a run that was cut off
 abbrev pub SaidPart : Request → ℕ → Option (List ℕ) → Option (List ℕ) → Holding → Type 0
 SaidPart usage now old new m = IfTold old (AppendsPart (run_of usage now m).text new)
-SaidPart (chk o names) now old new m = IfTold old (AppendsPart (run_of (chk o names) now m).text new)
+SaidPart (chk o names) now old new m = TablesSaidPart o now names old new m
 SaidPart (create name file) now old new m = IfTold old (AppendsPart (run_of (create name file) now m).text new)
 SaidPart (dump name) now old new m = IfTold old (AppendsPart (run_of (dump name) now m).text new)
 SaidPart (make count seed name) now old new m = IfTold old (AppendsPart (run_of (make count seed name) now m).text new)
@@ -131,7 +156,7 @@ SaidPart (shell o name script) now old new m = ShellSaidPart o.concurrent name s
 -- the status is the defined one; of a script one that it comes to
 abbrev pub HasStatus : Request → ℕ → Status → Holding → Type 0
 HasStatus usage now s m = s ≡ (run_of usage now m).status
-HasStatus (chk o names) now s m = s ≡ (run_of (chk o names) now m).status
+HasStatus (chk o names) now s m = (n : Holding) × TablesEnd o now names s m n
 HasStatus (create name file) now s m = s ≡ (run_of (create name file) now m).status
 HasStatus (dump name) now s m = s ≡ (run_of (dump name) now m).status
 HasStatus (make count seed name) now s m = s ≡ (run_of (make count seed name) now m).status

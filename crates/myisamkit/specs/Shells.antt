@@ -179,12 +179,25 @@ pub record ShellDone (setting : ℕ) (name script : List ℕ) (m n : Holding) : 
   pub rows : history begin ≡ [] → KeepsRows name m n
   pub others : KeepsOthers name m n
 
--- The files at a status. Where no script is run nothing is changed; a run that is cut off leaves files of other names.
+-- a script in the grammar is there, and a table with which nothing is wrong
+pub record HasScript (name script : List ℕ) (m : Holding) : Type 0 where
+  pub text : List ℕ
+  pub read : text_in name script m ≡ Ok text
+  pub table : opening.Table
+  pub is : opening.table_in (index_file name) (rows_file name) m ≡ Ok table
+  pub said : List Line
+  pub lines : IsScript false table.defs text said
+
+-- it is cut off: nothing was changed, or a script was run, and files of other names stay
+abbrev pub ShellCutOff : List ℕ → List ℕ → Holding → Holding → Type 0
+ShellCutOff name script m n = (n ≡ m) ⊎ (HasScript name script m × KeepsOthers name m n)
+
+-- The files at a status. Where no script is run nothing is changed.
 abbrev pub ShellLeaves : ℕ → List ℕ → List ℕ → Status → Holding → Holding → Type 0
 ShellLeaves setting name script status.Ok m n = ShellDone setting name script m n
-ShellLeaves setting name script status.FileFault m n = KeepsOthers name m n
+ShellLeaves setting name script status.FileFault m n = ShellCutOff name script m n
 ShellLeaves setting name script status.SinkFault m n = KeepsOthers name m n
-ShellLeaves setting name script status.Memory m n = KeepsOthers name m n
+ShellLeaves setting name script status.Memory m n = ShellCutOff name script m n
 ShellLeaves setting name script status.Findings m n = n ≡ m
 ShellLeaves setting name script status.Usage m n = n ≡ m
 ShellLeaves setting name script status.Refused m n = n ≡ m

@@ -15,12 +15,15 @@ use Rattle.myi_pair.specs.RecoveredBytes.{new_data, new_index}
 use Rattle.myi_pair.specs.Recovered.{Recovered}
 use Rattle.myi_check.specs.Checking.{findings_in}
 use Rattle.myi_repair.specs.declared.fault.RepairFault.{RepairFault}
+use Rattle.myi_repair.specs.declared.report.Report.{Report}
 use Rattle.myi_repair.specs.declared.fault.RepairFault.TheVariants as repair
 use Rattle.myi_repair.specs.Names.{FourNames, names_for, new_index_file, KeepsBut, KeepsBoth, Clears}
 use Rattle.myi_repair.specs.Faults.{repair_fault, RoseAtMost}
 use Rattle.myi_repair.specs.Opening.{Table, table_in, IsTable}
 use Rattle.myi_repair.specs.Gathering.{report_of}
-use Rattle.myi_repair.specs.Repaired.{OldOrNew}
+use Rattle.myi_repair.specs.Repaired as laid
+use Rattle.myi_saferepair.specs.Recovered.{SafelyRecovered}
+use Rattle.myi_saferepair.specs.Repaired as row_by_row
 use Rattle.myi_order.specs.declared.fault.OrderFault.{OrderFault}
 use Rattle.myi_order.specs.declared.fault.OrderFault.TheVariants as order
 use Rattle.myi_order.specs.KeyParts.{key_parts}
@@ -37,13 +40,16 @@ use Rattle.myisamkit.specs.declared.status.Status.{Status}
 use Rattle.myisamkit.specs.declared.status.Status.TheVariants as status
 use Rattle.myisamkit.specs.declared.status.Stop.{Stop}
 use Rattle.myisamkit.specs.declared.status.Stop.TheVariants as stop
+use Rattle.myisamkit.specs.declared.options.TreeWork.{TreeWork}
+use Rattle.myisamkit.specs.declared.options.TreeWork.TheVariants.{InTurn, SideBySide, RowByRow}
 use Rattle.myisamkit.specs.declared.options.Mode.{Mode}
 use Rattle.myisamkit.specs.declared.options.Mode.TheVariants.{Check, Recover, Describe, Analyze, Sort, SortIndex}
 use Rattle.myisamkit.specs.declared.options.Options.{Options}
 use Rattle.myisamkit.specs.Lines.{recovered_line, fault_line, ok_line, finding_lines, analyzed_lines, sorted_line, order_line, sorted_pages_line, sort_index_line}
 use Rattle.myisamkit.specs.Descriptions.{description}
 
--- what a turn comes to that nothing cuts off: its lines, its status, and what the files hold then
+-- what a turn comes to that nothing cuts off: its lines, its status, and what the files hold then, where that is defined (of trees
+-- that are changed row by row it is not)
 pub record Turn : Type 0 where
   pub text : List ℕ
   pub status : Status
@@ -90,21 +96,53 @@ recover_turn o now name m = repair_turn o now name (table_in (names_for name) m)
 abbrev pub AreSound : List ℕ → List ℕ → Type 0
 AreSound d x = (defs : Defs) × (read_defs x ≡ Ok defs) × (findings defs d x ≡ [])
 
--- what a repair makes of a table that can be repaired is recovered, and nothing is wrong with it
-abbrev pub IsRecovered : Options → ℕ → List ℕ → Holding → Type 0
-IsRecovered o now name m = (defs : Defs) (d : List ℕ) → IsTable (names_for name) defs d m
-    → Recovered defs o.extend d now (new_data defs o.extend d) (new_index defs o.extend d now) × AreSound (new_data defs o.extend d) (new_index defs o.extend d now)
+-- trees are changed row by row
+abbrev pub changes_rows : TreeWork → Bool
+changes_rows InTurn = false
+changes_rows SideBySide = false
+changes_rows RowByRow = true
 
--- a table was repaired, or refused
+abbrev pub is_row_by_row : Mode → Bool
+is_row_by_row Check = false
+is_row_by_row (Recover trees) = changes_rows trees
+is_row_by_row Describe = false
+is_row_by_row Analyze = false
+is_row_by_row (Sort key) = false
+is_row_by_row SortIndex = false
+
+-- what a repair makes of the index file, beside the new data file, is recovered: it is the defined one, but where trees were changed
+-- row by row their pages may stand anywhere
+abbrev pub MakesIndex : Bool → Options → ℕ → Defs → List ℕ → List ℕ → Type 0
+MakesIndex false o now defs d x = (x ≡ new_index defs o.extend d now) × Recovered defs o.extend d now (new_data defs o.extend d) x
+MakesIndex true o now defs d x = SafelyRecovered defs o.extend d now (new_data defs o.extend d) x
+
+-- a table that can be repaired was: it has new files, with which nothing is wrong, and its working files are gone
+pub record TableRepaired (o : Options) (now : ℕ) (name : List ℕ) (defs : Defs) (d : List ℕ) (m n : Holding) : Type 0 where
+  pub index : List ℕ
+  pub files : n ≡ replaced (names_for name) (new_data defs o.extend d) index m
+  pub made : MakesIndex (is_row_by_row o.mode) o now defs d index
+  pub sound : AreSound (new_data defs o.extend d) index
+
+-- a table was repaired; one that cannot be repaired keeps its files
 pub record RepairDone (o : Options) (now : ℕ) (name : List ℕ) (m n : Holding) : Type 0 where
-  pub files : n ≡ (recover_turn o now name m).files
-  pub recovers : IsRecovered o now name m
+  pub refused : (f : RepairFault) → table_in (names_for name) m ≡ Err f → n ≡ m
+  pub repaired : (defs : Defs) (d : List ℕ) → IsTable (names_for name) defs d m → TableRepaired o now name defs d m n
+
+-- a call that repairs left a table, and said this of it
+abbrev pub LeavesRepaired : Bool → List ℕ → Bool → ℕ → Report → Holding → Holding → Type 0
+LeavesRepaired false name extend now said m n = laid.LeavesRepaired name extend now said m n
+LeavesRepaired true name extend now said m n = row_by_row.LeavesRepaired name extend now said m n
+
+-- the files of a table are the old ones or whole new ones
+abbrev pub OldOrNew : Bool → List ℕ → Bool → ℕ → Holding → Holding → Type 0
+OldOrNew false name extend now m n = laid.OldOrNew name extend now m n
+OldOrNew true name extend now m n = row_by_row.OldOrNew name extend now m n
 
 -- A repair was cut off, the files' count of faults having risen from the one number to the other, of which the status tells
 -- so many: the table's files are the old ones or whole new ones, and other files stay; nothing was changed, or no more working
 -- files are left than file calls failed besides.
 pub record RepairCutOff (o : Options) (now told before after : ℕ) (name : List ℕ) (m n : Holding) : Type 0 where
-  pub whole : OldOrNew name o.extend now m n
+  pub whole : OldOrNew (is_row_by_row o.mode) name o.extend now m n
   pub others : KeepsBut (names_for name) m n
   pub cleared : (more : ℕ) → RoseAtMost (told + more) before after → Clears more (names_for name) m n
 
@@ -153,14 +191,13 @@ check_turn_by true o now name m = then_turn (checked_turn o name m) (recover_tur
 abbrev pub check_turn : Options → ℕ → List ℕ → Holding → Turn
 check_turn o now name m = check_turn_by (goes_on o name m) o now name m
 
-abbrev pub CheckRecovers : Bool → Options → ℕ → List ℕ → Holding → Type 0
-CheckRecovers false o now name m = Unit {0}
-CheckRecovers true o now name m = IsRecovered (without_extend o) now name m
+abbrev pub CheckDoneBy : Bool → Options → ℕ → List ℕ → Holding → Holding → Type 0
+CheckDoneBy false o now name m n = n ≡ m
+CheckDoneBy true o now name m n = RepairDone (without_extend o) now name m n
 
 -- a table was checked, and repaired where a repair follows
-pub record CheckDone (o : Options) (now : ℕ) (name : List ℕ) (m n : Holding) : Type 0 where
-  pub files : n ≡ (check_turn o now name m).files
-  pub recovers : CheckRecovers (goes_on o name m) o now name m
+abbrev pub CheckDone : Options → ℕ → List ℕ → Holding → Holding → Type 0
+CheckDone o now name m n = CheckDoneBy (goes_on o name m) o now name m n
 
 -- it was cut off: where no repair follows nothing was changed
 abbrev pub CheckCutOff : Bool → Options → ℕ → ℕ → ℕ → ℕ → List ℕ → Holding → Holding → Type 0
@@ -332,10 +369,10 @@ SortIndexStops o before after name stop.Sink m n = SortIndexDone o name m n
 abbrev pub MayFind : Options → Type 0
 MayFind o = ((o.mode ≡ Check) × (o.force ≡ false)) ⊎ ((o.mode ≡ Analyze) ⊎ ((o.mode ≡ SortIndex) ⊎ ((key : ℕ) × (o.mode ≡ Sort key))))
 
--- ---- all modes: whether trees are laid side by side makes no difference
+-- ---- all modes: how a repair makes trees makes no difference to lines and status
 
 abbrev pub turn_by : Mode → Options → ℕ → List ℕ → Holding → Turn
-turn_by (Recover parallel) o now name m = recover_turn o now name m
+turn_by (Recover trees) o now name m = recover_turn o now name m
 turn_by Check o now name m = check_turn o now name m
 turn_by Describe o now name m = describe_turn o name m
 turn_by Analyze o now name m = analyze_turn o name m
@@ -346,20 +383,21 @@ turn_by SortIndex o now name m = sort_index_turn o name m
 unfoldable pub turn : Options → ℕ → List ℕ → Holding → Turn
 turn o now name m = turn_by o.mode o now name m
 
-abbrev pub TurnRecoversBy : Mode → Options → ℕ → List ℕ → Holding → Type 0
-TurnRecoversBy (Recover parallel) o now name m = IsRecovered o now name m
-TurnRecoversBy Check o now name m = CheckRecovers (goes_on o name m) o now name m
-TurnRecoversBy Describe o now name m = Unit {0}
-TurnRecoversBy Analyze o now name m = StoresNumbers name m
-TurnRecoversBy (Sort key) o now name m = IsSortedBy now key name m
-TurnRecoversBy SortIndex o now name m = SortsPages name m
+abbrev pub TurnDoneBy : Mode → Options → ℕ → List ℕ → Holding → Holding → Type 0
+TurnDoneBy (Recover trees) o now name m n = RepairDone o now name m n
+TurnDoneBy Check o now name m n = CheckDone o now name m n
+TurnDoneBy Describe o now name m n = n ≡ m
+TurnDoneBy Analyze o now name m n = AnalyzeDone o name m n
+TurnDoneBy (Sort key) o now name m n = SortDone o now key name m n
+TurnDoneBy SortIndex o now name m n = SortIndexDone o name m n
 
--- what is repaired in a turn is recovered, what is analyzed stores its numbers, and rows and pages that are sorted are in order
-unfoldable pub TurnRecovers : Options → ℕ → List ℕ → Holding → Type 0
-TurnRecovers o now name m = TurnRecoversBy o.mode o now name m
+-- a table had its turn: what is repaired in it is recovered, what is analyzed stores its numbers, and rows and pages that are sorted are
+-- in order
+unfoldable pub TurnDone : Options → ℕ → List ℕ → Holding → Holding → Type 0
+TurnDone o now name m n = TurnDoneBy o.mode o now name m n
 
 abbrev pub CutsTurnOffBy : Mode → Options → ℕ → ℕ → ℕ → ℕ → List ℕ → Holding → Holding → Type 0
-CutsTurnOffBy (Recover parallel) o now told before after name m n = RepairCutOff o now told before after name m n
+CutsTurnOffBy (Recover trees) o now told before after name m n = RepairCutOff o now told before after name m n
 CutsTurnOffBy Check o now told before after name m n = CheckCutOff (goes_on o name m) o now told before after name m n
 CutsTurnOffBy Describe o now told before after name m n = n ≡ m
 CutsTurnOffBy Analyze o now told before after name m n = AnalyzeCutOff o told before after name m n
@@ -370,15 +408,10 @@ CutsTurnOffBy SortIndex o now told before after name m n = SortIndexCutOff o tol
 unfoldable pub CutsTurnOff : Options → ℕ → ℕ → ℕ → ℕ → List ℕ → Holding → Holding → Type 0
 CutsTurnOff o now told before after name m n = CutsTurnOffBy o.mode o now told before after name m n
 
--- a table had its turn
-pub record TurnDone (o : Options) (now : ℕ) (name : List ℕ) (m n : Holding) : Type 0 where
-  pub files : n ≡ (turn o now name m).files
-  pub recovers : TurnRecovers o now name m
-
 -- the output failed in a turn: a repair, an analysis and sorting are done before their lines are written, but the lines on what a check found are written
 -- before a repair begins
 abbrev pub FailsInTurnBy : Mode → Options → ℕ → List ℕ → Holding → Holding → Type 0
-FailsInTurnBy (Recover parallel) o now name m n = TurnDone o now name m n
+FailsInTurnBy (Recover trees) o now name m n = TurnDone o now name m n
 FailsInTurnBy Check o now name m n = (n ≡ m) ⊎ TurnDone o now name m n
 FailsInTurnBy Describe o now name m n = n ≡ m
 FailsInTurnBy Analyze o now name m n = TurnDone o now name m n

@@ -1,18 +1,41 @@
 //! The options of a command: `Flag` is what one of them says, `Seen` which were met so far, and `Options`
 //! what all of them ask for.
-ghost use Rattle.std.specs.Prelude.{◌≡◌};
+ghost use Rattle.std.specs.Prelude.{◌≡◌, Some};
+ghost use Rattle.myisamkit.specs.declared.options.Mode.TheVariants as modes;
+ghost use Rattle.myisamkit.specs.declared.options.Flag.TheVariants as flags;
 ghost use Rattle.myisamkit.specs.Options as spec;
 ghost use Rattle.myisamkit.specs.Reading.{seen_with, options_seen};
-ghost use Rattle.myisamkit.specs.Turns.{without_extend};
+ghost use Rattle.myisamkit.specs.Turns.{changes_rows, is_row_by_row, without_extend};
 
 use crate::numbers::number_in;
+
+/// How a repair makes the trees of keys.
+#[derive(Clone, Copy, Debug, PartialEq, Eq)]
+pub(crate) enum TreeWork {
+    /// Each is laid of sorted keys, one after the other.
+    InTurn,
+    /// They are laid so by workers side by side; the files are the same.
+    SideBySide,
+    /// The pairs of each row are put into all of them before the next row is read.
+    RowByRow,
+}
+
+impl TreeWork {
+    fn is_row_by_row(self) -> bool
+        ensures { result ≡ changes_rows self }
+    {
+        match self {
+            TreeWork::RowByRow => true,
+            TreeWork::InTurn | TreeWork::SideBySide => false,
+        }
+    }
+}
 
 /// What is done with a table.
 #[derive(Clone, Copy, Debug, PartialEq, Eq)]
 pub(crate) enum Mode {
     Check,
-    /// The trees are laid by workers side by side, or one after the other; the files are the same either way.
-    Recover { parallel: bool },
+    Recover { trees: TreeWork },
     Describe,
     /// The rows per prefix of each key are counted, printed and stored.
     Analyze,
@@ -20,6 +43,20 @@ pub(crate) enum Mode {
     Sort { key: u8 },
     /// The pages of the index file are laid anew, each before those below it.
     SortIndex,
+}
+
+impl Mode {
+    /// Whether trees are changed row by row.
+    pub(crate) fn is_row_by_row(self) -> bool
+        ensures { result ≡ is_row_by_row self }
+    {
+        match self {
+            Mode::Recover { trees } => trees.is_row_by_row(),
+            Mode::Check | Mode::Describe | Mode::Analyze | Mode::Sort { .. } | Mode::SortIndex => {
+                false
+            }
+        }
+    }
 }
 
 /// What one option says.
@@ -111,14 +148,22 @@ impl Seen {
     }
 }
 
+// What an option says that asks for a repair.
+fn recover_flag(trees: TreeWork) -> Option<Flag>
+    ensures { result ≡ Some (flags.Mode (modes.Recover trees)) }
+{
+    Some(Flag::Mode(Mode::Recover { trees }))
+}
+
 /// What a letter says.
 pub(crate) fn letter_flag(letter: u8) -> Option<Flag>
     ensures { result ≡ spec.letter_flag letter }
 {
     match letter {
         b'c' => Some(Flag::Mode(Mode::Check)),
-        b'r' => Some(Flag::Mode(Mode::Recover { parallel: false })),
-        b'p' => Some(Flag::Mode(Mode::Recover { parallel: true })),
+        b'r' => recover_flag(TreeWork::InTurn),
+        b'o' => recover_flag(TreeWork::RowByRow),
+        b'p' => recover_flag(TreeWork::SideBySide),
         b'd' => Some(Flag::Mode(Mode::Describe)),
         b'a' => Some(Flag::Mode(Mode::Analyze)),
         b'S' => Some(Flag::Mode(Mode::SortIndex)),
@@ -135,8 +180,9 @@ pub(crate) fn long_flag(name: &str) -> Option<Flag>
 {
     match name {
         "check" => Some(Flag::Mode(Mode::Check)),
-        "recover" => Some(Flag::Mode(Mode::Recover { parallel: false })),
-        "parallel-recover" => Some(Flag::Mode(Mode::Recover { parallel: true })),
+        "recover" => recover_flag(TreeWork::InTurn),
+        "safe-recover" => recover_flag(TreeWork::RowByRow),
+        "parallel-recover" => recover_flag(TreeWork::SideBySide),
         "description" => Some(Flag::Mode(Mode::Describe)),
         "analyze" => Some(Flag::Mode(Mode::Analyze)),
         "sort-index" => Some(Flag::Mode(Mode::SortIndex)),

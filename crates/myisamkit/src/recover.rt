@@ -7,21 +7,22 @@ ghost use Rattle.myi_repair.specs.Opening.{CutsOff};
 ghost use Rattle.myi_repair.specs.Faults as repair;
 ghost use Rattle.myi_repair.specs.Names.{names_for};
 ghost use Rattle.myi_repair.specs.Outcome.{Ends};
-ghost use Rattle.myi_repair.specs.Repaired.{LeavesRepaired, OldOrNew};
 ghost use Rattle.myisamkit.specs.Stops.{status_of_stop};
 ghost use Rattle.myisamkit.specs.Statuses.{IsFault, faults_told};
 ghost use Rattle.myisamkit.specs.Lines as spec;
 ghost use Rattle.myisamkit.specs.Turns.{recover_turn, fault_status, unless_silent};
 ghost use Rattle.myisamkit.specs.Turns.{RepairDone, RepairCutOff, RepairStops};
+ghost use Rattle.myisamkit.specs.Turns.{is_row_by_row, LeavesRepaired, OldOrNew};
 
 use crate::host::Host;
 use crate::lines::{absent_line, reason_of, recovered_line, refused_line};
-use crate::options::{Mode, Options};
+use crate::options::{Mode, Options, TreeWork};
 use crate::say::say;
 use crate::status::{Status, Stop};
 use myi_io::{Files, Sink};
 use myi_parallel::{OpenGate, Workers, parallel_recover};
 use myi_repair::{RepairFault, Report, recover};
+use myi_saferepair::safe_recover;
 use myi_shell::Gate;
 use std::alloc::{AllocError, Global};
 use std::thread::Threads;
@@ -95,7 +96,8 @@ fn repair<R: Threads + Sync, G: Gate, F: Files>(
     }
 }
 
-// Repairs a table with its trees laid side by side where that is asked for, and else one after the other.
+// Repairs a table with its trees changed row by row or laid side by side where that is asked for, and else laid one after the
+// other.
 fn recover_as_asked<R: Threads + Sync, G: Gate, F: Files>(
     host: &Host<'_, R, G>,
     files: &mut F,
@@ -105,13 +107,19 @@ fn recover_as_asked<R: Threads + Sync, G: Gate, F: Files>(
 ) -> Result<Report, RepairFault>
     requires { IsTrue F.writable }
     ensures repaired { IfOk result (λ said. Told (F.holds files.old) (F.holds files.new)
-        (LeavesRepaired name.now options.now.extend now said)) }
+        (LeavesRepaired (is_row_by_row options.now.mode) name.now options.now.extend now said)) }
     ensures files { Told (F.holds files.old) (F.holds files.new)
-        (OldOrNew name.now options.now.extend now) }
+        (OldOrNew (is_row_by_row options.now.mode) name.now options.now.extend now) }
     ensures ends { Ends (names_for name.now) (F.holds files.old) (F.holds files.new)
         (F.faults files.old) (F.faults files.new) result }
 {
-    if options.mode != (Mode::Recover { parallel: true }) {
+    if options.mode.is_row_by_row() {
+        return safe_recover(host.alloc, files, name, options.extend, now);
+    }
+    let side_by_side = Mode::Recover {
+        trees: TreeWork::SideBySide,
+    };
+    if options.mode != side_by_side {
         return recover(host.alloc, files, name, options.extend, now);
     }
     let workers = Workers {

@@ -1,12 +1,11 @@
 //! The tables of a run, one after the other.
 ghost use Rattle.std.specs.Prelude.{◌≡◌, ◌≢◌, ◌+◌, ℕ, Err, IfOk, IfErr, OnOk, OnErr, IsTrue};
 ghost use Rattle.myi_base.specs.Holding.{IfTold, Told};
-ghost use Rattle.myi_base.specs.Output.{Appends, AppendsPart};
 ghost use Rattle.myi_base.specs.Causes.{HasCause};
 ghost use Rattle.myisamkit.specs.Reading.{tables_named};
 ghost use Rattle.myisamkit.specs.Statuses.{IsFault};
 ghost use Rattle.myisamkit.specs.Turns.{MayFind};
-ghost use Rattle.myisamkit.specs.Runs.{tables_run, TablesDone, TablesStop};
+ghost use Rattle.myisamkit.specs.Runs.{TablesEnd, TablesSaid, TablesSaidPart, TablesStop};
 
 use crate::host::Host;
 use crate::options::Options;
@@ -27,20 +26,12 @@ pub(crate) fn run_tables<R: Threads + Sync, G: Gate, F: Files, O: Sink>(
     now: u64,
 ) -> Result<Status, Stop>
     requires { IsTrue F.writable }
-    ensures status { IfOk result (λ s. IfTold (F.holds files.old) (λ m.
-        s ≡ (tables_run Status.Ok options.now now
-        (tables_named words.now) m).status)) }
-    ensures said { OnOk result (IfTold (F.holds files.old) (λ m. IfTold (O.written out.old)
-        (Appends (tables_run Status.Ok options.now now
-        (tables_named words.now) m).text
-        (O.written out.new)))) }
-    ensures part { OnErr result (IfTold (F.holds files.old) (λ m. IfTold (O.written out.old)
-        (AppendsPart (tables_run Status.Ok options.now now
-        (tables_named words.now) m).text
-        (O.written out.new)))) }
-    ensures done { OnOk result (Told (F.holds files.old) (F.holds files.new)
-        (TablesDone options.now now
-        (tables_named words.now))) }
+    ensures said { IfOk result (λ s. IfTold (F.holds files.old) (TablesSaid options.now now
+        (tables_named words.now) s (O.written out.old) (O.written out.new))) }
+    ensures part { OnErr result (IfTold (F.holds files.old) (TablesSaidPart options.now now
+        (tables_named words.now) (O.written out.old) (O.written out.new))) }
+    ensures done { IfOk result (λ s. Told (F.holds files.old) (F.holds files.new)
+        (TablesEnd options.now now (tables_named words.now) s)) }
     ensures stops { IfErr result (λ stop. Told (F.holds files.old) (F.holds files.new)
         (TablesStop options.now now (F.faults files.old) (F.faults files.new)
         (tables_named words.now) stop)) }

@@ -20,7 +20,7 @@ use myi_shell::Gate;
 use std::thread::Threads;
 
 /// Gives a table its turn.
-#[tactic(auto, unfolding(crate::specs::Turns::turn, crate::specs::Turns::TurnRecovers, crate::specs::Turns::CutsTurnOff, crate::specs::Turns::FailsInTurn))]
+#[tactic(auto, unfolding(crate::specs::Turns::turn, crate::specs::Turns::TurnDone, crate::specs::Turns::CutsTurnOff, crate::specs::Turns::FailsInTurn))]
 pub(crate) fn run_table<R: Threads + Sync, G: Gate, F: Files, O: Sink>(
     host: &Host<'_, R, G>,
     files: &mut F,

@@ -1,14 +1,13 @@
-use Rattle.std.proofs.Common.{arith, ◌≡◌, ◌≢◌, ◌<◌, length, true, map, drop, ◌+◌, string_bytes, sym, subst, ap, ◌∙◌, Err}
+use Rattle.std.proofs.Common.{arith, ◌≡◌, ◌≢◌, ◌<◌, ◌≤◌, length, true, map, drop, ◌+◌, string_bytes, sym, subst, ap, ◌∙◌, Err}
 use Rattle.std.specs.Prelude.{IfErr, OnErr}
 use Rattle.std.proofs.lemmas.Result.{err_from_is_err_and}
 use Rattle.myi_base.specs.Holding.{Told, IfTold}
-use Rattle.myi_base.specs.Output.{AppendsPart}
 use Rattle.myisamkit.specs.declared.status.Status.TheVariants as status
 use Rattle.myisamkit.specs.Reading.{is_table, tables_left, names_none, names_behind}
 use Rattle.myisamkit.specs.Statuses.{IsFault}
-use Rattle.myisamkit.specs.Runs.{tables_run, TablesStop}
+use Rattle.myisamkit.specs.Runs.{TablesSaidPart, TablesStop}
 use Rattle.myisamkit.specs.Turns.{MayFind}
-use Rattle.myisamkit.proofs.TableLaws.{Reached, reached_none, reached_next, worse_keeps, left_here, stops_told, part_told}
+use Rattle.myisamkit.proofs.TableLaws.{Reached, reached_none, reached_next, worse_keeps, left_here, none_left, run_said, run_done, stops_told, part_told}
 use Rattle.myisamkit.proofs.tables.run_tables.Goals as goal
 
 pub loop-word-init : goal.loop-word-init
@@ -27,6 +26,16 @@ loop-word-init g c = record {
   );
 }
 
+pub returns-clause-said : goal.returns-clause-said
+returns-clause-said g c =
+    let past : length c.args.words.now ≤ c.loop-word.word-index = omega arith in
+    run_said _ _ _ _ _ _ _ _ _ (none_left (λ w. string_bytes w) c.args.words.now c.loop-word.word-index c.loop-word.names past) c.loop-word.invariant.so_far
+
+pub returns-clause-done : goal.returns-clause-done
+returns-clause-done g c =
+    let past : length c.args.words.now ≤ c.loop-word.word-index = omega arith in
+    run_done _ _ _ _ _ _ _ _ _ (none_left (λ w. string_bytes w) c.args.words.now c.loop-word.word-index c.loop-word.names past) c.loop-word.invariant.untold c.loop-word.invariant.so_far
+
 pub returns-in_err-table-clause-part : goal.returns-in_err-table-clause-part
 returns-in_err-table-clause-part g c =
     let e = err_from_is_err_and c.from_residual.result c.from_residual.ensures.1 in
@@ -34,7 +43,7 @@ returns-in_err-table-clause-part g c =
     let one : is_table c.loop-word.names c.as_str-word.result.now ≡ true = sym c.take.ensures.named ∙ c.if-not-take.false in
     let here = left_here (λ w. string_bytes w) c.args.words.now c.loop-word.word-index c.word-item.result c.as_str-word.result.now c.table_name.result.now c.loop-word.names within c.word-item.is c.as_str-word.ensures.value one c.table_name.ensures in
     subst
-    (λ r. OnErr r (IfTold (g.F.Files.holds c.args.files.now) (λ m. IfTold (g.O.Sink.written c.args.out.now) (AppendsPart (tables_run status.Ok c.args.options.now c.args.now (tables_left names_none (map (λ w. string_bytes w) c.args.words.now)) m).text (g.O.Sink.written c.run_table.new.out)))))
+    (λ r. OnErr r (IfTold (g.F.Files.holds c.args.files.now) (TablesSaidPart c.args.options.now c.args.now (tables_left names_none (map (λ w. string_bytes w) c.args.words.now)) (g.O.Sink.written c.args.out.now) (g.O.Sink.written c.run_table.new.out))))
     (sym (e.1 ∙ ap Err e.2))
     (part_told _ _ _ _ _ _ _ _ _ _ _ _ here c.loop-word.invariant.so_far c.in_err-table.ensures.part)
 

@@ -1,11 +1,13 @@
 use Rattle.std.proofs.Common.{sym, subst}
 use Rattle.std.specs.Prelude.{IfOk, OnErr, map, string_bytes}
-use Rattle.myi_base.specs.Holding.{IfTold}
+use Rattle.std.proofs.lemmas.Result.{IfOk-weaker}
+use Rattle.myi_base.specs.Holding.{IfTold, Told}
 use Rattle.myisamkit.specs.Stops.{IfSink}
-use Rattle.myisamkit.specs.Runs.{SaidText, SaidPart, HasStatus, FailsInScript}
+use Rattle.myisamkit.specs.Runs.{Leaves, SaidText, SaidPart, HasStatus, FailsInScript}
 use Rattle.myisamkit.proofs.AskedLaws.{words_made}
 use Rattle.myisamkit.proofs.MakeWordLaws.{within}
 use Rattle.myisamkit.proofs.SaidLaws.{if_ok, status_of}
+use Rattle.myisamkit.proofs.TableLaws.{ends_told}
 use Rattle.myisamkit.proofs.ShellSettingLaws.{settings}
 use Rattle.myisamkit.proofs.top.run.Goals as goal
 
@@ -27,7 +29,7 @@ run_shell-requires-clause-setting g c κs live = (settings (map (λ w. string_by
 
 pub returns-in-Chk-clause-said : goal.returns-in-Chk-clause-said
 returns-in-Chk-clause-said g c =
-    subst (λ r. IfOk c.run_tables.result (λ s. IfTold (g.F.Files.holds c.args.files.now) (SaidText r c.args.now s (g.O.Sink.written c.args.out.now) (g.O.Sink.written c.run_tables.new.out)))) c.in-Chk.ensures (if_ok c.run_tables.result _ c.run_tables.ensures.said)
+    subst (λ r. IfOk c.run_tables.result (λ s. IfTold (g.F.Files.holds c.args.files.now) (SaidText r c.args.now s (g.O.Sink.written c.args.out.now) (g.O.Sink.written c.run_tables.new.out)))) c.in-Chk.ensures c.run_tables.ensures.said
 
 pub returns-in-Chk-clause-part : goal.returns-in-Chk-clause-part
 returns-in-Chk-clause-part g c =
@@ -35,7 +37,12 @@ returns-in-Chk-clause-part g c =
 
 pub returns-in-Chk-clause-status : goal.returns-in-Chk-clause-status
 returns-in-Chk-clause-status g c =
-    subst (λ r. IfOk c.run_tables.result (λ s. IfTold (g.F.Files.holds c.args.files.now) (HasStatus r c.args.now s))) c.in-Chk.ensures c.run_tables.ensures.status
+    subst (λ r. IfOk c.run_tables.result (λ s. IfTold (g.F.Files.holds c.args.files.now) (HasStatus r c.args.now s))) c.in-Chk.ensures (IfOk-weaker c.run_tables.result _ _ (λ s ends m told. let n = ends.told m told in (n.0, n.2)) c.run_tables.ensures.done)
+
+pub returns-in-Chk-clause-done : goal.returns-in-Chk-clause-done
+returns-in-Chk-clause-done g c =
+    subst (λ r. IfOk c.run_tables.result (λ s. Told (g.F.Files.holds c.args.files.now) (g.F.Files.holds c.run_tables.new.files) (Leaves r c.args.now (g.F.Files.faults c.args.files.now) (g.F.Files.faults c.run_tables.new.files) s))) c.in-Chk.ensures
+    (ends_told c.run_tables.result _ _ _ _ _ _ _ c.run_tables.ensures.plain c.run_tables.ensures.done)
 
 pub returns-in-Create-clause-said : goal.returns-in-Create-clause-said
 returns-in-Create-clause-said g c =

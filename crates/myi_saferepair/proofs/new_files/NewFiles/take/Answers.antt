@@ -16,14 +16,14 @@ pub repeats_any-requires-clause-each : goal.repeats_any-requires-clause-each
 repeats_any-requires-clause-each g c κs within =
     let given = c.requires.row in
     let d = c.args.defs.now in
-    pairs_long d given.0.values (pointer d c.args.self.now.rows.end) c.as_slice-pairs.result.now (c.as_slice-pairs.ensures.value ∙ c.in_ok-made.ensures given.0 given.1 ∙ ap (row_pairs d given.0.values) c.pointer_of-pointer.ensures)
+    pairs_long d given.0.values (pointer d c.args.self.now.rows.end) c.as_slice-pairs.result.now (c.as_slice-pairs.ensures ∙ c.in_ok-read.ensures given.0 given.1 ∙ ap (row_pairs d given.0.values) c.pointer_of-pointer.ensures)
 
 pub put_row-requires-clause-rows : goal.put_row-requires-clause-rows
 put_row-requires-clause-rows g c κs within =
     let given = c.requires.row in
     let d = c.args.defs.now in
     pointers_fit d given.0.values c.args.self.now.rows.end c.as_slice-pairs.result.now c.repeats_any.new.trees.places (sound d c.requires.defs) c.requires.fit.reached (ap kinds c.in_ok-repeats_any.ensures.places ∙ c.requires.fit.kinds)
-    (c.as_slice-pairs.ensures.value ∙ c.in_ok-made.ensures given.0 given.1 ∙ ap (row_pairs d given.0.values) c.pointer_of-pointer.ensures)
+    (c.as_slice-pairs.ensures ∙ c.in_ok-read.ensures given.0 given.1 ∙ ap (row_pairs d given.0.values) c.pointer_of-pointer.ensures)
 
 pub returns-then-branch-clause-takes : goal.returns-then-branch-clause-takes
 returns-then-branch-clause-takes g c =
@@ -34,7 +34,7 @@ returns-then-branch-clause-takes g c =
     let next = g.F.Files.holds c.repeats_any.new.files in
     let new : NewFiles = record { rows = old.rows; trees = c.repeats_any.new.trees } in
     left_out d c.args.file.now c.args.next.now pairs old.rows.end old new told next c.requires.apart
-    (λ row prepared. c.as_slice-pairs.ensures.value ∙ c.in_ok-made.ensures row prepared ∙ ap (row_pairs d row.values) c.pointer_of-pointer.ensures)
+    (λ row prepared. c.as_slice-pairs.ensures ∙ c.in_ok-read.ensures row prepared ∙ ap (row_pairs d row.values) c.pointer_of-pointer.ensures)
     (subst (λ there. IfStand told old.trees (λ m own lists. AreHeld d pairs lists there)) c.if-branch.true c.in_ok-repeats_any.ensures.held) c.in_ok-repeats_any.ensures.stand c.in_ok-repeats_any.ensures.others
 
 pub returns-clause-takes : goal.returns-clause-takes
@@ -49,7 +49,7 @@ returns-clause-takes g c =
     let mid : NewFiles = record { rows = old.rows; trees = c.repeats_any.new.trees } in
     let new : NewFiles = record { rows = c.put.new.self; trees = c.put_row.new.trees } in
     put_both d (sound d c.requires.defs) c.args.file.now c.args.next.now pairs old mid new told then after next c.requires.apart c.in_ok-repeats_any.ensures.name
-    (λ row prepared. c.as_slice-pairs.ensures.value ∙ c.in_ok-made.ensures row prepared ∙ ap (row_pairs d row.values) c.pointer_of-pointer.ensures)
+    (λ row prepared. c.as_slice-pairs.ensures ∙ c.in_ok-read.ensures row prepared ∙ ap (row_pairs d row.values) c.pointer_of-pointer.ensures)
     (subst (λ there. IfStand told old.trees (λ m own lists. AreHeld d pairs lists there)) c.if-branch.false c.in_ok-repeats_any.ensures.held) c.in_ok-repeats_any.ensures.stand c.in_ok-repeats_any.ensures.others c.in_ok-put.ensures.written
     c.in_ok-put.ensures.ends.others c.in_ok-put_row.ensures.put c.in_ok-put_row.ensures.others
 
@@ -57,3 +57,13 @@ pub returns-clause-written : goal.returns-clause-written
 returns-clause-written g c =
     let new : NewFiles = record { rows = c.put.new.self; trees = c.put_row.new.trees } in
     stays_in c.args.defs.now c.args.next.now c.args.self.now new c.in_ok-put.ensures.added
+
+pub returns-then-branch-clause-each : goal.returns-then-branch-clause-each
+returns-then-branch-clause-each g c =
+    let given = c.requires.row in
+    pairs_long c.args.defs.now given.0.values (pointer c.args.defs.now c.args.self.now.rows.end) c.read.new.self (c.in_ok-read.ensures given.0 given.1 ∙ ap (row_pairs c.args.defs.now given.0.values) c.pointer_of-pointer.ensures)
+
+pub returns-clause-each : goal.returns-clause-each
+returns-clause-each g c =
+    let given = c.requires.row in
+    pairs_long c.args.defs.now given.0.values (pointer c.args.defs.now c.args.self.now.rows.end) c.read.new.self (c.in_ok-read.ensures given.0 given.1 ∙ ap (row_pairs c.args.defs.now given.0.values) c.pointer_of-pointer.ensures)
