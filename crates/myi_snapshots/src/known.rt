@@ -108,7 +108,7 @@ impl KnownRows {
     ghost use Rattle.myi_tail.specs.Prefix.{BeginsWith};
     ghost use Rattle.myi_tail.specs.Spelled.{spelled};
     ghost use Rattle.myi_spelling.specs.Pieces.{words_for};
-    ghost use Rattle.myi_snapshots.specs.Known.{end_with};
+    ghost use Rattle.myi_snapshots.specs.Known.{size_of, end_with};
     ghost use Rattle.myi_snapshots.specs.Knowing.{packed_of, told_place};
 
     /// No rows, behind a data file that ends there, with memory for those that so many words may spell.
@@ -159,6 +159,14 @@ impl KnownRows {
         ensures { result.now ≡ slice_index_or (packed_of self.now) i [] }
     {
         self.whole.row(i)
+    }
+
+    /// How many bytes of the data file a row that is known takes behind its end, by its number from 0.
+    pub fn size(&self, i: usize) -> u64
+        requires { i < length (packed_of self.now) }
+        ensures { result ≡ size_of self.now.defs (slice_index_or (packed_of self.now) i []) }
+    {
+        size_of(&self.defs, self.whole.row(i))
     }
 
     /// A row that is known, by its number from 0.
