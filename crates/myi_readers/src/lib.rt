@@ -9,7 +9,6 @@
 //!   where the data file ends behind them. It takes no memory.
 //! - `scan` answers all rows that are seen by a snapshot, in order of their positions; `range` those of a `Range`, in order of
 //!   the key and then of their positions.
-//! - `Reader` has the reader objects of the two files beside it, and the same calls on them.
 //! - The law `first_inserted_rows_are_known` says which rows a reader knows, where its words are the first of an inserter's.
 //!
 //! What is asked of a reader and holds after each call is `IsReader`; what it sees is `seen_rows` of `myi_snapshots`.
@@ -21,7 +20,6 @@
 #![tactic(auto)]
 
 mod fault;
-mod file_reader;
 mod keyed_row;
 mod known;
 mod laws;
@@ -30,6 +28,5 @@ mod reader;
 mod scans;
 
 pub use fault::SeenFault;
-pub use file_reader::Reader;
 pub use laws::first_inserted_rows_are_known;
 pub use reader::TableReader;

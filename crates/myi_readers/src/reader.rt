@@ -102,8 +102,6 @@ impl TableReader {
         requires ready { IsReader self.old }
         ensures number { result.number ≡ self.old.number + length (rows_known self.new) }
         ensures length { result.length ≡ told_place (end_known self.new) }
-        ensures seen { self.old.seat.seen ≤ self.new.seat.seen }
-        ensures caught { length self.new.seat.known ≡ self.new.seat.seen }
         ensures more { BeginsWith self.new.seat.known self.old.seat.known }
         ensures later { self.old.number + length (rows_known self.old) ≤ result.number }
         ensures taken { (base : TableState) (rows : List Values) → AreKnown self.new rows

@@ -50,7 +50,7 @@ struct Work {
     again: &'static [&'static str],
 }
 
-const REPAIRS: [Work; 3] = [
+const REPAIRS: [Work; 2] = [
     Work {
         mode: "--recover",
         same_as: "--recover",
@@ -60,11 +60,6 @@ const REPAIRS: [Work; 3] = [
         mode: "--parallel-recover",
         same_as: "--recover",
         again: &["--parallel-recover"],
-    },
-    Work {
-        mode: "--safe-recover",
-        same_as: "--safe-recover",
-        again: &["--safe-recover"],
     },
 ];
 

@@ -33,7 +33,7 @@ use Rattle.myisamkit.specs.Turns.{replaced, with_index, analyzed_turn, sorted_tu
 use Rattle.myisamkit.specs.Creates.{made, made_turn, CreateLeaves}
 use Rattle.myi_make.specs.MadeTable.{defs, damaged_file}
 use Rattle.myisamkit.specs.Makes.{MakeDone, MakeLeaves}
-use Rattle.myisamkit.specs.Shells.{ShellLeaves, ShellCutOff}
+use Rattle.myisamkit.specs.Shells.{ShellLeaves}
 use Rattle.myisamkit.specs.Statuses.{worse}
 use Rattle.myisamkit.specs.Runs.{TablesRun, CutsTablesOff, FailsInTables, TablesLeave, Leaves, IsApart, IsNoFileOf, KeepsOthers}
 
@@ -188,13 +188,9 @@ make_keeps count seed name now status.Usage m n q apart left = done_making_keeps
 make_keeps count seed name now status.Refused m n q apart left = done_making_keeps count seed name now m n q apart left
 make_keeps count seed name now status.Absent m n q apart left = done_making_keeps count seed name now m n q apart left
 
-cut_shell_keeps : (name script : List ℕ) (m n : Holding) (q : List ℕ) → IsApart q (names_for name) → ShellCutOff name script m n → n q ≡ m q
-cut_shell_keeps name script m n q apart (inl same) = ap (λ (h : Holding). h q) same
-cut_shell_keeps name script m n q apart (inr (there, keeps)) = keeps q apart.rows apart.index
-
 shell_keeps : (setting : ℕ) (name script : List ℕ) (s : Status) (m n : Holding) (q : List ℕ) → IsApart q (names_for name) → ShellLeaves setting name script s m n → n q ≡ m q
-shell_keeps setting name script status.FileFault m n q apart left = cut_shell_keeps name script m n q apart left
-shell_keeps setting name script status.Memory m n q apart left = cut_shell_keeps name script m n q apart left
+shell_keeps setting name script status.FileFault m n q apart left = left q apart.rows apart.index
+shell_keeps setting name script status.Memory m n q apart left = left q apart.rows apart.index
 shell_keeps setting name script status.SinkFault m n q apart left = left q apart.rows apart.index
 shell_keeps setting name script status.Ok m n q apart left = left.others q apart.rows apart.index
 shell_keeps setting name script status.Findings m n q apart left = ap (λ (h : Holding). h q) left

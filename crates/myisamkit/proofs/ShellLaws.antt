@@ -30,11 +30,13 @@ use Rattle.myi_script.specs.declared.types.Line.{Line}
 use Rattle.myi_script.specs.Script.{IsScript}
 use Rattle.myi_history.specs.History.{Opening, history_in, history}
 use Rattle.myi_table.specs.declared.fault.LoadFault.{LoadFault}
-use Rattle.myi_table.specs.Table.{OpenTable, defs_in, HoldState, IsKept, IfHolds, KeepsRows, KeepsOthers, ChangesItsOwn}
+use Rattle.myi_table.specs.Table.{OpenTable, defs_in, HoldState, IsKept, KeepsRows, KeepsOthers, ChangesItsOwn}
 use Rattle.myi_table.specs.Closing.{changed_bits}
 use Rattle.myi_table.specs.Loading.{marked_by, loaded_by}
 use Rattle.myi_table.specs.Loading as loading
-use Rattle.myi_shell.specs.Running.{opening_on, IsPrinted, IsPrintedPart, AreClosed, AreClosedAtEnd, AreClosedBehind}
+use Rattle.myi_shell.specs.Running.{opening_on, IsPrinted, IsPrintedPart, IsClosedBy, AreClosedAtEnd, AreClosedBehind}
+use Rattle.myi_shell.specs.declared.target.Target.TheVariants.{One}
+use Rattle.myi_shell.specs.Targets as on
 use Rattle.myisamkit.specs.declared.status.Status.{Status}
 use Rattle.myisamkit.specs.declared.status.Status.TheVariants as status
 use Rattle.myisamkit.specs.Lines.{absent_line}
@@ -157,18 +159,25 @@ kept law name script t ls told bytes ready whole m held =
     let s = stands law name script t ls m (bytes m held) (ready m held) in
     (s.state, s.holds)
 
--- what holds of each state holds of one
-pub never : Stands → (name script : List ℕ) (t : OpenTable) (ls : List Line) (told : Option Holding) → IfTold told HoldsBytes → IfTold told (IsReady name script t ls) → (P : Holding → Type 0) → IfHolds told t (λ m s. ⊥) → IfTold told P
-never law name script t ls told bytes ready P none m held =
-    let s = stands law name script t ls m (bytes m held) (ready m held) in
-    absurd (none m held s.state s.holds)
+-- what never is holds of nothing
+pub never : (told : Option Holding) (P : Holding → Type 0) → IfTold told (λ m. ⊥) → IfTold told P
+never told P none m held = absurd (none m held)
 
-begins_so : (setting : ℕ) (name script : List ℕ) (t : OpenTable) (ls : List Line) (m : Holding) (ready : IsReady name script t ls m) (s : Standing name script t ls m) → Begins setting name m ready.text (opening_on (defs_in t) ls setting s.state)
+-- a table alone, in a state
+abbrev pub alone : TableState → on.Standing
+alone s = record { table = s; beside = record { front = []; back = [] } }
+
+-- a script of these lines on it
+abbrev pub begun_on : OpenTable → List Line → ℕ → TableState → Opening
+begun_on t ls setting s = opening_on (defs_in t) (on.script_on (One t) ls) setting (alone s)
+
+begins_so : (setting : ℕ) (name script : List ℕ) (t : OpenTable) (ls : List Line) (m : Holding) (ready : IsReady name script t ls m) (s : Standing name script t ls m) → Begins setting name m ready.text (begun_on t ls setting s.state)
 begins_so setting name script t ls m ready s = record {
   table = s.files;
   is = s.is;
   defs = s.defs;
   lines = subst (λ d. IsScript false d ready.text ls) s.defs ready.lines;
+  takes = refl;
   base = s.stand;
   inserts = refl;
 }
@@ -179,34 +188,34 @@ comes_to_run setting name script m text said s read run = subst (λ r. ComesTo s
 -- ---- what a run said and left
 
 pub run_said : Stands → (setting : ℕ) (name script : List ℕ) (t : OpenTable) (ls : List Line) (told : Option Holding) (old new : Option (List ℕ)) → IfTold told HoldsBytes → IfTold told (IsReady name script t ls)
-    → IfHolds told t (λ m s. IsPrinted (opening_on (defs_in t) ls setting s) old new) → IfTold told (ShellSaid setting name script status.Ok old new)
+    → on.IfHolds told (One t) (λ m s. IsPrinted (opening_on (defs_in t) (on.script_on (One t) ls) setting s) old new) → IfTold told (ShellSaid setting name script status.Ok old new)
 run_said law setting name script t ls told old new bytes ready printed m held =
     let r = ready m held in
     let s = stands law name script t ls m (bytes m held) r in
-    let p = printed m held s.state s.holds in
-    (_, comes_to_run setting name script m r.text _ status.Ok r.read record { begin = opening_on (defs_in t) ls setting s.state; begins = begins_so setting name script t ls m r s; numbers = p.numbers; within = p.within; says = refl; ends = refl }, p.text)
+    let p = printed m held (alone s.state) s.holds in
+    (_, comes_to_run setting name script m r.text _ status.Ok r.read record { begin = begun_on t ls setting s.state; begins = begins_so setting name script t ls m r s; numbers = p.numbers; within = p.within; says = refl; ends = refl }, p.text)
 
 pub run_part : Stands → (setting : ℕ) (name script : List ℕ) (t : OpenTable) (ls : List Line) (told : Option Holding) (old new : Option (List ℕ)) → IfTold told HoldsBytes → IfTold told (IsReady name script t ls)
-    → IfHolds told t (λ m s. IsPrintedPart (opening_on (defs_in t) ls setting s) old new) → IfTold told (ShellSaidPart setting name script old new)
+    → on.IfHolds told (One t) (λ m s. IsPrintedPart (opening_on (defs_in t) (on.script_on (One t) ls) setting s) old new) → IfTold told (ShellSaidPart setting name script old new)
 run_part law setting name script t ls told old new bytes ready printed m held =
     let r = ready m held in
     let s = stands law name script t ls m (bytes m held) r in
-    let p = printed m held s.state s.holds in
-    inr (_, status.Ok, comes_to_run setting name script m r.text _ status.Ok r.read record { begin = opening_on (defs_in t) ls setting s.state; begins = begins_so setting name script t ls m r s; numbers = p.numbers; within = p.within; says = refl; ends = refl }, p.text)
+    let p = printed m held (alone s.state) s.holds in
+    inr (_, status.Ok, comes_to_run setting name script m r.text _ status.Ok r.read record { begin = begun_on t ls setting s.state; begins = begins_so setting name script t ls m r s; numbers = p.numbers; within = p.within; says = refl; ends = refl }, p.text)
 
 bits_by : (changes : List Change) (b : Bool) (bits : ℕ) → (changes ≡ [] → b ≡ false) → (changes ≢ [] → b ≡ true) → (if b then changed_bits bits else bits) ≡ bits_behind changes bits
 bits_by [] b bits none some = ap (λ q. if q then changed_bits bits else bits) (none refl)
 bits_by (c ∷ cs) b bits none some = ap (λ q. if q then changed_bits bits else bits) (some (λ e. cc))
 
 -- the header of a table that was closed behind these changes
-header_so : (o : Opening) (was : List ℕ) (changes : List Change) (t : OpenTable) (m n : Holding) → o.defs ≡ defs_in t → t.header ≡ state_of o.defs was → t.changed ≡ false → (closed : AreClosed o changes t m n)
-    → IsHeaderBehind o.defs was changes (header_in o.defs closed.closed.index)
+header_so : (o : Opening) (was : List ℕ) (changes : List Change) (t : OpenTable) (m n : Holding) → o.defs ≡ defs_in t → t.header ≡ state_of o.defs was → t.changed ≡ false → (closed : IsClosedBy (replay o.defs o.base changes) changes t m n)
+    → IsHeaderBehind o.defs was changes (header_in o.defs closed.files.closed.index)
 header_so o was changes t m n defs header unchanged closed =
-    let last = closed.last in
-    let index = closed.closed.index in
-    let of_defs : defs_in last ≡ o.defs = closed.same.defs ∙ sym defs in
-    let has = closed.closed.header in
-    let read : last.header ≡ state_of o.defs was = closed.same.header ∙ header in
+    let last = closed.files.last in
+    let index = closed.files.closed.index in
+    let of_defs : defs_in last ≡ o.defs = closed.files.same.defs ∙ sym defs in
+    let has = closed.files.closed.header in
+    let read : last.header ≡ state_of o.defs was = closed.files.same.header ∙ header in
     let bits_now : (if last.changed then changed_bits last.header.changed else last.header.changed) ≡ bits_behind changes last.header.changed =
     bits_by changes last.changed last.header.changed (λ none. closed.unmarked none ∙ unchanged) closed.marked in
     record {
@@ -224,29 +233,29 @@ header_so o was changes t m n defs header unchanged closed =
       });
     }
 
-closed_so : AreCleanPairs → (name : List ℕ) (o : Opening) (was : List ℕ) (changes : List Change) (t : OpenTable) (m n : Holding) → t.name ≡ name → o.defs ≡ defs_in t → t.header ≡ state_of o.defs was → t.changed ≡ false → AreClosed o changes t m n → StandClean name o was changes n
+closed_so : AreCleanPairs → (name : List ℕ) (o : Opening) (was : List ℕ) (changes : List Change) (t : OpenTable) (m n : Holding) → t.name ≡ name → o.defs ≡ defs_in t → t.header ≡ state_of o.defs was → t.changed ≡ false → IsClosedBy (replay o.defs o.base changes) changes t m n → StandClean name o was changes n
 closed_so law name o was changes t m n named defs header unchanged closed =
-    let at : closed.last.name ≡ name = closed.same.name ∙ named in
-    let of_defs : defs_in closed.last ≡ o.defs = closed.same.defs ∙ sym defs in
-    let index = closed.closed.index in
+    let at : closed.files.last.name ≡ name = closed.files.same.name ∙ named in
+    let of_defs : defs_in closed.files.last ≡ o.defs = closed.files.same.defs ∙ sym defs in
+    let index = closed.files.closed.index in
     let s = replay o.defs o.base changes in
-    let there : n (index_file name) ≡ Some index = ap (λ (q : List ℕ). n (index_file q)) (sym at) ∙ closed.closed.there in
-    let stand : StandForTable (defs_with o.defs index) s (bytes_of (rows_file name) n) index = subst (λ (d : Defs). StandForTable (defs_with d index) s (bytes_of (rows_file name) n) index) of_defs (subst (λ (q : List ℕ). StandForTable (defs_with (defs_in closed.last) index) s (bytes_of (rows_file q) n) index) at closed.closed.stand) in
+    let there : n (index_file name) ≡ Some index = ap (λ (q : List ℕ). n (index_file q)) (sym at) ∙ closed.files.closed.there in
+    let stand : StandForTable (defs_with o.defs index) s (bytes_of (rows_file name) n) index = subst (λ (d : Defs). StandForTable (defs_with d index) s (bytes_of (rows_file name) n) index) of_defs (subst (λ (q : List ℕ). StandForTable (defs_with (defs_in closed.files.last) index) s (bytes_of (rows_file q) n) index) at closed.files.closed.stand) in
     record { index = index; there = there; stand = stand; clean = law _ s _ index (sound _ (are_defs index _ stand.read)) stand; header = header_so o was changes t m n defs header unchanged closed }
 
-kept_rows : (name : List ℕ) (o : Opening) (changes : List Change) (t : OpenTable) (m n : Holding) → t.name ≡ name → AreClosed o changes t m n → changes ≡ [] → KeepsRows name m n
+kept_rows : (name : List ℕ) (o : Opening) (changes : List Change) (t : OpenTable) (m n : Holding) → t.name ≡ name → IsClosedBy (replay o.defs o.base changes) changes t m n → changes ≡ [] → KeepsRows name m n
 kept_rows name o changes t m n named closed none = subst (λ (q : List ℕ). KeepsRows q m n) named (closed.rows none)
 
 pub run_done : Stands → AreCleanPairs → (setting : ℕ) (name script : List ℕ) (t : OpenTable) (ls : List Line) (told next : Option Holding) → IfTold told HoldsBytes → IfTold told (IsReady name script t ls) → t.name ≡ name
-    → IfHolds told t (λ m s. IfTold next (AreClosedAtEnd (opening_on (defs_in t) ls setting s) t m)) → ChangesItsOwn told next t → Told told next (ShellDone setting name script)
+    → on.IfHolds told (One t) (λ m s. IfTold next (AreClosedAtEnd (opening_on (defs_in t) (on.script_on (One t) ls) setting s) (One t) m)) → ChangesItsOwn told next t → Told told next (ShellDone setting name script)
 unfolding begins_so stands
 run_done law pairs setting name script t ls told next bytes ready named closed own = record {
   told = λ m held.
       let r = ready m held in
       let s = stands law name script t ls m (bytes m held) r in
       let n = own.told m held in
-      let o = opening_on (defs_in t) ls setting s.state in
-      let c = closed m held s.state s.holds n.0 n.1 in (
+      let o = begun_on t ls setting s.state in
+      let c = closed m held (alone s.state) s.holds n.0 n.1 in (
         n.0,
         n.1,
         record {
@@ -264,13 +273,13 @@ run_done law pairs setting name script t ls told next bytes ready named closed o
 
 -- the output failed at the lines of a round
 pub run_fails : Stands → AreCleanPairs → (setting : ℕ) (name script : List ℕ) (t : OpenTable) (ls : List Line) (told next : Option Holding) (old new : Option (List ℕ)) → IfTold told HoldsBytes → IfTold told (IsReady name script t ls) → t.name ≡ name
-    → IfHolds told t (λ m s. IfTold next (AreClosedBehind (opening_on (defs_in t) ls setting s) t old new m)) → IfTold told (λ m. IfTold next (ShellFails setting name script old new m))
+    → on.IfHolds told (One t) (λ m s. IfTold next (AreClosedBehind (opening_on (defs_in t) (on.script_on (One t) ls) setting s) (One t) old new m)) → IfTold told (λ m. IfTold next (ShellFails setting name script old new m))
 unfolding begins_so stands
 run_fails law pairs setting name script t ls told next old new bytes ready named closed m held n after =
     let r = ready m held in
     let s = stands law name script t ls m (bytes m held) r in
-    let o = opening_on (defs_in t) ls setting s.state in
-    let c = closed m held s.state s.holds n after in
+    let o = begun_on t ls setting s.state in
+    let c = closed m held (alone s.state) s.holds n after in
     inr record {
       text = r.text;
       read = r.read;

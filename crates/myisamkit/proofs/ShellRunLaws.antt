@@ -1,21 +1,17 @@
 -- The turn of `shell`, by the steps that it takes.
 use Rattle.std.proofs.Common.{◌≡◌, ℕ, List, Option, Some, Result, Ok, Err, refl, sym, subst, ◌∙◌, inl, inr}
-use Rattle.std.specs.Prelude.{IfOk, IfErr, false}
-use Rattle.myi_base.specs.Holding.{Holding, IfTold, Told}
-use Rattle.myi_base.proofs.CallerLemmas.{told_same}
+use Rattle.std.specs.Prelude.{IfOk, false}
+use Rattle.myi_base.specs.Holding.{Holding, IfTold}
 use Rattle.myi_base.specs.Output.{Appends, AppendsPart}
 use Rattle.myi_defs.specs.declared.types.Defs.{Defs}
 use Rattle.myi_deftext.specs.Text.{lines}
 use Rattle.myi_script.specs.declared.types.Line.{Line}
 use Rattle.myi_script.specs.Script.{IsScript, IsFirstOutside}
-use Rattle.myi_table.specs.Table.{OpenTable, defs_in, KeepsOthers, ChangesItsOwn}
+use Rattle.myi_table.specs.Table.{OpenTable, defs_in}
 use Rattle.myi_table.specs.Loading.{IsLoaded}
 use Rattle.myisamkit.specs.declared.status.Status.TheVariants as status
-use Rattle.myisamkit.specs.declared.status.Stop.{Stop}
-use Rattle.myisamkit.specs.declared.status.Stop.TheVariants as stop
-use Rattle.myisamkit.specs.Stops.{status_of_stop}
 use Rattle.myisamkit.specs.Lines.{text_line}
-use Rattle.myisamkit.specs.Shells.{Refusal, text_in, ComesTo, ShellComesTo, ShellSaid, ShellSaidPart, ShellFails, ShellLeaves, ShellCutOff, IsNotRunBy, IsReady}
+use Rattle.myisamkit.specs.Shells.{Refusal, text_in, ComesTo, ShellComesTo, ShellSaid, ShellSaidPart, ShellFails, IsNotRunBy, IsReady}
 use Rattle.myisamkit.proofs.ShellLaws.{opened}
 
 -- what holds of every value holds of an answer
@@ -78,42 +74,3 @@ pub ready_so : (name script text : List ℕ) (d : Defs) (t : OpenTable) (ls : Li
 ready_so name script text d t ls told again same read loaded unchanged defs says m held =
     let held_before : told ≡ Some m = sym same ∙ held in
     record { text = text; read = read m held_before; lines = subst (λ e. IsScript false e text ls) defs says; loaded = loaded m held_before; unchanged = unchanged }
-
--- ---- it is cut off
-
--- what holds of every fault holds of an answer
-pub each_err : {A E : Type 0} (r : Result A E) (P : E → Type 0) → ((x : E) → P x) → IfErr r P
-each_err (Ok x) P all = tt
-each_err (Err e) P all = all e
-
--- where nothing was changed
-pub same_stops : (setting : ℕ) (name script : List ℕ) (told next : Option Holding) → next ≡ told → (s : Stop) → Told told next (ShellLeaves setting name script (status_of_stop s))
-same_stops setting name script told next same s = told_same told next (ShellLeaves setting name script (status_of_stop s)) same (λ m held. by s m)
-  where
-    by : (s : Stop) (m : Holding) → ShellLeaves setting name script (status_of_stop s) m m
-    by stop.File m = inl refl
-    by stop.Memory m = inl refl
-    by stop.Sink m = λ q one two. refl
-
--- where the script was run
-pub ran_off : (name script : List ℕ) (t : OpenTable) (ls : List Line) (told next : Option Holding) → IfTold told (IsReady name script t ls) → t.name ≡ name → ChangesItsOwn told next t → Told told next (ShellCutOff name script)
-ran_off name script t ls told next ready named own = record {
-  told = λ m held.
-      let r = ready m held in
-      let n = own.told m held in (
-        n.0,
-        n.1,
-        inr (
-          record {
-            text = r.text;
-            read = r.read;
-            table = r.loaded.files;
-            is = opened name m r.loaded.files r.loaded.is;
-            said = ls;
-            lines = subst (λ (d : Defs). IsScript false d r.text ls) r.loaded.defs r.lines;
-          },
-          subst (λ (q : List ℕ). KeepsOthers q m n.0) named n.2,
-        ),
-      );
-  untold = own.untold;
-}

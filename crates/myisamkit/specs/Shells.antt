@@ -23,7 +23,7 @@ use Rattle.myi_tablestate.specs.Standing.{StandForTable}
 use Rattle.myi_keyedrows.specs.Files.{defs_with}
 use Rattle.myi_script.specs.declared.types.Line.{Line}
 use Rattle.myi_script.specs.Script.{IsScript, IsFirstOutside}
-use Rattle.myi_history.specs.History.{Opening, ScriptRound, history_in, history}
+use Rattle.myi_history.specs.History.{in_table, Opening, ScriptRound, history_in, history}
 use Rattle.myi_history.specs.Text.{Numbers, shell_text}
 use Rattle.myi_history.specs.Bounds.{AreWithin}
 use Rattle.myi_table.specs.Table.{OpenTable, defs_in, KeepsRows, KeepsOthers}
@@ -88,7 +88,8 @@ pub record Begins (setting : ℕ) (name : List ℕ) (m : Holding) (text : List �
   pub table : opening.Table
   pub is : opening.table_in (index_file name) (rows_file name) m ≡ Ok table
   pub defs : o.defs ≡ table.defs
-  pub lines : IsScript false table.defs text o.lines
+  pub lines : IsScript false table.defs text o.script.lines
+  pub takes : o.script.takes ≡ in_table
   pub base : StandForTable table.defs o.base table.rows table.index
   pub inserts : o.setting ≡ setting
 
@@ -179,25 +180,12 @@ pub record ShellDone (setting : ℕ) (name script : List ℕ) (m n : Holding) : 
   pub rows : history begin ≡ [] → KeepsRows name m n
   pub others : KeepsOthers name m n
 
--- a script in the grammar is there, and a table with which nothing is wrong
-pub record HasScript (name script : List ℕ) (m : Holding) : Type 0 where
-  pub text : List ℕ
-  pub read : text_in name script m ≡ Ok text
-  pub table : opening.Table
-  pub is : opening.table_in (index_file name) (rows_file name) m ≡ Ok table
-  pub said : List Line
-  pub lines : IsScript false table.defs text said
-
--- it is cut off: nothing was changed, or a script was run, and files of other names stay
-abbrev pub ShellCutOff : List ℕ → List ℕ → Holding → Holding → Type 0
-ShellCutOff name script m n = (n ≡ m) ⊎ (HasScript name script m × KeepsOthers name m n)
-
--- The files at a status. Where no script is run nothing is changed.
+-- The files at a status. Where no script is run nothing is changed; a run that is cut off leaves files of other names.
 abbrev pub ShellLeaves : ℕ → List ℕ → List ℕ → Status → Holding → Holding → Type 0
 ShellLeaves setting name script status.Ok m n = ShellDone setting name script m n
-ShellLeaves setting name script status.FileFault m n = ShellCutOff name script m n
+ShellLeaves setting name script status.FileFault m n = KeepsOthers name m n
 ShellLeaves setting name script status.SinkFault m n = KeepsOthers name m n
-ShellLeaves setting name script status.Memory m n = ShellCutOff name script m n
+ShellLeaves setting name script status.Memory m n = KeepsOthers name m n
 ShellLeaves setting name script status.Findings m n = n ≡ m
 ShellLeaves setting name script status.Usage m n = n ≡ m
 ShellLeaves setting name script status.Refused m n = n ≡ m

@@ -27,7 +27,7 @@ use myi_keycache::CacheSetup;
 use myi_opening::TableFault;
 use myi_pair::{Finding, findings_are_none_where_clean};
 use myi_script::{Script, ScriptFault, parse_script};
-use myi_shell::{Gate, ShellFault, run_script};
+use myi_shell::{Gate, ShellFault, Target, run_script};
 use myi_table::{LoadFault, Table};
 use myi_tablestate::clean_pairs_stand_for_tables;
 use std::alloc::{AllocError, Global};
@@ -270,7 +270,8 @@ fn run_parsed<R, G: Gate, F: Files, O: Sink>(
     clean_pairs_stand_for_tables();
     findings_are_none_where_clean();
     let setting = job.options.concurrent;
-    match run_script(host.alloc, table, &script, setting, files, out, host.gate) {
+    let target = Target::One(table);
+    match run_script(host.alloc, target, &script, setting, files, out, host.gate) {
         Ok(()) => Ok(Status::Ok),
         // Its line was printed. Files that tell what they hold give no cause for it.
         Err(ShellFault::Damaged { .. }) => Ok(Status::Refused),

@@ -3,7 +3,6 @@ use Rattle.myi_shell.specs.Running.{IsStopped}
 use Rattle.myisamkit.specs.declared.status.Status.TheVariants as status
 use Rattle.myisamkit.specs.Shells.{ShellSaid, ShellSaidPart, ShellLeaves}
 use Rattle.myisamkit.proofs.ShellLaws.{kept, never, run_said, run_part, run_done, run_fails, none_told}
-use Rattle.myisamkit.proofs.ShellRunLaws.{ran_off}
 use Rattle.myisamkit.proofs.shell.run_parsed.Goals as goal
 
 pub run_script-requires-clause-script : goal.run_script-requires-clause-script
@@ -31,13 +30,7 @@ pub returns-clause-part : goal.returns-clause-part
 returns-clause-part g c = run_part c.clean_pairs_stand_for_tables.ensures.stands c.args.job.now.options.concurrent c.args.job.now.name.now c.args.job.now.script.now c.args.table c.args.script.lines _ _ _ (λ m held. g.met.F.Files.told_bytes c.args.files.now m held) c.requires.ready c.in-Err-Memory.ensures.part
 
 pub returns-in-Err-Damaged-clause-said : goal.returns-in-Err-Damaged-clause-said
-returns-in-Err-Damaged-clause-said g c = never c.clean_pairs_stand_for_tables.ensures.stands c.args.job.now.name.now c.args.job.now.script.now c.args.table c.args.script.lines (g.F.Files.holds c.args.files.now) (λ m held. g.met.F.Files.told_bytes c.args.files.now m held) c.requires.ready (ShellSaid c.args.job.now.options.concurrent c.args.job.now.name.now c.args.job.now.script.now status.Refused (g.O.Sink.written c.args.out.now) (g.O.Sink.written c.run_script.new.out)) (subst (IsStopped (g.F.Files.holds c.args.files.now) c.args.table) c.in-Err-Damaged.field-0-is c.in-Err-Damaged.ensures.refused)
+returns-in-Err-Damaged-clause-said g c = never (g.F.Files.holds c.args.files.now) (ShellSaid c.args.job.now.options.concurrent c.args.job.now.name.now c.args.job.now.script.now status.Refused (g.O.Sink.written c.args.out.now) (g.O.Sink.written c.run_script.new.out)) (subst (IsStopped (g.F.Files.holds c.args.files.now)) c.in-Err-Damaged.field-0-is c.in-Err-Damaged.ensures.refused)
 
 pub returns-in-Err-Damaged-clause-done : goal.returns-in-Err-Damaged-clause-done
-returns-in-Err-Damaged-clause-done g c = none_told (g.F.Files.holds c.args.files.now) (g.F.Files.holds c.run_script.new.files) (ShellLeaves c.args.job.now.options.concurrent c.args.job.now.name.now c.args.job.now.script.now status.Refused) (never c.clean_pairs_stand_for_tables.ensures.stands c.args.job.now.name.now c.args.job.now.script.now c.args.table c.args.script.lines (g.F.Files.holds c.args.files.now) (λ m held. g.met.F.Files.told_bytes c.args.files.now m held) c.requires.ready (λ m. ⊥) (subst (IsStopped (g.F.Files.holds c.args.files.now) c.args.table) c.in-Err-Damaged.field-0-is c.in-Err-Damaged.ensures.refused)) c.run_script.ensures.others.untold
-
-pub returns-in-Err-File-clause-stops : goal.returns-in-Err-File-clause-stops
-returns-in-Err-File-clause-stops g c = ran_off c.args.job.now.name.now c.args.job.now.script.now c.args.table c.args.script.lines (g.F.Files.holds c.args.files.now) (g.F.Files.holds c.run_script.new.files) c.requires.ready c.requires.name c.run_script.ensures.others
-
-pub returns-clause-stops : goal.returns-clause-stops
-returns-clause-stops g c = ran_off c.args.job.now.name.now c.args.job.now.script.now c.args.table c.args.script.lines (g.F.Files.holds c.args.files.now) (g.F.Files.holds c.run_script.new.files) c.requires.ready c.requires.name c.run_script.ensures.others
+returns-in-Err-Damaged-clause-done g c = none_told (g.F.Files.holds c.args.files.now) (g.F.Files.holds c.run_script.new.files) (ShellLeaves c.args.job.now.options.concurrent c.args.job.now.name.now c.args.job.now.script.now status.Refused) (never (g.F.Files.holds c.args.files.now) (λ m. ⊥) (subst (IsStopped (g.F.Files.holds c.args.files.now)) c.in-Err-Damaged.field-0-is c.in-Err-Damaged.ensures.refused)) c.run_script.ensures.others.untold

@@ -1,6 +1,5 @@
 use Rattle.std.proofs.Common.{◌≡◌, ◌+◌, ℕ, List, length, sym, ap, subst, ◌∙◌, arith}
 use Rattle.myi_tail.specs.Prefix.{BeginsWith}
-use Rattle.myi_tail.specs.Seats.{TailReader}
 use Rattle.myi_spelling.specs.Pieces.{words_for}
 use Rattle.myi_snapshots.specs.declared.snapshot.Snapshot.{Snapshot}
 use Rattle.myi_readers.specs.declared.reader.TableReader.{TableReader}
@@ -64,15 +63,3 @@ returns-clause-taken c = λ base rows are ends_at small.
     let ready : IsReader new = reader_on r c.catch_up.new.self c.read_on.new.self c.known.result.now c.lock-count.result c.requires.ready caught c.known.ensures c.read_on.ensures in
     let snap : Snapshot = record { number = r.number + c.count.result; length = c.end.result } in
     taken r.defs base r.number rows snap (rows_known new) r.rows.rows.file.counts.length are.packed ends_at (ap (λ (n : ℕ). r.number + n) (c.count.ensures ∙ ap (λ (l : List (List ℕ)). length l) (packed_known new ready))) (c.end.ensures ∙ known_end new ready) small
-
-pub returns-clause-caught : goal.returns-clause-caught
-returns-clause-caught c =
-    let counted = ap (λ (s : TailReader). s.seen) c.lock-count.ensures.seen in
-    let kept = ap (λ (s : TailReader). s.seen) c.catch_up.ensures.rest in
-    omega (arith, counted, kept, c.catch_up.ensures.reached, c.catch_up.ensures.within)
-
-pub returns-clause-seen : goal.returns-clause-seen
-returns-clause-seen c =
-    let counted = ap (λ (s : TailReader). s.seen) c.lock-count.ensures.seen in
-    let kept = ap (λ (s : TailReader). s.seen) c.catch_up.ensures.rest in
-    omega (arith, counted, kept, c.lock-count.ensures.later)

@@ -1,0 +1,14 @@
+use Rattle.std.proofs.Common.{Some, sym, subst}
+use Rattle.myi_script.specs.declared.types.Act.{Act}
+use Rattle.myi_shell.specs.declared.target.Target.TheVariants.{Many}
+use Rattle.myi_shell.specs.Targets.{taking}
+use Rattle.myi_shell.specs.Changing.{IsChangedBy}
+use Rattle.myi_shell.proofs.target.change_list.Goals as goal
+
+pub returns-in_ok-insert_in-in-Insert-clause-changed : goal.returns-in_ok-insert_in-in-Insert-clause-changed
+returns-in_ok-insert_in-in-Insert-clause-changed g c = λ m held s h.
+    let g' = Many c.args.merge.now in
+    subst (λ (a : Act). IsChangedBy (taking g') g' s c.args.together (Some a) (g.F.Files.holds c.insert_in.new.files) (Many c.insert_in.new.merge) (Some c.in_ok-insert_in-in-Insert.field-0)) (sym c.in-Insert.is) (c.in_ok-insert_in-in-Insert.ensures.changed m held s h c.args.together)
+
+pub returns-in_default : goal.returns-in_default
+returns-in_default g c = ?
