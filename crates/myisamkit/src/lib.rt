@@ -38,6 +38,7 @@ mod ordering;
 mod recover;
 mod say;
 mod shell;
+mod shell_list;
 mod shell_options;
 mod shell_words;
 mod sort;

@@ -17,6 +17,7 @@ use crate::dump::refusal;
 use crate::host::Host;
 use crate::lines::{absent_line, no_file_line, reason_of, refused_line, text_line};
 use crate::say::say;
+use crate::shell_list::{run_list, say_refused};
 use crate::shell_options::ShellOptions;
 use crate::status::{Status, Stop};
 use myi_check::check;
@@ -24,6 +25,7 @@ use myi_defs::DefFault;
 use myi_history::scripts_may_run;
 use myi_io::{Files, Sink, read_front};
 use myi_keycache::CacheSetup;
+use myi_merge::{Merge, MergeFault};
 use myi_opening::TableFault;
 use myi_pair::{Finding, findings_are_none_where_clean};
 use myi_script::{Script, ScriptFault, parse_script};
@@ -79,6 +81,14 @@ pub(crate) fn run_shell<R, G: Gate, F: Files, O: Sink>(
     ensures file { HasCause Stop.File (F.faults files.old) (F.faults files.new) result }
     ensures sink { HasCause Stop.Sink (O.faults out.old) (O.faults out.new) result }
 {
+    match Merge::members(host.alloc, files, job.name) {
+        Ok(names) => return run_list(host, files, out, job, names.as_slice()),
+        Err(MergeFault::List) => return say_refused(host.alloc, out, job.name, "list"),
+        Err(MergeFault::File) => return Err(Stop::File),
+        Err(MergeFault::Memory) => return Err(Stop::Memory),
+        // There is no list of that name.
+        Err(_) => {}
+    }
     match find_text(host.alloc, files, job.name, job.script)? {
         Found::Refused(status, line) => {
             say(out, line.as_str())?;
@@ -142,7 +152,7 @@ fn with_text<F: Files>(
 }
 
 // What is said of a table whose two files are there, if something is.
-fn refusal_of(
+pub(crate) fn refusal_of(
     alloc: Global,
     name: &str,
     looked: Result<Vec<Finding>, DefFault>,
@@ -271,7 +281,12 @@ fn run_parsed<R, G: Gate, F: Files, O: Sink>(
     findings_are_none_where_clean();
     let setting = job.options.concurrent;
     let target = Target::One(table);
-    match run_script(host.alloc, target, &script, setting, files, out, host.gate) {
+    status_of_run(run_script(host.alloc, target, &script, setting, files, out, host.gate))
+}
+
+// The status of a run of a script.
+pub(crate) fn status_of_run(ran: Result<(), ShellFault>) -> Result<Status, Stop> {
+    match ran {
         Ok(()) => Ok(Status::Ok),
         // Its line was printed. Files that tell what they hold give no cause for it.
         Err(ShellFault::Damaged { .. }) => Ok(Status::Refused),
