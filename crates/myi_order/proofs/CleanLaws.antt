@@ -1,11 +1,11 @@
 -- A table stays clean where only the numbers of an analysis change: no definition of a clean pair reads them.
-use Rattle.std.proofs.Common.{◌≡◌, ℕ, zero, suc, ◌+◌, ◌-◌, ◌*◌, ◌%◌, ◌^◌, ◌<◌, ◌≤◌, Bool, true, false, cond, ◌&&◌, ◌||◌, eqb, List, [], ◌∷◌, ◌++◌, length, get_or, take, drop, map, filter, Option, Some, None, Result, Ok, is_some, unwrap_or, refl, sym, ap, subst, ◌∙◌, arith, length-take, length-drop}
-use Rattle.std.specs.Prelude.{option_and_then, replicate, nat_le, IsPermutation}
+use Rattle.std.proofs.Common.{◌≡◌, ℕ, zero, suc, ◌+◌, ◌-◌, ◌*◌, ◌%◌, ◌^◌, ◌<◌, ◌≤◌, Bool, true, false, cond, ◌&&◌, ◌||◌, eqb, List, [], ◌∷◌, ◌++◌, length, get_or, take, drop, map, Option, Some, None, Result, Ok, refl, sym, ap, subst, ◌∙◌, arith, length-take, length-drop}
+use Rattle.std.specs.Prelude.{replicate, nat_le, IsPermutation}
 use Rattle.std.specs.List.{list_any, AllByRecursion}
 use Rattle.std.specs.Str.{bytes_eq}
 use Rattle.std.proofs.lemmas.Bool.{leb-true}
 use Rattle.std.proofs.lemmas.List.{drop-take}
-use Rattle.myi_base.specs.Ranges.{Range, is_apart, are_apart}
+use Rattle.myi_base.specs.Ranges.{Range, are_apart}
 use Rattle.myi_base.specs.Numbers.{num, num_at, pointer_of}
 use Rattle.myi_base.specs.Items.{numbers}
 use Rattle.myi_base.proofs.CallerLemmas.{num-take, numbers-take}
@@ -17,94 +17,28 @@ use Rattle.myi_defs.specs.ReadDefs.{read_defs, AreDefs}
 use Rattle.myi_defs.specs.Elsewhere.{AgreeOutsideState}
 use Rattle.myi_defs.specs.declared.types.DefFault.{DefFault}
 use Rattle.myi_defs.specs.Layout.{mark, first_page}
-use Rattle.myi_defs.specs.Addressable.{is_addressable}
 use Rattle.myi_defs.proofs.CallerLemmas.{sound, are_defs, elsewhere}
 use Rattle.myi_header.specs.Layout.{layout_of, first_page_of, key_parts}
 use Rattle.myi_header.specs.StateOf.{state_of, has_mark, roots_in}
 use Rattle.myi_header.specs.Parts.{part}
-use Rattle.myi_pack.specs.Packed.{Values}
-use Rattle.myi_pack.specs.Unpacking.{fields_of, parts_of, ended, row_of}
-use Rattle.myi_chain.specs.Readable.{Row, Item, rows_of, frees_of}
+use Rattle.myi_chain.specs.Readable.{Row}
 use Rattle.myi_chain.specs.Readable as chains
 use Rattle.myi_chain.specs.Meeting.{ranges_of}
 use Rattle.myi_keycache.specs.Lent.{bytes_at}
-use Rattle.myi_data.specs.Keys.{key_of}
-use Rattle.myi_data.specs.Readable.{packs, items_at, items_by, items_in, readable, deleted}
+use Rattle.myi_data.specs.Readable.{readable, deleted}
 use Rattle.myi_btree.specs.Walk.{◌>>=◌, Walked, Places, walk_of, Agree}
 use Rattle.myi_btree.specs.Nodes.{node_at, node_in}
 use Rattle.myi_btree.specs.Visit.{page_range}
-use Rattle.myi_pair.specs.FirstRows.{repeats, AreDistinct, key_numbers}
-use Rattle.myi_pair.specs.KeyList.{PlacedRow, key_list}
+use Rattle.myi_pair.specs.FirstRows.{AreDistinct, key_numbers}
 use Rattle.myi_pair.specs.Trees.{block_of_key, pages_on, AreFree, HasWalkApart, HaveWalks, AreKeyLists, all_pages, total}
+use Rattle.myi_pair.proofs.CallerLemmas.{with_raw, readable_same, deleted_same, values_same, placed_same, addressable_same, distinct_same, lists_same, pages_same}
 use Rattle.myi_pair.specs.Clean.{values_of, placed_row, covers, next_by, next_deleted, Follows, IsClean}
 use Rattle.myi_header.specs.Analysis.{rows_place, part_place, with_numbers, HasRoomFor}
 use Rattle.myi_header.proofs.CallerLemmas as header
 
 -- ---- what does not depend on the header's bytes
 
-abbrev with_raw : Defs → List ℕ → Defs
-with_raw d r = record d { raw = r }
-
 module _ (d : Defs) (r : List ℕ) where
-  parts_same : (f : RowFormat) (b : List ℕ) → parts_of f (with_raw d r) b ≡ parts_of f d b
-  parts_same Static b = refl
-  parts_same Dynamic b = refl
-
-  row_same : (b : List ℕ) → row_of (with_raw d r) b ≡ row_of d b
-  unfolding row_of
-  row_same b = ap (option_and_then (λ p. ended d.format (fields_of d.format d.fields 0 p.0 p.1))) (parts_same d.format b)
-
-  packs_same : packs (with_raw d r) ≡ packs d
-  packs_same = λ i b. is_some (row_same b i)
-
-  items_same_by : (f : RowFormat) (x : List ℕ) → items_by f (with_raw d r) false x ≡ items_by f d false x
-  items_same_by Static x = ap (λ p. items_at p d.slot_length 0 x) packs_same
-  items_same_by Dynamic x = ap (λ p. chains.items_in false p x) packs_same
-
-  items_same : (x : List ℕ) → items_in (with_raw d r) false x ≡ items_in d false x
-  unfolding items_in
-  items_same x = items_same_by d.format x
-
-  readable_same : (x : List ℕ) → readable (with_raw d r) false x ≡ readable d false x
-  unfolding readable
-  readable_same x = ap rows_of (items_same x)
-
-  deleted_same : (x : List ℕ) → deleted (with_raw d r) x ≡ deleted d x
-  unfolding deleted readable
-  deleted_same x = ap (λ (is : List Item). filter (λ (a : Range). is_apart a (ranges_of (rows_of is))) (frees_of is)) (items_same x)
-
-  values_same : (rows : List Row) → map (values_of (with_raw d r)) rows ≡ map (values_of d) rows
-  values_same rows = λ i. map (λ (s : Row). unwrap_or (row_same s.bytes i) []) rows
-
-  placed_same : (rows : List Row) → map (placed_row (with_raw d r)) rows ≡ map (placed_row d) rows
-  placed_same rows = λ i. map (λ (s : Row). (s.at, unwrap_or (row_same s.bytes i) [])) rows
-
-  addressable_same : (n : ℕ) → is_addressable (with_raw d r) n ≡ is_addressable d n
-  unfolding is_addressable
-  addressable_same n = refl
-
-  repeats_same : (row : Values) → repeats (with_raw d r) row ≡ repeats d row
-  unfolding repeats key_of
-  repeats_same row = refl
-
-  distinct_same : (before rows : List Values) → AreDistinct d before rows → AreDistinct (with_raw d r) before rows
-  distinct_same before [] are = tt
-  distinct_same before (row ∷ rows) are = (ap (λ (p : Values → Bool). list_any p before) (repeats_same row) ∙ are.0, distinct_same (before ++ row ∷ []) rows are.1)
-
-  list_same : (k : ℕ) (rows : List PlacedRow) → key_list (with_raw d r) k rows ≡ key_list d k rows
-  unfolding key_list key_of
-  list_same k rows = refl
-
-  lists_same : (rows : List PlacedRow) (ks : List ℕ) (ws : List Walked) → AreKeyLists d rows ks ws → AreKeyLists (with_raw d r) rows ks ws
-  lists_same rows [] ws t = t
-  lists_same rows (k ∷ ks) [] t = t
-  lists_same rows (k ∷ ks) (w ∷ ws) t = (t.0 ∙ sym (list_same k rows), lists_same rows ks ws t.1)
-
-  pages_same : (ks : List ℕ) (ws : List Walked) → all_pages (with_raw d r) ks ws ≡ all_pages d ks ws
-  pages_same [] ws = refl
-  pages_same (k ∷ ks) [] = refl
-  pages_same (k ∷ ks) (w ∷ ws) = ap (λ ps. pages_on d k w ++ ps) (pages_same ks ws)
-
   next_same : (f : RowFormat) (x : List ℕ) (p : ℕ) → next_by f d x p ≡ next_by f (with_raw d r) x p
   next_same Static x p = refl
   next_same Dynamic x p = refl
@@ -282,16 +216,16 @@ module _ (file x : List ℕ) (rows : ℕ) (per : List ℕ) (c : IsClean file x) 
         read = elsewhere c.defs n are agrees;
         mark = marked;
         addressable = addressable_same c.defs r (length file) ∙ c.addressable;
-        covered = λ p few. ap (λ rs. list_any (covers p) (ranges_of rs ++ deleted e file)) (readable_same c.defs r file) ∙ ap (λ rs. list_any (covers p) (ranges_of (readable c.defs false file) ++ rs)) (deleted_same c.defs r file) ∙ c.covered p few;
+        covered = λ p few. ap (λ rs. list_any (covers p) (ranges_of rs ++ deleted e file)) (readable_same c.defs r false file) ∙ ap (λ rs. list_any (covers p) (ranges_of (readable c.defs false file) ++ rs)) (deleted_same c.defs r file) ∙ c.covered p few;
         list = (
           c.list.0,
           subst (λ (rs : List Range). IsPermutation (map (λ (a : Range). a.0) rs) c.list.0) (sym (deleted_same c.defs r file)) c.list.1,
           subst (λ h. Follows e file None h c.list.0) (sym head_same) (follows_same c.defs r file None _ c.list.0 c.list.2),
         );
         counts = record {
-          records = num_same c.defs rows per x good room 28 8 (omega arith) (omega arith) ∙ c.counts.records ∙ sym (ap (λ (rs : List Row). length rs) (readable_same c.defs r file));
+          records = num_same c.defs rows per x good room 28 8 (omega arith) (omega arith) ∙ c.counts.records ∙ sym (ap (λ (rs : List Row). length rs) (readable_same c.defs r false file));
           del = num_same c.defs rows per x good room 36 8 (omega arith) (omega arith) ∙ c.counts.del ∙ sym (ap (λ (rs : List Range). length rs) (deleted_same c.defs r file));
-          split = num_same c.defs rows per x good room 44 8 (omega arith) (omega arith) ∙ c.counts.split ∙ sym (ap (λ rs. length (ranges_of rs)) (readable_same c.defs r file));
+          split = num_same c.defs rows per x good room 44 8 (omega arith) (omega arith) ∙ c.counts.split ∙ sym (ap (λ rs. length (ranges_of rs)) (readable_same c.defs r false file));
           key_file_length = num_same c.defs rows per x good room 60 8 (omega arith) (omega arith) ∙ c.counts.key_file_length ∙ sym long;
           data_file_length = num_same c.defs rows per x good room 68 8 (omega arith) (omega arith) ∙ c.counts.data_file_length;
           empty = num_same c.defs rows per x good room 76 8 (omega arith) (omega arith) ∙ c.counts.empty ∙ sym (ap total (deleted_same c.defs r file));
@@ -300,13 +234,13 @@ module _ (file x : List ℕ) (rows : ℕ) (per : List ℕ) (c : IsClean file x) 
         trees = subst (λ f. HaveWalks e n ((0, f) ∷ []) (key_numbers c.defs) (roots_in (length c.defs.keys) n) c.walks) (sym first_same)
             (subst (λ rs. HaveWalks e n ((0, first_page_of c.defs) ∷ []) (key_numbers c.defs) rs c.walks) (sym roots_are)
             (walks_stay c.defs r (first_page_of c.defs) x n same_behind frame [] (key_numbers c.defs) _ c.walks c.trees));
-        lists = subst (λ ps. AreKeyLists e ps (key_numbers c.defs) c.walks) (sym (ap (map (placed_row e)) (readable_same c.defs r file) ∙ placed_same c.defs r (readable c.defs false file)))
+        lists = subst (λ ps. AreKeyLists e ps (key_numbers c.defs) c.walks) (sym (ap (map (placed_row e)) (readable_same c.defs r false file) ∙ placed_same c.defs r (readable c.defs false file)))
             (lists_same c.defs r (map (placed_row c.defs) (readable c.defs false file)) (key_numbers c.defs) c.walks c.lists);
         key_empty = num_same c.defs rows per x good room 84 8 (omega arith) (omega arith) ∙ c.key_empty
             ∙ ap (λ l. l - first_page_of c.defs - total (all_pages c.defs (key_numbers c.defs) c.walks)) (sym long)
             ∙ ap (λ f. length n - f - total (all_pages c.defs (key_numbers c.defs) c.walks)) (sym first_same)
             ∙ ap (λ ps. length n - first_page_of e - total ps) (sym (pages_same c.defs r (key_numbers c.defs) c.walks));
-        distinct = subst (AreDistinct e []) (sym (ap (map (values_of e)) (readable_same c.defs r file) ∙ values_same c.defs r (readable c.defs false file)))
+        distinct = subst (AreDistinct e []) (sym (ap (map (values_of e)) (readable_same c.defs r false file) ∙ values_same c.defs r (readable c.defs false file)))
             (distinct_same c.defs r [] (map (values_of c.defs) (readable c.defs false file)) c.distinct);
       }
 

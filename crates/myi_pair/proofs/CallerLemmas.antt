@@ -20,5 +20,5 @@ pub use Rattle.myi_pair.proofs.EmptyTableLaws.{empty_is_clean, empty_none}
 pub use Rattle.myi_pair.proofs.PageRanges.{IsBetween, EndBy, total_pages, end_later, end_append, between_free, between_end}
 -- the same definitions with another header, and what they say of the same bytes
 pub use Rattle.myi_pair.proofs.RebuiltLaws.{IsLike, front_number, layout_same, first_same, state_same, header_like}
-pub use Rattle.myi_pair.proofs.SecondLaws.{kept_same}
+pub use Rattle.myi_pair.proofs.SecondLaws.{kept_same, laid_same}
 pub use Rattle.myi_pair.proofs.SameDefs.{with_raw, readable_same, list_same, deleted_same, values_same, placed_same, addressable_same, distinct_same, walks_same, lists_same, pages_same}

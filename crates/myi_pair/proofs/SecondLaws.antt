@@ -85,7 +85,7 @@ module _ (d : Defs) (r : List ℕ) where
       ∙ ap (λ n. stored d at row ++ stored_from (with_raw d r) (at + n) rows) (size_same row)
       ∙ ap (λ bs. stored d at row ++ bs) (from_same (at + stored_size d row) rows)
 
-  laid_same : (rows : List SizedRow) → stored_file (with_raw d r) rows ≡ stored_file d rows
+  pub laid_same : (rows : List SizedRow) → stored_file (with_raw d r) rows ≡ stored_file d rows
   unfolding stored_file
   laid_same rows = from_same 0 rows
 

@@ -9,3 +9,4 @@ pub mod CleanLaws
 pub mod TakeLaws
 pub mod FillLaws
 pub mod EndLaws
+pub mod SettleLaws

@@ -7,7 +7,8 @@
 //! its time that of a search for each unique key and a change for each key of each row.
 //!
 //! Where a page that was put comes back as no page, as it may where somebody else writes the working index file, it
-//! takes the working files away and repairs as `recover` does.
+//! takes the working files away and repairs as `recover` does. The law `safe_repairs_settle` says that a repair of what it left
+//! keeps all rows.
 //!
 //! ```
 //! let report = safe_recover(alloc, files, "t", false, now)?;
@@ -16,9 +17,11 @@
 
 mod fault;
 mod filling;
+mod laws;
 mod new_files;
 mod repairing;
 mod repeats;
 mod row_pairs;
 
+pub use laws::safe_repairs_settle;
 pub use repairing::safe_recover;
