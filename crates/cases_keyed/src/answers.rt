@@ -1,6 +1,7 @@
 //! How the answers of calls on tables are written.
 use case_lines::{Fault, push_word};
 use myi_pack::Row;
+use myi_readers::SeenFault;
 use myi_table::{ChangeFault, LoadFault, ReadFault};
 
 fn push_fault(out: &mut String, fault: ChangeFault) -> Result<(), Fault> {
@@ -39,7 +40,7 @@ pub fn push_done(out: &mut String, answer: Result<(), ChangeFault>) -> Result<()
     }
 }
 
-fn push_read_fault(out: &mut String, fault: ReadFault) -> Result<(), Fault> {
+pub fn push_read_fault(out: &mut String, fault: ReadFault) -> Result<(), Fault> {
     match fault {
         ReadFault::Broken(_) => Ok(out.push_str("broken")?),
         ReadFault::Damaged { at } => Ok(write!(out, "damaged {at}")?),
@@ -48,8 +49,8 @@ fn push_read_fault(out: &mut String, fault: ReadFault) -> Result<(), Fault> {
     }
 }
 
-// The position of a row and its values, with commas between these.
-fn push_row(out: &mut String, at: u64, row: &Row) -> Result<(), Fault> {
+/// The position of a row and its values, with commas between these.
+pub fn push_row(out: &mut String, at: u64, row: &Row) -> Result<(), Fault> {
     write!(out, "{at}")?;
     let mut before = ":";
     for value in row.as_slice() {
@@ -60,19 +61,34 @@ fn push_row(out: &mut String, at: u64, row: &Row) -> Result<(), Fault> {
     Ok(())
 }
 
+// How many rows there are, and each of them.
+fn push_all_rows(out: &mut String, rows: &[(u64, Row)]) -> Result<(), Fault> {
+    write!(out, "{} rows", rows.len())?;
+    for (at, row) in rows {
+        out.push_str(" ")?;
+        push_row(out, *at, row)?;
+    }
+    Ok(())
+}
+
 pub fn push_rows(
     out: &mut String,
     answer: Result<Vec<(u64, Row)>, ReadFault>,
 ) -> Result<(), Fault> {
     match answer {
-        Ok(rows) => {
-            write!(out, "{} rows", rows.len())?;
-            for (at, row) in rows.iter() {
-                out.push_str(" ")?;
-                push_row(out, *at, row)?;
-            }
-            Ok(())
-        }
+        Ok(rows) => push_all_rows(out, rows.as_slice()),
         Err(fault) => push_read_fault(out, fault),
+    }
+}
+
+pub fn push_seen(
+    out: &mut String,
+    answer: Result<Vec<(u64, Row)>, SeenFault>,
+) -> Result<(), Fault> {
+    match answer {
+        Ok(rows) => push_all_rows(out, rows.as_slice()),
+        Err(SeenFault::Damaged { at }) => Ok(write!(out, "damaged {at}")?),
+        Err(SeenFault::File) => Ok(out.push_str("failed")?),
+        Err(SeenFault::Memory) => Err(Fault::Memory),
     }
 }

@@ -6,6 +6,7 @@ ghost use Rattle.myi_keycache.specs.Setup.{IsSetup};
 ghost use Rattle.myi_pack.specs.Spelling.{fits};
 
 use crate::answers::{push_done, push_load_fault, push_place, push_rows};
+use crate::walks::{Walk, push_walk};
 use case_lines::{Fault, PlaceText, Untold, Words, four_bytes, key_of_code, number, push_file};
 use myi_base::Sequence;
 use myi_check::check;
@@ -20,7 +21,7 @@ use myi_table::{LoadFault, Range, Table};
 use std::alloc::Global;
 
 /// The name of the table, and the names of its files.
-const NAME: &str = "t";
+pub const NAME: &str = "t";
 
 const DATA: &str = "t.MYD";
 
@@ -32,8 +33,8 @@ const NO_BOUND: &str = "*";
 /// The most pages that a key cache keeps.
 const MOST_BLOCKS: u32 = 65_536;
 
-// A key cache of so many pages, which are all kept alike.
-fn setup(word: &str) -> Result<CacheSetup, Fault>
+/// A key cache of so many pages, which are all kept alike.
+pub fn setup(word: &str) -> Result<CacheSetup, Fault>
     ensures { IfOk result IsSetup }
 {
     let blocks = four_bytes(word)?;
@@ -47,8 +48,8 @@ fn setup(word: &str) -> Result<CacheSetup, Fault>
     })
 }
 
-// The row of these values, which have commas between them.
-fn row(words: &Words, defs: &Defs, values: &str) -> Result<Row, Fault>
+/// The row of these values, which have commas between them.
+pub fn row(words: &Words, defs: &Defs, values: &str) -> Result<Row, Fault>
     requires { IsSound defs.now }
     ensures { IfOk result (λ row. fits defs.now row ≡ true) }
 {
@@ -73,12 +74,12 @@ fn bound(words: &Words, word: &str) -> Result<Option<KeyVal>, Fault> {
     Ok(Some(key))
 }
 
-// The rows between two bounds of a key of a table, counted from 1.
-fn range(words: &Words, table: &Table, key: &str, from: &str, to: &str) -> Result<Range, Fault>
-    ensures { IfOk result (λ range. range.key < length table.now.rows.trees.places) }
+/// The rows between two bounds of a key of a table with these definitions, counted from 1.
+pub fn range_of(words: &Words, defs: &Defs, key: &str, from: &str, to: &str) -> Result<Range, Fault>
+    ensures { IfOk result (λ range. range.key < length defs.now.keys) }
 {
     let number = four_bytes(key)? as usize;
-    if number == 0 || number > table.defs().keys.as_slice().len() {
+    if number == 0 || number > defs.keys.as_slice().len() {
         return Err(Fault::Unread);
     }
     Ok(Range {
@@ -88,8 +89,8 @@ fn range(words: &Words, table: &Table, key: &str, from: &str, to: &str) -> Resul
     })
 }
 
-// Makes a call on a table, and writes its answer.
-fn push_answer(
+/// Makes a call on a table, and writes its answer.
+pub fn push_answer(
     out: &mut String,
     words: &Words,
     files: &mut Untold,
@@ -113,16 +114,25 @@ fn push_answer(
         }
         ["scan"] => push_rows(out, table.scan(files)),
         ["range", key, from, to] => {
-            let range = range(words, table, *key, *from, *to)?;
+            let range = range_of(words, table.defs(), *key, *from, *to)?;
             push_rows(out, table.range(files, &range))
+        }
+        ["walk", key, from, to, most, at] => {
+            let range = range_of(words, table.defs(), *key, *from, *to)?;
+            let walk = Walk {
+                range,
+                most: four_bytes(*most)?,
+                at: number(*at)?,
+            };
+            push_walk(out, words.alloc(), files, table, &walk)
         }
         ["flush"] if table.broken().is_none() => push_done(out, table.flush(files)),
         _ => Err(Fault::Unread),
     }
 }
 
-// The files of an empty table, of which the listed calls fail.
-fn empty_files(words: &Words, defs: &Defs, faults: &str) -> Result<Untold, Fault>
+/// The files of an empty table, of which the listed calls fail.
+pub fn empty_files(words: &Words, defs: &Defs, faults: &str) -> Result<Untold, Fault>
     requires { AreDefs defs.now }
 {
     let alloc = words.alloc();
@@ -132,7 +142,22 @@ fn empty_files(words: &Words, defs: &Defs, faults: &str) -> Result<Untold, Fault
     Ok(Untold { files })
 }
 
-// Makes calls on a table one after the other, and closes it.
+/// Makes calls on a table one after the other.
+pub fn push_calls(
+    out: &mut String,
+    words: &Words,
+    files: &mut Untold,
+    table: &mut Table,
+    calls: &[&str],
+) -> Result<(), Fault> {
+    for call in calls {
+        push_answer(out, words, files, table, *call)?;
+        out.push_str("; ")?;
+    }
+    Ok(())
+}
+
+// Makes calls on a table, and closes it.
 fn push_answers(
     out: &mut String,
     words: &Words,
@@ -141,10 +166,7 @@ fn push_answers(
     calls: &[&str],
 ) -> Result<(), Fault> {
     let mut table = table;
-    for call in calls {
-        push_answer(out, words, files, &mut table, *call)?;
-        out.push_str("; ")?;
-    }
+    push_calls(out, words, files, &mut table, calls)?;
     out.push_str("close ")?;
     push_done(out, table.close(files))
 }

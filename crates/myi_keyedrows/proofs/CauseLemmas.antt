@@ -4,8 +4,10 @@ use Rattle.std.specs.Prelude.{unwrap_or}
 use Rattle.myi_base.specs.Holding.{Holding, bytes_of, IfTold, Told, OthersStay}
 use Rattle.myi_defs.specs.declared.types.RowFormat.{RowFormat}
 use Rattle.myi_defs.specs.declared.types.RowFormat.TheVariants.{Static, Dynamic}
+use Rattle.myi_defs.specs.declared.types.Defs.{Defs}
 use Rattle.myi_pack.specs.Packed.{Values}
 use Rattle.myi_pack.specs.Spelling.{spelling}
+use Rattle.myi_keylist.specs.declared.pair.Pair.{Pair}
 use Rattle.myi_dellist.specs.FreeList.{ListState}
 use Rattle.myi_dellist.specs.Chains.{IsRowIn}
 use Rattle.myi_dellist.specs.Placing.{areas_of, own_areas}
@@ -21,6 +23,8 @@ use Rattle.myi_slots.specs.declared.fault.DataFault.{DataFault}
 use Rattle.myi_slots.specs.declared.fault.DataFault.TheVariants as read
 use Rattle.myi_blocks.specs.BlockFile.{end_limit, list_in}
 use Rattle.myi_rows.specs.Refusals.{FindsNone, FindsNoneBy, LacksRoomBy, LacksOther, LacksOtherBy}
+use Rattle.myi_rowtrees.specs.RowLists.{row_pairs}
+use Rattle.myi_rowtrees.specs.Duplicates.{MayRepeat}
 use Rattle.myi_keyedrows.specs.declared.fault.KeyedFault.{KeyedFault}
 use Rattle.myi_keyedrows.specs.declared.fault.KeyedFault.TheVariants as fault
 use Rattle.myi_keyedrows.specs.Faults.{data_fault, tree_fault}
@@ -28,12 +32,12 @@ use Rattle.myi_keyedrows.specs.Refusals.{ByCause, LacksPlace}
 
 -- ---- by the call that was refused
 
-pub tree_cause : (N : ℕ → Type 0) (H P : Type 0) (e : TreeFault) → ByCause N H P (tree_fault e)
+pub tree_cause : (N H : ℕ → Type 0) (P : Type 0) (e : TreeFault) → ByCause N H P (tree_fault e)
 tree_cause N H P (tree.Damaged at) = tt
 tree_cause N H P tree.File = tt
 tree_cause N H P tree.Memory = tt
 
-pub data_cause : (N M : ℕ → Type 0) (H P Q : Type 0) (B : ℕ → Type 0) (e : DataFault) → ((p : ℕ) → N p → M p) → (P → Q) → slots.ByCause N P B e → ByCause M H Q (data_fault e)
+pub data_cause : (N M H : ℕ → Type 0) (P Q : Type 0) (B : ℕ → Type 0) (e : DataFault) → ((p : ℕ) → N p → M p) → (P → Q) → slots.ByCause N P B e → ByCause M H Q (data_fault e)
 data_cause N M H P Q B (read.NoRow p) none full by = none p by
 data_cause N M H P Q B read.Full none full by = full by
 data_cause N M H P Q B (read.Damaged p) none full by = tt
@@ -41,16 +45,21 @@ data_cause N M H P Q B read.File none full by = tt
 data_cause N M H P Q B read.Memory none full by = tt
 
 -- another row alone was found
-pub held_cause : (M : ℕ → Type 0) (Q : Type 0) (f : KeyedFault) → ByCause Never (Unit {0}) ⊥ f → ByCause M (Unit {0}) Q f
-held_cause M Q (fault.NoRow p) by = absurd by
-held_cause M Q (fault.Duplicate key p) by = tt
-held_cause M Q fault.Full by = absurd by
-held_cause M Q (fault.Damaged p) by = tt
-held_cause M Q fault.File by = tt
-held_cause M Q fault.Memory by = tt
+pub held_cause : (G M H : ℕ → Type 0) (Q : Type 0) (f : KeyedFault) → ((key : ℕ) → G key → H key) → ByCause Never G ⊥ f → ByCause M H Q f
+held_cause G M H Q (fault.NoRow p) more by = absurd by
+held_cause G M H Q (fault.Duplicate key p) more by = more key by
+held_cause G M H Q fault.Full more by = absurd by
+held_cause G M H Q (fault.Damaged p) more by = tt
+held_cause G M H Q fault.File more by = tt
+held_cause G M H Q fault.Memory more by = tt
+
+-- of the pairs of a row
+pub pairs_cause : (M : ℕ → Type 0) (Q : Type 0) (d : Defs) (pairs : List Pair) (values : Values) (pointer : ℕ) (f : KeyedFault) → pairs ≡ row_pairs d values pointer
+    → ByCause Never (λ key. (v : Values) (p : ℕ) → pairs ≡ row_pairs d v p → MayRepeat d v key) ⊥ f → ByCause M (MayRepeat d values) Q f
+pairs_cause M Q d pairs values pointer f is by = held_cause (λ key. (v : Values) (p : ℕ) → pairs ≡ row_pairs d v p → MayRepeat d v key) M (MayRepeat d values) Q f (λ key each. each values pointer is) by
 
 -- no row alone was found
-pub none_cause : (M : ℕ → Type 0) (H Q : Type 0) (f : KeyedFault) → ByCause M ⊥ ⊥ f → ByCause M H Q f
+pub none_cause : (M H : ℕ → Type 0) (Q : Type 0) (f : KeyedFault) → ByCause M Never ⊥ f → ByCause M H Q f
 none_cause M H Q (fault.NoRow p) by = by
 none_cause M H Q (fault.Duplicate key p) by = absurd by
 none_cause M H Q fault.Full by = absurd by

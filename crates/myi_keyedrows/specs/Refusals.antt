@@ -1,5 +1,5 @@
--- Why a change is refused, over any files: what holds where the answer says that no row stands at a position or that there is no room,
--- and of which calls another row's key is no answer.
+-- Why a change is refused, over any files: what holds where the answer says that no row stands at a position, that another row has
+-- the key, or that there is no room.
 use Rattle.std.specs.Prelude.{◌≡◌, ℕ, Bool, true, false, List, Option}
 use Rattle.myi_base.specs.Holding.{Holding}
 use Rattle.myi_pack.specs.Packed.{Values}
@@ -8,11 +8,11 @@ use Rattle.myi_rows.specs.Refusals.{FindsNone, LacksRoom, LacksEnd}
 use Rattle.myi_keyedrows.specs.declared.fault.KeyedFault.{KeyedFault}
 use Rattle.myi_keyedrows.specs.declared.fault.KeyedFault.TheVariants as fault
 
--- The refusal that no row stands at a position, that another row has the key, or that there is no room comes only where this holds,
--- one for each; of the others nothing is said here.
-abbrev pub ByCause : (ℕ → Type 0) → Type 0 → Type 0 → KeyedFault → Type 0
+-- The refusal that no row stands at a position, that another row has the key of a number, or that there is no room comes only where
+-- this holds, one for each; of the others nothing is said here.
+abbrev pub ByCause : (ℕ → Type 0) → (ℕ → Type 0) → Type 0 → KeyedFault → Type 0
 ByCause none held full (fault.NoRow p) = none p
-ByCause none held full (fault.Duplicate key p) = held
+ByCause none held full (fault.Duplicate key p) = held key
 ByCause none held full fault.Full = full
 ByCause none held full (fault.Damaged p) = Unit {0}
 ByCause none held full fault.File = Unit {0}

@@ -104,7 +104,7 @@ impl KeyedRows {
     ghost use Rattle.myi_pair.specs.FirstRows.{key_numbers};
     ghost use Rattle.myi_tablestate.specs.Keyed.{first_holder};
     ghost use Rattle.myi_rowtrees.specs.RowLists.{row_pairs};
-    ghost use Rattle.myi_rowtrees.specs.Duplicates.{others};
+    ghost use Rattle.myi_rowtrees.specs.Duplicates.{others, MayRepeat};
     ghost use Rattle.myi_keyedrows.specs.declared.fault.KeyedFault.TheVariants.{File};
     ghost use Rattle.myi_keyedrows.specs.Refusals.{ByCause, FindsNoneAt, LacksPlace};
     ghost use Rattle.myi_keyedrows.specs.KeyedRows.{IsFit, IsKept, IfHold, StillHold, Makes, Refuses, IfReply, IsLeft, IsSameTable, ChangesItsOwn};
@@ -133,7 +133,8 @@ impl KeyedRows {
             (values : Values) (pointer : ℕ) → pairs.now ≡ row_pairs defs.now values pointer
             → IsHeldBy (first_holder defs.now values
             (others defs.now own s.rows) (key_numbers defs.now)) f)) }
-        ensures causes { IfErr result (ByCause Never (Unit {0}) ⊥) }
+        ensures causes { IfErr result (ByCause Never (λ key. (values : Values) (pointer : ℕ)
+            → pairs.now ≡ row_pairs defs.now values pointer → MayRepeat defs.now values key) ⊥) }
         ensures looks { Looks (F.holds files.old) (F.holds files.new) self.old self.new }
         ensures cause { HasCause File (F.faults files.old) (F.faults files.new) result }
         ensures reads { F.reads files.old ≤ F.reads files.new }
@@ -168,7 +169,7 @@ impl KeyedRows {
             (AddsTo at_end self.old.rows.file self.new.rows.file row.now)) }
         ensures refused { IfErr result (Refuses (come at_end row.now) (F.holds files.old)
             self.old) }
-        ensures causes { IfErr result (ByCause Never (Unit {0})
+        ensures causes { IfErr result (ByCause Never (MayRepeat defs.now row.now)
             (LacksPlace at_end self.old.rows.file row.now (F.holds files.old))) }
         ensures unchanged { IfErr result (λ f. IfReply f
             (StillHold (F.holds files.old) (F.holds files.new) self.old self.new)) }
@@ -216,7 +217,7 @@ impl KeyedRows {
         ensures appended { OnOk result (Told (F.holds files.old) (F.holds files.new)
             (AddsNew self.old.rows.file self.new.rows.file row.now)) }
         ensures refused { IfErr result (Refuses (insert row.now) (F.holds files.old) self.old) }
-        ensures causes { IfErr result (ByCause Never (Unit {0})
+        ensures causes { IfErr result (ByCause Never (MayRepeat defs.now row.now)
             (LacksRoom self.old.rows.file row.now (F.holds files.old))) }
         ensures unchanged { IfErr result (λ f. IfReply f
             (StillHold (F.holds files.old) (F.holds files.new) self.old self.new)) }
@@ -253,7 +254,7 @@ impl KeyedRows {
             (Adds self.old.rows.file self.new.rows.file row.now)) }
         ensures refused { IfErr result (Refuses (insert_at_end row.now) (F.holds files.old)
             self.old) }
-        ensures causes { IfErr result (ByCause Never (Unit {0})
+        ensures causes { IfErr result (ByCause Never (MayRepeat defs.now row.now)
             (LacksEnd self.old.rows.file row.now)) }
         ensures unchanged { IfErr result (λ f. IfReply f
             (StillHold (F.holds files.old) (F.holds files.new) self.old self.new)) }
@@ -287,7 +288,7 @@ impl KeyedRows {
         ensures absent { IfErr result (λ f. IfHold (F.holds files.old) self.old (λ m own s.
             IsAbsent at (row_at at s.rows) f)) }
         ensures causes { IfErr result (ByCause (FindsNoneAt self.old.rows.file
-            self.new.rows.places at (F.holds files.old)) ⊥ ⊥) }
+            self.new.rows.places at (F.holds files.old)) Never ⊥) }
         ensures still { StillHold (F.holds files.old) (F.holds files.new) self.old self.new }
         ensures file { self.new.rows.file ≡ self.old.rows.file }
         ensures trees { self.new.trees ≡ self.old.trees }
@@ -317,7 +318,7 @@ impl KeyedRows {
             self.old self.new at) }
         ensures refused { IfErr result (Refuses (delete at) (F.holds files.old) self.old) }
         ensures causes { IfErr result (ByCause (FindsNoneAt self.old.rows.file
-            self.new.rows.places at (F.holds files.old)) ⊥
+            self.new.rows.places at (F.holds files.old)) Never
             (LacksReach self.old.rows.file self.new.rows.places at)) }
         ensures unchanged { IfErr result (λ f. IfReply f
             (StillHold (F.holds files.old) (F.holds files.new) self.old self.new)) }
@@ -360,7 +361,7 @@ impl KeyedRows {
             (F.holds files.new) self.old self.new at) }
         ensures refused { IfErr result (Refuses (update at row.now) (F.holds files.old) self.old) }
         ensures causes { IfErr result (ByCause (FindsNoneAt self.old.rows.file
-            self.new.rows.places at (F.holds files.old)) (Unit {0})
+            self.new.rows.places at (F.holds files.old)) (MayRepeat defs.now row.now)
             (LacksOther self.old.rows.file self.new.rows.places at row.now (F.holds files.old))) }
         ensures unchanged { IfErr result (λ f. IfReply f
             (StillHold (F.holds files.old) (F.holds files.new) self.old self.new)) }

@@ -34,7 +34,7 @@ fits_as : (d : Defs) (row : Values) (f : RowFormat) → d.format ≡ f → fits 
 unfolding fits
 fits_as d row f is = ap (λ (g : RowFormat). fits_fields g d.fields row && can_stand g d row) is
 
-fits_like : (d e : Defs) (row : Values) → IsLike d e → fits d row ≡ true → fits e row ≡ true
+pub fits_like : (d e : Defs) (row : Values) → IsLike d e → fits d row ≡ true → fits e row ≡ true
 fits_like d e row like fit =
     let f : RowFormat = d.format in
     fits_as e row f (sym like.format) ∙ ap (λ (fs : List Field). fits_fields f fs row && can_stand f e row) (sym like.fields) ∙ ap (λ (b : Bool). fits_fields f d.fields row && b) (sym (stands_like d e row f refl (sym like.format) like.fields)) ∙ sym (fits_as d row f refl) ∙ fit

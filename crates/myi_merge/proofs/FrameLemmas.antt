@@ -29,7 +29,7 @@ last_of [] x y z w = refl
 last_of (c ∷ a) x y z w = let e : suc (length a) + 3 ≡ suc (length a + 3) = omega arith in ap (λ (n : ℕ). get_or (c ∷ (a ++ x ∷ y ∷ z ∷ w ∷ [])) n 0) e ∙ last_of a x y z w
 
 -- a data file is no index file
-kinds_apart : (a b : List ℕ) → rows_file a ≢ index_file b
+pub kinds_apart : (a b : List ℕ) → rows_file a ≢ index_file b
 kinds_apart a b = λ same.
     let long : length a + 4 ≡ length b + 4 = sym (length-append a (codes ".MYD")) ∙ ap length same ∙ length-append b (codes ".MYI") in
     let as_long : length a ≡ length b = omega (arith, long) in

@@ -16,6 +16,7 @@ impl Merge {
     ghost use Rattle.myi_state.specs.Changes.{insert};
     ghost use Rattle.myi_slots.specs.SlotFile.{AddsNew, Never};
     ghost use Rattle.myi_rows.specs.Refusals.{LacksRoom};
+    ghost use Rattle.myi_rowtrees.specs.Duplicates.{MayRepeat};
     ghost use Rattle.myi_keyedrows.specs.KeyedRows.{IsLeft};
     ghost use Rattle.myi_table.specs.declared.fault.ChangeFault.{ChangeFault};
     ghost use Rattle.myi_table.specs.declared.fault.ChangeFault.TheVariants as change;
@@ -65,8 +66,8 @@ impl Merge {
         ensures rows { IfErr result (λ f. IfReplied f (OfTarget self.old self.new (λ t u.
             Told (F.holds files.old) (F.holds files.new) (KeepsRows t.name)))) }
         ensures causes { (f : ChangeFault) → result ≡ Err (Change f) → OfTarget self.old self.new
-            (λ t u. ByCause Never (Unit {0}) (LacksRoom t.rows.rows.file row.now
-            (F.holds files.old)) f) }
+            (λ t u. ByCause Never (MayRepeat (defs_in t) row.now)
+            (LacksRoom t.rows.rows.file row.now (F.holds files.old)) f) }
         ensures left { IfErr result (λ f. IfReplied f (OfTarget self.old self.new (λ t u.
             IsLeft t.rows u.rows))) }
         ensures broken { OfTarget self.old self.new (λ t u.

@@ -83,13 +83,15 @@ impl Merge {
         ensures defs { IfSome (slice_get self.now.tables 0) (λ (t : OpenTable).
             result.now ≡ defs_in t) }
         ensures sound { IsSound result.now }
+        ensures list { IsMerge self.now }
     {
         self.tables[0].defs()
     }
 
     /// What the key caches of all tables counted, and what was added.
     pub fn counters(&self) -> Counters
-        ensures { result ≡ counted_by self.now.tables }
+        ensures sum { result ≡ counted_by self.now.tables }
+        ensures fewer { result.reads ≤ result.read_requests }
     {
         let mut sum = Counters {
             read_requests: 0,

@@ -1,5 +1,5 @@
 //! `RangeRows`: the rows whose key lies between bounds, one after the other.
-ghost use Rattle.std.specs.Prelude.{◌≡◌, ◌≢◌, ◌<◌, ◌≤◌, true, min, List, length, is_some, None, Some, IfOk, IfErr, IfSome, OnOk, OnErr};
+ghost use Rattle.std.specs.Prelude.{◌≡◌, ◌≢◌, ◌<◌, ◌≤◌, true, min, List, length, is_some, None, Some, Ok, IfOk, IfErr, IfSome, OnOk, OnErr};
 ghost use Rattle.myi_base.specs.Holding.{IfTold, Told};
 ghost use Rattle.myi_base.specs.Causes.{HasCause};
 ghost use Rattle.myi_defs.specs.declared.types.Defs.{Defs};
@@ -219,6 +219,7 @@ impl RangeRows {
             → ComesTo self.old.reached (list_of lists self.old.key) next)) }
         ensures some { IfOk result (λ next. IfSome next (λ c. is_some c.last ≡ true)) }
         ensures end { self.new ≡ record self.old { reached = End } }
+        ensures past { self.old.reached ≡ End → result ≡ Ok None }
         ensures searched { Searched (F.holds files.old) (F.holds files.new) trees.old trees.new }
         ensures counted { CountsOn trees.old.cache trees.new.cache }
         ensures never { IfErr result (DamagedAt (λ at.
@@ -276,6 +277,7 @@ impl RangeRows {
             → HasTable defs.now self.new trees.new rows.old.file s n) }
         ensures cursor { self.new ≡ record self.old { reached = self.new.reached } }
         ensures ended { IfOk result (λ row. row ≡ None → self.new.reached ≡ End) }
+        ensures past { self.old.reached ≡ End → result ≡ Ok None }
         ensures end { OnErr result (self.new.reached ≡ End) }
         ensures onward { IfOk result (λ row. IfSome row (λ found. searches self.new.reached ≤ 1)) }
         ensures searched { Searched (F.holds files.old) (F.holds files.new) trees.old trees.new }

@@ -1,6 +1,6 @@
 -- Whether another row has the complete key of a row, by the least row of the key in its tree.
 use Rattle.std.proofs.Common.{◌≡◌, ◌≢◌, inl, inr, ℕ, zero, suc, ◌+◌, ◌*◌, ◌<◌, Bool, true, false, not, List, [], ◌∷◌, length, Option, Some, None, refl, sym, ap, subst, ◌∙◌, arith}
-use Rattle.std.specs.Prelude.{◌==◌, IsTrue, option_map, slice_get, slice_index_or, if◌then◌else◌}
+use Rattle.std.specs.Prelude.{◌==◌, IsTrue, IfSome, option_map, slice_get, slice_index_or, if◌then◌else◌}
 use Rattle.std.specs.Option.{option_map_or}
 use Rattle.std.proofs.lemmas.Bool.Decides.{nat_tests}
 use Rattle.myi_base.specs.Holding.{Holding, Told, OthersStay}
@@ -98,3 +98,12 @@ number_of d i few = (omega arith, omega (arith, few))
 pub true_of : (b : Bool) → not b ≡ false → b ≡ true
 true_of true is = refl
 true_of false is = absurd cc
+
+-- ---- what holds of any row that is found
+
+pub some_all : (o : Option ℕ) (P : Type 0) → P → IfSome o (λ at. P)
+some_all None P p = tt
+some_all (Some at) P p = p
+
+pub some_one : (o : Option ℕ) (at : ℕ) (P : Type 0) → o ≡ Some at → IfSome o (λ (x : ℕ). P) → P
+some_one o at P is p = subst (λ (q : Option ℕ). IfSome q (λ (x : ℕ). P)) is p

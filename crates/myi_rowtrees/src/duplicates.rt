@@ -1,5 +1,5 @@
 //! Rows that have the complete key of another row in a unique key.
-ghost use Rattle.std.specs.Prelude.{◌≡◌, ◌+◌, ◌<◌, ◌≤◌, ℕ, length, option_map, IfOk, IfErr, IsTrue};
+ghost use Rattle.std.specs.Prelude.{◌≡◌, ◌+◌, ◌<◌, ◌≤◌, ℕ, true, length, option_map, IfOk, IfErr, IfSome, IsTrue};
 ghost use Rattle.myi_base.specs.Holding.{Told, OthersStay};
 ghost use Rattle.myi_base.specs.Causes.{HasCause};
 ghost use Rattle.myi_defs.specs.Sound.{IsSound};
@@ -7,13 +7,15 @@ ghost use Rattle.myi_pack.specs.Packed.{Values};
 ghost use Rattle.myi_btree.specs.declared.fault.TreeFault.TheVariants.{File};
 ghost use Rattle.myi_btree.specs.Faults.{DamagedAt};
 ghost use Rattle.myi_search.specs.Counting.{CountsOn};
+ghost use Rattle.myi_keys.specs.Limits.{is_complete};
 ghost use Rattle.myi_data.specs.Keys.{key_of};
+ghost use Rattle.myi_rowkeys.specs.TableKeys.{is_unique};
 ghost use Rattle.myi_state.specs.State.{TableState};
 ghost use Rattle.myi_keytrees.specs.Standing.{list_of, IfStand, StillStand, CanSearch};
 ghost use Rattle.myi_tablestate.specs.Keyed.{IsTable, holder};
 ghost use Rattle.myi_tablestate.specs.Listed.{listed, position};
 ghost use Rattle.myi_rowtrees.specs.RowLists.{lists_of, row_pairs};
-ghost use Rattle.myi_rowtrees.specs.Duplicates.{others, another, IsFirstHeld};
+ghost use Rattle.myi_rowtrees.specs.Duplicates.{others, another, IsFirstHeld, IsUniqueKey, MayRepeat};
 
 use myi_btree::TreeFault;
 use myi_defs::Defs;
@@ -61,6 +63,8 @@ fn other_row<F: Files>(
         → list_of lists i ≡ listed defs.now (i + 1) s.rows
         → pair.now.key ≡ key_of defs.now (i + 1) values → option_map (position defs.now) row
         ≡ holder defs.now values (i + 1) (others defs.now own s.rows))) }
+    ensures unique { IfOk result (λ row. IfSome row (λ at. is_unique defs.now (i + 1) ≡ true)) }
+    ensures whole { IfOk result (λ row. IfSome row (λ at. is_complete pair.now.key ≡ true)) }
     ensures stand { StillStand (F.holds files.old) (F.holds files.new) trees.old trees.new }
     ensures never { IfErr result (DamagedAt (λ at.
         IfStand (F.holds files.old) trees.old (λ m bytes lists. ⊥))) }
@@ -102,6 +106,9 @@ pub fn first_duplicate<F: Files>(
         (s : TableState) (values : Values) (pointer : ℕ) → IsTable defs.now s
         → lists ≡ lists_of defs.now s.rows → pairs.now ≡ row_pairs defs.now values pointer
         → IsFirstHeld defs.now values (others defs.now own s.rows) found)) }
+    ensures unique { IfOk result (λ found. IfSome found (λ d. IsUniqueKey defs.now d.key)) }
+    ensures named { IfOk result (λ found. IfSome found (λ d. (values : Values) (pointer : ℕ)
+        → pairs.now ≡ row_pairs defs.now values pointer → MayRepeat defs.now values d.key)) }
     ensures stand { StillStand (F.holds files.old) (F.holds files.new) trees.old trees.new }
     ensures never { IfErr result (DamagedAt (λ at.
         IfStand (F.holds files.old) trees.old (λ m bytes lists. ⊥))) }

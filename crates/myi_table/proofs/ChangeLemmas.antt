@@ -6,6 +6,7 @@ use Rattle.myi_base.proofs.CallerLemmas.{told_more}
 use Rattle.myi_base.specs.Causes.{HasCause}
 use Rattle.myi_defs.specs.declared.types.Defs.{Defs}
 use Rattle.myi_defs.specs.Addressable.{is_addressable}
+use Rattle.myi_pack.specs.Packed.{Values}
 use Rattle.myi_search.specs.Counting.{CountsOn}
 use Rattle.myi_state.specs.State.{TableState}
 use Rattle.myi_state.specs.Changes.{Change}
@@ -14,6 +15,7 @@ use Rattle.myi_pair.specs.Trees.{place_of}
 use Rattle.myi_keytrees.specs.Trees.{SameKinds}
 use Rattle.myi_tablestate.specs.Keyed.{KeyedRefusal, keyed_step}
 use Rattle.myi_opening.specs.Names.{rows_file}
+use Rattle.myi_rowtrees.specs.Duplicates.{MayRepeat}
 use Rattle.myi_keyedrows.specs.declared.keyed_rows.KeyedRows.{KeyedRows}
 use Rattle.myi_keyedrows.specs.declared.fault.KeyedFault.{KeyedFault}
 use Rattle.myi_keyedrows.specs.declared.fault.KeyedFault.TheVariants as kf
@@ -175,7 +177,7 @@ untouched_rows told next t f same = if_reply f _ _ (λ e. subst (λ (q : Option 
 
 -- ---- over any files
 
-pub by_rows : (N : ℕ → Type 0) (H P : Type 0) (f : KeyedFault) → causes.ByCause N H P f → ByCause N H P (of_rows f)
+pub by_rows : (N H : ℕ → Type 0) (P : Type 0) (f : KeyedFault) → causes.ByCause N H P f → ByCause N H P (of_rows f)
 by_rows N H P (kf.Duplicate key at) by = by
 by_rows N H P (kf.NoRow at) by = by
 by_rows N H P kf.Full by = by
@@ -183,14 +185,18 @@ by_rows N H P (kf.Damaged at) by = tt
 by_rows N H P kf.File by = tt
 by_rows N H P kf.Memory by = tt
 
-pub any_room : (N : ℕ → Type 0) (H P : Type 0) (f : ChangeFault) → ByCause N H P f → ByCause N H (Unit {0}) f
-any_room N H P (fault.Broken cause) by = tt
-any_room N H P (fault.NoRow at) by = by
-any_room N H P (fault.Duplicate key at) by = by
-any_room N H P fault.Full by = tt
-any_room N H P (fault.Damaged at) by = tt
-any_room N H P fault.File by = tt
-any_room N H P fault.Memory by = tt
+-- of the row's key by the definitions of the table
+pub by_repeat : (e d : Defs) (row : Values) (N : ℕ → Type 0) (P : Type 0) (f : KeyedFault) → e ≡ d → causes.ByCause N (MayRepeat d row) P f → ByCause N (MayRepeat e row) P (of_rows f)
+by_repeat e d row N P f same by = by_rows N (MayRepeat e row) P f (subst (λ (x : Defs). causes.ByCause N (MayRepeat x row) P f) (sym same) by)
+
+pub any_room : (N H G : ℕ → Type 0) (P : Type 0) (f : ChangeFault) → ((key : ℕ) → H key → G key) → ByCause N H P f → ByCause N G (Unit {0}) f
+any_room N H G P (fault.Broken cause) more by = tt
+any_room N H G P (fault.NoRow at) more by = by
+any_room N H G P (fault.Duplicate key at) more by = more key by
+any_room N H G P fault.Full more by = tt
+any_room N H G P (fault.Damaged at) more by = tt
+any_room N H G P fault.File more by = tt
+any_room N H G P fault.Memory more by = tt
 
 pub left_rows : (old : OpenTable) (rows : KeyedRows) (broken : Option Cause) (f : KeyedFault) → keyed.IfReply f (IsLeft old.rows rows) → IfReply (of_rows f) (IsLeft old.rows (with_rows old rows old.changed broken).rows)
 left_rows old rows broken f left = if_reply f _ _ (λ l. l) left

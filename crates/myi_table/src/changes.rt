@@ -14,6 +14,7 @@ impl Table {
     ghost use Rattle.myi_state.specs.Changes.{insert, insert_at_end, delete, update};
     ghost use Rattle.myi_slots.specs.SlotFile.{Adds, AddsNew, Never};
     ghost use Rattle.myi_rows.specs.Refusals.{LacksRoom, LacksEnd, LacksOther, LacksReach};
+    ghost use Rattle.myi_rowtrees.specs.Duplicates.{MayRepeat};
     ghost use Rattle.myi_keyedrows.specs.KeyedRows.{IsLeft};
     ghost use Rattle.myi_keyedrows.specs.Refusals.{FindsNoneAt};
     ghost use Rattle.myi_table.specs.declared.fault.ChangeFault.TheVariants.{File};
@@ -60,7 +61,7 @@ impl Table {
         ensures appended { OnOk result (Told (F.holds files.old) (F.holds files.new)
             (AddsNew self.old.rows.rows.file self.new.rows.rows.file row.now)) }
         ensures refused { IfErr result (Refuses (insert row.now) (F.holds files.old) self.old) }
-        ensures causes { IfErr result (ByCause Never (Unit {0})
+        ensures causes { IfErr result (ByCause Never (MayRepeat (defs_in self.old) row.now)
             (LacksRoom self.old.rows.rows.file row.now (F.holds files.old))) }
         ensures left { IfErr result (λ f. IfReply f (IsLeft self.old.rows self.new.rows)) }
         ensures unchanged { IfErr result (λ f. IfReply f
@@ -103,7 +104,7 @@ impl Table {
             (Adds self.old.rows.rows.file self.new.rows.rows.file row.now)) }
         ensures refused { IfErr result (Refuses (insert_at_end row.now) (F.holds files.old)
             self.old) }
-        ensures causes { IfErr result (ByCause Never (Unit {0})
+        ensures causes { IfErr result (ByCause Never (MayRepeat (defs_in self.old) row.now)
             (LacksEnd self.old.rows.rows.file row.now)) }
         ensures left { IfErr result (λ f. IfReply f (IsLeft self.old.rows self.new.rows)) }
         ensures unchanged { IfErr result (λ f. IfReply f
@@ -143,7 +144,7 @@ impl Table {
             self.old self.new at) }
         ensures refused { IfErr result (Refuses (delete at) (F.holds files.old) self.old) }
         ensures causes { IfErr result (ByCause (FindsNoneAt self.old.rows.rows.file
-            self.new.rows.rows.places at (F.holds files.old)) ⊥
+            self.new.rows.rows.places at (F.holds files.old)) Never
             (LacksReach self.old.rows.rows.file self.new.rows.rows.places at)) }
         ensures left { IfErr result (λ f. IfReply f (IsLeft self.old.rows self.new.rows)) }
         ensures unchanged { IfErr result (λ f. IfReply f
@@ -184,7 +185,8 @@ impl Table {
             (F.holds files.new) self.old self.new at) }
         ensures refused { IfErr result (Refuses (update at row.now) (F.holds files.old) self.old) }
         ensures causes { IfErr result (ByCause (FindsNoneAt self.old.rows.rows.file
-            self.new.rows.rows.places at (F.holds files.old)) (Unit {0})
+            self.new.rows.rows.places at (F.holds files.old))
+            (MayRepeat (defs_in self.old) row.now)
             (LacksOther self.old.rows.rows.file self.new.rows.rows.places at row.now
             (F.holds files.old))) }
         ensures left { IfErr result (λ f. IfReply f (IsLeft self.old.rows self.new.rows)) }

@@ -6,13 +6,14 @@ use myi_pack::Row;
 use myi_tablestate::keyed_refusals_come_in_order;
 
 impl Table {
-    ghost use Rattle.std.specs.Prelude.{◌≡◌, ◌<◌, true, None, length, All, IfErr, OnOk, IsTrue};
+    ghost use Rattle.std.specs.Prelude.{◌≡◌, ◌<◌, true, None, length, All, Any, IfErr, OnOk, IsTrue};
     ghost use Rattle.myi_base.specs.Causes.{HasCause};
     ghost use Rattle.myi_pack.specs.Packed.{Values};
     ghost use Rattle.myi_pack.specs.Spelling.{fits};
     ghost use Rattle.myi_search.specs.Counting.{CountsOn};
     ghost use Rattle.myi_slots.specs.SlotFile.{Never};
     ghost use Rattle.myi_tablestate.specs.Keyed.{after_keyed};
+    ghost use Rattle.myi_rowtrees.specs.Duplicates.{MayRepeat};
     ghost use Rattle.myi_table.specs.declared.fault.ChangeFault.TheVariants.{File};
     ghost use Rattle.myi_table.specs.Faults.{CutsOff, broken_after};
     ghost use Rattle.myi_table.specs.Folding.{appended, CanFold};
@@ -31,7 +32,8 @@ impl Table {
             HoldsThen (F.holds files.new) self.new
             (after_keyed (defs_in self.old) s (appended rows.now)))) }
         ensures cut { IfErr result (λ f. IfHolds (F.holds files.old) self.old (λ m s. CutsOff f)) }
-        ensures causes { IfErr result (ByCause Never (Unit {0}) (Unit {0})) }
+        ensures causes { IfErr result (ByCause Never (λ key. Any (λ (row : Values).
+            MayRepeat (defs_in self.old) row key) rows.now) (Unit {0})) }
         ensures whole { OnOk result (self.old.broken ≡ None) }
         ensures first { IfErr result (IsBroken self.old self.new
             (F.holds files.old) (F.holds files.new)) }

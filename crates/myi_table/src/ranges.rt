@@ -43,7 +43,7 @@ impl Range {
 }
 
 impl Table {
-    ghost use Rattle.std.specs.Prelude.{◌≡◌, ◌<◌, ◌≤◌, List, length, None, IfOk, IfErr, IfSome, OnOk, OnErr, IsTrue};
+    ghost use Rattle.std.specs.Prelude.{◌≡◌, ◌<◌, ◌≤◌, List, length, None, Ok, IfOk, IfErr, IfSome, OnOk, OnErr, IsTrue};
     ghost use Rattle.myi_base.specs.Holding.{Told, OthersStay};
     ghost use Rattle.myi_base.specs.Causes.{HasCause};
     ghost use Rattle.myi_search.specs.Counting.{CountsOn};
@@ -76,6 +76,7 @@ impl Table {
             IsAhead self.new rows.new s) }
         ensures reading { IsSameReading rows.old rows.new }
         ensures ended { IfOk result (λ row. row ≡ None → IsAtEnd rows.new) }
+        ensures past { self.old.broken ≡ None → IsAtEnd rows.old → result ≡ Ok None }
         ensures onward { IfOk result (λ row. IfSome row (λ found. searches rows.new.reached ≤ 1)) }
         ensures stops { IfErr result (λ f. StopsAt f rows.old rows.new) }
         ensures unread { IfErr result (λ f. IfBroken f ((self.new ≡ self.old)

@@ -1,10 +1,13 @@
-use Rattle.std.proofs.Common.{◌<◌, length, sym, ap, ◌∙◌, arith}
+use Rattle.std.proofs.Common.{◌≡◌, ◌+◌, ◌<◌, true, length, sym, ap, ◌∙◌, arith}
 use Rattle.std.specs.Prelude.{option_map}
 use Rattle.std.proofs.lemmas.Result.{err_from_is_err_and}
+use Rattle.myi_keys.specs.Limits.{is_complete}
+use Rattle.myi_rowkeys.specs.TableKeys.{is_unique}
 use Rattle.myi_tablestate.specs.Listed.{position}
 use Rattle.myi_rowtrees.specs.Duplicates.{others}
 use Rattle.myi_search.proofs.CallerLemmas.{counts_on}
 use Rattle.myi_rowtrees.proofs.ToldLemmas.{if_err, others_follow}
+use Rattle.myi_rowtrees.proofs.HeldLemmas.{number_of, some_one}
 use Rattle.myi_rowtrees.proofs.FirstLemmas.{still_follow, first_none, first_some, first_all, list_at, key_at, none_of}
 use Rattle.myi_rowtrees.proofs.duplicates.first_duplicate.Goals as goal
 
@@ -65,3 +68,20 @@ loop-i-preserved g c =
 pub returns-clause-first : goal.returns-clause-first
 returns-clause-first g c = λ m told own lists st s values pointer t same pairs.
     first_all c.args.defs.now values (others c.args.defs.now c.args.own s.rows) c.loop-i.i (omega (arith, c.loop-i-test.false, c.requires.each)) (c.loop-i.invariant.none m told own lists st s values pointer t same pairs)
+
+pub returns-in-Some-clause-unique : goal.returns-in-Some-clause-unique
+returns-in-Some-clause-unique g c =
+    let d = c.args.defs.now in
+    let i = c.loop-i.i in
+    let few : i < length d.keys = omega (arith, c.loop-i-test.true, c.requires.each) in
+    (number_of d i few, some_one c.in_ok-row.field-0 c.in-Some.row (is_unique d (i + 1) ≡ true) c.in-Some.is c.in_ok-row.ensures.unique)
+
+pub returns-in-Some-clause-named : goal.returns-in-Some-clause-named
+returns-in-Some-clause-named g c = λ values pointer pairs.
+    let d = c.args.defs.now in
+    let i = c.loop-i.i in
+    let p = c.index-pairs-i.result in
+    let few : i < length d.keys = omega (arith, c.loop-i-test.true, c.requires.each) in
+    let unique = some_one c.in_ok-row.field-0 c.in-Some.row (is_unique d (i + 1) ≡ true) c.in-Some.is c.in_ok-row.ensures.unique in
+    let whole = some_one c.in_ok-row.field-0 c.in-Some.row (is_complete p.key ≡ true) c.in-Some.is c.in_ok-row.ensures.whole in
+    ((number_of d i few, unique), ap is_complete (sym (key_at d values pointer c.args.pairs.now i p pairs few c.index-pairs-i.is)) ∙ whole)

@@ -1,4 +1,4 @@
-use Rattle.std.proofs.Common.{◌+◌, List, sym, ap, subst, ◌∙◌}
+use Rattle.std.proofs.Common.{◌≡◌, ◌+◌, true, List, sym, ap, subst, ◌∙◌}
 use Rattle.std.specs.Prelude.{slice_index_or, option_map}
 use Rattle.myi_defs.specs.declared.types.Key.{Key}
 use Rattle.myi_keys.specs.declared.values.KeySeg.{KeySeg}
@@ -7,9 +7,10 @@ use Rattle.myi_keys.specs.Comparing.{key_front}
 use Rattle.myi_keys.proofs.CallerLemmas.{front_again}
 use Rattle.myi_keylist.specs.declared.pair.Pair.{Pair}
 use Rattle.myi_search.specs.Least.{IsLeastRow}
+use Rattle.myi_rowkeys.specs.TableKeys.{is_unique}
 use Rattle.myi_tablestate.specs.Listed.{listed, position}
 use Rattle.myi_rowtrees.specs.Duplicates.{others}
-use Rattle.myi_rowtrees.proofs.HeldLemmas.{search_on, unique_at, Found, held, number_of}
+use Rattle.myi_rowtrees.proofs.HeldLemmas.{search_on, unique_at, Found, held, number_of, some_all}
 use Rattle.myi_rowtrees.proofs.duplicates.other_row.Goals as goal
 use Rattle.myi_rowtrees.proofs.duplicates.other_row.Goals.{then-not-unique-via-then-not-unique, then-not-unique-via-else-not-unique+then-not-is_complete_code}
 
@@ -54,3 +55,17 @@ returns-clause-held g c = λ m told own lists s state values t list key.
 
 pub returns-clause-search : goal.returns-clause-search
 returns-clause-search g c = λ w. search_on g.F.Files.writable (g.F.Files.holds c.args.files.now) (g.F.Files.holds c.find.new.files) c.args.trees.now c.find.new.self w c.in_ok-row.ensures.cache c.in_ok-row.ensures.stand c.requires.kept
+
+pub returns-clause-unique : goal.returns-clause-unique
+returns-clause-unique g c =
+    let d = c.args.defs.now in
+    let i = c.args.i in
+    let r = c.index-as_slice-i.result in
+    let here = ap (λ (ks : List Key). slice_index_or ks i r) (sym c.as_slice.ensures) ∙ sym c.index-as_slice-i.is in
+    let unique = unique_at d i r c.requires.key here ∙ ap (λ (k : Key). k.unique) c.index-as_slice-i.is ∙ c.if-not-unique.false in
+    some_all c.another.result (is_unique d (i + 1) ≡ true) unique
+
+pub returns-clause-whole : goal.returns-clause-whole
+returns-clause-whole g c =
+    let whole = ap is_complete (sym (front_again c.args.pair.now.key c.code.ensures.key) ∙ ap key_front (sym c.code.ensures.value)) ∙ sym c.is_complete_code.ensures ∙ c.if-not-is_complete_code.false in
+    some_all c.another.result (is_complete c.args.pair.now.key ≡ true) whole

@@ -1,6 +1,6 @@
 use Rattle.std.proofs.Common.{◌≡◌, Option, refl, sym, ap, subst, ◌∙◌}
 use Rattle.std.proofs.lemmas.Result.{err_from_is_err_and}
-use Rattle.myi_slots.specs.SlotFile.{SlotFile}
+use Rattle.myi_slots.specs.SlotFile.{SlotFile, Never}
 use Rattle.myi_state.specs.Changes.{delete}
 use Rattle.myi_keyedrows.specs.declared.keyed_rows.KeyedRows.{KeyedRows}
 use Rattle.myi_keyedrows.specs.declared.fault.KeyedFault.{KeyedFault}
@@ -157,9 +157,9 @@ returns-in_err-had-clause-causes g c =
     let file = c.args.self.now.rows.file in
     let places = c.pairs_at.new.self.rows.places in
     let e = err_from_is_err_and c.from_residual.result c.from_residual.ensures.1 in
-    if_err c.from_residual.result e.0 (λ f. ByCause (FindsNoneAt file places c.args.at told) ⊥ (LacksReach file places c.args.at) f) e.1
-    (subst (λ (f : KeyedFault). ByCause (FindsNoneAt file places c.args.at told) ⊥ (LacksReach file places c.args.at) f) (sym e.2)
-    (none_cause (FindsNoneAt file places c.args.at told) ⊥ (LacksReach file places c.args.at) c.in_err-had.field-0.0 c.in_err-had.ensures.causes))
+    if_err c.from_residual.result e.0 (λ f. ByCause (FindsNoneAt file places c.args.at told) Never (LacksReach file places c.args.at) f) e.1
+    (subst (λ (f : KeyedFault). ByCause (FindsNoneAt file places c.args.at told) Never (LacksReach file places c.args.at) f) (sym e.2)
+    (none_cause (FindsNoneAt file places c.args.at told) Never (LacksReach file places c.args.at) c.in_err-had.field-0.0 c.in_err-had.ensures.causes))
 
 pub returns-in_err-delete_at-clause-causes : goal.returns-in_err-delete_at-clause-causes
 returns-in_err-delete_at-clause-causes g c =
@@ -171,9 +171,9 @@ returns-in_err-delete_at-clause-causes g c =
     let places = c.delete_at.new.self.places in
     let at = c.args.at in
     let e = err_from_is_err_and c.from_residual-in_err-delete_at.result c.from_residual-in_err-delete_at.ensures.1 in
-    if_err c.from_residual-in_err-delete_at.result e.0 (λ f. ByCause (FindsNoneAt file places at told) ⊥ (LacksReach file places at) f) e.1
-    (subst (λ (f : KeyedFault). ByCause (FindsNoneAt file places at told) ⊥ (LacksReach file places at) f) (sym e.2)
-    (data_cause (λ p. (p ≡ at) × FindsNone mid places at then) (FindsNoneAt file places at told) ⊥ (LacksReach mid places at) (LacksReach file places at) (FindsRowBad mid places at then) c.in_err-delete_at.field-0.0
+    if_err c.from_residual-in_err-delete_at.result e.0 (λ f. ByCause (FindsNoneAt file places at told) Never (LacksReach file places at) f) e.1
+    (subst (λ (f : KeyedFault). ByCause (FindsNoneAt file places at told) Never (LacksReach file places at) f) (sym e.2)
+    (data_cause (λ p. (p ≡ at) × FindsNone mid places at then) (FindsNoneAt file places at told) Never (LacksReach mid places at) (LacksReach file places at) (FindsRowBad mid places at then) c.in_err-delete_at.field-0.0
     (λ p none. (none.0, subst (λ (h : Option Holding). FindsNone file places at h) c.in_ok-had.ensures.holds (subst (λ (f : SlotFile). FindsNone f places at then) same none.1)))
     (λ full. subst (λ (f : SlotFile). LacksReach f places at) same full) c.in_err-delete_at.ensures.causes))
 
@@ -183,6 +183,6 @@ returns-in_err-take_row-clause-causes g c =
     let file = c.args.self.now.rows.file in
     let places = c.delete_at.new.self.places in
     let e = err_from_is_err_and c.from_residual-in_err-take_row.result c.from_residual-in_err-take_row.ensures.1 in
-    if_err c.from_residual-in_err-take_row.result e.0 (λ f. ByCause (FindsNoneAt file places c.args.at told) ⊥ (LacksReach file places c.args.at) f) e.1
-    (subst (λ (f : KeyedFault). ByCause (FindsNoneAt file places c.args.at told) ⊥ (LacksReach file places c.args.at) f) (sym e.2)
-    (tree_cause (FindsNoneAt file places c.args.at told) ⊥ (LacksReach file places c.args.at) c.in_err-take_row.field-0.0))
+    if_err c.from_residual-in_err-take_row.result e.0 (λ f. ByCause (FindsNoneAt file places c.args.at told) Never (LacksReach file places c.args.at) f) e.1
+    (subst (λ (f : KeyedFault). ByCause (FindsNoneAt file places c.args.at told) Never (LacksReach file places c.args.at) f) (sym e.2)
+    (tree_cause (FindsNoneAt file places c.args.at told) Never (LacksReach file places c.args.at) c.in_err-take_row.field-0.0))

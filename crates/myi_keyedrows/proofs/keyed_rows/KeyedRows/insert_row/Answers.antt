@@ -16,9 +16,10 @@ use Rattle.myi_keyedrows.proofs.StepLemmas.{half_made, half_whole, half_never, r
 use Rattle.myi_keyedrows.proofs.AnswerLemmas.{may_come, comes_free, comes_held, comes, comes_follow, comes_never}
 use Rattle.myi_keyedrows.proofs.LawLemmas.{placed_pairs, StepLaws, laws_of, looked_defs, looked_file, looked_fit, looked_long, counted_fit, both_fit, refused_stays}
 use Rattle.myi_slots.specs.SlotFile.{Never}
+use Rattle.myi_rowtrees.specs.Duplicates.{MayRepeat}
 use Rattle.myi_keyedrows.specs.Refusals.{ByCause, LacksPlace}
 use Rattle.myi_keyedrows.specs.Checking.{FindsNewBad}
-use Rattle.myi_keyedrows.proofs.CauseLemmas.{tree_cause, data_cause, held_cause, place_back}
+use Rattle.myi_keyedrows.proofs.CauseLemmas.{tree_cause, data_cause, pairs_cause, place_back}
 use Rattle.myi_keyedrows.proofs.keyed_rows.KeyedRows.insert_row.Goals as goal
 
 pub refuse_duplicate-requires-clause-each : goal.refuse_duplicate-requires-clause-each
@@ -196,8 +197,9 @@ returns-clause-appended g c =
 pub returns-in_err-refuse_duplicate-clause-causes : goal.returns-in_err-refuse_duplicate-clause-causes
 returns-in_err-refuse_duplicate-clause-causes g c =
     let e = err_from_is_err_and c.from_residual-in_err-refuse_duplicate.result c.from_residual-in_err-refuse_duplicate.ensures.1 in
-    if_err c.from_residual-in_err-refuse_duplicate.result e.0 (λ f. ByCause Never (Unit {0}) (LacksPlace c.args.at_end c.args.self.now.rows.file c.args.row.now (g.F.Files.holds c.args.files.now)) f) e.1
-    (subst (λ (f : KeyedFault). ByCause Never (Unit {0}) (LacksPlace c.args.at_end c.args.self.now.rows.file c.args.row.now (g.F.Files.holds c.args.files.now)) f) (sym e.2) (held_cause Never (LacksPlace c.args.at_end c.args.self.now.rows.file c.args.row.now (g.F.Files.holds c.args.files.now)) c.in_err-refuse_duplicate.field-0.0 c.in_err-refuse_duplicate.ensures.causes))
+    if_err c.from_residual-in_err-refuse_duplicate.result e.0 (λ f. ByCause Never (MayRepeat c.args.defs.now c.args.row.now) (LacksPlace c.args.at_end c.args.self.now.rows.file c.args.row.now (g.F.Files.holds c.args.files.now)) f) e.1
+    (subst (λ (f : KeyedFault). ByCause Never (MayRepeat c.args.defs.now c.args.row.now) (LacksPlace c.args.at_end c.args.self.now.rows.file c.args.row.now (g.F.Files.holds c.args.files.now)) f) (sym e.2)
+    (pairs_cause Never (LacksPlace c.args.at_end c.args.self.now.rows.file c.args.row.now (g.F.Files.holds c.args.files.now)) c.args.defs.now c.as_slice-pairs.result.now c.args.row.now c.pointer_of-pointer.result c.in_err-refuse_duplicate.field-0.0 (c.as_slice-pairs.ensures.value ∙ c.in_ok-made.ensures) c.in_err-refuse_duplicate.ensures.causes))
 
 pub returns-in_err-at-clause-causes : goal.returns-in_err-at-clause-causes
 returns-in_err-at-clause-causes g c =
@@ -208,13 +210,13 @@ returns-in_err-at-clause-causes g c =
     let looks = c.in_ok-refuse_duplicate.ensures.looks in
     let same = looked_file told then old mid looks in
     let e = err_from_is_err_and c.from_residual-in_err-at.result c.from_residual-in_err-at.ensures.1 in
-    if_err c.from_residual-in_err-at.result e.0 (λ f. ByCause Never (Unit {0}) (LacksPlace c.args.at_end c.args.self.now.rows.file c.args.row.now (g.F.Files.holds c.args.files.now)) f) e.1
-    (subst (λ (f : KeyedFault). ByCause Never (Unit {0}) (LacksPlace c.args.at_end c.args.self.now.rows.file c.args.row.now (g.F.Files.holds c.args.files.now)) f) (sym e.2)
-    (data_cause Never Never (Unit {0}) (LacksPlace c.args.at_end mid.rows.file c.args.row.now then) (LacksPlace c.args.at_end c.args.self.now.rows.file c.args.row.now (g.F.Files.holds c.args.files.now)) (FindsNewBad c.args.at_end mid.rows.file c.args.row.now then) c.in_err-at.field-0.0 (λ p none. none)
+    if_err c.from_residual-in_err-at.result e.0 (λ f. ByCause Never (MayRepeat c.args.defs.now c.args.row.now) (LacksPlace c.args.at_end c.args.self.now.rows.file c.args.row.now (g.F.Files.holds c.args.files.now)) f) e.1
+    (subst (λ (f : KeyedFault). ByCause Never (MayRepeat c.args.defs.now c.args.row.now) (LacksPlace c.args.at_end c.args.self.now.rows.file c.args.row.now (g.F.Files.holds c.args.files.now)) f) (sym e.2)
+    (data_cause Never Never (MayRepeat c.args.defs.now c.args.row.now) (LacksPlace c.args.at_end mid.rows.file c.args.row.now then) (LacksPlace c.args.at_end c.args.self.now.rows.file c.args.row.now (g.F.Files.holds c.args.files.now)) (FindsNewBad c.args.at_end mid.rows.file c.args.row.now then) c.in_err-at.field-0.0 (λ p none. none)
     (λ lacks. place_back c.args.at_end old.rows.file c.args.row.now old.trees.cache.name told then c.requires.fit.apart looks.others (subst (λ (f : SlotFile). LacksPlace c.args.at_end f c.args.row.now then) same lacks)) c.in_err-at.ensures.causes))
 
 pub returns-in_err-put_row-clause-causes : goal.returns-in_err-put_row-clause-causes
 returns-in_err-put_row-clause-causes g c =
     let e = err_from_is_err_and c.from_residual-in_err-put_row.result c.from_residual-in_err-put_row.ensures.1 in
-    if_err c.from_residual-in_err-put_row.result e.0 (λ f. ByCause Never (Unit {0}) (LacksPlace c.args.at_end c.args.self.now.rows.file c.args.row.now (g.F.Files.holds c.args.files.now)) f) e.1
-    (subst (λ (f : KeyedFault). ByCause Never (Unit {0}) (LacksPlace c.args.at_end c.args.self.now.rows.file c.args.row.now (g.F.Files.holds c.args.files.now)) f) (sym e.2) (tree_cause Never (Unit {0}) (LacksPlace c.args.at_end c.args.self.now.rows.file c.args.row.now (g.F.Files.holds c.args.files.now)) c.in_err-put_row.field-0.0))
+    if_err c.from_residual-in_err-put_row.result e.0 (λ f. ByCause Never (MayRepeat c.args.defs.now c.args.row.now) (LacksPlace c.args.at_end c.args.self.now.rows.file c.args.row.now (g.F.Files.holds c.args.files.now)) f) e.1
+    (subst (λ (f : KeyedFault). ByCause Never (MayRepeat c.args.defs.now c.args.row.now) (LacksPlace c.args.at_end c.args.self.now.rows.file c.args.row.now (g.F.Files.holds c.args.files.now)) f) (sym e.2) (tree_cause Never (MayRepeat c.args.defs.now c.args.row.now) (LacksPlace c.args.at_end c.args.self.now.rows.file c.args.row.now (g.F.Files.holds c.args.files.now)) c.in_err-put_row.field-0.0))

@@ -1,5 +1,6 @@
 use Rattle.std.proofs.Common.{◌≡◌, sym, subst}
 use Rattle.std.proofs.lemmas.Result.{err_from_is_err_and}
+use Rattle.myi_slots.specs.SlotFile.{Never}
 use Rattle.myi_rows.specs.Refusals.{FindsNone, ReadsBad}
 use Rattle.myi_keyedrows.specs.declared.fault.KeyedFault.{KeyedFault}
 use Rattle.myi_keyedrows.specs.Refusals.{ByCause, FindsNoneAt}
@@ -21,6 +22,6 @@ returns-in_err-row-clause-causes g c =
     let file = c.args.self.now.rows.file in
     let places = c.read_at.new.self.places in
     let e = err_from_is_err_and c.from_residual.result c.from_residual.ensures.1 in
-    if_err c.from_residual.result e.0 (λ f. ByCause (FindsNoneAt file places c.args.at told) ⊥ ⊥ f) e.1
-    (subst (λ (f : KeyedFault). ByCause (FindsNoneAt file places c.args.at told) ⊥ ⊥ f) (sym e.2)
-    (data_cause (λ p. (p ≡ c.args.at) × FindsNone file places c.args.at told) (FindsNoneAt file places c.args.at told) ⊥ ⊥ ⊥ (λ p. ReadsBad file places c.args.at told) c.in_err-row.field-0.0 (λ p none. none) (λ full. full) c.in_err-row.ensures.causes))
+    if_err c.from_residual.result e.0 (λ f. ByCause (FindsNoneAt file places c.args.at told) Never ⊥ f) e.1
+    (subst (λ (f : KeyedFault). ByCause (FindsNoneAt file places c.args.at told) Never ⊥ f) (sym e.2)
+    (data_cause (λ p. (p ≡ c.args.at) × FindsNone file places c.args.at told) (FindsNoneAt file places c.args.at told) Never ⊥ ⊥ (λ p. ReadsBad file places c.args.at told) c.in_err-row.field-0.0 (λ p none. none) (λ full. full) c.in_err-row.ensures.causes))

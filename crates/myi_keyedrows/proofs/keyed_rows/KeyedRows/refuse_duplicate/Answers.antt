@@ -1,8 +1,12 @@
-use Rattle.std.proofs.Common.{Option, inr, refl, sym, ap, subst, ◌∙◌}
+use Rattle.std.proofs.Common.{◌≡◌, ℕ, Option, inr, refl, sym, ap, subst, ◌∙◌}
+use Rattle.std.specs.Prelude.{IfSome}
 use Rattle.std.proofs.lemmas.Result.{err_from_is_err_and}
 use Rattle.myi_defs.specs.Sound.{IsSound}
+use Rattle.myi_pack.specs.Packed.{Values}
 use Rattle.myi_state.specs.declared.counts.Counts.{Counts}
 use Rattle.myi_rowtrees.specs.declared.duplicates.Duplicate.{Duplicate}
+use Rattle.myi_rowtrees.specs.RowLists.{row_pairs}
+use Rattle.myi_rowtrees.specs.Duplicates.{MayRepeat}
 use Rattle.myi_ranges.specs.Ranges.{position_within}
 use Rattle.myi_keyedrows.specs.declared.fault.KeyedFault.{KeyedFault}
 use Rattle.myi_keyedrows.specs.Checking.{IsHeldBy}
@@ -74,5 +78,11 @@ returns-clause-looks g c = record {
 pub returns-in_err-found-clause-causes : goal.returns-in_err-found-clause-causes
 returns-in_err-found-clause-causes g c =
     let e = err_from_is_err_and c.from_residual.result c.from_residual.ensures.1 in
-    if_err c.from_residual.result e.0 (λ f. ByCause Never (Unit {0}) ⊥ f) e.1
-    (subst (λ (f : KeyedFault). ByCause Never (Unit {0}) ⊥ f) (sym e.2) (tree_cause Never (Unit {0}) ⊥ c.in_err-found.field-0.0))
+    let H : ℕ → Type 0 = λ key. (values : Values) (pointer : ℕ) → c.args.pairs.now ≡ row_pairs c.args.defs.now values pointer → MayRepeat c.args.defs.now values key in
+    if_err c.from_residual.result e.0 (λ f. ByCause Never H ⊥ f) e.1
+    (subst (λ (f : KeyedFault). ByCause Never H ⊥ f) (sym e.2) (tree_cause Never H ⊥ c.in_err-found.field-0.0))
+
+pub returns-clause-causes : goal.returns-clause-causes
+returns-clause-causes g c =
+    let H : Duplicate → Type 0 = λ one. (values : Values) (pointer : ℕ) → c.args.pairs.now ≡ row_pairs c.args.defs.now values pointer → MayRepeat c.args.defs.now values one.key in
+    subst (λ (o : Option Duplicate). IfSome o H) c.in-Some.is c.in_ok-found.ensures.named

@@ -21,8 +21,9 @@ use Rattle.myi_keyedrows.proofs.AnswerLemmas.{Back, OfHolder, Moves, stays_absen
 use Rattle.myi_keyedrows.proofs.LawLemmas.{counted_none, counted_back, StepLaws, laws_of, looked_defs, looked_file, looked_fit, looked_long, both_fit, read_fit, read_kept}
 use Rattle.myi_base.specs.Holding.{Holding, Told, OthersStay}
 use Rattle.myi_rows.specs.Refusals.{FindsNone, LacksOther, FindsOtherBad}
+use Rattle.myi_rowtrees.specs.Duplicates.{MayRepeat}
 use Rattle.myi_keyedrows.specs.Refusals.{ByCause, FindsNoneAt}
-use Rattle.myi_keyedrows.proofs.CauseLemmas.{tree_cause, data_cause, held_cause, none_cause, none_back, other_back}
+use Rattle.myi_keyedrows.proofs.CauseLemmas.{tree_cause, data_cause, pairs_cause, none_cause, none_back, other_back}
 use Rattle.myi_keyedrows.proofs.keyed_rows.KeyedRows.update.Goals as goal
 
 pub returns-in_err-had-clause-refused : goal.returns-in_err-had-clause-refused
@@ -414,9 +415,9 @@ returns-in_err-had-clause-causes g c =
     let at = c.args.at in
     let row = c.args.row.now in
     let e = err_from_is_err_and c.from_residual.result c.from_residual.ensures.1 in
-    if_err c.from_residual.result e.0 (λ f. ByCause (FindsNoneAt file places at told) (Unit {0}) (LacksOther file places at row told) f) e.1
-    (subst (λ (f : KeyedFault). ByCause (FindsNoneAt file places at told) (Unit {0}) (LacksOther file places at row told) f) (sym e.2)
-    (none_cause (FindsNoneAt file places at told) (Unit {0}) (LacksOther file places at row told) c.in_err-had.field-0.0 c.in_err-had.ensures.causes))
+    if_err c.from_residual.result e.0 (λ f. ByCause (FindsNoneAt file places at told) (MayRepeat c.args.defs.now c.args.row.now) (LacksOther file places at row told) f) e.1
+    (subst (λ (f : KeyedFault). ByCause (FindsNoneAt file places at told) (MayRepeat c.args.defs.now c.args.row.now) (LacksOther file places at row told) f) (sym e.2)
+    (none_cause (FindsNoneAt file places at told) (MayRepeat c.args.defs.now c.args.row.now) (LacksOther file places at row told) c.in_err-had.field-0.0 c.in_err-had.ensures.causes))
 
 pub returns-in_err-refuse_duplicate-clause-causes : goal.returns-in_err-refuse_duplicate-clause-causes
 returns-in_err-refuse_duplicate-clause-causes g c =
@@ -426,9 +427,9 @@ returns-in_err-refuse_duplicate-clause-causes g c =
     let at = c.args.at in
     let row = c.args.row.now in
     let e = err_from_is_err_and c.from_residual-in_err-refuse_duplicate.result c.from_residual-in_err-refuse_duplicate.ensures.1 in
-    if_err c.from_residual-in_err-refuse_duplicate.result e.0 (λ f. ByCause (FindsNoneAt file places at told) (Unit {0}) (LacksOther file places at row told) f) e.1
-    (subst (λ (f : KeyedFault). ByCause (FindsNoneAt file places at told) (Unit {0}) (LacksOther file places at row told) f) (sym e.2)
-    (held_cause (FindsNoneAt file places at told) (LacksOther file places at row told) c.in_err-refuse_duplicate.field-0.0 c.in_err-refuse_duplicate.ensures.causes))
+    if_err c.from_residual-in_err-refuse_duplicate.result e.0 (λ f. ByCause (FindsNoneAt file places at told) (MayRepeat c.args.defs.now c.args.row.now) (LacksOther file places at row told) f) e.1
+    (subst (λ (f : KeyedFault). ByCause (FindsNoneAt file places at told) (MayRepeat c.args.defs.now c.args.row.now) (LacksOther file places at row told) f) (sym e.2)
+    (pairs_cause (FindsNoneAt file places at told) (LacksOther file places at row told) c.args.defs.now c.as_slice-pairs.result.now c.args.row.now c.pointer_of-pointer.result c.in_err-refuse_duplicate.field-0.0 (c.as_slice-pairs.ensures.value ∙ c.in_ok-made.ensures) c.in_err-refuse_duplicate.ensures.causes))
 
 pub returns-in_err-update_at-clause-causes : goal.returns-in_err-update_at-clause-causes
 returns-in_err-update_at-clause-causes g c =
@@ -446,9 +447,9 @@ returns-in_err-update_at-clause-causes g c =
     let at = c.args.at in
     let row = c.args.row.now in
     let e = err_from_is_err_and c.from_residual-in_err-update_at.result c.from_residual-in_err-update_at.ensures.1 in
-    if_err c.from_residual-in_err-update_at.result e.0 (λ f. ByCause (FindsNoneAt file places at told) (Unit {0}) (LacksOther file places at row told) f) e.1
-    (subst (λ (f : KeyedFault). ByCause (FindsNoneAt file places at told) (Unit {0}) (LacksOther file places at row told) f) (sym e.2)
-    (data_cause (λ p. (p ≡ at) × FindsNone mid places at then) (FindsNoneAt file places at told) (Unit {0}) (LacksOther mid places at row then) (LacksOther file places at row told) (FindsOtherBad mid places at row then) c.in_err-update_at.field-0.0
+    if_err c.from_residual-in_err-update_at.result e.0 (λ f. ByCause (FindsNoneAt file places at told) (MayRepeat c.args.defs.now c.args.row.now) (LacksOther file places at row told) f) e.1
+    (subst (λ (f : KeyedFault). ByCause (FindsNoneAt file places at told) (MayRepeat c.args.defs.now c.args.row.now) (LacksOther file places at row told) f) (sym e.2)
+    (data_cause (λ p. (p ≡ at) × FindsNone mid places at then) (FindsNoneAt file places at told) (MayRepeat c.args.defs.now c.args.row.now) (LacksOther mid places at row then) (LacksOther file places at row told) (FindsOtherBad mid places at row then) c.in_err-update_at.field-0.0
     (λ p none. (none.0, subst (λ (h : Option Holding). FindsNone file places at h) c.in_ok-had.ensures.holds (none_back file places at index read then c.requires.fit.apart stays (subst (λ (f : SlotFile). FindsNone f places at then) same none.1))))
     (λ full. subst (λ (h : Option Holding). LacksOther file places at row h) c.in_ok-had.ensures.holds (other_back file places at row index read then c.requires.fit.apart stays (subst (λ (f : SlotFile). LacksOther f places at row then) same full))) c.in_err-update_at.ensures.causes))
 
@@ -460,6 +461,6 @@ returns-in_err-move_row-clause-causes g c =
     let at = c.args.at in
     let row = c.args.row.now in
     let e = err_from_is_err_and c.from_residual-in_err-move_row.result c.from_residual-in_err-move_row.ensures.1 in
-    if_err c.from_residual-in_err-move_row.result e.0 (λ f. ByCause (FindsNoneAt file places at told) (Unit {0}) (LacksOther file places at row told) f) e.1
-    (subst (λ (f : KeyedFault). ByCause (FindsNoneAt file places at told) (Unit {0}) (LacksOther file places at row told) f) (sym e.2)
-    (tree_cause (FindsNoneAt file places at told) (Unit {0}) (LacksOther file places at row told) c.in_err-move_row.field-0.0))
+    if_err c.from_residual-in_err-move_row.result e.0 (λ f. ByCause (FindsNoneAt file places at told) (MayRepeat c.args.defs.now c.args.row.now) (LacksOther file places at row told) f) e.1
+    (subst (λ (f : KeyedFault). ByCause (FindsNoneAt file places at told) (MayRepeat c.args.defs.now c.args.row.now) (LacksOther file places at row told) f) (sym e.2)
+    (tree_cause (FindsNoneAt file places at told) (MayRepeat c.args.defs.now c.args.row.now) (LacksOther file places at row told) c.in_err-move_row.field-0.0))

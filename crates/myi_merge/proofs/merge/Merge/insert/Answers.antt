@@ -7,6 +7,7 @@ use Rattle.myi_table.specs.declared.fault.ChangeFault.{ChangeFault}
 use Rattle.myi_search.specs.Counting.{CountsOn}
 use Rattle.myi_slots.specs.SlotFile.{AddsNew, Never}
 use Rattle.myi_rows.specs.Refusals.{LacksRoom}
+use Rattle.myi_rowtrees.specs.Duplicates.{MayRepeat}
 use Rattle.myi_keyedrows.specs.KeyedRows.{IsLeft}
 use Rattle.myi_table.specs.Table.{OpenTable, defs_in, StillHolds, IsSame, KeepsRows, KeepsOthers}
 use Rattle.myi_table.specs.Faults.{broken_after}
@@ -397,7 +398,7 @@ returns-in_err-made-clause-causes g c = λ f is.
     let takes : target c.args.self.now ≡ Some i = sym c.target.ensures.target ∙ c.in-Some.is in
     let e = err_from_is_err_and c.from_residual.result c.from_residual.ensures.1 in
     let after : OpenMerge = record { tables = set ts i new; method = c.self.inside.method } in
-    let P : ChangeFault → OpenTable → OpenTable → Type 0 = λ f t u. ByCause Never (Unit {0}) (LacksRoom t.rows.rows.file c.args.row.now told) f in
+    let P : ChangeFault → OpenTable → OpenTable → Type 0 = λ f t u. ByCause Never (MayRepeat (defs_in t) c.args.row.now) (LacksRoom t.rows.rows.file c.args.row.now told) f in
     let fault : c.in_err-made.field-0.0 ≡ f = (let q = sym (e.1 ∙ ap Err e.2) ∙ is in cc) in
     subst (λ (f : ChangeFault). OfTarget c.args.self.now after (P f)) fault
     (of_taker c.args.self.now ts c.self.inside.method i t new (P c.in_err-made.field-0.0) c.self.view_is at takes c.in_err-made.ensures.causes)

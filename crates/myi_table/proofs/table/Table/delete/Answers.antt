@@ -7,6 +7,7 @@ use Rattle.myi_table.specs.Table.{OpenTable, IsKept, Makes, Refuses, IfReply, St
 use Rattle.myi_table.specs.Faults.{broken_by_fault}
 use Rattle.myi_rows.specs.Refusals.{LacksReach}
 use Rattle.myi_keyedrows.specs.KeyedRows.{IsLeft}
+use Rattle.myi_slots.specs.SlotFile.{Never}
 use Rattle.myi_keyedrows.specs.Refusals.{FindsNoneAt}
 use Rattle.myi_table.specs.Refusals.{ByCause}
 use Rattle.myi_table.proofs.ChangeLemmas.{by_rows, left_rows, with_rows, makes_rows, refuses_rows, unchanged_rows, kept_made, kept_refused, untouched_rows}
@@ -72,10 +73,10 @@ returns-in-Err-clause-causes g c =
     let told = g.F.Files.holds c.args.files.now in
     let i = c.self.inside in
     let t : OpenTable = record { name = string_bytes i.name; setup = i.setup; header = i.header; lost = i.lost; rows = i.rows; changed = i.changed; broken = i.broken; added = i.added } in
-    let x = by_rows (FindsNoneAt t.rows.rows.file c.delete-made.new.self.rows.places c.args.at told) ⊥ (LacksReach t.rows.rows.file c.delete-made.new.self.rows.places c.args.at) c.in-Err.fault c.in-Err.ensures.causes in
-    let y = subst (λ (r : ChangeFault). ByCause (FindsNoneAt t.rows.rows.file c.delete-made.new.self.rows.places c.args.at told) ⊥ (LacksReach t.rows.rows.file c.delete-made.new.self.rows.places c.args.at) r) (sym c.broken_by.ensures.told) x in
-    let z = subst (λ (n : OpenTable). ByCause (FindsNoneAt t.rows.rows.file n.rows.rows.places c.args.at told) ⊥ (LacksReach t.rows.rows.file n.rows.rows.places c.args.at) c.broken_by.result) (sym c.broken_by.ensures.left) y in
-    subst (λ (u : OpenTable). ByCause (FindsNoneAt u.rows.rows.file c.broken_by.new.self.rows.rows.places c.args.at told) ⊥ (LacksReach u.rows.rows.file c.broken_by.new.self.rows.rows.places c.args.at) c.broken_by.result) c.self.view_is z
+    let x = by_rows (FindsNoneAt t.rows.rows.file c.delete-made.new.self.rows.places c.args.at told) Never (LacksReach t.rows.rows.file c.delete-made.new.self.rows.places c.args.at) c.in-Err.fault c.in-Err.ensures.causes in
+    let y = subst (λ (r : ChangeFault). ByCause (FindsNoneAt t.rows.rows.file c.delete-made.new.self.rows.places c.args.at told) Never (LacksReach t.rows.rows.file c.delete-made.new.self.rows.places c.args.at) r) (sym c.broken_by.ensures.told) x in
+    let z = subst (λ (n : OpenTable). ByCause (FindsNoneAt t.rows.rows.file n.rows.rows.places c.args.at told) Never (LacksReach t.rows.rows.file n.rows.rows.places c.args.at) c.broken_by.result) (sym c.broken_by.ensures.left) y in
+    subst (λ (u : OpenTable). ByCause (FindsNoneAt u.rows.rows.file c.broken_by.new.self.rows.rows.places c.args.at told) Never (LacksReach u.rows.rows.file c.broken_by.new.self.rows.rows.places c.args.at) c.broken_by.result) c.self.view_is z
 
 pub returns-in-Err-clause-left : goal.returns-in-Err-clause-left
 returns-in-Err-clause-left g c =

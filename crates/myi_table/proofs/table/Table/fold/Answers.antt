@@ -1,13 +1,16 @@
-use Rattle.std.proofs.Common.{◌≡◌, sym, subst, ◌∙◌, arith}
-use Rattle.std.specs.Prelude.{IfErr}
+use Rattle.std.proofs.Common.{◌≡◌, ℕ, sym, subst, ◌∙◌, arith}
+use Rattle.std.specs.Prelude.{IfErr, Any}
 use Rattle.std.proofs.lemmas.Result.{err_from_is_err_and}
+use Rattle.myi_defs.specs.declared.types.Defs.{Defs}
+use Rattle.myi_pack.specs.Packed.{Values}
 use Rattle.myi_search.proofs.CallerLemmas.{counts_on}
+use Rattle.myi_rowtrees.specs.Duplicates.{MayRepeat}
 use Rattle.myi_table.specs.declared.fault.ChangeFault.{ChangeFault}
 use Rattle.myi_table.specs.Faults.{CutsOff}
 use Rattle.myi_slots.specs.SlotFile.{Never}
 use Rattle.myi_table.specs.Refusals.{ByCause}
 use Rattle.myi_table.proofs.ChangeLemmas.{any_room}
-use Rattle.myi_table.specs.Table.{IfHolds}
+use Rattle.myi_table.specs.Table.{defs_in, IfHolds}
 use Rattle.myi_table.proofs.FoldLemmas.{folds_more, folds_all, folds_cut, same_then, others_then}
 use Rattle.myi_table.proofs.table.Table.fold.Goals as goal
 
@@ -23,7 +26,12 @@ returns-in_err-insert_at_end-clause-cut g c =
 pub returns-in_err-insert_at_end-clause-causes : goal.returns-in_err-insert_at_end-clause-causes
 returns-in_err-insert_at_end-clause-causes g c =
     let e = err_from_is_err_and c.from_residual-in_err-insert_at_end.result c.from_residual-in_err-insert_at_end.ensures.1 in
-    subst (λ r. IfErr r (ByCause Never (Unit {0}) (Unit {0}))) (sym e.1) (subst (ByCause Never (Unit {0}) (Unit {0})) (sym e.2) (any_room Never (Unit {0}) _ c.in_err-insert_at_end.field-0.0 c.in_err-insert_at_end.ensures.causes))
+    let rows = c.args.rows.now in
+    let row = c.index-rows-i.result in
+    let H : ℕ → Type 0 = λ key. Any (λ (r : Values). MayRepeat (defs_in c.args.self.now) r key) rows in
+    let more : (key : ℕ) → MayRepeat (defs_in c.loop-i.self) row key → H key =
+    λ key may. (c.loop-i.i, row, c.loop-i-test.true, sym c.index-rows-i.is, subst (λ (d : Defs). MayRepeat d row key) c.loop-i.invariant.same.defs may) in
+    subst (λ r. IfErr r (ByCause Never H (Unit {0}))) (sym e.1) (subst (ByCause Never H (Unit {0})) (sym e.2) (any_room Never (MayRepeat (defs_in c.loop-i.self) row) H _ c.in_err-insert_at_end.field-0.0 more c.in_err-insert_at_end.ensures.causes))
 
 pub loop-i-preserved : goal.loop-i-preserved
 loop-i-preserved g c =

@@ -3,13 +3,14 @@ use Rattle.myi_table.specs.declared.fault.ChangeFault.{ChangeFault}
 use Rattle.std.specs.Prelude.{string_bytes}
 use Rattle.myi_base.specs.Holding.{Told}
 use Rattle.myi_state.specs.Changes.{update}
-use Rattle.myi_table.specs.Table.{OpenTable, IsKept, Makes, Refuses, IfReply, StillHolds, KeepsRows}
+use Rattle.myi_table.specs.Table.{OpenTable, defs_in, IsKept, Makes, Refuses, IfReply, StillHolds, KeepsRows}
 use Rattle.myi_table.specs.Faults.{broken_by_fault}
 use Rattle.myi_rows.specs.Refusals.{LacksOther}
 use Rattle.myi_keyedrows.specs.KeyedRows.{IsLeft}
 use Rattle.myi_keyedrows.specs.Refusals.{FindsNoneAt}
+use Rattle.myi_rowtrees.specs.Duplicates.{MayRepeat}
 use Rattle.myi_table.specs.Refusals.{ByCause}
-use Rattle.myi_table.proofs.ChangeLemmas.{by_rows, left_rows, with_rows, makes_rows, refuses_rows, unchanged_rows, kept_made, kept_refused, refused_rows}
+use Rattle.myi_table.proofs.ChangeLemmas.{by_repeat, left_rows, with_rows, makes_rows, refuses_rows, unchanged_rows, kept_made, kept_refused, refused_rows}
 use Rattle.myi_table.proofs.table.Table.update.Goals as goal
 
 pub returns-in-Ok-clause-made : goal.returns-in-Ok-clause-made
@@ -72,10 +73,10 @@ returns-in-Err-clause-causes g c =
     let told = g.F.Files.holds c.args.files.now in
     let i = c.self.inside in
     let t : OpenTable = record { name = string_bytes i.name; setup = i.setup; header = i.header; lost = i.lost; rows = i.rows; changed = i.changed; broken = i.broken; added = i.added } in
-    let x = by_rows (FindsNoneAt t.rows.rows.file c.update-made.new.self.rows.places c.args.at told) (Unit {0}) (LacksOther t.rows.rows.file c.update-made.new.self.rows.places c.args.at c.args.row.now told) c.in-Err.fault c.in-Err.ensures.causes in
-    let y = subst (λ (r : ChangeFault). ByCause (FindsNoneAt t.rows.rows.file c.update-made.new.self.rows.places c.args.at told) (Unit {0}) (LacksOther t.rows.rows.file c.update-made.new.self.rows.places c.args.at c.args.row.now told) r) (sym c.broken_by.ensures.told) x in
-    let z = subst (λ (n : OpenTable). ByCause (FindsNoneAt t.rows.rows.file n.rows.rows.places c.args.at told) (Unit {0}) (LacksOther t.rows.rows.file n.rows.rows.places c.args.at c.args.row.now told) c.broken_by.result) (sym c.broken_by.ensures.left) y in
-    subst (λ (u : OpenTable). ByCause (FindsNoneAt u.rows.rows.file c.broken_by.new.self.rows.rows.places c.args.at told) (Unit {0}) (LacksOther u.rows.rows.file c.broken_by.new.self.rows.rows.places c.args.at c.args.row.now told) c.broken_by.result) c.self.view_is z
+    let x = by_repeat (defs_in t) i.defs c.args.row.now (FindsNoneAt t.rows.rows.file c.update-made.new.self.rows.places c.args.at told) (LacksOther t.rows.rows.file c.update-made.new.self.rows.places c.args.at c.args.row.now told) c.in-Err.fault c.self.invariant.defs c.in-Err.ensures.causes in
+    let y = subst (λ (r : ChangeFault). ByCause (FindsNoneAt t.rows.rows.file c.update-made.new.self.rows.places c.args.at told) (MayRepeat (defs_in t) c.args.row.now) (LacksOther t.rows.rows.file c.update-made.new.self.rows.places c.args.at c.args.row.now told) r) (sym c.broken_by.ensures.told) x in
+    let z = subst (λ (n : OpenTable). ByCause (FindsNoneAt t.rows.rows.file n.rows.rows.places c.args.at told) (MayRepeat (defs_in t) c.args.row.now) (LacksOther t.rows.rows.file n.rows.rows.places c.args.at c.args.row.now told) c.broken_by.result) (sym c.broken_by.ensures.left) y in
+    subst (λ (u : OpenTable). ByCause (FindsNoneAt u.rows.rows.file c.broken_by.new.self.rows.rows.places c.args.at told) (MayRepeat (defs_in u) c.args.row.now) (LacksOther u.rows.rows.file c.broken_by.new.self.rows.rows.places c.args.at c.args.row.now told) c.broken_by.result) c.self.view_is z
 
 pub returns-in-Err-clause-left : goal.returns-in-Err-clause-left
 returns-in-Err-clause-left g c =
