@@ -9,7 +9,7 @@ use case_lines::{Fault, Untold, Words, one_byte};
 use myi_history::scripts_may_run;
 use myi_memfiles::MemSink;
 use myi_script::{Script, ScriptFault, parse_script};
-use myi_shell::{OpenGate, run_script};
+use myi_shell::{OpenGate, Target, run_script};
 use myi_table::Table;
 
 /// The greatest setting of concurrent inserts.
@@ -30,7 +30,15 @@ fn push_run(
 {
     let alloc = words.alloc();
     let mut sink = MemSink::new(alloc, Vec::new(alloc))?;
-    let answer = run_script(alloc, table, script, setting, files, &mut sink, &OpenGate);
+    let answer = run_script(
+        alloc,
+        Target::One(table),
+        script,
+        setting,
+        files,
+        &mut sink,
+        &OpenGate,
+    );
     push_printed(out, sink.written())?;
     push_end(out, answer)
 }

@@ -5,6 +5,8 @@ pub use Rattle.myi_history.proofs.LineLemmas.{steps_run}
 pub use Rattle.myi_history.proofs.GrammarLemmas.{lines_run}
 -- ranges_find_matching_rows
 pub use Rattle.myi_history.proofs.ReadLemmas.{are_matching, matching_once}
+-- ranges_find_merged_rows
+pub use Rattle.myi_history.proofs.MergedLemmas.{merged_once}
 -- histories_are_replayed
 pub use Rattle.myi_history.proofs.ReplayLemmas.{replay_append, replay_round}
 -- appended_rows_stand_behind
@@ -30,7 +32,7 @@ pub use Rattle.myi_history.proofs.RunLemmas.{stops}
 -- tables_are_read
 pub use Rattle.myi_history.proofs.RunLemmas.{read_now}
 pub use Rattle.myi_history.proofs.FoundLemmas.{finds_before}
-pub use Rattle.myi_history.proofs.SeenLemmas.{run_state, run_appends, seen_rows}
+pub use Rattle.myi_history.proofs.SeenLemmas.{run_state, run_appends, seen_rows, seen_same}
 -- texts_stand_in_line_order
 pub use Rattle.myi_history.proofs.LineOrderLemmas.{texts_in_order}
 -- lines_are_answered_once

@@ -13,8 +13,7 @@ use Rattle.myi_locks.specs.Rounds.{LockState, next_round, has_steps}
 use Rattle.myi_locks.specs.Done.{steps_of, advanced, is_together}
 use Rattle.myi_locks.specs.Laws.{steps_left}
 use Rattle.myi_locks.proofs.CallerLemmas.{one_kind, still_one}
-use Rattle.myi_script.specs.declared.types.Line.{Line}
-use Rattle.myi_history.specs.History.{Opening, ScriptRound, asks, reads_only, changes, round_from, state_behind, number_behind, rounds, first_locks, rounds_of, has_hole}
+use Rattle.myi_history.specs.History.{Statements, Opening, ScriptRound, asks, reads_only, changes, round_from, state_behind, number_behind, rounds, first_locks, rounds_of, has_hole}
 use Rattle.myi_history.specs.Text.{Numbers}
 use Rattle.myi_history.specs.Bounds.{SessionNumber, PastNumbers, number_at, ReadFits, ReadsFit, IsBetween, noted, past_reads, own_in, RoundFits, past_behind, FitFrom, AreWithin, nothing_past}
 use Rattle.myi_history.specs.OneThread.{IsForced}
@@ -109,22 +108,22 @@ read_no_write kind.Unlock e = refl
 read_no_write kind.Stats e = refl
 read_no_write kind.End e = refl
 
-reads_change_nothing : (d : Defs) (ls : List Line) (r : LockState) (together : Bool) (s : TableState) (xs : List Step) → AllByRecursion (λ (x : Step). is_read x.kind ≡ true) xs → changes d (asks ls r together) s xs ≡ []
+reads_change_nothing : (d : Defs) (ls : Statements) (r : LockState) (together : Bool) (s : TableState) (xs : List Step) → AllByRecursion (λ (x : Step). is_read x.kind ≡ true) xs → changes d (asks ls r together) s xs ≡ []
 reads_change_nothing d ls r together s [] h = refl
 reads_change_nothing d ls r together s (x ∷ xs) h = rw (read_no_write x.kind h.0) (reads_change_nothing d ls r together s xs h.1)
 
-forced_round : (o : Opening) (r : LockState) (s : TableState) (n : ℕ) → length r.sessions ≤ 1 → IsForced o (round_from r s n)
-forced_round o r s n few = elim (one_kind r (has_hole s) few) [
-  | inl reads ↦ inl (reads_change_nothing o.defs o.lines r (is_together (next_round r (has_hole s))) s (steps_of (next_round r (has_hole s))) reads)
+forced_round : (o : Opening) (r : LockState) (s : TableState) (n : ℕ) → length r.sessions ≤ 1 → IsForced o (round_from o.script.takes r s n)
+forced_round o r s n few = elim (one_kind r (has_hole o.script.takes s) few) [
+  | inl reads ↦ inl (reads_change_nothing o.defs o.script r (is_together (next_round r (has_hole o.script.takes s))) s (steps_of (next_round r (has_hole o.script.takes s))) reads)
   | inr none ↦ inr none
 ]
 
 all_forced : (o : Opening) (fuel : ℕ) (r : LockState) (s : TableState) (n : ℕ) → length r.sessions ≤ 1 → AllByRecursion (IsForced o) (rounds o fuel r s n)
 all_forced o zero r s n few = tt
 all_forced o (suc fuel) r s n few =
-    go (has_steps r) (all_forced o fuel (advanced r (next_round r (has_hole s))) (state_behind o (round_from r s n)) (number_behind o (round_from r s n)) (let l = still_one r (next_round r (has_hole s)) in omega arith))
+    go (has_steps r) (all_forced o fuel (advanced r (next_round r (has_hole o.script.takes s))) (state_behind o (round_from o.script.takes r s n)) (number_behind o (round_from o.script.takes r s n)) (let l = still_one r (next_round r (has_hole o.script.takes s)) in omega arith))
   where
-    go : (b : Bool) → AllByRecursion (IsForced o) (later_rounds o fuel r s n) → AllByRecursion (IsForced o) (cond b (round_from r s n ∷ later_rounds o fuel r s n) [])
+    go : (b : Bool) → AllByRecursion (IsForced o) (later_rounds o fuel r s n) → AllByRecursion (IsForced o) (cond b (round_from o.script.takes r s n ∷ later_rounds o fuel r s n) [])
     go true h = (forced_round o r s n few, h)
     go false h = tt
 

@@ -5,6 +5,8 @@ mod ReplayLemmas
 mod NumberLemmas
 mod ForcedLemmas
 mod ReadLemmas
+mod PlaceLemmas
+mod MergedLemmas
 mod AppendLemmas
 mod RunLemmas
 mod FoundLemmas

@@ -43,9 +43,9 @@ rise_with : (low s n : ℕ) (ks : List StepKind) (rest : List Step) → low ≤ 
 rise_with low s n [] rest le h = rise_low low n rest le h
 rise_with low s n (k ∷ ks) rest le h = (le, rise_with n s n ks rest (omega arith) h)
 
-rises : (low : ℕ) (ls : List Line) → LinesGrow low ls → LinesRise low (script_steps ls)
-rises low [] h = tt
-rises low (l ∷ ls) h = rise_with low l.session l.line (kinds l.act) (script_steps ls) h.0 (rise_low l.line (l.line + 1) (script_steps ls) (omega arith) (rises (l.line + 1) ls h.1))
+rises : (low : ℕ) (list : Bool) (ls : List Line) → LinesGrow low ls → LinesRise low (script_steps list ls)
+rises low list [] h = tt
+rises low list (l ∷ ls) h = rise_with low l.session l.line (kinds list l.act) (script_steps list ls) h.0 (rise_low l.line (l.line + 1) (script_steps list ls) (omega arith) (rises (l.line + 1) list ls h.1))
 
 -- ---- no line has two sessions
 
@@ -61,58 +61,60 @@ are_own : (s n : ℕ) (ks : List StepKind) (rest : List Step) → LinesRise (n +
 are_own s n [] rest h k = k
 are_own s n (q ∷ ks) rest h k = (own_with s n ks rest h, are_own s n ks rest h k)
 
-lines_own : (low : ℕ) (ls : List Line) → LinesGrow low ls → LinesAreOwn (script_steps ls)
-lines_own low [] h = tt
-lines_own low (l ∷ ls) h = are_own l.session l.line (kinds l.act) (script_steps ls) (rises (l.line + 1) ls h.1) (lines_own (l.line + 1) ls h.1)
+lines_own : (low : ℕ) (list : Bool) (ls : List Line) → LinesGrow low ls → LinesAreOwn (script_steps list ls)
+lines_own low list [] h = tt
+lines_own low list (l ∷ ls) h = are_own l.session l.line (kinds list l.act) (script_steps list ls) (rises (l.line + 1) list ls h.1) (lines_own (l.line + 1) list ls h.1)
 
 -- ---- a Take comes behind the Release of its line
 
-take_with : (s n : ℕ) (a : Act) (b : Bool) (rest : List Step) → ((c : Bool) → TakesFollow c rest) → TakesFollow b (steps_with s n (kinds a) ++ rest)
-take_with s n (act.Insert v) b rest h = (λ e. cc, h false)
-take_with s n (act.Update p v) b rest h = (λ e. cc, h false)
-take_with s n (act.Delete p) b rest h = (λ e. cc, h false)
-take_with s n act.Scan b rest h = (λ e. cc, h false)
-take_with s n (act.Over r) b rest h = (λ e. cc, h false)
-take_with s n (act.Lock k) b rest h = (λ e. cc, (λ e. refl, h false))
-take_with s n act.Unlock b rest h = (λ e. cc, h false)
-take_with s n act.Stats b rest h = (λ e. cc, h false)
-take_with s n act.End b rest h = (λ e. cc, h false)
+take_with : (s n : ℕ) (list : Bool) (a : Act) (b : Bool) (rest : List Step) → ((c : Bool) → TakesFollow c rest) → TakesFollow b (steps_with s n (kinds list a) ++ rest)
+take_with s n true (act.Insert v) b rest h = (λ e. cc, h false)
+take_with s n false (act.Insert v) b rest h = (λ e. cc, h false)
+take_with s n list (act.Update p v) b rest h = (λ e. cc, h false)
+take_with s n list (act.Delete p) b rest h = (λ e. cc, h false)
+take_with s n list act.Scan b rest h = (λ e. cc, h false)
+take_with s n list (act.Over r) b rest h = (λ e. cc, h false)
+take_with s n list (act.Lock k) b rest h = (λ e. cc, (λ e. refl, h false))
+take_with s n list act.Unlock b rest h = (λ e. cc, h false)
+take_with s n list act.Stats b rest h = (λ e. cc, h false)
+take_with s n list act.End b rest h = (λ e. cc, h false)
 
-takes : (n : ℕ) (ls : List Line) (b : Bool) → TakesFollow b (own n (script_steps ls))
-takes n [] b = tt
-takes n (l ∷ ls) b = rw own_more (elim (eqb_tells l.session n) [
-  | inl p ↦ (let P : ℕ → Type 0 = λ m. TakesFollow b (own m (steps_of_line l) ++ own n (script_steps ls)) in subst P p.1 (rw (own_all l.session l.line (kinds l.act)) (take_with l.session l.line l.act b (own n (script_steps ls)) (λ c. takes n ls c))))
-  | inr p ↦ rw (own_none l.session n l.line (kinds l.act) p.0) (takes n ls b)
+takes : (n : ℕ) (list : Bool) (ls : List Line) (b : Bool) → TakesFollow b (own n (script_steps list ls))
+takes n list [] b = tt
+takes n list (l ∷ ls) b = rw own_more (elim (eqb_tells l.session n) [
+  | inl p ↦ (let P : ℕ → Type 0 = λ m. TakesFollow b (own m (steps_of_line list l) ++ own n (script_steps list ls)) in subst P p.1 (rw (own_all l.session l.line (kinds list l.act)) (take_with l.session l.line list l.act b (own n (script_steps list ls)) (λ c. takes n list ls c))))
+  | inr p ↦ rw (own_none l.session n l.line (kinds list l.act) p.0) (takes n list ls b)
 ])
 
 -- ---- nothing follows an end
 
-none_later : (n : ℕ) (ls : List Line) → AllByRecursion (λ (m : Line). m.session ≡ n → ⊥) ls → own n (script_steps ls) ≡ []
-none_later n [] h = refl
-none_later n (l ∷ ls) h = own_more n (steps_of_line l) (script_steps ls) ∙ elim (eqb_tells l.session n) [
+none_later : (n : ℕ) (list : Bool) (ls : List Line) → AllByRecursion (λ (m : Line). m.session ≡ n → ⊥) ls → own n (script_steps list ls) ≡ []
+none_later n list [] h = refl
+none_later n list (l ∷ ls) h = own_more n (steps_of_line list l) (script_steps list ls) ∙ elim (eqb_tells l.session n) [
   | inl p ↦ absurd (h.0 p.1)
-  | inr p ↦ rw (own_none l.session n l.line (kinds l.act) p.0) (none_later n ls h.1)
+  | inr p ↦ rw (own_none l.session n l.line (kinds list l.act) p.0) (none_later n list ls h.1)
 ]
 
-end_with : (s n : ℕ) (a : Act) (rest : List Step) → (is_end a ≡ true → rest ≡ []) → EndIsLast rest → EndIsLast (steps_with s n (kinds a) ++ rest)
-end_with s n (act.Insert v) rest e h = (λ q. cc, h)
-end_with s n (act.Update p v) rest e h = (λ q. cc, h)
-end_with s n (act.Delete p) rest e h = (λ q. cc, h)
-end_with s n act.Scan rest e h = (λ q. cc, h)
-end_with s n (act.Over r) rest e h = (λ q. cc, h)
-end_with s n (act.Lock k) rest e h = (λ q. cc, (λ q. cc, h))
-end_with s n act.Unlock rest e h = (λ q. cc, h)
-end_with s n act.Stats rest e h = (λ q. cc, h)
-end_with s n act.End rest e h = (λ q. e refl, h)
+end_with : (s n : ℕ) (list : Bool) (a : Act) (rest : List Step) → (is_end a ≡ true → rest ≡ []) → EndIsLast rest → EndIsLast (steps_with s n (kinds list a) ++ rest)
+end_with s n true (act.Insert v) rest e h = (λ q. cc, h)
+end_with s n false (act.Insert v) rest e h = (λ q. cc, h)
+end_with s n list (act.Update p v) rest e h = (λ q. cc, h)
+end_with s n list (act.Delete p) rest e h = (λ q. cc, h)
+end_with s n list act.Scan rest e h = (λ q. cc, h)
+end_with s n list (act.Over r) rest e h = (λ q. cc, h)
+end_with s n list (act.Lock k) rest e h = (λ q. cc, (λ q. cc, h))
+end_with s n list act.Unlock rest e h = (λ q. cc, h)
+end_with s n list act.Stats rest e h = (λ q. cc, h)
+end_with s n list act.End rest e h = (λ q. e refl, h)
 
-ends : (n : ℕ) (ls : List Line) → NothingFollows ls → EndIsLast (own n (script_steps ls))
-ends n [] h = tt
-ends n (l ∷ ls) h = rw own_more (elim (eqb_tells l.session n) [
-  | inl p ↦ (let P : ℕ → Type 0 = λ m. EndIsLast (own m (steps_of_line l) ++ own n (script_steps ls)) in
-      let Q : ℕ → Type 0 = λ m. is_end l.act ≡ true → own m (script_steps ls) ≡ [] in
-      subst P p.1 (rw (own_all l.session l.line (kinds l.act)) (end_with l.session l.line l.act (own n (script_steps ls)) (subst Q p.1 (λ e. none_later l.session ls (h.0 e))) (ends n ls h.1))))
-  | inr p ↦ rw (own_none l.session n l.line (kinds l.act) p.0) (ends n ls h.1)
+ends : (n : ℕ) (list : Bool) (ls : List Line) → NothingFollows ls → EndIsLast (own n (script_steps list ls))
+ends n list [] h = tt
+ends n list (l ∷ ls) h = rw own_more (elim (eqb_tells l.session n) [
+  | inl p ↦ (let P : ℕ → Type 0 = λ m. EndIsLast (own m (steps_of_line list l) ++ own n (script_steps list ls)) in
+      let Q : ℕ → Type 0 = λ m. is_end l.act ≡ true → own m (script_steps list ls) ≡ [] in
+      subst P p.1 (rw (own_all l.session l.line (kinds list l.act)) (end_with l.session l.line list l.act (own n (script_steps list ls)) (subst Q p.1 (λ e. none_later l.session list ls (h.0 e))) (ends n list ls h.1))))
+  | inr p ↦ rw (own_none l.session n l.line (kinds list l.act) p.0) (ends n list ls h.1)
 ])
 
-pub steps_run : (d : Defs) (ls : List Line) → MayRun d ls → IsScript (script_steps ls)
-steps_run d ls h = record { rise = rises 1 ls h.grow; lines = lines_own 1 ls h.grow; takes = λ n. takes n ls false; ends = λ n. ends n ls h.ends }
+pub steps_run : (d : Defs) (ls : List Line) → MayRun d ls → (list : Bool) → IsScript (script_steps list ls)
+steps_run d ls h list = record { rise = rises 1 list ls h.grow; lines = lines_own 1 list ls h.grow; takes = λ n. takes n list ls false; ends = λ n. ends n list ls h.ends }

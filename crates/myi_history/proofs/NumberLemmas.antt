@@ -125,7 +125,7 @@ low_behind : (o : Opening) (p : ScriptRound) (past : PastNumbers) (ns : Numbers)
 low_behind o p past ns same q =
     let P : List ℕ → Type 0 = λ k. Low p.before (past_reads past (steps_of p.round) k).numbers in
     record {
-      numbers = low_join (number_behind o p) (own_in o p) _ (low_changes o.defs (asked_in o.lines p) p.state p.before (steps_of p.round)) (low_more p.before (number_behind o p) _ (omega arith) (subst P (sym same) (low_reads p past (steps_of p.round) q.numbers q.taken)));
+      numbers = low_join (number_behind o p) (own_in o p) _ (low_changes o.defs (asked_in o.script p) p.state p.before (steps_of p.round)) (low_more p.before (number_behind o p) _ (omega arith) (subst P (sym same) (low_reads p past (steps_of p.round) q.numbers q.taken)));
       taken = low_join (number_behind o p) (taken_by p.before p.round) past.taken (low_taken p.before (number_behind o p) p.round (omega arith)) (low_more p.before (number_behind o p) past.taken (omega arith) q.taken);
     }
 
@@ -151,10 +151,10 @@ first_fits o p ps past (ns ∷ c) q same rise later =
 within : (o : Opening) (fuel : ℕ) (r : LockState) (s : TableState) (n : ℕ) → LaterFit o n (rounds o fuel r s n)
 within o zero r s n past c q same rise = none_mapped c same
 within o (suc fuel) r s n past c q same rise =
-    go (has_steps r) (within o fuel (advanced r (next_round r (has_hole s))) (state_behind o (round_from r s n)) (number_behind o (round_from r s n))) past c q same rise
+    go (has_steps r) (within o fuel (advanced r (next_round r (has_hole o.script.takes s))) (state_behind o (round_from o.script.takes r s n)) (number_behind o (round_from o.script.takes r s n))) past c q same rise
   where
-    go : (b : Bool) → LaterFit o (number_behind o (round_from r s n)) (later_rounds o fuel r s n) → LaterFit o n (cond b (round_from r s n ∷ later_rounds o fuel r s n) [])
-    go true later past c q same rise = first_fits o (round_from r s n) (later_rounds o fuel r s n) past c q same rise later
+    go : (b : Bool) → LaterFit o (number_behind o (round_from o.script.takes r s n)) (later_rounds o fuel r s n) → LaterFit o n (cond b (round_from o.script.takes r s n ∷ later_rounds o fuel r s n) [])
+    go true later past c q same rise = first_fits o (round_from o.script.takes r s n) (later_rounds o fuel r s n) past c q same rise later
     go false later past c q same rise = none_mapped c same
 
 pub counted_fit : (o : Opening) (c : List Numbers) → HaveReadsInTurn o c → StatsRise none_counted (rounds_of o) c → AreWithin o c

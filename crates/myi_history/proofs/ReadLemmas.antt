@@ -71,7 +71,7 @@ among_later low q (r ∷ rows) others order less h = (
     apart : (q.at == r.at) ≡ false
     apart = elim (eqb_tells q.at r.at) [ inl p ↦ absurd (let e : q.at ≡ r.at = p.1 in let l : low ≤ r.at = order.0 in omega arith) | inr p ↦ p.0 ]
 
-each_among : (low : ℕ) (rows : List StoredRow) → AreInOrder low rows → AllByRecursion (IsAmong rows) rows
+pub each_among : (low : ℕ) (rows : List StoredRow) → AreInOrder low rows → AllByRecursion (IsAmong rows) rows
 each_among low [] order = tt
 each_among low (q ∷ rows) order = (
   rw itself refl,

@@ -10,7 +10,7 @@ use Rattle.myi_locks.specs.Done.{steps_of, advanced}
 use Rattle.myi_locks.specs.Laws.{steps_left, IsLawful}
 use Rattle.myi_locks.proofs.CallerLemmas.{kept, fewer, finished, opens, rounds_end}
 use Rattle.myi_history.specs.Lines.{script_steps, MayRun}
-use Rattle.myi_history.specs.History.{Opening, ScriptRound, accepted_of, stepped_by, changes, state_after, changes_in, round_from, state_behind, number_behind, rounds, first_locks, rounds_of, history_in, history, locks_behind, has_hole, asked_in}
+use Rattle.myi_history.specs.History.{is_list, Opening, ScriptRound, accepted_of, stepped_by, changes, state_after, changes_in, round_from, state_behind, number_behind, rounds, first_locks, rounds_of, history_in, history, locks_behind, has_hole, asked_in}
 use Rattle.myi_history.specs.OneThread.{FollowsHistory}
 use Rattle.myi_history.proofs.LineLemmas.{steps_run}
 
@@ -49,7 +49,7 @@ replay_changes d asked s (x ∷ xs) =
     ∙ replay_changes d asked (stepped_by d s (asked x)) xs
 
 pub replay_round : (o : Opening) (p : ScriptRound) → replay o.defs p.state (changes_in o p) ≡ state_behind o p
-replay_round o p = replay_changes o.defs (asked_in o.lines p) p.state (steps_of p.round)
+replay_round o p = replay_changes o.defs (asked_in o.script p) p.state (steps_of p.round)
 
 -- ---- from a round on
 
@@ -59,25 +59,25 @@ pub record FollowsFrom (o : Opening) (r : LockState) (s : TableState) (n : ℕ) 
   pub left : has_steps p.locks ≡ true
   pub state : p.state ≡ replay o.defs s (history_in o front)
   pub before : p.before ≡ n + length (history_in o front)
-  pub round : p.round ≡ next_round p.locks (has_hole p.state)
+  pub round : p.round ≡ next_round p.locks (has_hole o.script.takes p.state)
 
 abbrev pub later_rounds : Opening → ℕ → LockState → TableState → ℕ → List ScriptRound
-later_rounds o fuel r s n = rounds o fuel (advanced r (next_round r (has_hole s))) (state_behind o (round_from r s n)) (number_behind o (round_from r s n))
+later_rounds o fuel r s n = rounds o fuel (advanced r (next_round r (has_hole o.script.takes s))) (state_behind o (round_from o.script.takes r s n)) (number_behind o (round_from o.script.takes r s n))
 
-found_first : (o : Opening) (r : LockState) (s : TableState) (n : ℕ) (p : ScriptRound) → has_steps r ≡ true → round_from r s n ≡ p → FollowsFrom o r s n [] p
+found_first : (o : Opening) (r : LockState) (s : TableState) (n : ℕ) (p : ScriptRound) → has_steps r ≡ true → round_from o.script.takes r s n ≡ p → FollowsFrom o r s n [] p
 found_first o r s n p left same =
     let P : ScriptRound → Type 0 = λ q. FollowsFrom o r s n [] q in
     subst P same (record { locks = refl; left = left; state = refl; before = omega arith; round = refl })
 
-found_later : (o : Opening) (r : LockState) (s : TableState) (n : ℕ) (q : ScriptRound) (front : List ScriptRound) (p : ScriptRound) → round_from r s n ≡ q
-    → FollowsFrom o (advanced r (next_round r (has_hole s))) (state_behind o (round_from r s n)) (number_behind o (round_from r s n)) front p → FollowsFrom o r s n (q ∷ front) p
+found_later : (o : Opening) (r : LockState) (s : TableState) (n : ℕ) (q : ScriptRound) (front : List ScriptRound) (p : ScriptRound) → round_from o.script.takes r s n ≡ q
+    → FollowsFrom o (advanced r (next_round r (has_hole o.script.takes s))) (state_behind o (round_from o.script.takes r s n)) (number_behind o (round_from o.script.takes r s n)) front p → FollowsFrom o r s n (q ∷ front) p
 found_later o r s n q front p same h =
     let P : ScriptRound → Type 0 = λ u. FollowsFrom o r s n (u ∷ front) p in
     subst P same (record {
       locks = h.locks;
       left = h.left;
-      state = h.state ∙ sym (replay_append o.defs s (changes_in o (round_from r s n)) (history_in o front) ∙ ap (λ u. replay o.defs u (history_in o front)) (replay_round o (round_from r s n)));
-      before = (let a = h.before in let l = length-append (changes_in o (round_from r s n)) (history_in o front) in omega arith);
+      state = h.state ∙ sym (replay_append o.defs s (changes_in o (round_from o.script.takes r s n)) (history_in o front) ∙ ap (λ u. replay o.defs u (history_in o front)) (replay_round o (round_from o.script.takes r s n)));
+      before = (let a = h.before in let l = length-append (changes_in o (round_from o.script.takes r s n)) (history_in o front) in omega arith);
       round = h.round;
     })
 
@@ -86,14 +86,14 @@ follows_from o zero r s n [] back p e = cc
 follows_from o zero r s n (q ∷ front) back p e = cc
 follows_from o (suc fuel) r s n [] back p e = go (has_steps r) refl e
   where
-    go : (b : Bool) → has_steps r ≡ b → cond b (round_from r s n ∷ later_rounds o fuel r s n) [] ≡ p ∷ back → FollowsFrom o r s n [] p
+    go : (b : Bool) → has_steps r ≡ b → cond b (round_from o.script.takes r s n ∷ later_rounds o fuel r s n) [] ≡ p ∷ back → FollowsFrom o r s n [] p
     go true left h = found_first o r s n p left (let k = h in cc)
     go false left h = cc
 follows_from o (suc fuel) r s n (q ∷ front) back p e =
-    go (has_steps r) e (λ h. follows_from o fuel (advanced r (next_round r (has_hole s))) (state_behind o (round_from r s n)) (number_behind o (round_from r s n)) front back p h)
+    go (has_steps r) e (λ h. follows_from o fuel (advanced r (next_round r (has_hole o.script.takes s))) (state_behind o (round_from o.script.takes r s n)) (number_behind o (round_from o.script.takes r s n)) front back p h)
   where
-    go : (b : Bool) → cond b (round_from r s n ∷ later_rounds o fuel r s n) [] ≡ q ∷ (front ++ p ∷ back)
-        → (later_rounds o fuel r s n ≡ front ++ p ∷ back → FollowsFrom o (advanced r (next_round r (has_hole s))) (state_behind o (round_from r s n)) (number_behind o (round_from r s n)) front p) → FollowsFrom o r s n (q ∷ front) p
+    go : (b : Bool) → cond b (round_from o.script.takes r s n ∷ later_rounds o fuel r s n) [] ≡ q ∷ (front ++ p ∷ back)
+        → (later_rounds o fuel r s n ≡ front ++ p ∷ back → FollowsFrom o (advanced r (next_round r (has_hole o.script.takes s))) (state_behind o (round_from o.script.takes r s n)) (number_behind o (round_from o.script.takes r s n)) front p) → FollowsFrom o r s n (q ∷ front) p
     go true h ih = found_later o r s n q front p (let k = h in cc) (ih (let k = h in cc))
     go false h ih = cc
 
@@ -101,24 +101,24 @@ pub follows_history : (o : Opening) (front back : List ScriptRound) (p : ScriptR
 unfolding rounds_of
 follows_history o front back p e =
     let h = follows_from o (steps_left (first_locks o).sessions) (first_locks o) o.base 0 front back p e in
-    record { locks = h.locks; left = h.left; state = h.state; before = h.before ∙ omega arith; round = h.round ∙ ap (λ s. next_round p.locks (has_hole s)) h.state }
+    record { locks = h.locks; left = h.left; state = h.state; before = h.before ∙ omega arith; round = h.round ∙ ap (λ s. next_round p.locks (has_hole o.script.takes s)) h.state }
 
 -- ---- to the end
 
 done_in : (o : Opening) (fuel : ℕ) (r : LockState) (s : TableState) (n : ℕ) → IsLawful r.sessions → steps_left r.sessions ≤ fuel → has_steps (locks_behind r (rounds o fuel r s n)) ≡ false
 done_in o zero r s n lawful few = finished r false (rounds_end r [] false lawful few)
 done_in o (suc fuel) r s n lawful few =
-    go (has_steps r) refl (λ less. done_in o fuel (advanced r (next_round r (has_hole s))) (state_behind o (round_from r s n)) (number_behind o (round_from r s n)) (kept r (has_hole s) lawful) less)
+    go (has_steps r) refl (λ less. done_in o fuel (advanced r (next_round r (has_hole o.script.takes s))) (state_behind o (round_from o.script.takes r s n)) (number_behind o (round_from o.script.takes r s n)) (kept r (has_hole o.script.takes s) lawful) less)
   where
     go : (b : Bool) → has_steps r ≡ b
-        → (steps_left (advanced r (next_round r (has_hole s))).sessions ≤ fuel → has_steps (locks_behind (advanced r (next_round r (has_hole s))) (later_rounds o fuel r s n)) ≡ false)
-        → has_steps (locks_behind r (cond b (round_from r s n ∷ later_rounds o fuel r s n) [])) ≡ false
-    go true left ih = ih (let l = fewer r (has_hole s) lawful left in omega arith)
+        → (steps_left (advanced r (next_round r (has_hole o.script.takes s))).sessions ≤ fuel → has_steps (locks_behind (advanced r (next_round r (has_hole o.script.takes s))) (later_rounds o fuel r s n)) ≡ false)
+        → has_steps (locks_behind r (cond b (round_from o.script.takes r s n ∷ later_rounds o fuel r s n) [])) ≡ false
+    go true left ih = ih (let l = fewer r (has_hole o.script.takes s) lawful left in omega arith)
     go false left ih = left
 
-pub none_left : (o : Opening) → MayRun o.defs o.lines → has_steps (locks_behind (first_locks o) (rounds_of o)) ≡ false
+pub none_left : (o : Opening) → MayRun o.defs o.script.lines → has_steps (locks_behind (first_locks o) (rounds_of o)) ≡ false
 unfolding rounds_of
-none_left o run = done_in o (steps_left (first_locks o).sessions) (first_locks o) o.base 0 (opens o.setting (script_steps o.lines) (steps_run o.defs o.lines run)) (omega arith)
+none_left o run = done_in o (steps_left (first_locks o).sessions) (first_locks o) o.base 0 (opens o.setting (script_steps (is_list o.script.takes) o.script.lines) (steps_run o.defs o.script.lines run (is_list o.script.takes))) (omega arith)
 
 history_more : (o : Opening) (ps qs : List ScriptRound) → history_in o (ps ++ qs) ≡ history_in o ps ++ history_in o qs
 history_more o [] qs = refl

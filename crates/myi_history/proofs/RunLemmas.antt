@@ -98,27 +98,27 @@ text_more o front c p ns has =
 pub has_begun : (o : Opening) → HasRun o [] []
 has_begun o = record { first = (rounds_of o, refl); reads = refl; counted = tt }
 
-round_is : (p : ScriptRound) (r : LockState) (s : TableState) (n : ℕ) → p.locks ≡ r → p.state ≡ s → p.before ≡ n → p.round ≡ next_round p.locks (has_hole s) → p ≡ round_from r s n
-round_is p r s n locks state before round =
+round_is : (o : Opening) (p : ScriptRound) (r : LockState) (s : TableState) (n : ℕ) → p.locks ≡ r → p.state ≡ s → p.before ≡ n → p.round ≡ next_round p.locks (has_hole o.script.takes s) → p ≡ round_from o.script.takes r s n
+round_is o p r s n locks state before round =
     let a : Round → ScriptRound = λ q. record { locks = p.locks; state = p.state; before = p.before; round = q } in
-    let b : LockState → ScriptRound = λ q. record { locks = q; state = p.state; before = p.before; round = next_round q (has_hole s) } in
-    let c : TableState → ScriptRound = λ q. record { locks = r; state = q; before = p.before; round = next_round r (has_hole s) } in
-    let d : ℕ → ScriptRound = λ q. record { locks = r; state = s; before = q; round = next_round r (has_hole s) } in
+    let b : LockState → ScriptRound = λ q. record { locks = q; state = p.state; before = p.before; round = next_round q (has_hole o.script.takes s) } in
+    let c : TableState → ScriptRound = λ q. record { locks = r; state = q; before = p.before; round = next_round r (has_hole o.script.takes s) } in
+    let d : ℕ → ScriptRound = λ q. record { locks = r; state = s; before = q; round = next_round r (has_hole o.script.takes s) } in
     ap a round ∙ ap b locks ∙ ap c state ∙ ap d before
 
 pub next_is : (o : Opening) (front back : List ScriptRound) (p : ScriptRound) → rounds_of o ≡ front ++ p ∷ back → p ≡ next_after o front
 next_is o front back p e =
     let f = follows_history o front back p e in
-    round_is p (locks_after o front) (table_after o front) (number_after o front) f.locks f.state f.before f.round
+    round_is o p (locks_after o front) (table_after o front) (number_after o front) f.locks f.state f.before f.round
 
-next_stands : (o : Opening) (front back : List ScriptRound) → MayRun o.defs o.lines → rounds_of o ≡ front ++ back → has_steps (locks_after o front) ≡ true
+next_stands : (o : Opening) (front back : List ScriptRound) → MayRun o.defs o.script.lines → rounds_of o ≡ front ++ back → has_steps (locks_after o front) ≡ true
     → (more : List ScriptRound) × (back ≡ next_after o front ∷ more)
 next_stands o front [] run e left =
     let same : has_steps (locks_behind (first_locks o) (rounds_of o)) ≡ has_steps (locks_after o front) = ap (λ ps. has_steps (locks_behind (first_locks o) ps)) (e ∙ append-nil front) in
     absurd (let k : true ≡ false = sym left ∙ sym same ∙ none_left o run in cc)
 next_stands o front (p ∷ more) run e left = (more, ap (λ q. q ∷ more) (next_is o front more p e))
 
-pub goes_on : (o : Opening) (front : List ScriptRound) (c : List Numbers) (ns : Numbers) → MayRun o.defs o.lines → HasRun o front c → has_steps (locks_after o front) ≡ true → IsNext o front c ns
+pub goes_on : (o : Opening) (front : List ScriptRound) (c : List Numbers) (ns : Numbers) → MayRun o.defs o.script.lines → HasRun o front c → has_steps (locks_after o front) ≡ true → IsNext o front c ns
     → HasRun o (front ++ next_after o front ∷ []) (c ++ ns ∷ [])
 goes_on o front c ns run has left next =
     let p : ScriptRound = next_after o front in

@@ -8,7 +8,7 @@ use Rattle.myi_defs.specs.Sound.{IsSound}
 use Rattle.myi_pack.specs.Packed.{Values}
 use Rattle.myi_pack.specs.Spelling.{fits}
 use Rattle.myi_state.specs.State.{TableState}
-use Rattle.myi_state.specs.Changes.{Change, accepted, replay}
+use Rattle.myi_state.specs.Changes.{Change, insert, insert_at_end, delete, update, accepted, replay}
 use Rattle.myi_state.specs.Sound.{IsState, MayCome}
 use Rattle.myi_state.proofs.CallerLemmas.{accepted-kept}
 use Rattle.myi_tablestate.specs.Keyed.{KeyedRefusal, keyed_step, keyed_step_by, keyed_refusal, if_made}
@@ -31,7 +31,7 @@ use Rattle.myi_script.specs.declared.types.Act.TheVariants as act
 use Rattle.myi_script.specs.declared.types.Line.{Line}
 use Rattle.myi_history.specs.Lines.{MayRun, BringsRow, act_of, script_steps}
 use Rattle.myi_history.specs.Appending.{IsAppend, AreAppends, rows_before}
-use Rattle.myi_history.specs.History.{Opening, ScriptRound, change_of, reads_only, asks, asked_in, accepted_of, stepped_by, changes, state_after, changes_in, first_locks, rounds_of, history, has_hole}
+use Rattle.myi_history.specs.History.{Taking, in_table, in_member, in_none, is_list, Statements, table_change, list_change, Opening, ScriptRound, change_of, reads_only, asks, asked_in, accepted_of, stepped_by, changes, state_after, changes_in, first_locks, rounds_of, history, has_hole}
 use Rattle.myi_history.specs.Text.{Numbers, state_at}
 use Rattle.myi_history.specs.Bounds.{SessionNumber, number_at, taken_by}
 use Rattle.myi_history.specs.Running.{taken_in, locks_after, table_after, number_after, next_after, seen_number, seen_state, HasRun}
@@ -65,30 +65,30 @@ by_rounds o P begin step front back e = round_by_round o P step [] front back e 
 
 -- ---- the locks of a script that may run
 
-pub record AreScripts (d : Defs) (ls : List Line) (r : LockState) : Type 0 where
+pub record AreScripts (d : Defs) (ls : Statements) (r : LockState) : Type 0 where
   pub lawful : IsLawful r.sessions
   pub exclusive : IsExclusive r.sessions
-  pub lines : EachLeft (IsOfLine d ls) r.sessions
+  pub lines : EachLeft (IsOfLine d ls.takes ls.lines) r.sessions
 
-locks_begin : (o : Opening) → MayRun o.defs o.lines → AreScripts o.defs o.lines (first_locks o)
+locks_begin : (o : Opening) → MayRun o.defs o.script.lines → AreScripts o.defs o.script (first_locks o)
 locks_begin o run = record {
-  lawful = opens o.setting (script_steps o.lines) (steps_run o.defs o.lines run);
-  exclusive = exclusive_opening o.setting (script_steps o.lines);
-  lines = opening_has (IsOfLine o.defs o.lines) o.setting (script_steps o.lines) (are_of_lines o.defs o.lines run.grow run.rows) (λ n q. absurd (cc));
+  lawful = opens o.setting (script_steps (is_list o.script.takes) o.script.lines) (steps_run o.defs o.script.lines run (is_list o.script.takes));
+  exclusive = exclusive_opening o.setting (script_steps (is_list o.script.takes) o.script.lines);
+  lines = opening_has (IsOfLine o.defs o.script.takes o.script.lines) o.setting (script_steps (is_list o.script.takes) o.script.lines) (are_of_lines o.defs o.script.takes o.script.lines run.grow run.rows) (λ n q. absurd (cc));
 }
 
-locks_stay : (d : Defs) (ls : List Line) (r : LockState) (hole : Bool) → AreScripts d ls r → AreScripts d ls (advanced r (next_round r hole))
+locks_stay : (d : Defs) (ls : Statements) (r : LockState) (hole : Bool) → AreScripts d ls r → AreScripts d ls (advanced r (next_round r hole))
 locks_stay d ls r hole h = record {
   lawful = kept r hole h.lawful;
   exclusive = exclusive_kept r hole h.lawful h.exclusive;
-  lines = round_leaves (IsOfLine d ls) r (next_round r hole) h.lines;
+  lines = round_leaves (IsOfLine d ls.takes ls.lines) r (next_round r hole) h.lines;
 }
 
-pub scripts_locks : (o : Opening) → MayRun o.defs o.lines → (front back : List ScriptRound) → rounds_of o ≡ front ++ back → AreScripts o.defs o.lines (locks_after o front)
+pub scripts_locks : (o : Opening) → MayRun o.defs o.script.lines → (front back : List ScriptRound) → rounds_of o ≡ front ++ back → AreScripts o.defs o.script (locks_after o front)
 scripts_locks o run front back e =
-    let P : LockState → Type 0 = λ r. AreScripts o.defs o.lines r in
-    by_rounds o (λ ps. AreScripts o.defs o.lines (locks_after o ps)) (locks_begin o run)
-    (λ ps next h. subst P (sym (locks_more o ps (next_after o ps))) (locks_stay o.defs o.lines (locks_after o ps) (has_hole (table_after o ps)) h))
+    let P : LockState → Type 0 = λ r. AreScripts o.defs o.script r in
+    by_rounds o (λ ps. AreScripts o.defs o.script (locks_after o ps)) (locks_begin o run)
+    (λ ps next h. subst P (sym (locks_more o ps (next_after o ps))) (locks_stay o.defs o.script (locks_after o ps) (has_hole o.script.takes (table_after o ps)) h))
     front back e
 
 -- ---- changes that are asked for have rows in form
@@ -109,24 +109,41 @@ act_brings d (l ∷ ls) n h = go (l.line == n) (act_brings d ls n h.1)
     go true ih = h.0
     go false ih = ih
 
-change_comes : (d : Defs) (t : Bool) (o : Option Act) → Brings d o → Comes d (change_of t o)
-change_comes d true (Some (act.Insert row)) h = h
-change_comes d false (Some (act.Insert row)) h = h
-change_comes d t (Some (act.Update at row)) h = h
-change_comes d t (Some (act.Delete at)) h = tt
-change_comes d t (Some act.Scan) h = tt
-change_comes d t (Some (act.Over range)) h = tt
-change_comes d t (Some (act.Lock lock)) h = tt
-change_comes d t (Some act.Unlock) h = tt
-change_comes d t (Some act.Stats) h = tt
-change_comes d t (Some act.End) h = tt
-change_comes d t None h = tt
+table_comes : (d : Defs) (t : Bool) (o : Option Act) → Brings d o → Comes d (table_change t o)
+table_comes d true (Some (act.Insert row)) h = h
+table_comes d false (Some (act.Insert row)) h = h
+table_comes d t (Some (act.Update at row)) h = h
+table_comes d t (Some (act.Delete at)) h = tt
+table_comes d t (Some act.Scan) h = tt
+table_comes d t (Some (act.Over range)) h = tt
+table_comes d t (Some (act.Lock lock)) h = tt
+table_comes d t (Some act.Unlock) h = tt
+table_comes d t (Some act.Stats) h = tt
+table_comes d t (Some act.End) h = tt
+table_comes d t None h = tt
 
-asked_comes : (d : Defs) (ls : List Line) (r : LockState) (t : Bool) (x : Step) → AllByRecursion (λ (l : Line). BringsRow d l.act) ls → Comes d (asks ls r t x)
+list_comes : (d : Defs) (o : Option Act) → Brings d o → Comes d (list_change o)
+list_comes d (Some (act.Insert row)) h = h
+list_comes d (Some (act.Update at row)) h = tt
+list_comes d (Some (act.Delete at)) h = tt
+list_comes d (Some act.Scan) h = tt
+list_comes d (Some (act.Over range)) h = tt
+list_comes d (Some (act.Lock lock)) h = tt
+list_comes d (Some act.Unlock) h = tt
+list_comes d (Some act.Stats) h = tt
+list_comes d (Some act.End) h = tt
+list_comes d None h = tt
+
+change_comes : (d : Defs) (k : Taking) (t : Bool) (o : Option Act) → Brings d o → Comes d (change_of k t o)
+change_comes d in_table t o h = table_comes d t o h
+change_comes d (in_member number) t o h = list_comes d o h
+change_comes d in_none t o h = tt
+
+asked_comes : (d : Defs) (ls : Statements) (r : LockState) (t : Bool) (x : Step) → AllByRecursion (λ (l : Line). BringsRow d l.act) ls.lines → Comes d (asks ls r t x)
 asked_comes d ls r t x h = go (writes_rows x.kind && not (reads_only r x.session))
   where
-    go : (b : Bool) → Comes d (cond b (change_of t (act_of ls x.line)) None)
-    go true = change_comes d t (act_of ls x.line) (act_brings d ls x.line h)
+    go : (b : Bool) → Comes d (cond b (change_of ls.takes t (act_of ls.lines x.line)) None)
+    go true = change_comes d ls.takes t (act_of ls.lines x.line) (act_brings d ls.lines x.line h)
     go false = tt
 
 -- ---- so states stay states
@@ -144,12 +161,12 @@ steps_keep : (d : Defs) (asked : Step → Option Change) (s : TableState) (xs : 
 steps_keep d asked s [] sound may state = state
 steps_keep d asked s (x ∷ xs) sound may state = steps_keep d asked (stepped_by d s (asked x)) xs sound may (step_keeps d s (asked x) sound (may x) state)
 
-pub stays_state : (o : Opening) → MayRun o.defs o.lines → IsSound o.defs → IsState o.defs o.base → (front back : List ScriptRound) → rounds_of o ≡ front ++ back → IsState o.defs (table_after o front)
+pub stays_state : (o : Opening) → MayRun o.defs o.script.lines → IsSound o.defs → IsState o.defs o.base → (front back : List ScriptRound) → rounds_of o ≡ front ++ back → IsState o.defs (table_after o front)
 stays_state o run sound base front back e =
     let P : TableState → Type 0 = λ s. IsState o.defs s in
     by_rounds o (λ ps. IsState o.defs (table_after o ps)) base
     (λ ps next h. let p : ScriptRound = next_after o ps in
-    subst P (sym (table_more o ps)) (steps_keep o.defs (asked_in o.lines p) p.state (steps_of p.round) sound (λ x. asked_comes o.defs o.lines p.locks (is_together p.round) x run.rows) h))
+    subst P (sym (table_more o ps)) (steps_keep o.defs (asked_in o.script p) p.state (steps_of p.round) sound (λ x. asked_comes o.defs o.script p.locks (is_together p.round) x run.rows) h))
     front back e
 
 -- ---- changes of a round while a session holds READ or READ LOCAL
@@ -190,26 +207,27 @@ steps_append d asked s [] h = tt
 steps_append d asked s (x ∷ xs) h =
     more_appends d (accepted_of d s (asked x)) (changes d asked (stepped_by d s (asked x)) xs) (accepted_appends d s (asked x) h.0) (steps_append d asked (stepped_by d s (asked x)) xs h.1)
 
-alone_asks : (d : Defs) (o : Option Act) (w reads : Bool) → (w ≡ true → reads ≡ true) → Appends d (cond (w && not reads) (change_of false o) None)
-alone_asks d o false reads h = tt
-alone_asks d o true reads h = rw (h refl) tt
+alone_asks : (d : Defs) (k : Taking) (o : Option Act) (w reads : Bool) → (w ≡ true → reads ≡ true) → Appends d (cond (w && not reads) (change_of k false o) None)
+alone_asks d k o false reads h = tt
+alone_asks d k o true reads h = rw (h refl) tt
 
-abbrev IsInsert : Defs → Option Act → Type 0
-IsInsert d o = (row : Values) × (o ≡ Some (act.Insert row)) × (fits d row ≡ true)
+abbrev IsInsert : Defs → Taking → Option Act → Type 0
+IsInsert d t o = (row : Values) × (o ≡ Some (act.Insert row)) × (fits d row ≡ true) × (t ≡ in_table)
 
-beside_asks : (d : Defs) (o : Option Act) (k : StepKind) (reads : Bool) → is_read k || is_insert k ≡ true → (is_insert k ≡ true → IsInsert d o) → Appends d (cond (writes_rows k && not reads) (change_of true o) None)
-beside_asks d o kind.Insert true e h = tt
-beside_asks d o kind.Insert false e h =
+beside_asks : (d : Defs) (t : Taking) (o : Option Act) (k : StepKind) (reads : Bool) → is_read k || is_insert k ≡ true → (is_insert k ≡ true → IsInsert d t o) → Appends d (cond (writes_rows k && not reads) (change_of t true o) None)
+beside_asks d t o kind.Insert true e h = tt
+beside_asks d t o kind.Insert false e h =
     let w = h refl in
-    let P : Option Act → Type 0 = λ q. Appends d (change_of true q) in
-    subst P (sym w.1) w.2
-beside_asks d o kind.Rows reads e h = tt
-beside_asks d o kind.Release reads e h = tt
-beside_asks d o (kind.Take lock) reads e h = tt
-beside_asks d o kind.Change reads e h = absurd (cc)
-beside_asks d o kind.Unlock reads e h = tt
-beside_asks d o kind.Stats reads e h = tt
-beside_asks d o kind.End reads e h = tt
+    let P : Option Act → Type 0 = λ q. Appends d (table_change true q) in
+    let Q : Taking → Type 0 = λ u. Appends d (change_of u true o) in
+    subst Q (sym w.3) (subst P (sym w.1) w.2)
+beside_asks d t o kind.Rows reads e h = tt
+beside_asks d t o kind.Release reads e h = tt
+beside_asks d t o (kind.Take lock) reads e h = tt
+beside_asks d t o kind.Change reads e h = absurd (cc)
+beside_asks d t o kind.Unlock reads e h = tt
+beside_asks d t o kind.Stats reads e h = tt
+beside_asks d t o kind.End reads e h = tt
 
 both : (P Q : Step → Type 0) (xs : List Step) → Each P xs → Each Q xs → Each (λ x. P x × Q x) xs
 both P Q [] h k = tt
@@ -218,27 +236,27 @@ both P Q (x ∷ xs) h k = ((h.0, k.0), both P Q xs h.1 k.1)
 abbrev GoesBeside : Step → Type 0
 GoesBeside x = is_read x.kind || is_insert x.kind ≡ true
 
-round_appends : (d : Defs) (ls : List Line) (r : LockState) (s : TableState) (round : Round) → list_any is_reader r.sessions ≡ true → IsRefused r round → ReadsOrInserts round → Each (IsOfLine d ls) (steps_of round)
+round_appends : (d : Defs) (ls : Statements) (r : LockState) (s : TableState) (round : Round) → list_any is_reader r.sessions ≡ true → IsRefused r round → ReadsOrInserts round → Each (IsOfLine d ls.takes ls.lines) (steps_of round)
     → AreAppends d (changes d (asks ls r (is_together round)) s (steps_of round))
 round_appends d ls r s Finished some refused kinds lines = tt
 round_appends d ls r s (Alone x) some refused kinds lines =
-    steps_append d (asks ls r false) s (x ∷ []) (alone_asks d (act_of ls x.line) (writes_rows x.kind) (reads_only r x.session) (λ w. refused x refl w some), tt)
+    steps_append d (asks ls r false) s (x ∷ []) (alone_asks d ls.takes (act_of ls.lines x.line) (writes_rows x.kind) (reads_only r x.session) (λ w. refused x refl w some), tt)
 round_appends d ls r s (Together inserter readers) some refused kinds lines =
     let xs : List Step = steps_of (Together inserter readers) in
     steps_append d (asks ls r true) s xs
-    (each_so (λ x. GoesBeside x × IsOfLine d ls x) (λ x. Appends d (asks ls r true x)) xs
-    (λ x h. beside_asks d (act_of ls x.line) x.kind (reads_only r x.session) h.0 h.1)
-    (both GoesBeside (IsOfLine d ls) xs (kinds refl) lines))
+    (each_so (λ x. GoesBeside x × IsOfLine d ls.takes ls.lines x) (λ x. Appends d (asks ls r true x)) xs
+    (λ x h. beside_asks d ls.takes (act_of ls.lines x.line) x.kind (reads_only r x.session) h.0 h.1)
+    (both GoesBeside (IsOfLine d ls.takes ls.lines) xs (kinds refl) lines))
 
-next_appends : (o : Opening) → MayRun o.defs o.lines → (front back : List ScriptRound) → rounds_of o ≡ front ++ back → (n : ℕ) → reads_only (locks_after o front) n ≡ true → AreAppends o.defs (changes_in o (next_after o front))
+next_appends : (o : Opening) → MayRun o.defs o.script.lines → (front back : List ScriptRound) → rounds_of o ≡ front ++ back → (n : ℕ) → reads_only (locks_after o front) n ≡ true → AreAppends o.defs (changes_in o (next_after o front))
 next_appends o run front back e n reads =
     let r : LockState = locks_after o front in
-    let hole : Bool = has_hole (table_after o front) in
-    let locks : AreScripts o.defs o.lines r = scripts_locks o run front back e in
-    round_appends o.defs o.lines r (table_after o front) (next_round r hole) (some_reader n r.sessions reads)
-    (refused_alone r hole locks.lawful locks.exclusive) (together_kinds r hole locks.lawful) (round_has (IsOfLine o.defs o.lines) r hole locks.lines)
+    let hole : Bool = has_hole o.script.takes (table_after o front) in
+    let locks : AreScripts o.defs o.script r = scripts_locks o run front back e in
+    round_appends o.defs o.script r (table_after o front) (next_round r hole) (some_reader n r.sessions reads)
+    (refused_alone r hole locks.lawful locks.exclusive) (together_kinds r hole locks.lawful) (round_has (IsOfLine o.defs o.script.takes o.script.lines) r hole locks.lines)
 
-pub run_appends : (o : Opening) (front : List ScriptRound) (c : List Numbers) (n : ℕ) → MayRun o.defs o.lines → HasRun o front c → reads_only (locks_after o front) n ≡ true → AreAppends o.defs (changes_in o (next_after o front))
+pub run_appends : (o : Opening) (front : List ScriptRound) (c : List Numbers) (n : ℕ) → MayRun o.defs o.script.lines → HasRun o front c → reads_only (locks_after o front) n ≡ true → AreAppends o.defs (changes_in o (next_after o front))
 run_appends o front c n run has reads = next_appends o run front has.first.0 has.first.1 n reads
 
 -- ---- where the lock was taken
@@ -331,21 +349,78 @@ take_notes round n k taken w = ap (λ q. number_at n (taken_by k q ++ taken)) w.
     first true e = rw itself refl
     first false e = cc
 
-take_leaves : (d : Defs) (ls : List Line) (r : LockState) (s : TableState) (round : Round) (n : ℕ) → IsTake round n → state_after d (asks ls r (is_together round)) s (steps_of round) ≡ s
+take_leaves : (d : Defs) (ls : Statements) (r : LockState) (s : TableState) (round : Round) (n : ℕ) → IsTake round n → state_after d (asks ls r (is_together round)) s (steps_of round) ≡ s
 take_leaves d ls r s round n w = ap (λ q. state_after d (asks ls r (is_together q)) s (steps_of q)) w.1 ∙ asks_none (writes_rows w.0.kind) (take_writes_none w.0.kind w.2)
   where
-    asks_none : (b : Bool) → b ≡ false → stepped_by d s (cond (b && not (reads_only r w.0.session)) (change_of false (act_of ls w.0.line)) None) ≡ s
+    asks_none : (b : Bool) → b ≡ false → stepped_by d s (cond (b && not (reads_only r w.0.session)) (change_of ls.takes false (act_of ls.lines w.0.line)) None) ≡ s
     asks_none false e = refl
     asks_none true e = cc
 
 -- ---- the rows that the session sees
 
--- the table that the session sees is a state, and the changes since are inserts at the end
+-- The table that the session sees is a state, and the changes since are inserts at the end. On a list there are none.
 pub record Sees (o : Opening) (front : List ScriptRound) (n : ℕ) : Type 0 where
   pub since : List Change
   pub state : IsState o.defs (seen_state o front n)
   pub appends : AreAppends o.defs since
   pub table : table_after o front ≡ replay o.defs (seen_state o front n) since
+  pub none : is_list o.script.takes ≡ true → since ≡ []
+
+-- a change that a list is asked for is none at the end
+abbrev IsNoAppend : Option Change → Type 0
+IsNoAppend None = Unit {0}
+IsNoAppend (Some (insert row)) = Unit {0}
+IsNoAppend (Some (insert_at_end row)) = ⊥
+IsNoAppend (Some (delete at)) = ⊥
+IsNoAppend (Some (update at row)) = ⊥
+
+inserts_ask : (o : Option Act) → IsNoAppend (list_change o)
+inserts_ask (Some (act.Insert row)) = tt
+inserts_ask (Some (act.Update at row)) = tt
+inserts_ask (Some (act.Delete at)) = tt
+inserts_ask (Some act.Scan) = tt
+inserts_ask (Some (act.Over range)) = tt
+inserts_ask (Some (act.Lock lock)) = tt
+inserts_ask (Some act.Unlock) = tt
+inserts_ask (Some act.Stats) = tt
+inserts_ask (Some act.End) = tt
+inserts_ask None = tt
+
+list_asks : (k : Taking) (t : Bool) (o : Option Act) → is_list k ≡ true → IsNoAppend (change_of k t o)
+list_asks in_table t o e = cc
+list_asks (in_member number) t o e = inserts_ask o
+list_asks in_none t o e = tt
+
+asks_list : (ls : Statements) (r : LockState) (t : Bool) (x : Step) → is_list ls.takes ≡ true → IsNoAppend (asks ls r t x)
+asks_list ls r t x e = go (writes_rows x.kind && not (reads_only r x.session))
+  where
+    go : (b : Bool) → IsNoAppend (cond b (change_of ls.takes t (act_of ls.lines x.line)) None)
+    go true = list_asks ls.takes t (act_of ls.lines x.line) e
+    go false = tt
+
+none_made : (d : Defs) (row : Values) (reply : Result ℕ KeyedRefusal) → AreAppends d (if_made (insert row) [] reply) → if_made (insert row) [] reply ≡ []
+none_made d row (Ok at) h = absurd h.0
+none_made d row (Err q) h = refl
+
+none_accepted : (d : Defs) (s : TableState) (o : Option Change) → IsNoAppend o → AreAppends d (accepted_of d s o) → accepted_of d s o ≡ []
+none_accepted d s None asks h = refl
+none_accepted d s (Some (insert row)) asks h = none_made d row (keyed_step d s (insert row)).reply h
+none_accepted d s (Some (insert_at_end row)) asks h = absurd asks
+none_accepted d s (Some (delete at)) asks h = absurd asks
+none_accepted d s (Some (update at row)) asks h = absurd asks
+
+both_append : (d : Defs) (cs ds : List Change) → AreAppends d (cs ++ ds) → AreAppends d cs × AreAppends d ds
+both_append d [] ds h = (tt, h)
+both_append d (c ∷ cs) ds h = let more = both_append d cs ds h.1 in ((h.0, more.0), more.1)
+
+-- so nothing is appended to one
+none_appended : (d : Defs) (ls : Statements) (r : LockState) (t : Bool) (s : TableState) (xs : List Step) → is_list ls.takes ≡ true → AreAppends d (changes d (asks ls r t) s xs) → changes d (asks ls r t) s xs ≡ []
+none_appended d ls r t s [] e h = refl
+none_appended d ls r t s (x ∷ xs) e h =
+    let asked = asks ls r t x in
+    let rest = changes d (asks ls r t) (stepped_by d s asked) xs in
+    let both = both_append d (accepted_of d s asked) rest h in
+    ap (λ cs. cs ++ rest) (none_accepted d s asked (asks_list ls r t x e) both.0) ∙ none_appended d ls r t (stepped_by d s asked) xs e both.1
 
 sees_at_take : (o : Opening) (front : List ScriptRound) (n : ℕ) → ComesNext o front → IsState o.defs (table_after o front) → IsTake (next_after o front).round n → Sees o (front ++ next_after o front ∷ []) n
 sees_at_take o front n next state w =
@@ -357,7 +432,8 @@ sees_at_take o front n next state w =
       since = [];
       state = subst P (sym seen) state;
       appends = tt;
-      table = table_more o front ∙ take_leaves o.defs o.lines p.locks p.state p.round n w ∙ sym seen;
+      table = table_more o front ∙ take_leaves o.defs o.script p.locks p.state p.round n w ∙ sym seen;
+      none = λ e. refl;
     }
 
 sees_later : (o : Opening) (front : List ScriptRound) (n : ℕ) → AreAppends o.defs (changes_in o (next_after o front)) → IsNone (next_after o front).round n → Sees o front n → Sees o (front ++ next_after o front ∷ []) n
@@ -373,20 +449,21 @@ sees_later o front n are none w =
       table =
           table_more o front ∙ sym (replay_round o p) ∙ ap (λ s. replay o.defs s (changes_in o p)) w.table
           ∙ sym (replay_append o.defs (seen_state o front n) w.since (changes_in o p)) ∙ ap (λ s. replay o.defs s (w.since ++ changes_in o p)) (sym seen);
+      none = λ e. ap (λ cs. cs ++ changes_in o p) (w.none e) ∙ none_appended o.defs o.script p.locks (is_together p.round) p.state (steps_of p.round) e are;
     }
 
 abbrev AllSee : Opening → List ScriptRound → Type 0
 AllSee o front = (n : ℕ) → reads_only (locks_after o front) n ≡ true → Sees o front n
 
 none_sees : (o : Opening) → AllSee o []
-none_sees o n e = absurd (let k : false ≡ true = sym (ap holds_lock (none_held o.setting (script_steps o.lines) n)) ∙ e in cc)
+none_sees o n e = absurd (let k : false ≡ true = sym (ap holds_lock (none_held o.setting (script_steps (is_list o.script.takes) o.script.lines) n)) ∙ e in cc)
 
-sees_next : (o : Opening) → MayRun o.defs o.lines → IsSound o.defs → IsState o.defs o.base → (front : List ScriptRound) → ComesNext o front → AllSee o front → AllSee o (front ++ next_after o front ∷ [])
+sees_next : (o : Opening) → MayRun o.defs o.script.lines → IsSound o.defs → IsState o.defs o.base → (front : List ScriptRound) → ComesNext o front → AllSee o front → AllSee o (front ++ next_after o front ∷ [])
 sees_next o run sound base front next see n e =
     let p : ScriptRound = next_after o front in
     let r : LockState = locks_after o front in
-    let hole : Bool = has_hole (table_after o front) in
-    let locks : AreScripts o.defs o.lines r = scripts_locks o run front (p ∷ next.0) next.1 in
+    let hole : Bool = has_hole o.script.takes (table_after o front) in
+    let locks : AreScripts o.defs o.script r = scripts_locks o run front (p ∷ next.0) next.1 in
     let after : holds_lock (lock_left (held r n) (own n (steps_of p.round))) ≡ true =
     sym (ap (λ q. holds_lock (held q n)) (locks_more o front p) ∙ ap holds_lock (held_by_steps r hole locks.lawful n)) ∙ e in
     elim (takes_or_none p.round n (together_kinds r hole locks.lawful)) [
@@ -395,14 +472,21 @@ sees_next o run sound base front next see n e =
           sees_later o front n (next_appends o run front (p ∷ next.0) next.1 n reads) none (see n reads))
     ]
 
-sees : (o : Opening) → MayRun o.defs o.lines → IsSound o.defs → IsState o.defs o.base → (front back : List ScriptRound) → rounds_of o ≡ front ++ back → AllSee o front
+sees : (o : Opening) → MayRun o.defs o.script.lines → IsSound o.defs → IsState o.defs o.base → (front back : List ScriptRound) → rounds_of o ≡ front ++ back → AllSee o front
 sees o run sound base front back e = by_rounds o (λ ps. AllSee o ps) (none_sees o) (sees_next o run sound base) front back e
 
-pub seen_rows : (o : Opening) (front : List ScriptRound) (c : List Numbers) (n : ℕ) → MayRun o.defs o.lines → IsSound o.defs → IsState o.defs o.base → HasRun o front c → reads_only (locks_after o front) n ≡ true
+pub seen_rows : (o : Opening) (front : List ScriptRound) (c : List Numbers) (n : ℕ) → MayRun o.defs o.script.lines → IsSound o.defs → IsState o.defs o.base → HasRun o front c → reads_only (locks_after o front) n ≡ true
     → rows_before (seen_state o front n).space.end (table_after o front).rows ≡ (seen_state o front n).rows
 seen_rows o front c n run sound base has reads =
     let w = sees o run sound base front has.first.0 has.first.1 n reads in
     ap (λ (s : TableState). rows_before (seen_state o front n).space.end s.rows) w.table ∙ appends_stand_behind o.defs (seen_state o front n) w.since sound w.state w.appends
 
-pub run_state : (o : Opening) (front : List ScriptRound) (c : List Numbers) → MayRun o.defs o.lines → IsSound o.defs → IsState o.defs o.base → HasRun o front c → IsState o.defs (table_after o front)
+-- on a list it finds the tables as they are
+pub seen_same : (o : Opening) (front : List ScriptRound) (c : List Numbers) (n : ℕ) → MayRun o.defs o.script.lines → IsSound o.defs → IsState o.defs o.base → HasRun o front c → reads_only (locks_after o front) n ≡ true
+    → is_list o.script.takes ≡ true → seen_state o front n ≡ table_after o front
+seen_same o front c n run sound base has reads list =
+    let w = sees o run sound base front has.first.0 has.first.1 n reads in
+    sym (w.table ∙ ap (λ cs. replay o.defs (seen_state o front n) cs) (w.none list))
+
+pub run_state : (o : Opening) (front : List ScriptRound) (c : List Numbers) → MayRun o.defs o.script.lines → IsSound o.defs → IsState o.defs o.base → HasRun o front c → IsState o.defs (table_after o front)
 run_state o front c run sound base has = stays_state o run sound base front has.first.0 has.first.1

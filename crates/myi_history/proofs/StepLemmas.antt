@@ -20,6 +20,7 @@ use Rattle.myi_locks.specs.Script.{own, numbers, opening, with_end, added_end, s
 use Rattle.myi_script.specs.declared.types.Act.{Act}
 use Rattle.myi_script.specs.declared.types.Act.TheVariants as act
 use Rattle.myi_script.specs.declared.types.Line.{Line}
+use Rattle.myi_history.specs.History.{Taking, in_table, in_member, in_none, is_list}
 use Rattle.myi_history.specs.Lines.{kinds, steps_with, steps_of_line, script_steps, act_of, LinesGrow, BringsRow}
 
 abbrev pub Each : (Step → Type 0) → List Step → Type 0
@@ -196,23 +197,25 @@ opening_has P setting xs h k = sessions_have P xs (numbers xs) h k
 
 -- ---- lines
 
--- where the step is an insert, its line is one, of a row that has the form that the definitions ask for
-abbrev pub IsOfLine : Defs → List Line → Step → Type 0
-IsOfLine d ls x = is_insert x.kind ≡ true → (row : Values) × (act_of ls x.line ≡ Some (act.Insert row)) × (fits d row ≡ true)
+-- where the step is an insert, there is one table, and its line is one, of a row that has the form that the definitions ask for
+abbrev pub IsOfLine : Defs → Taking → List Line → Step → Type 0
+IsOfLine d t ls x = is_insert x.kind ≡ true → (row : Values) × (act_of ls x.line ≡ Some (act.Insert row)) × (fits d row ≡ true) × (t ≡ in_table)
 
-abbrev IsFrom : Defs → List Line → ℕ → Step → Type 0
-IsFrom d ls low x = (low ≤ x.line) × IsOfLine d ls x
+abbrev IsFrom : Defs → Taking → List Line → ℕ → Step → Type 0
+IsFrom d t ls low x = (low ≤ x.line) × IsOfLine d t ls x
 
-of_act : (d : Defs) (ls : List Line) (low s n : ℕ) (a : Act) → act_of ls n ≡ Some a → BringsRow d a → low ≤ n → Each (IsFrom d ls low) (steps_with s n (kinds a))
-of_act d ls low s n (act.Insert row) e brings le = ((le, λ q. (row, e, brings)), tt)
-of_act d ls low s n (act.Update at row) e brings le = ((le, λ q. absurd (cc)), tt)
-of_act d ls low s n (act.Delete at) e brings le = ((le, λ q. absurd (cc)), tt)
-of_act d ls low s n act.Scan e brings le = ((le, λ q. absurd (cc)), tt)
-of_act d ls low s n (act.Over range) e brings le = ((le, λ q. absurd (cc)), tt)
-of_act d ls low s n (act.Lock lock) e brings le = ((le, λ q. absurd (cc)), ((le, λ q. absurd (cc)), tt))
-of_act d ls low s n act.Unlock e brings le = ((le, λ q. absurd (cc)), tt)
-of_act d ls low s n act.Stats e brings le = ((le, λ q. absurd (cc)), tt)
-of_act d ls low s n act.End e brings le = ((le, λ q. absurd (cc)), tt)
+of_act : (d : Defs) (t : Taking) (ls : List Line) (low s n : ℕ) (a : Act) → act_of ls n ≡ Some a → BringsRow d a → low ≤ n → Each (IsFrom d t ls low) (steps_with s n (kinds (is_list t) a))
+of_act d in_table ls low s n (act.Insert row) e brings le = ((le, λ q. (row, e, brings, refl)), tt)
+of_act d (in_member k) ls low s n (act.Insert row) e brings le = ((le, λ q. absurd (cc)), tt)
+of_act d in_none ls low s n (act.Insert row) e brings le = ((le, λ q. absurd (cc)), tt)
+of_act d t ls low s n (act.Update at row) e brings le = ((le, λ q. absurd (cc)), tt)
+of_act d t ls low s n (act.Delete at) e brings le = ((le, λ q. absurd (cc)), tt)
+of_act d t ls low s n act.Scan e brings le = ((le, λ q. absurd (cc)), tt)
+of_act d t ls low s n (act.Over range) e brings le = ((le, λ q. absurd (cc)), tt)
+of_act d t ls low s n (act.Lock lock) e brings le = ((le, λ q. absurd (cc)), ((le, λ q. absurd (cc)), tt))
+of_act d t ls low s n act.Unlock e brings le = ((le, λ q. absurd (cc)), tt)
+of_act d t ls low s n act.Stats e brings le = ((le, λ q. absurd (cc)), tt)
+of_act d t ls low s n act.End e brings le = ((le, λ q. absurd (cc)), tt)
 
 first_act : (l : Line) (ls : List Line) → act_of (l ∷ ls) l.line ≡ Some l.act
 first_act l ls = rw itself refl
@@ -226,18 +229,18 @@ later_act l ls n le = rw other refl
     other : (l.line == n) ≡ false
     other = elim (eqb_tells l.line n) [ inl p ↦ absurd (let e : l.line ≡ n = p.1 in omega arith) | inr p ↦ p.0 ]
 
-from_lines : (d : Defs) (low : ℕ) (ls : List Line) → LinesGrow low ls → AllByRecursion (λ (l : Line). BringsRow d l.act) ls → Each (IsFrom d ls low) (script_steps ls)
-from_lines d low [] grow brings = tt
-from_lines d low (l ∷ ls) grow brings =
-    each_join (IsFrom d (l ∷ ls) low) (steps_of_line l) (script_steps ls)
-    (of_act d (l ∷ ls) low l.session l.line l.act (first_act l ls) brings.0 grow.0)
-    (each_so (IsFrom d ls (l.line + 1)) (IsFrom d (l ∷ ls) low) (script_steps ls) later (from_lines d (l.line + 1) ls grow.1 brings.1))
+from_lines : (d : Defs) (t : Taking) (low : ℕ) (ls : List Line) → LinesGrow low ls → AllByRecursion (λ (l : Line). BringsRow d l.act) ls → Each (IsFrom d t ls low) (script_steps (is_list t) ls)
+from_lines d t low [] grow brings = tt
+from_lines d t low (l ∷ ls) grow brings =
+    each_join (IsFrom d t (l ∷ ls) low) (steps_of_line (is_list t) l) (script_steps (is_list t) ls)
+    (of_act d t (l ∷ ls) low l.session l.line l.act (first_act l ls) brings.0 grow.0)
+    (each_so (IsFrom d t ls (l.line + 1)) (IsFrom d t (l ∷ ls) low) (script_steps (is_list t) ls) later (from_lines d t (l.line + 1) ls grow.1 brings.1))
   where
-    later : (x : Step) → IsFrom d ls (l.line + 1) x → IsFrom d (l ∷ ls) low x
+    later : (x : Step) → IsFrom d t ls (l.line + 1) x → IsFrom d t (l ∷ ls) low x
     later x h = (
       (let a : low ≤ l.line = grow.0 in let b : l.line + 1 ≤ x.line = h.0 in omega arith),
-      λ q. (let w = h.1 q in (w.0, later_act l ls x.line h.0 ∙ w.1, w.2)),
+      λ q. (let w = h.1 q in (w.0, later_act l ls x.line h.0 ∙ w.1, w.2, w.3)),
     )
 
-pub are_of_lines : (d : Defs) (ls : List Line) → LinesGrow 1 ls → AllByRecursion (λ (l : Line). BringsRow d l.act) ls → Each (IsOfLine d ls) (script_steps ls)
-are_of_lines d ls grow brings = each_so (IsFrom d ls 1) (IsOfLine d ls) (script_steps ls) (λ x h. h.1) (from_lines d 1 ls grow brings)
+pub are_of_lines : (d : Defs) (t : Taking) (ls : List Line) → LinesGrow 1 ls → AllByRecursion (λ (l : Line). BringsRow d l.act) ls → Each (IsOfLine d t ls) (script_steps (is_list t) ls)
+are_of_lines d t ls grow brings = each_so (IsFrom d t ls 1) (IsOfLine d t ls) (script_steps (is_list t) ls) (λ x h. h.1) (from_lines d t 1 ls grow brings)

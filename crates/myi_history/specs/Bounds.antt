@@ -109,7 +109,7 @@ RoundFits o past p ns =
     × (is_stats (steps_of p.round) ≡ true → CountersRise past.counters ns.counters)
 
 abbrev pub own_in : Opening → ScriptRound → List SessionNumber
-own_in o p = own_numbers o.defs (asked_in o.lines p) p.state p.before (steps_of p.round)
+own_in o p = own_numbers o.defs (asked_in o.script p) p.state p.before (steps_of p.round)
 
 abbrev pub past_behind : Opening → PastNumbers → ScriptRound → Numbers → PastNumbers
 past_behind o past p ns =

@@ -1,5 +1,5 @@
 -- The steps of a script's lines, and what the lines of a script that may run meet.
-use Rattle.std.specs.Prelude.{◌≡◌, ℕ, ◌+◌, ◌≤◌, true, ◌==◌, List, [], ◌∷◌, map, length, Option, Some, None, option_map}
+use Rattle.std.specs.Prelude.{◌≡◌, ℕ, ◌+◌, ◌≤◌, Bool, true, ◌==◌, List, [], ◌∷◌, map, length, Option, Some, None, option_map, if◌then◌else◌}
 use Rattle.std.specs.List.{AllByRecursion, flat_map, find}
 use Rattle.myi_defs.specs.declared.types.Defs.{Defs}
 use Rattle.myi_data.specs.Keys.{IsKeyNumber}
@@ -17,33 +17,33 @@ use Rattle.myi_script.specs.Script.{is_end}
 
 -- ---- steps
 
--- the kind of a statement's step, and of one that takes a lock that of the second
-abbrev pub kind_of : Act → StepKind
-kind_of (act.Insert row) = kind.Insert
-kind_of (act.Update at row) = kind.Change
-kind_of (act.Delete at) = kind.Change
-kind_of act.Scan = kind.Rows
-kind_of (act.Over range) = kind.Rows
-kind_of (act.Lock lock) = kind.Take lock
-kind_of act.Unlock = kind.Unlock
-kind_of act.Stats = kind.Stats
-kind_of act.End = kind.End
+-- The kind of a statement's step, and of one that takes a lock that of the second. On a MERGE list no insert goes beside reads.
+abbrev pub kind_of : Bool → Act → StepKind
+kind_of list (act.Insert row) = if list then kind.Change else kind.Insert
+kind_of list (act.Update at row) = kind.Change
+kind_of list (act.Delete at) = kind.Change
+kind_of list act.Scan = kind.Rows
+kind_of list (act.Over range) = kind.Rows
+kind_of list (act.Lock lock) = kind.Take lock
+kind_of list act.Unlock = kind.Unlock
+kind_of list act.Stats = kind.Stats
+kind_of list act.End = kind.End
 
 -- the kinds of its steps: before a lock is taken, the session's lock is given up
-abbrev pub kinds : Act → List StepKind
-kinds (act.Lock lock) = kind.Release ∷ kind_of (act.Lock lock) ∷ []
-kinds a = kind_of a ∷ []
+abbrev pub kinds : Bool → Act → List StepKind
+kinds list (act.Lock lock) = kind.Release ∷ kind_of list (act.Lock lock) ∷ []
+kinds list a = kind_of list a ∷ []
 
 -- steps of these kinds, of a session and a line
 abbrev pub steps_with : ℕ → ℕ → List StepKind → List Step
 steps_with session line ks = map (λ k. record { session = session; line = line; kind = k }) ks
 
-abbrev pub steps_of_line : Line → List Step
-steps_of_line l = steps_with l.session l.line (kinds l.act)
+abbrev pub steps_of_line : Bool → Line → List Step
+steps_of_line list l = steps_with l.session l.line (kinds list l.act)
 
--- the steps of a script
-abbrev pub script_steps : List Line → List Step
-script_steps ls = flat_map steps_of_line ls
+-- the steps of a script on a table, or on a MERGE list
+abbrev pub script_steps : Bool → List Line → List Step
+script_steps list ls = flat_map (steps_of_line list) ls
 
 -- the statement of a line, by the line's number
 abbrev pub act_of : List Line → ℕ → Option Act

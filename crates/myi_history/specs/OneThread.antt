@@ -54,7 +54,7 @@ pub record FollowsHistory (o : Opening) (front : List ScriptRound) (p : ScriptRo
   pub left : has_steps p.locks ≡ true
   pub state : p.state ≡ replay o.defs o.base (history_in o front)
   pub before : p.before ≡ length (history_in o front)
-  pub round : p.round ≡ next_round p.locks (has_hole (replay o.defs o.base (history_in o front)))
+  pub round : p.round ≡ next_round p.locks (has_hole o.script.takes (replay o.defs o.base (history_in o front)))
 
 -- in this round no change is accepted, or nothing is read
 abbrev pub IsForced : Opening → ScriptRound → Type 0

@@ -8,17 +8,19 @@ use Rattle.myi_locks.specs.Done.{steps_of}
 use Rattle.myi_history.specs.declared.answers.StepAnswer.{StepAnswer}
 use Rattle.myi_history.specs.declared.answers.StepAnswer.TheVariants as step
 use Rattle.myi_history.specs.declared.round_texts.Said.{Said}
-use Rattle.myi_history.specs.Answers.{Answer, made, refused, locked_for_read, done, counted, LineAnswer, said_text}
+use Rattle.myi_history.specs.Answers.{Answer, made, made_in, refused, locked_for_read, no_method, done, counted, LineAnswer, said_text}
 use Rattle.myi_history.specs.History.{Opening, ScriptRound}
 use Rattle.myi_history.specs.Text.{Numbers, reads_said, others_said}
 
 -- what a step answers that is no read
 abbrev pub answer_of : StepAnswer → Answer
 answer_of (step.Made at) = made at
+answer_of (step.MadeIn table at) = made_in table at
 answer_of (step.NoRow at) = refused (lacks at)
 answer_of (step.Duplicate key at) = refused (duplicate key at)
 answer_of step.Full = refused too_long
 answer_of step.LockedForRead = locked_for_read
+answer_of step.NoInsertMethod = no_method
 answer_of step.Done = done
 answer_of (step.Counted counters) = counted counters
 

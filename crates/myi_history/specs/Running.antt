@@ -38,7 +38,7 @@ number_after o front = length (history_in o front)
 
 -- the round that comes next
 abbrev pub next_after : Opening → List ScriptRound → ScriptRound
-next_after o front = round_from (locks_after o front) (table_after o front) (number_after o front)
+next_after o front = round_from o.script.takes (locks_after o front) (table_after o front) (number_after o front)
 
 -- what they print
 abbrev pub run_text : Opening → List ScriptRound → List Numbers → List ℕ

@@ -1,11 +1,11 @@
 -- What a script prints, by the numbers that its reads are given and the counters that its `stats` print. The lines of a round are
 -- printed behind it, in order of their numbers.
-use Rattle.std.specs.Prelude.{ℕ, Bool, true, false, ◌==◌, nat_lt, List, [], ◌∷◌, ◌++◌, take, drop, fold, slice_index, Option, Some, None, if◌then◌else◌}
+use Rattle.std.specs.Prelude.{ℕ, Bool, true, false, ◌==◌, nat_lt, List, [], ◌∷◌, ◌++◌, take, drop, fold, slice_index, Option, Some, None, Result, Ok, Err, if◌then◌else◌}
 use Rattle.std.specs.List.{flat_map}
 use Rattle.myi_keycache.specs.declared.setup.Counters.{Counters}
 use Rattle.myi_state.specs.State.{TableState}
 use Rattle.myi_state.specs.Changes.{Change, replay}
-use Rattle.myi_tablestate.specs.Keyed.{keyed_step}
+use Rattle.myi_tablestate.specs.Keyed.{KeyedRefusal, keyed_step}
 use Rattle.myi_locks.specs.declared.steps.StepKind.{StepKind}
 use Rattle.myi_locks.specs.declared.steps.StepKind.TheVariants as kind
 use Rattle.myi_locks.specs.declared.steps.Step.{Step}
@@ -13,9 +13,11 @@ use Rattle.myi_locks.specs.Steps.{is_read}
 use Rattle.myi_locks.specs.Done.{steps_of}
 use Rattle.myi_defs.specs.declared.types.Defs.{Defs}
 use Rattle.myi_history.specs.Lines.{act_of}
-use Rattle.myi_history.specs.Reads.{found}
-use Rattle.myi_history.specs.Answers.{Answer, locked_for_read, done, rows, counted, by_reply, LineAnswer, answer_on, said_text}
-use Rattle.myi_history.specs.History.{Opening, ScriptRound, asked_in, reads_only, stepped_by, rounds_of, history}
+use Rattle.myi_history.specs.Reads.{found, merged_found}
+use Rattle.myi_script.specs.declared.types.Act.{Act}
+use Rattle.myi_script.specs.declared.types.Act.TheVariants as act
+use Rattle.myi_history.specs.Answers.{Answer, made, made_in, refused, locked_for_read, no_method, done, rows, merged, counted, LineAnswer, answer_on, said_text}
+use Rattle.myi_history.specs.History.{Taking, in_table, in_member, in_none, Beside, in_list, Statements, Opening, ScriptRound, asked_in, reads_only, stepped_by, rounds_of, history}
 
 -- what is free in the text of a round: a number for each of its reads, in the order of the steps, and what the key cache counted
 -- at a `stats`
@@ -29,9 +31,15 @@ pub record Numbers : Type 0 where
 abbrev pub state_at : Opening → List Change → ℕ → TableState
 state_at o h n = replay o.defs o.base (take n h)
 
+-- what a statement that reads says where the table is in a state, after n changes
+abbrev pub finds : Taking → Beside → Defs → TableState → Option Act → ℕ → Answer
+finds in_table b d s a n = rows (found d s a) n
+finds (in_member number) b d s a n = merged (merged_found d (in_list b s) a) n
+finds in_none b d s a n = merged (merged_found d (in_list b s) a) n
+
 -- what a read of a line says that sees the first n changes
 abbrev pub rows_at : Opening → List Change → ℕ → ℕ → Answer
-rows_at o h line n = rows (found o.defs (state_at o h n) (act_of o.lines line)) n
+rows_at o h line n = finds o.script.takes o.beside o.defs (state_at o h n) (act_of o.script.lines line) n
 
 -- what the reads of a round say, by their numbers
 abbrev pub reads_said : Opening → List Change → List Step → List ℕ → List LineAnswer
@@ -43,14 +51,35 @@ reads_said o h (x ∷ xs) ns =
 
 -- ---- other steps
 
-abbrev pub change_said : Defs → ℕ → TableState → Option Change → List LineAnswer
-change_said d n s None = []
-change_said d n s (Some c) = answer_on n (by_reply (keyed_step d s c).reply) ∷ []
+-- a change was made at a position
+abbrev pub made_by : Taking → ℕ → Answer
+made_by in_table at = made at
+made_by (in_member number) at = made_in number at
+made_by in_none at = no_method
+
+abbrev pub by_reply : Taking → Result ℕ KeyedRefusal → Answer
+by_reply t (Ok at) = made_by t at
+by_reply t (Err r) = refused r
+
+abbrev pub reply_said : Taking → Defs → ℕ → TableState → Option Change → List LineAnswer
+reply_said t d n s None = []
+reply_said t d n s (Some c) = answer_on n (by_reply t (keyed_step d s c).reply) ∷ []
+
+-- what an insert says where no table of a list takes rows
+abbrev pub none_said : ℕ → Option Act → List LineAnswer
+none_said n (Some (act.Insert row)) = answer_on n no_method ∷ []
+none_said n (Some other) = []
+none_said n None = []
+
+abbrev pub change_said : Taking → Option Act → Defs → ℕ → TableState → Option Change → List LineAnswer
+change_said in_table a d n s asked = reply_said in_table d n s asked
+change_said (in_member number) a d n s asked = reply_said (in_member number) d n s asked
+change_said in_none a d n s asked = none_said n a
 
 -- what a writing step of line n says; one of a session that holds READ or READ LOCAL is refused
-abbrev pub write_said : Defs → Bool → ℕ → TableState → Option Change → List LineAnswer
-write_said d true n s asked = answer_on n locked_for_read ∷ []
-write_said d false n s asked = change_said d n s asked
+abbrev pub write_said : Statements → Defs → Bool → ℕ → TableState → Option Change → List LineAnswer
+write_said ls d true n s asked = answer_on n locked_for_read ∷ []
+write_said ls d false n s asked = change_said ls.takes (act_of ls.lines n) d n s asked
 
 -- a step of line n is done; one of no line says nothing
 abbrev pub done_said : ℕ → List LineAnswer
@@ -71,13 +100,13 @@ step_said n c written kind.End = done_said n
 -- what a step of a round says where the table is in a state
 abbrev pub said_by : Opening → ScriptRound → TableState → Counters → Step → List LineAnswer
 said_by o p s c x =
-    step_said x.line c (write_said o.defs (reads_only p.locks x.session) x.line s (asked_in o.lines p x)) x.kind
+    step_said x.line c (write_said o.script o.defs (reads_only p.locks x.session) x.line s (asked_in o.script p x)) x.kind
 
 -- what steps of a round say one after the other
 abbrev pub others_said : Opening → ScriptRound → TableState → Counters → List Step → List LineAnswer
 others_said o p s c [] = []
 others_said o p s c (x ∷ xs) =
-    said_by o p s c x ++ others_said o p (stepped_by o.defs s (asked_in o.lines p x)) c xs
+    said_by o p s c x ++ others_said o p (stepped_by o.defs s (asked_in o.script p x)) c xs
 
 -- ---- rounds
 

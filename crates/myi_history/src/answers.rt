@@ -15,6 +15,8 @@ use std::alloc::{AllocError, Global};
 pub enum StepAnswer {
     /// A change was made at a position.
     Made { at: u64 },
+    /// A row was inserted in the table of that number of a MERGE list, at a position of it.
+    MadeIn { table: u32, at: u64 },
     /// No row stands at that position.
     NoRow { at: u64 },
     /// The row at that position has the complete key in the unique key of that number, from 1.
@@ -23,6 +25,8 @@ pub enum StepAnswer {
     Full,
     /// The session of a change holds a read lock.
     LockedForRead,
+    /// A MERGE list does not say in which of its tables rows are inserted.
+    NoInsertMethod,
     /// A lock was taken or given up, or a session ended.
     Done,
     /// What a key cache counted.
@@ -50,9 +54,9 @@ impl AnswerTexts {
     ghost use Rattle.std.specs.Prelude.{◌≡◌, ◌++◌, Some, nat_lt, filter, OnOk, OnErr};
     ghost use Rattle.myi_base.specs.Output.{AppendsPart};
     ghost use Rattle.myi_tablestate.specs.Keyed.{lacks, duplicate, too_long};
-    ghost use Rattle.myi_history.specs.Answers.{answer_text, made, refused, locked_for_read};
+    ghost use Rattle.myi_history.specs.Answers.{answer_text, made, made_in, refused, locked_for_read, no_method};
     ghost use Rattle.myi_history.specs.Answers.{done, counted, rows, count_text, numbered};
-    ghost use Rattle.myi_history.specs.Answers.{row_line, row_lines, damaged_text};
+    ghost use Rattle.myi_history.specs.Answers.{row_line, row_lines, merged, merged_line, merged_lines, damaged_text};
     ghost use Rattle.myi_history.specs.RoundTexts.{answer_of};
 
     /// Empty buffers, for which no memory is taken.
@@ -77,10 +81,12 @@ impl AnswerTexts {
     {
         match answer {
             StepAnswer::Made { at } => self.push_made(out, line, at),
+            StepAnswer::MadeIn { table, at } => self.push_made_in(out, line, table, at),
             StepAnswer::NoRow { at } => self.push_no_row(out, line, at),
             StepAnswer::Duplicate { key, at } => self.push_duplicate(out, line, key, at),
             StepAnswer::Full => self.push_full(out, line),
             StepAnswer::LockedForRead => self.push_locked(out, line),
+            StepAnswer::NoInsertMethod => self.push_no_method(out, line),
             StepAnswer::Done => self.push_done(out, line),
             StepAnswer::Counted(counters) => self.push_counters(out, line, counters),
         }
@@ -93,6 +99,23 @@ impl AnswerTexts {
     {
         self.words.clear();
         write!(self.words, "{line} ok {at}\n")?;
+        out.extend_from_slice(self.words.as_bytes())
+    }
+
+    /// Appends the line of a row that was inserted in the table of that number of a MERGE list.
+    pub fn push_made_in(
+        &mut self,
+        out: &mut Vec<u8>,
+        line: u32,
+        table: u32,
+        at: u64,
+    ) -> Result<(), AllocError>
+        ensures text { OnOk result (out.new.items
+            ≡ out.old.items ++ answer_text line (made_in table at)) }
+        ensures same { OnErr result (out.new.items ≡ out.old.items) }
+    {
+        self.words.clear();
+        write!(self.words, "{line} ok {table}:{at}\n")?;
         out.extend_from_slice(self.words.as_bytes())
     }
 
@@ -116,6 +139,18 @@ impl AnswerTexts {
         write!(self.words, "{line} locked for read\n")?;
         out.extend_from_slice(self.words.as_bytes())?;
         Ok(())
+    }
+
+    /// Appends the line of an insert that is refused, since the MERGE list does not say in which of
+    /// its tables rows are inserted.
+    pub fn push_no_method(&mut self, out: &mut Vec<u8>, line: u32) -> Result<(), AllocError>
+        ensures text { OnOk result (out.new.items
+            ≡ out.old.items ++ answer_text line no_method) }
+        ensures same { OnErr result (out.new.items ≡ out.old.items) }
+    {
+        self.words.clear();
+        write!(self.words, "{line} no insert method\n")?;
+        out.extend_from_slice(self.words.as_bytes())
     }
 
     /// Appends the line of a change that is refused, since no row stands at its position.
@@ -240,6 +275,60 @@ impl AnswerTexts {
     {
         self.push_count(out, line, count_below(found, below), number)?;
         self.push_rows_below(out, found, below)
+    }
+
+    /// Appends the lines of a read of a MERGE list that found these rows, each with the number of
+    /// its table, after so many changes.
+    pub fn push_merged(
+        &mut self,
+        out: &mut Vec<u8>,
+        line: u32,
+        found: &[(u32, u64, Row)],
+        number: u64,
+    ) -> Result<(), AllocError>
+        ensures text { OnOk result (out.new.items
+            ≡ out.old.items ++ answer_text line (merged found.now number)) }
+        ensures part { OnErr result (AppendsPart (answer_text line (merged found.now number))
+            (Some out.new.items) out.old.items) }
+    {
+        self.push_count(out, line, found.len() as u64, number)?;
+        self.push_merged_rows(out, found)
+    }
+
+    fn push_merged_rows(
+        &mut self,
+        out: &mut Vec<u8>,
+        found: &[(u32, u64, Row)],
+    ) -> Result<(), AllocError>
+        ensures text { OnOk result (out.new.items ≡ out.old.items ++ merged_lines found.now) }
+        ensures part { OnErr result
+            (AppendsPart (merged_lines found.now) (Some out.new.items) out.old.items) }
+    {
+        for (table, at, row) in found {
+            self.push_merged_row(out, *table, *at, row)?;
+        }
+        Ok(())
+    }
+
+    /// Appends the line of a row that a read of a MERGE list found in the table of that number.
+    pub fn push_merged_row(
+        &mut self,
+        out: &mut Vec<u8>,
+        table: u32,
+        at: u64,
+        row: &Row,
+    ) -> Result<(), AllocError>
+        ensures text { OnOk result (out.new.items
+            ≡ out.old.items ++ merged_line (table, at, row.now)) }
+        ensures same { OnErr result (out.new.items ≡ out.old.items) }
+    {
+        self.words.clear();
+        write!(self.words, "  {table}:")?;
+        self.line.clear();
+        self.line.extend_from_slice(self.words.as_bytes())?;
+        self.rows.push_row(&mut self.line, at, row)?;
+        self.line.push(b'\n')?;
+        out.extend_from_slice(&self.line)
     }
 
     fn push_rows(&mut self, out: &mut Vec<u8>, found: &[(u64, Row)]) -> Result<(), AllocError>

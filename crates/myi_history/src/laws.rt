@@ -7,8 +7,12 @@ ghost use Rattle.myi_history.specs.Appending.{AreAppends, rows_before};
 ghost use Rattle.myi_state.specs.State.{StoredRow, TableState};
 ghost use Rattle.myi_state.specs.Changes.{Change, replay};
 ghost use Rattle.myi_state.specs.Sound.{IsState};
-ghost use Rattle.myi_tablestate.specs.Matching.{Bounds, AreMatching};
-ghost use Rattle.myi_history.specs.Reads.{rows_between};
+ghost use Rattle.std.specs.Prelude.{filter, IsPermutation, IsSorted};
+ghost use Rattle.std.specs.List.{AllByRecursion};
+ghost use Rattle.myi_data.specs.Keys.{key_of};
+ghost use Rattle.myi_tablestate.specs.Matching.{Bounds, AreMatching, lies_between};
+ghost use Rattle.myi_history.specs.Reads.{rows_between, MergedRow, rows_from, merged_between};
+ghost use Rattle.myi_history.specs.Reads.{place_cmp, place_of};
 ghost use Rattle.myi_tablestate.specs.Keyed.{KeyedRefusal, keyed_step};
 ghost use Rattle.myi_locks.specs.Script as locks;
 ghost use Rattle.myi_locks.specs.Rounds.{has_steps};
@@ -29,7 +33,8 @@ ghost use Rattle.myi_history.specs.OneThread.{FollowsHistory, IsForced, in_turn,
 pub fn scripts_may_run()
     ensures lines { (merge : Bool) (d : Defs) (text : List ℕ) (ls : List Line)
         → IsScript merge d text ls → MayRun d ls }
-    ensures steps { (d : Defs) (ls : List Line) → MayRun d ls → locks.IsScript (script_steps ls) }
+    ensures steps { (d : Defs) (ls : List Line) → MayRun d ls → (list : Bool)
+        → locks.IsScript (script_steps list ls) }
 {}
 
 /// What a range finds are the rows of the table whose key lies between its bounds, in order of key
@@ -40,6 +45,17 @@ pub fn ranges_find_matching_rows()
     ensures once { (d : Defs) (s : TableState) (k : ℕ) (bounds : Bounds) (found : List StoredRow)
         → IsState d s → AreMatching d k bounds s.rows found
         → found ≡ rows_between d k bounds s.rows }
+{}
+
+/// What a range of a MERGE list finds: a list of the rows of its tables whose key lies between the
+/// bounds, in order of the key, of the table's number and of the position, is the one that is
+/// defined so.
+pub fn ranges_find_merged_rows()
+    ensures { (d : Defs) (k : ℕ) (bounds : Bounds) (ss : List TableState) (found : List MergedRow)
+        → AllByRecursion (λ (s : TableState). (e : Defs) × IsState e s) ss
+        → IsPermutation (filter (λ (r : MergedRow). lies_between bounds (key_of d k r.2)) (rows_from 1 ss)) found
+        → IsSorted place_cmp (map (place_of d k) found)
+        → found ≡ merged_between d k bounds (rows_from 1 ss) }
 {}
 
 /// Changes replayed one after the other are replayed from where the ones before lead to.
@@ -77,7 +93,7 @@ pub fn rounds_follow_the_history()
 /// The rounds go to the end of the script: where its lines may run, no step is left behind them.
 /// The table behind the last round is the replay of the history.
 pub fn rounds_are_whole()
-    ensures done { (o : Opening) → MayRun o.defs o.lines
+    ensures done { (o : Opening) → MayRun o.defs o.script.lines
         → has_steps (locks_behind (first_locks o) (rounds_of o)) ≡ false }
     ensures table { (o : Opening) (front : List ScriptRound) (p : ScriptRound)
         → rounds_of o ≡ front ++ p ∷ [] → state_behind o p ≡ replay o.defs o.base (history o) }
@@ -110,6 +126,6 @@ pub fn texts_stand_in_line_order()
 /// In a round of a script that may run, no line is answered twice.
 pub fn lines_are_answered_once()
     ensures { (o : Opening) (h : List Change) (front back : List ScriptRound) (p : ScriptRound)
-        (ns : Numbers) → MayRun o.defs o.lines → rounds_of o ≡ front ++ p ∷ back
+        (ns : Numbers) → MayRun o.defs o.script.lines → rounds_of o ≡ front ++ p ∷ back
         → HaveOwnLines (texts_of (said_of o h p ns)) }
 {}

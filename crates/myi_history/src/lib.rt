@@ -35,8 +35,9 @@ mod running;
 pub use answers::{AnswerTexts, StepAnswer};
 pub use laws::{
     appended_rows_stand_behind, histories_are_replayed, lines_are_answered_once,
-    numbers_are_forced, numbers_can_be_given, ranges_find_matching_rows, refused_changes_leave,
-    rounds_are_whole, rounds_follow_the_history, scripts_may_run, texts_stand_in_line_order,
+    numbers_are_forced, numbers_can_be_given, ranges_find_matching_rows, ranges_find_merged_rows,
+    refused_changes_leave, rounds_are_whole, rounds_follow_the_history, scripts_may_run,
+    texts_stand_in_line_order,
 };
 pub use lines::script_steps;
 pub use round_texts::RoundTexts;

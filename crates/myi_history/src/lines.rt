@@ -6,11 +6,12 @@ use myi_locks::{Step, StepKind};
 use myi_script::{Act, Line};
 use std::alloc::{AllocError, Global};
 
-// The kind of a statement's step; where it takes a lock, of its second.
-fn kind_of(act: &Act) -> StepKind
-    ensures { result ≡ spec.kind_of act.now }
+// The kind of a statement's step, on a table or a MERGE list; where it takes a lock, of its second.
+fn kind_of(list: bool, act: &Act) -> StepKind
+    ensures { result ≡ spec.kind_of list act.now }
 {
     match act {
+        Act::Insert(_) if list => StepKind::Change,
         Act::Insert(_) => StepKind::Insert,
         Act::Update { .. } | Act::Delete { .. } => StepKind::Change,
         Act::Scan | Act::Over(_) => StepKind::Rows,
@@ -33,22 +34,22 @@ fn push_step(steps: &mut Vec<Step>, line: &Line, kind: StepKind) -> Result<(), A
     Ok(())
 }
 
-fn push_steps(steps: &mut Vec<Step>, line: &Line) -> Result<(), AllocError>
-    ensures { OnOk result (steps.new.items ≡ steps.old.items ++ spec.steps_of_line line.now) }
+fn push_steps(steps: &mut Vec<Step>, list: bool, line: &Line) -> Result<(), AllocError>
+    ensures { OnOk result (steps.new.items ≡ steps.old.items ++ spec.steps_of_line list line.now) }
 {
     if let Act::Lock(_) = line.act {
         push_step(steps, line, StepKind::Release)?;
     }
-    push_step(steps, line, kind_of(&line.act))
+    push_step(steps, line, kind_of(list, &line.act))
 }
 
-/// The steps of a script, for `Locks::new`.
-pub fn script_steps(alloc: Global, lines: &[Line]) -> Result<Vec<Step>, AllocError>
-    ensures { IfOk result (λ v. v.items ≡ spec.script_steps lines.now) }
+/// The steps of a script on a table, or, where `list` is true, on a MERGE list, for `Locks::new`.
+pub fn script_steps(alloc: Global, list: bool, lines: &[Line]) -> Result<Vec<Step>, AllocError>
+    ensures { IfOk result (λ v. v.items ≡ spec.script_steps list lines.now) }
 {
     let mut steps = Vec::new(alloc);
     for line in lines {
-        push_steps(&mut steps, line)?;
+        push_steps(&mut steps, list, line)?;
     }
     Ok(steps)
 }

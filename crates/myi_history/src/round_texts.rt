@@ -62,7 +62,7 @@ impl RoundTexts {
     ghost use Rattle.myi_base.specs.Output.{Appends, AppendsPart};
     ghost use Rattle.myi_base.specs.Causes.{HasCause};
     ghost use Rattle.myi_io.specs.declared.sink.SinkErr.TheVariants.{Failed};
-    ghost use Rattle.myi_history.specs.Answers.{answer_text, rows, numbered, damaged_text};
+    ghost use Rattle.myi_history.specs.Answers.{answer_text, rows, merged, numbered, damaged_text};
     ghost use Rattle.myi_history.specs.RoundTexts.{answer_of, in_line_order, joined, HaveOwnLines};
     ghost use Rattle.myi_history.specs.RoundTexts.{AreWritten};
 
@@ -123,6 +123,23 @@ impl RoundTexts {
         let from = self.bytes.len();
         self.answers
             .push_found_below(&mut self.bytes, line, found, below, number)?;
+        note(&mut self.said, line, from, self.bytes.len())
+    }
+
+    /// Adds that the read of a line found these rows of a MERGE list, after so many changes.
+    pub fn push_merged(
+        &mut self,
+        line: u32,
+        found: &[(u32, u64, Row)],
+        number: u64,
+    ) -> Result<(), AllocError>
+        ensures text { OnOk result (self.new
+            ≡ self.old ++ (line, answer_text line (merged found.now number)) ∷ []) }
+        ensures same { OnErr result (self.new ≡ self.old) }
+    {
+        let from = self.bytes.len();
+        self.answers
+            .push_merged(&mut self.bytes, line, found, number)?;
         note(&mut self.said, line, from, self.bytes.len())
     }
 

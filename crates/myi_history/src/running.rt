@@ -15,7 +15,7 @@ ghost use Rattle.myi_locks.specs.Done.{advanced};
 ghost use Rattle.myi_history.specs.Answers.{said_text};
 ghost use Rattle.myi_history.specs.Appending.{AreAppends, rows_before};
 ghost use Rattle.myi_history.specs.Bounds.{AreWithin, taken_by};
-ghost use Rattle.myi_history.specs.History.{Opening, ScriptRound, changes_in, history};
+ghost use Rattle.myi_history.specs.History.{Opening, ScriptRound, is_list, changes_in, history};
 ghost use Rattle.myi_history.specs.History.{number_behind, reads_only, state_behind};
 ghost use Rattle.myi_history.specs.Lines.{MayRun};
 ghost use Rattle.myi_history.specs.OneThread.{counted_by};
@@ -34,7 +34,7 @@ pub fn runs_begin()
 /// before. What stands behind a round more.
 pub fn runs_go_on()
     ensures next { (o : Opening) (front : List ScriptRound) (c : List Numbers) (ns : Numbers)
-        → MayRun o.defs o.lines → HasRun o front c → has_steps (locks_after o front) ≡ true
+        → MayRun o.defs o.script.lines → HasRun o front c → has_steps (locks_after o front) ≡ true
         → IsNext o front c ns → HasRun o (front ++ next_after o front ∷ []) (c ++ ns ∷ []) }
     ensures locks { (o : Opening) (front : List ScriptRound) (p : ScriptRound)
         → locks_after o (front ++ p ∷ []) ≡ advanced (locks_after o front) p.round }
@@ -77,21 +77,26 @@ pub fn runs_that_stop()
 /// session holds READ or READ LOCAL, rows are inserted at the end alone (`appends`), so the rows
 /// that stood when it took the lock are those below the length that the data file had then
 /// (`taken`). Of the rows below a place a read finds those that it finds among all rows and that
-/// stand there, in the same order (`found`).
+/// stand there, in the same order (`found`). On a MERGE list nothing is inserted while a session
+/// holds such a lock, so it reads the tables as they are (`lists`).
 pub fn tables_are_read()
     ensures now { (o : Opening) (front : List ScriptRound) (c : List Numbers) → HasRun o front c
         → state_at o (history o) (number_after o front) ≡ table_after o front }
     ensures state { (o : Opening) (front : List ScriptRound) (c : List Numbers)
-        → MayRun o.defs o.lines → IsSound o.defs → IsState o.defs o.base → HasRun o front c
+        → MayRun o.defs o.script.lines → IsSound o.defs → IsState o.defs o.base → HasRun o front c
         → IsState o.defs (table_after o front) }
     ensures appends { (o : Opening) (front : List ScriptRound) (c : List Numbers) (n : ℕ)
-        → MayRun o.defs o.lines → HasRun o front c → reads_only (locks_after o front) n ≡ true
+        → MayRun o.defs o.script.lines → HasRun o front c → reads_only (locks_after o front) n ≡ true
         → AreAppends o.defs (changes_in o (next_after o front)) }
     ensures taken { (o : Opening) (front : List ScriptRound) (c : List Numbers) (n : ℕ)
-        → MayRun o.defs o.lines → IsSound o.defs → IsState o.defs o.base → HasRun o front c
+        → MayRun o.defs o.script.lines → IsSound o.defs → IsState o.defs o.base → HasRun o front c
         → reads_only (locks_after o front) n ≡ true
         → rows_before (seen_state o front n).space.end (table_after o front).rows
         ≡ (seen_state o front n).rows }
+    ensures lists { (o : Opening) (front : List ScriptRound) (c : List Numbers) (n : ℕ)
+        → MayRun o.defs o.script.lines → IsSound o.defs → IsState o.defs o.base → HasRun o front c
+        → reads_only (locks_after o front) n ≡ true → is_list o.script.takes ≡ true
+        → seen_state o front n ≡ table_after o front }
     ensures found { (d : Defs) (s t : TableState) (a : Option Act) (place : ℕ)
         → t.rows ≡ rows_before place s.rows
         → found d t a ≡ filter (λ r. nat_lt r.0 place) (found d s a) }

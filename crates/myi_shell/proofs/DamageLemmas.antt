@@ -12,10 +12,10 @@ use Rattle.myi_io.specs.declared.sink.SinkErr.TheVariants as sink
 use Rattle.myi_history.specs.Answers.{numbered, damaged_text}
 use Rattle.myi_history.specs.RoundTexts.{LineText, joined, AreWritten}
 use Rattle.myi_history.specs.History.{Opening}
-use Rattle.myi_table.specs.Table.{OpenTable}
+use Rattle.myi_shell.specs.declared.target.Target.{Target}
 use Rattle.myi_shell.specs.declared.fault.ShellFault.{ShellFault}
 use Rattle.myi_shell.specs.declared.fault.ShellFault.TheVariants as fault
-use Rattle.myi_shell.specs.Changing.{NeverDamaged}
+use Rattle.myi_shell.specs.Changing.{NothingDamaged}
 use Rattle.myi_shell.specs.Damage.{IsDamage, IsNoted, Extends, IsPrintedDamage, IsToldFor}
 use Rattle.myi_shell.specs.Stepping.{RunState}
 use Rattle.myi_shell.specs.Running.{Before, HasDone, IsPrintedPart, StandsBehind, IsStopped, of_sink}
@@ -25,9 +25,9 @@ err_of f g e = cc
 
 -- ---- the fault, or that there is no memory for its line
 
-pub never_for : (told : Option Holding) (t : OpenTable) (f g : ShellFault) → (g ≡ f) ⊎ (g ≡ fault.Memory) → NeverDamaged told t f → NeverDamaged told t g
-never_for told t f g (inl is) never = subst (NeverDamaged told t) (sym is) never
-never_for told t f g (inr is) never = subst (NeverDamaged told t) (sym is) tt
+pub never_for : (told : Option Holding) (f g : ShellFault) → (g ≡ f) ⊎ (g ≡ fault.Memory) → NothingDamaged told f → NothingDamaged told g
+never_for told f g (inl is) never = subst (NothingDamaged told) (sym is) never
+never_for told f g (inr is) never = subst (NothingDamaged told) (sym is) tt
 
 pub cause_for : {T U : Type 0} (before now : ℕ) (result : Result T ShellFault) (called : Result U ShellFault) (f g : ShellFault) → result ≡ Err g → called ≡ Err f → (g ≡ f) ⊎ (g ≡ fault.Memory) → HasCause fault.File before now called → HasCause fault.File before now result
 cause_for before now result called f g is was (inl same) cause = record { later = cause.later; cause = λ e. cause.cause (was ∙ ap Err (sym same ∙ err_of g fault.File (sym is ∙ e))) }
@@ -86,26 +86,26 @@ sink_no_damage sink.Memory damage = damage
 
 -- ---- a round that a fault cut off
 
-pub cut_stopped : (o : Opening) (from : Before) (told : Option Holding) (out mid now : Option (List ℕ)) (p : RunState) (t : OpenTable) (f : ShellFault) → IsStopped told t f → ((IsDamage f → ⊥) → now ≡ mid) → HasDone o from told p t out → IsPrintedPart o from.printed mid
+pub cut_stopped : (o : Opening) (from : Before) (told : Option Holding) (out mid now : Option (List ℕ)) (p : RunState) (t : Target) (f : ShellFault) → IsStopped told f → ((IsDamage f → ⊥) → now ≡ mid) → HasDone o from told p t out → IsPrintedPart o from.printed mid
     → IsPrintedPart o from.printed now
-cut_stopped o from told out mid now p t (fault.Damaged at) never same w part = let k = w.stands.table in absurd (never k.0 k.1 _ k.2)
+cut_stopped o from told out mid now p t (fault.Damaged at) never same w part = let k = w.stands.table in absurd (never k.0 k.1)
 cut_stopped o from told out mid now p t fault.File never same w part = subst (λ (z : Option (List ℕ)). IsPrintedPart o from.printed z) (sym (same (λ x. x))) part
 cut_stopped o from told out mid now p t fault.Sink never same w part = subst (λ (z : Option (List ℕ)). IsPrintedPart o from.printed z) (sym (same (λ x. x))) part
 cut_stopped o from told out mid now p t fault.Memory never same w part = subst (λ (z : Option (List ℕ)). IsPrintedPart o from.printed z) (sym (same (λ x. x))) part
 
-pub cut_stands : (o : Opening) (from : Before) (told next : Option Holding) (out mid now : Option (List ℕ)) (p : RunState) (t u : OpenTable) (f g : ShellFault) → g ≡ fault.Sink → IsToldFor f g → IsStopped told t f → ((IsDamage f → ⊥) → now ≡ mid)
+pub cut_stands : (o : Opening) (from : Before) (told next : Option Holding) (out mid now : Option (List ℕ)) (p : RunState) (t u : Target) (f g : ShellFault) → g ≡ fault.Sink → IsToldFor f g → IsStopped told f → ((IsDamage f → ⊥) → now ≡ mid)
     → HasDone o from told p t out → (f ≡ fault.Sink → StandsBehind o from next u mid) → StandsBehind o from next u now
-cut_stands o from told next out mid now p t u (fault.Damaged at) g sank is never same w stands = let k = w.stands.table in absurd (never k.0 k.1 _ k.2)
+cut_stands o from told next out mid now p t u (fault.Damaged at) g sank is never same w stands = let k = w.stands.table in absurd (never k.0 k.1)
 cut_stands o from told next out mid now p t u fault.Sink g sank is never same w stands = subst (λ (z : Option (List ℕ)). StandsBehind o from next u z) (sym (same (λ x. x))) (stands refl)
 cut_stands o from told next out mid now p t u fault.File g sank (inl is) never same w stands = absurd (let bad : fault.File ≡ fault.Sink = sym is ∙ sank in cc)
 cut_stands o from told next out mid now p t u fault.File g sank (inr is) never same w stands = absurd is.0
 cut_stands o from told next out mid now p t u fault.Memory g sank (inl is) never same w stands = absurd (let bad : fault.Memory ≡ fault.Sink = sym is ∙ sank in cc)
 cut_stands o from told next out mid now p t u fault.Memory g sank (inr is) never same w stands = absurd is.0
 
-pub cut_never : (told : Option Holding) (t : OpenTable) (f g : ShellFault) → IsToldFor f g → IsStopped told t f → IsStopped told t g
-cut_never told t f g (inl is) never = subst (IsStopped told t) (sym is) never
-cut_never told t f g (inr (damage, inl is)) never = subst (IsStopped told t) (sym is) tt
-cut_never told t f g (inr (damage, inr is)) never = subst (IsStopped told t) (sym is) tt
+pub cut_never : (told : Option Holding) (f g : ShellFault) → IsToldFor f g → IsStopped told f → IsStopped told g
+cut_never told f g (inl is) never = subst (IsStopped told) (sym is) never
+cut_never told f g (inr (damage, inl is)) never = subst (IsStopped told) (sym is) tt
+cut_never told f g (inr (damage, inr is)) never = subst (IsStopped told) (sym is) tt
 
 pub cut_damage : (out mid now : Option (List ℕ)) (f g : ShellFault) → IsToldFor f g → (IsDamage f → mid ≡ out) → IsPrintedDamage mid now g → IsPrintedDamage out now g
 cut_damage out mid now f (fault.Damaged at) (inl is) same damage = subst (λ (z : Option (List ℕ)). IsPrintedDamage z now (fault.Damaged at)) (same (subst IsDamage is tt)) damage

@@ -1,6 +1,14 @@
 mod ChangeLemmas
 mod CarryLemmas
 mod TouchLemmas
+mod TargetTouches
+mod TargetLemmas
+mod TableTargets
+mod ListLemmas
+mod ListInserts
+mod ListTouches
+mod ListReads
+mod ListCarries
 mod StatementLemmas
 mod ReadLemmas
 mod KindLemmas

@@ -17,7 +17,7 @@ use Rattle.myi_history.proofs.CallerLemmas.{matching_once}
 use Rattle.myi_table.specs.declared.ranges.Range.{Range}
 use Rattle.myi_table.specs.Reading.{bounds_of, AnswersRange}
 use Rattle.myi_shell.specs.declared.reading.Snapshot.{Snapshot}
-use Rattle.myi_shell.specs.Stepping.{seen_rows, read_answer}
+use Rattle.myi_shell.specs.Stepping.{seen_rows}
 use Rattle.myi_shell.specs.Reading.{table_range}
 
 pub in_table : (d : Defs) (r : script.Range) (q : Range) (places keys : ℕ) → q ≡ table_range r → places ≡ keys → keys ≡ length d.keys → IsRange d r → q.key < places
@@ -28,12 +28,12 @@ in_table d r q places keys is one two range =
     omega (arith, low, high, same, one, two)
 
 said : (d : Defs) (v : Snapshot) (s : TableState) (o a : Act) (texts : List LineText) (line : ℕ) (found : List (ℕ × Values)) → o ≡ a → found ≡ reads.found d s (Some a)
-    → texts ++ text_of (answer_on line (rows (seen_rows v.below found) v.number)) ∷ [] ≡ texts ++ text_of (answer_on line (read_answer d v s (Some o))) ∷ []
+    → texts ++ text_of (answer_on line (rows (seen_rows v.below found) v.number)) ∷ [] ≡ texts ++ text_of (answer_on line (rows (seen_rows v.below (reads.found d s (Some o))) v.number)) ∷ []
 said d v s o a texts line found is same =
-    ap (λ rs. texts ++ text_of (answer_on line (rows (seen_rows v.below rs) v.number)) ∷ []) same ∙ ap (λ x. texts ++ text_of (answer_on line (read_answer d v s (Some x))) ∷ []) (sym is)
+    ap (λ rs. texts ++ text_of (answer_on line (rows (seen_rows v.below rs) v.number)) ∷ []) same ∙ ap (λ x. texts ++ text_of (answer_on line (rows (seen_rows v.below (reads.found d s (Some x))) v.number)) ∷ []) (sym is)
 
 pub found_scan : (d : Defs) (o : Act) (s : TableState) (texts : List LineText) (line : ℕ) (v : Snapshot) (found : List (ℕ × Values)) → o ≡ act.Scan → found ≡ map placed s.rows
-    → texts ++ text_of (answer_on line (rows (seen_rows v.below found) v.number)) ∷ [] ≡ texts ++ text_of (answer_on line (read_answer d v s (Some o))) ∷ []
+    → texts ++ text_of (answer_on line (rows (seen_rows v.below found) v.number)) ∷ [] ≡ texts ++ text_of (answer_on line (rows (seen_rows v.below (reads.found d s (Some o))) v.number)) ∷ []
 found_scan d o s texts line v found is all = said d v s o act.Scan texts line found is all
 
 key_back : (k : ℕ) → 0 < k → suc (k - 1) ≡ k
@@ -41,7 +41,7 @@ key_back k some = omega (arith, some)
 
 pub found_range : (d : Defs) (o : Act) (r : script.Range) (q : Range) (s : TableState) (texts : List LineText) (line : ℕ) (v : Snapshot) (found items : List (ℕ × Values)) (before after : ℕ)
     → o ≡ act.Over r → q ≡ table_range r → IsRange d r → IsState d s → found ≡ items → AnswersRange d s q before after items
-    → texts ++ text_of (answer_on line (rows (seen_rows v.below found) v.number)) ∷ [] ≡ texts ++ text_of (answer_on line (read_answer d v s (Some o))) ∷ []
+    → texts ++ text_of (answer_on line (rows (seen_rows v.below found) v.number)) ∷ [] ≡ texts ++ text_of (answer_on line (rows (seen_rows v.below (reads.found d s (Some o))) v.number)) ∷ []
 found_range d o r q s texts line v found items before after is asked range state same answers =
     let key : suc q.key ≡ r.key = ap (λ (x : Range). suc x.key) asked ∙ key_back r.key range.key.0 in
     let one : AreMatching d r.key (bounds_of q) s.rows answers.found = subst (λ k. AreMatching d k (bounds_of q) s.rows answers.found) key answers.matching in

@@ -1,18 +1,13 @@
 -- A round more of a script, and how a run ends.
 use Rattle.std.proofs.Common.{◌≡◌, ℕ, zero, suc, ◌+◌, ◌≤◌, not, Bool, true, false, eqb, cond, List, [], ◌∷◌, ◌++◌, take, length, Option, Some, refl, sym, ap, subst, ◌∙◌, arith, append_assoc}
-use Rattle.std.specs.Prelude.{is_some}
 use Rattle.std.specs.List.{flat_map}
 use Rattle.std.proofs.lemmas.List.{append-nil, length-append}
 use Rattle.myi_base.specs.Holding.{Holding, IfTold}
 use Rattle.myi_base.specs.Output.{Appends, AppendsPart}
 use Rattle.myi_defs.specs.Sound.{IsSound}
 use Rattle.myi_keycache.specs.declared.setup.Counters.{Counters}
-use Rattle.myi_keycache.specs.Counts.{raised}
-use Rattle.myi_search.specs.Counting.{GoesOn}
 use Rattle.myi_state.specs.State.{TableState}
 use Rattle.myi_state.specs.Sound.{IsState}
-use Rattle.myi_state.specs.declared.counts.Counts.{Counts}
-use Rattle.myi_state.specs.Numbers.{counts_of}
 use Rattle.myi_locks.specs.declared.steps.Round.{Round}
 use Rattle.myi_locks.specs.declared.steps.Round.TheVariants.{Finished, Alone, Together}
 use Rattle.myi_locks.specs.Steps.{takes_read}
@@ -29,58 +24,19 @@ use Rattle.myi_history.specs.OneThread.{numbers_now}
 use Rattle.myi_history.specs.RoundTexts.{LineText, texts_of, joined, in_line_order, HaveOwnLines}
 use Rattle.myi_history.specs.Running.{HasRun, IsNext, taken_in, counted_in, locks_after, table_after, number_after, next_after, seen_number, seen_state, run_text}
 use Rattle.myi_history.proofs.CallerLemmas.{follows_history, goes_on, locks_more, table_more, number_more, taken_more, counted_more, text_more, ends_within, ends_text, ends_table, stops, read_now, texts_in_order, answered_once}
-use Rattle.myi_table.specs.Table.{OpenTable, defs_in, HoldState, HoldsThen}
+use Rattle.myi_shell.specs.declared.target.Target.{Target}
+use Rattle.myi_shell.specs.Targets as on
+use Rattle.myi_shell.specs.Targets.{Standing, AreNotBelow, taking, defs_in, script_on, HoldsThen, IsCarried, IsTouchedBy}
 use Rattle.myi_shell.specs.declared.script_run.Taken.{Taken}
-use Rattle.myi_shell.specs.Carrying.{IsCarried, IsTouchedBy}
-use Rattle.myi_shell.specs.Stepping.{RunState, seen_by, others_by, round_by, taken_behind, taken_now, counted_now, AreDone}
-use Rattle.myi_shell.specs.Running.{opening_on, Before, Stands, AreNotBelow, HasDone, HasEnded, IsPrintedPart, StandsBehind}
-use Rattle.myi_shell.proofs.TouchLemmas.{touched_then, touched_as}
+use Rattle.myi_shell.specs.Stepping.{RunState, seen_by, others_by, round_by, taken_behind, taken_now, length_in, end_in, holes_in, AreDone}
+use Rattle.myi_shell.specs.Running.{opening_on, standing_in, Before, Stands, HasDone, HasEnded, IsPrintedPart, StandsBehind}
+use Rattle.myi_shell.proofs.TargetTouches.{touched_then, touched_as}
+use Rattle.myi_shell.proofs.TargetLemmas.{holes_are, length_is}
+use Rattle.myi_shell.proofs.CarryLemmas.{below_then}
 use Rattle.myi_shell.proofs.DoneLemmas.{IsRoundDone, AreRounds}
 use Rattle.myi_shell.proofs.RoundLemmas.{others_same, reads_same, alike}
 
--- ---- numbers of a table that stands for a state
-
-counts_are : (t : OpenTable) (s : TableState) (m : Holding) → HoldState t s m → t.rows.rows.file.counts ≡ counts_of s
-counts_are t s m h = h.files.table.rows.0.counts
-
-has_hole_by : (c : Counts) (s : TableState) → c ≡ counts_of s → is_some c.dellink ≡ has_hole s
-unfolding counts_of
-has_hole_by c s is = ap (λ (k : Counts). is_some k.dellink) is
-
-pub holes_are : (t : OpenTable) (s : TableState) (m : Holding) → HoldState t s m → is_some t.rows.rows.file.counts.dellink ≡ has_hole s
-holes_are t s m h = has_hole_by t.rows.rows.file.counts s (counts_are t s m h)
-
-length_by : (c : Counts) (s : TableState) → c ≡ counts_of s → c.length ≡ s.space.end
-unfolding counts_of
-length_by c s is = ap (λ (k : Counts). k.length) is
-
-pub length_is : (t : OpenTable) (s : TableState) (m : Holding) → HoldState t s m → t.rows.rows.file.counts.length ≡ s.space.end
-length_is t s m h = length_by t.rows.rows.file.counts s (counts_are t s m h)
-
 -- ---- counters
-
-sum_on : (a b x : ℕ) → GoesOn a b → raised x a ≤ raised x b
-sum_on a b x on = omega (arith, on)
-
-pub sums_on : (told next : Option Holding) (t u : OpenTable) → IsCarried told next t u → AreNotBelow (counted_now t) (counted_now u)
-sums_on told next t u carried =
-    let one = t.rows.trees.cache.counters in
-    let two = u.rows.trees.cache.counters in
-    let same : (f : Counters → ℕ) → raised (f t.added) (f two) ≡ raised (f u.added) (f two) = λ f. ap (λ (k : Counters). raised (f k) (f two)) (sym carried.same.added) in
-    record {
-      read_requests = subst (λ n. raised t.added.read_requests one.read_requests ≤ n) (same (λ k. k.read_requests)) (sum_on _ _ t.added.read_requests carried.counted.read_requests);
-      reads = subst (λ n. raised t.added.reads one.reads ≤ n) (same (λ k. k.reads)) (sum_on _ _ t.added.reads carried.counted.reads);
-      write_requests = subst (λ n. raised t.added.write_requests one.write_requests ≤ n) (same (λ k. k.write_requests)) (sum_on _ _ t.added.write_requests carried.counted.write_requests);
-      writes = subst (λ n. raised t.added.writes one.writes ≤ n) (same (λ k. k.writes)) (sum_on _ _ t.added.writes carried.counted.writes);
-    }
-
-below_then : (a b c : Counters) → AreNotBelow a b → AreNotBelow b c → AreNotBelow a c
-below_then a b c h k =
-    let r1 = h.read_requests in let r2 = k.read_requests in
-    let s1 = h.reads in let s2 = k.reads in
-    let t1 = h.write_requests in let t2 = k.write_requests in
-    let u1 = h.writes in let u2 = k.writes in
-    record { read_requests = omega (arith, r1, r2); reads = omega (arith, s1, s2); write_requests = omega (arith, t1, t2); writes = omega (arith, u1, u2) }
 
 rises : (a b : Counters) → AreNotBelow a b → b.reads ≤ b.read_requests → CountersRise a b
 rises a b h few = record { read_requests = h.read_requests; reads = h.reads; write_requests = h.write_requests; writes = h.writes; fewer = few }
@@ -97,30 +53,30 @@ answers_of o front k =
     reads_said o (history o) (steps_of (next_after o front).round) (numbers_of o front k).reads
     ++ others_said o (next_after o front) (table_after o front) k (steps_of (next_after o front).round)
 
-pub says : (o : Opening) (front : List ScriptRound) (c : List Numbers) (told : Option Holding) (p : RunState) (t : OpenTable) (k : Counters) → MayRun o.defs o.lines → IsSound o.defs → IsState o.defs o.base
-    → Stands o front c told p t → round_by o.defs o.lines p k (table_after o front) (next_after o front).round ≡ answers_of o front k
+pub says : (o : Opening) (front : List ScriptRound) (c : List Numbers) (told : Option Holding) (p : RunState) (t : Target) (k : Counters) → MayRun o.defs o.script.lines → IsSound o.defs → IsState o.defs o.base
+    → Stands o front c told p t → round_by o.defs o.script p k (standing_in o (table_after o front)) (next_after o front).round ≡ answers_of o front k
 says o front c told p t k may sound base w =
     let q = next_after o front in
     let s = table_after o front in
     let xs = steps_of q.round in
-    let reads = reads_same o (history o) q (taken_in front) (seen_by p) s xs (alike o front c p may sound base w.run w.locks w.number w.taken) in
-    let others : others_said o q s k xs ≡ others_by o.defs o.lines p.locks (is_together q.round) k s xs =
-    others_same o q s k xs ∙ ap (λ (r : LockState). others_by o.defs o.lines r (is_together q.round) k s xs) (sym w.locks) in
-    ap (λ said. said ++ others_by o.defs o.lines p.locks (is_together q.round) k s xs) (sym reads) ∙ ap (λ said. reads_said o (history o) xs (numbers_of o front k).reads ++ said) (sym others)
+    let reads = reads_same o (history o) q (taken_in front) (seen_by p) (standing_in o s) xs (alike o front c p may sound base w.run w.locks w.number w.taken) in
+    let others : others_said o q s k xs ≡ others_by o.defs o.script p.locks (is_together q.round) k s xs =
+    others_same o q s k xs ∙ ap (λ (r : LockState). others_by o.defs o.script r (is_together q.round) k s xs) (sym w.locks) in
+    ap (λ said. said ++ others_by o.defs o.script p.locks (is_together q.round) k s xs) (sym reads) ∙ ap (λ said. reads_said o (history o) xs (numbers_of o front k).reads ++ said) (sym others)
 
 -- what stands behind the Takes of the round
 taken_then : (o : Opening) (front : List ScriptRound) (c : List Numbers) (round : Round) (now : Taken) (before : ℕ → Taken) (n : ℕ) → HasRun o front c
-    → now ≡ record { number = number_after o front; length = (table_after o front).space.end }
-    → ((m : ℕ) → before m ≡ record { number = seen_number o front m; length = (seen_state o front m).space.end })
-    → taken_behind round now before n ≡ record { number = number_at n (taken_by (number_after o front) round ++ taken_in front); length = (state_at o (history o) (number_at n (taken_by (number_after o front) round ++ taken_in front))).space.end }
+    → now ≡ record { number = number_after o front; length = end_in o.script.takes (table_after o front) }
+    → ((m : ℕ) → before m ≡ record { number = seen_number o front m; length = end_in o.script.takes (seen_state o front m) })
+    → taken_behind round now before n ≡ record { number = number_at n (taken_by (number_after o front) round ++ taken_in front); length = end_in o.script.takes (state_at o (history o) (number_at n (taken_by (number_after o front) round ++ taken_in front))) }
 taken_then o front c Finished now before n run is was = was n
 taken_then o front c (Together inserter readers) now before n run is was = was n
 taken_then o front c (Alone x) now before n run is was = by_take (takes_read x.kind) refl where
   Goal : List SessionNumber → Type 0
-  Goal more = taken_behind (Alone x) now before n ≡ record { number = number_at n (more ++ taken_in front); length = (state_at o (history o) (number_at n (more ++ taken_in front))).space.end }
+  Goal more = taken_behind (Alone x) now before n ≡ record { number = number_at n (more ++ taken_in front); length = end_in o.script.takes (state_at o (history o) (number_at n (more ++ taken_in front))) }
 
   by_session : (e : Bool) → eqb x.session n ≡ e → takes_read x.kind ≡ true → Goal ((x.session, number_after o front) ∷ [])
-  by_session true same takes = rw takes (rw same (is ∙ ap (λ (s : TableState). record { number = number_after o front; length = s.space.end }) (sym (read_now o front c run))))
+  by_session true same takes = rw takes (rw same (is ∙ ap (λ (s : TableState). record { number = number_after o front; length = end_in o.script.takes s }) (sym (read_now o front c run))))
   by_session false other takes = rw takes (rw other (was n))
 
   by_take : (e : Bool) → takes_read x.kind ≡ e → Goal (cond (takes_read x.kind) ((x.session, number_after o front) ∷ []) [])
@@ -132,24 +88,24 @@ counted_then last k now next true h is on = subst (λ q. AreNotBelow q next) (sy
 counted_then last k now next false h is on = below_then last now next h on
 
 -- what one round leaves
-pub record RoundLeaves (o : Opening) (front : List ScriptRound) (k : Counters) (p mid q : RunState) (t : OpenTable) (next : Option Holding) (u : OpenTable) : Type 0 where
-  pub done : AreDone o.defs o.lines (is_together (next_after o front).round) p (table_after o front) (steps_of (next_after o front).round) (round_by o.defs o.lines p k (table_after o front) (next_after o front).round) next u mid
+pub record RoundLeaves (o : Opening) (front : List ScriptRound) (k : Counters) (p mid q : RunState) (t : Target) (next : Option Holding) (u : Target) : Type 0 where
+  pub done : AreDone o.defs o.script (is_together (next_after o front).round) p (standing_in o (table_after o front)) (steps_of (next_after o front).round) (round_by o.defs o.script p k (standing_in o (table_after o front)) (next_after o front).round) next u mid
   pub locks : q.locks ≡ advanced p.locks (next_after o front).round
   pub number : q.number ≡ mid.number
   pub taken : (n : ℕ) → q.taken n ≡ taken_behind (next_after o front).round (taken_now p t) p.taken n
   pub texts : q.texts ≡ []
 
-pub said_texts : (o : Opening) (front : List ScriptRound) (c : List Numbers) (told next : Option Holding) (p mid q : RunState) (t u : OpenTable) (k : Counters) → MayRun o.defs o.lines → IsSound o.defs → IsState o.defs o.base
+pub said_texts : (o : Opening) (front : List ScriptRound) (c : List Numbers) (told next : Option Holding) (p mid q : RunState) (t u : Target) (k : Counters) → MayRun o.defs o.script.lines → IsSound o.defs → IsState o.defs o.base
     → Stands o front c told p t → RoundLeaves o front k p mid q t next u → mid.texts ≡ texts_of (answers_of o front k)
 said_texts o front c told next p mid q t u k may sound base w leaves =
-    leaves.done.texts ∙ ap (λ ts. ts ++ texts_of (round_by o.defs o.lines p k (table_after o front) (next_after o front).round)) w.texts ∙ ap texts_of (says o front c told p t k may sound base w)
+    leaves.done.texts ∙ ap (λ ts. ts ++ texts_of (round_by o.defs o.script p k (standing_in o (table_after o front)) (next_after o front).round)) w.texts ∙ ap texts_of (says o front c told p t k may sound base w)
 
 -- the text of the next round
 abbrev pub round_text : Opening → List ScriptRound → Counters → List ℕ
 round_text o front k = flat_map said_text (round_said o (history o) (next_after o front) (numbers_of o front k))
 
 -- the numbers of the next round go on
-pub next_run : (o : Opening) (front : List ScriptRound) (c : List Numbers) (told : Option Holding) (p : RunState) (t : OpenTable) (k : Counters) → MayRun o.defs o.lines → Stands o front c told p t → has_steps p.locks ≡ true → k ≡ counted_now t → k.reads ≤ k.read_requests
+pub next_run : (o : Opening) (front : List ScriptRound) (c : List Numbers) (told : Option Holding) (p : RunState) (t : Target) (k : Counters) → MayRun o.defs o.script.lines → Stands o front c told p t → has_steps p.locks ≡ true → k ≡ on.counted_in t → k.reads ≤ k.read_requests
     → HasRun o (front ++ next_after o front ∷ []) (c ++ numbers_of o front k ∷ [])
 next_run o front c told p t k may w left is few =
     let last = counted_in no_numbers.counters front c in
@@ -157,32 +113,32 @@ next_run o front c told p t k may w left is few =
     goes_on o front c (numbers_of o front k) may w.run (subst (λ (z : LockState). has_steps z ≡ true) w.locks left) on
 
 -- no line is answered twice
-pub own_lines : (o : Opening) (front : List ScriptRound) (c : List Numbers) (k : Counters) → MayRun o.defs o.lines → HasRun o (front ++ next_after o front ∷ []) c → HaveOwnLines (texts_of (answers_of o front k))
+pub own_lines : (o : Opening) (front : List ScriptRound) (c : List Numbers) (k : Counters) → MayRun o.defs o.script.lines → HasRun o (front ++ next_after o front ∷ []) c → HaveOwnLines (texts_of (answers_of o front k))
 own_lines o front c k may run =
     answered_once o (history o) front run.first.0 (next_after o front) (numbers_of o front k) may (run.first.1 ∙ append_assoc front (next_after o front ∷ []) run.first.0)
 
-pub next_stands : (o : Opening) (front : List ScriptRound) (c : List Numbers) (told next : Option Holding) (p mid q : RunState) (t u : OpenTable) (k : Counters) → MayRun o.defs o.lines → IsSound o.defs → IsState o.defs o.base
-    → (w : Stands o front c told p t) → has_steps p.locks ≡ true → k ≡ counted_now t → k.reads ≤ k.read_requests → RoundLeaves o front k p mid q t next u → IsCarried told next t u
+pub next_stands : (o : Opening) (front : List ScriptRound) (c : List Numbers) (told next : Option Holding) (p mid q : RunState) (t u : Target) (k : Counters) → MayRun o.defs o.script.lines → IsSound o.defs → IsState o.defs o.base
+    → (w : Stands o front c told p t) → taking t ≡ o.script.takes → has_steps p.locks ≡ true → k ≡ on.counted_in t → k.reads ≤ k.read_requests → RoundLeaves o front k p mid q t next u → IsCarried told next t u
     → Stands o (front ++ next_after o front ∷ []) (c ++ numbers_of o front k ∷ []) next q u
-next_stands o front c told next p mid q t u k may sound base w left is few leaves carried =
+next_stands o front c told next p mid q t u k may sound base w takes left is few leaves carried =
     let r = next_after o front in
     let s = table_after o front in
     let xs = steps_of r.round in
     let ns = numbers_of o front k in
     let last = counted_in no_numbers.counters front c in
     let held = w.table in
-    let long = length_is t s held.0 held.2 in
-    let now : taken_now p t ≡ record { number = number_after o front; length = s.space.end } =
-    ap (λ n. record { number = n; length = t.rows.rows.file.counts.length }) w.number ∙ ap (λ n. record { number = number_after o front; length = n }) long in
+    let long = length_is t (standing_in o s) held.0 held.2 ∙ ap (λ q. end_in q s) takes in
+    let now : taken_now p t ≡ record { number = number_after o front; length = end_in o.script.takes s } =
+    ap (λ n. record { number = n; length = length_in t }) w.number ∙ ap (λ n. record { number = number_after o front; length = n }) long in
     record {
       run = next_run o front c told p t k may w left is few;
       locks = leaves.locks ∙ ap (λ z. advanced z r.round) w.locks ∙ sym (locks_more o front r);
-      table = subst (λ s. HoldsThen next u s) (ap (λ (z : LockState). state_after o.defs (asks o.lines z (is_together r.round)) s xs) w.locks ∙ sym (table_more o front)) leaves.done.state;
-      number = leaves.number ∙ leaves.done.number ∙ ap (λ n. n + length (changes o.defs (asks o.lines p.locks (is_together r.round)) s xs)) w.number
-          ∙ ap (λ (z : LockState). number_after o front + length (changes o.defs (asks o.lines z (is_together r.round)) s xs)) w.locks ∙ sym (number_more o front);
+      table = subst (λ q. HoldsThen next u (standing_in o q)) (ap (λ (z : LockState). state_after o.defs (asks o.script z (is_together r.round)) s xs) w.locks ∙ sym (table_more o front)) leaves.done.state;
+      number = leaves.number ∙ leaves.done.number ∙ ap (λ n. n + length (changes o.defs (asks o.script p.locks (is_together r.round)) s xs)) w.number
+          ∙ ap (λ (z : LockState). number_after o front + length (changes o.defs (asks o.script z (is_together r.round)) s xs)) w.locks ∙ sym (number_more o front);
       taken = λ n. leaves.taken n ∙ taken_then o front c r.round (taken_now p t) p.taken n w.run now w.taken
-          ∙ ap (λ more. record { number = number_at n more; length = (state_at o (history o) (number_at n more)).space.end }) (sym (taken_more front r));
-      counted = subst (λ z. AreNotBelow z (counted_now u)) (sym (counted_more o front c no_numbers.counters r ns w.run)) (counted_then last k (counted_now t) (counted_now u) (is_stats xs) w.counted is (sums_on told next t u carried));
+          ∙ ap (λ more. record { number = number_at n more; length = end_in o.script.takes (state_at o (history o) (number_at n more)) }) (sym (taken_more front r));
+      counted = subst (λ z. AreNotBelow z (on.counted_in u)) (sym (counted_more o front c no_numbers.counters r ns w.run)) (counted_then last k (on.counted_in t) (on.counted_in u) (is_stats xs) w.counted is carried.counted);
       texts = leaves.texts;
     }
 
@@ -190,16 +146,16 @@ text_on : (start printed : Option (List ℕ)) (text more : List ℕ) → (out : 
 text_on start printed text more out one two = λ xs told. two (xs ++ text) (one xs told) ∙ ap Some (append_assoc xs text more)
 
 -- the changes of the rounds before it, and its own
-touched_more : (o : Opening) (front : List ScriptRound) (from : Before) (told next : Option Holding) (p mid q : RunState) (t u : OpenTable) (r : ScriptRound) → p.number ≡ number_after o front → q.number ≡ mid.number → q.number ≡ number_after o (front ++ r ∷ [])
+touched_more : (o : Opening) (front : List ScriptRound) (from : Before) (told next : Option Holding) (p mid q : RunState) (t u : Target) (r : ScriptRound) → p.number ≡ number_after o front → q.number ≡ mid.number → q.number ≡ number_after o (front ++ r ∷ [])
     → IsTouchedBy from.files told from.table t 0 (number_after o front) → IsTouchedBy told next t u p.number mid.number → IsTouchedBy from.files next from.table u 0 (number_after o (front ++ r ∷ []))
 touched_more o front from told next p mid q t u r before same now so_far more =
     touched_then from.files told next from.table t u 0 (number_after o front) (number_after o (front ++ r ∷ [])) so_far (touched_as told next t u p.number mid.number (number_after o front) (number_after o (front ++ r ∷ [])) before (sym same ∙ now) more)
 
-pub goes_round : (o : Opening) (from : Before) (told next out printed : _) (p mid q : RunState) (t u : OpenTable) (k : Counters) → MayRun o.defs o.lines → IsSound o.defs → IsState o.defs o.base
-    → (w : HasDone o from told p t out) → has_steps p.locks ≡ true → k ≡ counted_now t → k.reads ≤ k.read_requests → RoundLeaves o w.front k p mid q t next u → IsCarried told next t u → IsTouchedBy told next t u p.number mid.number
+pub goes_round : (o : Opening) (from : Before) (told next out printed : _) (p mid q : RunState) (t u : Target) (k : Counters) → MayRun o.defs o.script.lines → IsSound o.defs → IsState o.defs o.base
+    → (w : HasDone o from told p t out) → taking t ≡ o.script.takes → has_steps p.locks ≡ true → k ≡ on.counted_in t → k.reads ≤ k.read_requests → RoundLeaves o w.front k p mid q t next u → IsCarried told next t u → IsTouchedBy told next t u p.number mid.number
     → IfTold out (Appends (round_text o w.front k) printed) → HasDone o from next q u printed
-goes_round o from told next out printed p mid q t u k may sound base w left is few leaves carried more text =
-    let stands = next_stands o w.front w.numbers told next p mid q t u k may sound base w.stands left is few leaves carried in
+goes_round o from told next out printed p mid q t u k may sound base w takes left is few leaves carried more text =
+    let stands = next_stands o w.front w.numbers told next p mid q t u k may sound base w.stands takes left is few leaves carried in
     record {
       front = w.front ++ next_after o w.front ∷ [];
       numbers = w.numbers ++ numbers_of o w.front k ∷ [];
@@ -216,7 +172,7 @@ all_rounds o front (p ∷ back) e none =
     let f = follows_history o front back p e in
     absurd (let k : true ≡ false = sym f.left ∙ ap has_steps f.locks ∙ none in cc)
 
-pub ends_run : (o : Opening) (from : Before) (told out : _) (p : RunState) (t : OpenTable) → (w : HasDone o from told p t out) → has_steps p.locks ≡ false → HasEnded o from told t out
+pub ends_run : (o : Opening) (from : Before) (told out : _) (p : RunState) (t : Target) → (w : HasDone o from told p t out) → has_steps p.locks ≡ false → HasEnded o from told t out
 ends_run o from told out p t w none =
     let over = subst (λ (z : LockState). has_steps z ≡ false) w.stands.locks none in
     let all = all_rounds o w.front w.stands.run.first.0 w.stands.run.first.1 over in
@@ -226,7 +182,7 @@ ends_run o from told out p t w none =
         within = ends_within o w.front w.numbers w.stands.run over;
         text = subst (λ xs. IfTold from.printed (Appends xs out)) (sym (ends_text o w.front w.numbers w.stands.run over)) w.text;
       };
-      table = subst (λ s. HoldsThen told t s) (ends_table o w.front w.numbers w.stands.run over) w.stands.table;
+      table = subst (λ q. HoldsThen told t (standing_in o q)) (ends_table o w.front w.numbers w.stands.run over) w.stands.table;
       touched = subst (λ (ps : List ScriptRound). IsTouchedBy from.files told from.table t 0 (number_after o ps)) all w.touched;
     }
 
@@ -250,7 +206,7 @@ front_part whole text rest is k ys le more behind old printed shown =
     (n, omega (arith, long, le), shown ∙ ap Some (append_assoc old text (take k ys) ∙ ap (λ r. old ++ r) (sym first)))
 
 -- of a round's text a first part was printed, or nothing
-pub stops_in : (o : Opening) (from : Before) (told out printed : _) (p : RunState) (t : OpenTable) (ns : Numbers) → (w : HasDone o from told p t out) → HasRun o (w.front ++ next_after o w.front ∷ []) (w.numbers ++ ns ∷ [])
+pub stops_in : (o : Opening) (from : Before) (told out printed : _) (p : RunState) (t : Target) (ns : Numbers) → (w : HasDone o from told p t out) → HasRun o (w.front ++ next_after o w.front ∷ []) (w.numbers ++ ns ∷ [])
     → IfTold out (AppendsPart (flat_map said_text (round_said o (history o) (next_after o w.front) ns)) printed) → IsPrintedPart o from.printed printed
 stops_in o from told out printed p t ns w run part =
     let e = stops o (w.front ++ next_after o w.front ∷ []) (w.numbers ++ ns ∷ []) run in
@@ -260,7 +216,7 @@ stops_in o from told out printed p t ns w run part =
     e.3 ∙ ap (λ xs. xs ++ e.2) (text_more o w.front w.numbers (next_after o w.front) ns w.stands.run) ∙ append_assoc text piece e.2 in
     record { numbers = e.0; within = e.1; text = λ old is. let k = part (old ++ text) (w.text old is) in front_part (shell_text o e.0) text (piece ++ e.2) whole k.0 piece k.1 e.2 refl old printed k.2 }
 
-pub stops_between : (o : Opening) (from : Before) (told out printed : _) (p : RunState) (t : OpenTable) → HasDone o from told p t out → printed ≡ out → IsPrintedPart o from.printed printed
+pub stops_between : (o : Opening) (from : Before) (told out printed : _) (p : RunState) (t : Target) → HasDone o from told p t out → printed ≡ out → IsPrintedPart o from.printed printed
 stops_between o from told out printed p t w same =
     let e = stops o w.front w.numbers w.stands.run in
     let text = run_text o w.front w.numbers in
@@ -269,20 +225,20 @@ stops_between o from told out printed p t w same =
 -- ---- one round, as the table and the output tell it
 
 -- the round is the one that comes next
-round_next : (o : Opening) (from : Before) (told out : _) (p : RunState) (t : OpenTable) (round : Round) → (w : HasDone o from told p t out) → round ≡ next_round p.locks (is_some t.rows.rows.file.counts.dellink) → round ≡ (next_after o w.front).round
-round_next o from told out p t round w is =
+round_next : (o : Opening) (from : Before) (told out : _) (p : RunState) (t : Target) (round : Round) → (w : HasDone o from told p t out) → taking t ≡ o.script.takes → round ≡ next_round p.locks (holes_in t) → round ≡ (next_after o w.front).round
+round_next o from told out p t round w takes is =
     let held = w.stands.table in
-    is ∙ ap (λ (z : LockState). next_round z (is_some t.rows.rows.file.counts.dellink)) w.stands.locks ∙ ap (λ b. next_round (locks_after o w.front) b) (holes_are t (table_after o w.front) held.0 held.2)
+    is ∙ ap (λ (z : LockState). next_round z (holes_in t)) w.stands.locks ∙ ap (λ b. next_round (locks_after o w.front) b) (holes_are t (standing_in o (table_after o w.front)) held.0 held.2 ∙ ap (λ q. has_hole q (table_after o w.front)) takes)
 
-leaves_of : (t u : OpenTable) (ls : List Line) (setting : ℕ) (base : TableState) (from : Before) (told next out : _) (p mid q : RunState) (round : Round) (k : Counters) → (w : HasDone (opening_on (defs_in t) ls setting base) from told p t out)
-    → round ≡ next_round p.locks (is_some t.rows.rows.file.counts.dellink) → AreRounds told t ls p k round next u mid → ((n : ℕ) → mid.taken n ≡ taken_behind round (taken_now p t) p.taken n) → q ≡ record mid { locks = advanced p.locks round; texts = [] }
-    → RoundLeaves (opening_on (defs_in t) ls setting base) w.front k p mid q t next u
-leaves_of t u ls setting base from told next out p mid q round k w is done taken after =
-    let o = opening_on (defs_in t) ls setting base in
+leaves_of : (t u : Target) (lines : List Line) (setting : ℕ) (base : Standing) (from : Before) (told next out : _) (p mid q : RunState) (round : Round) (k : Counters) → (w : HasDone (opening_on (defs_in t) (script_on t lines) setting base) from told p t out)
+    → round ≡ next_round p.locks (holes_in t) → AreRounds told t (script_on t lines) p k round next u mid → ((n : ℕ) → mid.taken n ≡ taken_behind round (taken_now p t) p.taken n) → q ≡ record mid { locks = advanced p.locks round; texts = [] }
+    → RoundLeaves (opening_on (defs_in t) (script_on t lines) setting base) w.front k p mid q t next u
+leaves_of t u lines setting base from told next out p mid q round k w is done taken after =
+    let o = opening_on (defs_in t) (script_on t lines) setting base in
     let held = w.stands.table in
-    let same = round_next o from told out p t round w is in
+    let same = round_next o from told out p t round w refl is in
     record {
-      done = subst (λ (r : Round). IsRoundDone (defs_in t) ls p k (table_after o w.front) r next u mid) same (done held.0 held.1 (table_after o w.front) held.2);
+      done = subst (λ (r : Round). IsRoundDone (defs_in t) (script_on t lines) p k (standing_in o (table_after o w.front)) r next u mid) same (done held.0 held.1 (standing_in o (table_after o w.front)) held.2);
       locks = ap (λ (z : RunState). z.locks) after ∙ ap (λ r. advanced p.locks r) same;
       number = ap (λ (z : RunState). z.number) after;
       taken = λ n. ap (λ (z : RunState). z.taken n) after ∙ taken n ∙ ap (λ r. taken_behind r (taken_now p t) p.taken n) same;
@@ -293,27 +249,27 @@ leaves_of t u ls setting base from told next out p mid q round k w is done taken
 round_shown : (o : Opening) (front : List ScriptRound) (k : Counters) (texts : List LineText) → texts ≡ texts_of (answers_of o front k) → joined (in_line_order texts) ≡ round_text o front k
 round_shown o front k texts is = ap (λ ts. joined (in_line_order ts)) is ∙ sym (texts_in_order (answers_of o front k))
 
-pub round_on : (t u : OpenTable) (ls : List Line) (setting : ℕ) (base : TableState) (from : Before) (told next out printed : _) (p mid q : RunState) (round : Round) (k : Counters) → MayRun (defs_in t) ls → IsSound (defs_in t) → IsState (defs_in t) base
-    → has_steps p.locks ≡ true → k ≡ counted_now t → k.reads ≤ k.read_requests
-    → round ≡ next_round p.locks (is_some t.rows.rows.file.counts.dellink) → AreRounds told t ls p k round next u mid → ((n : ℕ) → mid.taken n ≡ taken_behind round (taken_now p t) p.taken n) → q ≡ record mid { locks = advanced p.locks round; texts = [] }
+pub round_on : (t u : Target) (lines : List Line) (setting : ℕ) (base : Standing) (from : Before) (told next out printed : _) (p mid q : RunState) (round : Round) (k : Counters) → MayRun (defs_in t) lines → IsSound (defs_in t) → IsState (defs_in t) base.table
+    → has_steps p.locks ≡ true → k ≡ on.counted_in t → k.reads ≤ k.read_requests
+    → round ≡ next_round p.locks (holes_in t) → AreRounds told t (script_on t lines) p k round next u mid → ((n : ℕ) → mid.taken n ≡ taken_behind round (taken_now p t) p.taken n) → q ≡ record mid { locks = advanced p.locks round; texts = [] }
     → IsCarried told next t u → IsTouchedBy told next t u p.number mid.number → (HaveOwnLines mid.texts → IfTold out (Appends (joined (in_line_order mid.texts)) printed))
-    → HasDone (opening_on (defs_in t) ls setting base) from told p t out → HasDone (opening_on (defs_in t) ls setting base) from next q u printed
-round_on t u ls setting base from told next out printed p mid q round k may sound state left is few round_is done taken after carried more shown w =
-    let o = opening_on (defs_in t) ls setting base in
-    let leaves = leaves_of t u ls setting base from told next out p mid q round k w round_is done taken after in
+    → HasDone (opening_on (defs_in t) (script_on t lines) setting base) from told p t out → HasDone (opening_on (defs_in t) (script_on t lines) setting base) from next q u printed
+round_on t u lines setting base from told next out printed p mid q round k may sound state left is few round_is done taken after carried more shown w =
+    let o = opening_on (defs_in t) (script_on t lines) setting base in
+    let leaves = leaves_of t u lines setting base from told next out p mid q round k w round_is done taken after in
     let texts = said_texts o w.front w.numbers told next p mid q t u k may sound state w.stands leaves in
     let run = next_run o w.front w.numbers told p t k may w.stands left is few in
     let own = subst HaveOwnLines (sym texts) (own_lines o w.front (w.numbers ++ numbers_of o w.front k ∷ []) k may run) in
-    goes_round o from told next out printed p mid q t u k may sound state w left is few leaves carried more (subst (λ xs. IfTold out (Appends xs printed)) (round_shown o w.front k mid.texts texts) (shown own))
+    goes_round o from told next out printed p mid q t u k may sound state w refl left is few leaves carried more (subst (λ xs. IfTold out (Appends xs printed)) (round_shown o w.front k mid.texts texts) (shown own))
 
-pub round_part : (t u : OpenTable) (ls : List Line) (setting : ℕ) (base : TableState) (from : Before) (told next out printed : _) (p mid : RunState) (round : Round) (k : Counters) → MayRun (defs_in t) ls → IsSound (defs_in t) → IsState (defs_in t) base
-    → has_steps p.locks ≡ true → k ≡ counted_now t → k.reads ≤ k.read_requests
-    → round ≡ next_round p.locks (is_some t.rows.rows.file.counts.dellink) → AreRounds told t ls p k round next u mid → ((n : ℕ) → mid.taken n ≡ taken_behind round (taken_now p t) p.taken n)
+pub round_part : (t u : Target) (lines : List Line) (setting : ℕ) (base : Standing) (from : Before) (told next out printed : _) (p mid : RunState) (round : Round) (k : Counters) → MayRun (defs_in t) lines → IsSound (defs_in t) → IsState (defs_in t) base.table
+    → has_steps p.locks ≡ true → k ≡ on.counted_in t → k.reads ≤ k.read_requests
+    → round ≡ next_round p.locks (holes_in t) → AreRounds told t (script_on t lines) p k round next u mid → ((n : ℕ) → mid.taken n ≡ taken_behind round (taken_now p t) p.taken n)
     → (HaveOwnLines mid.texts → IfTold out (AppendsPart (joined (in_line_order mid.texts)) printed))
-    → HasDone (opening_on (defs_in t) ls setting base) from told p t out → IsPrintedPart (opening_on (defs_in t) ls setting base) from.printed printed
-round_part t u ls setting base from told next out printed p mid round k may sound state left is few round_is done taken shown w =
-    let o = opening_on (defs_in t) ls setting base in
-    let leaves = leaves_of t u ls setting base from told next out p mid (record mid { locks = advanced p.locks round; texts = [] }) round k w round_is done taken refl in
+    → HasDone (opening_on (defs_in t) (script_on t lines) setting base) from told p t out → IsPrintedPart (opening_on (defs_in t) (script_on t lines) setting base) from.printed printed
+round_part t u lines setting base from told next out printed p mid round k may sound state left is few round_is done taken shown w =
+    let o = opening_on (defs_in t) (script_on t lines) setting base in
+    let leaves = leaves_of t u lines setting base from told next out p mid (record mid { locks = advanced p.locks round; texts = [] }) round k w round_is done taken refl in
     let texts = said_texts o w.front w.numbers told next p mid (record mid { locks = advanced p.locks round; texts = [] }) t u k may sound state w.stands leaves in
     let run = next_run o w.front w.numbers told p t k may w.stands left is few in
     let own = subst HaveOwnLines (sym texts) (own_lines o w.front (w.numbers ++ numbers_of o w.front k ∷ []) k may run) in
@@ -350,16 +306,16 @@ cut_text o front c k start out printed run before part = λ xs told.
     (length text + j.0, omega arith, omega (arith, le, long), j.2 ∙ ap Some (append_assoc xs text (take j.0 piece) ∙ ap (λ r. xs ++ r) (sym first)))
 
 -- behind a round whose text was not printed whole the table stands for its changes too
-pub round_behind : (t u : OpenTable) (ls : List Line) (setting : ℕ) (base : TableState) (from : Before) (told next out printed : _) (p mid : RunState) (round : Round) (k : Counters) → MayRun (defs_in t) ls → IsSound (defs_in t) → IsState (defs_in t) base
-    → has_steps p.locks ≡ true → k ≡ counted_now t → k.reads ≤ k.read_requests
-    → round ≡ next_round p.locks (is_some t.rows.rows.file.counts.dellink) → AreRounds told t ls p k round next u mid → ((n : ℕ) → mid.taken n ≡ taken_behind round (taken_now p t) p.taken n) → IsCarried told next t u → IsTouchedBy told next t u p.number mid.number
+pub round_behind : (t u : Target) (lines : List Line) (setting : ℕ) (base : Standing) (from : Before) (told next out printed : _) (p mid : RunState) (round : Round) (k : Counters) → MayRun (defs_in t) lines → IsSound (defs_in t) → IsState (defs_in t) base.table
+    → has_steps p.locks ≡ true → k ≡ on.counted_in t → k.reads ≤ k.read_requests
+    → round ≡ next_round p.locks (holes_in t) → AreRounds told t (script_on t lines) p k round next u mid → ((n : ℕ) → mid.taken n ≡ taken_behind round (taken_now p t) p.taken n) → IsCarried told next t u → IsTouchedBy told next t u p.number mid.number
     → (HaveOwnLines mid.texts → IfTold out (AppendsPart (joined (in_line_order mid.texts)) printed))
-    → HasDone (opening_on (defs_in t) ls setting base) from told p t out → StandsBehind (opening_on (defs_in t) ls setting base) from next u printed
-round_behind t u ls setting base from told next out printed p mid round k may sound state left is few round_is done taken carried more shown w =
-    let o = opening_on (defs_in t) ls setting base in
+    → HasDone (opening_on (defs_in t) (script_on t lines) setting base) from told p t out → StandsBehind (opening_on (defs_in t) (script_on t lines) setting base) from next u printed
+round_behind t u lines setting base from told next out printed p mid round k may sound state left is few round_is done taken carried more shown w =
+    let o = opening_on (defs_in t) (script_on t lines) setting base in
     let after : RunState = record mid { locks = advanced p.locks round; texts = [] } in
-    let leaves = leaves_of t u ls setting base from told next out p mid after round k w round_is done taken refl in
-    let stands = next_stands o w.front w.numbers told next p mid after t u k may sound state w.stands left is few leaves carried in
+    let leaves = leaves_of t u lines setting base from told next out p mid after round k w round_is done taken refl in
+    let stands = next_stands o w.front w.numbers told next p mid after t u k may sound state w.stands refl left is few leaves carried in
     let texts = said_texts o w.front w.numbers told next p mid after t u k may sound state w.stands leaves in
     let own = subst HaveOwnLines (sym texts) (own_lines o w.front (w.numbers ++ numbers_of o w.front k ∷ []) k may stands.run) in
     record {

@@ -6,6 +6,8 @@ pub mod Running
 pub mod Damage
 -- ---- what serves the contracts of the crate's own calls
 
+-- what a script is run on
+pub mod Targets
 -- a statement that changes a table
 pub mod Changing
 -- a statement that reads one

@@ -6,24 +6,21 @@ ghost use Rattle.myi_pack.specs.Spelling.{fits};
 ghost use Rattle.myi_search.specs.Counting.{CountsOn};
 ghost use Rattle.myi_state.specs.Changes as change;
 ghost use Rattle.myi_table.specs.Table.{defs_in, IsKept, IsSame, IfHolds, ChangesItsOwn};
-ghost use Rattle.myi_history.specs.Answers.{answer_on, by_reply};
-ghost use Rattle.myi_history.specs.RoundTexts.{text_of};
 ghost use Rattle.myi_shell.specs.declared.fault.ShellFault.TheVariants.{File};
-ghost use Rattle.myi_history.specs.History.{change_of};
+ghost use Rattle.myi_history.specs.History.{table_change};
 ghost use Rattle.myi_history.specs.Lines.{BringsRow};
 ghost use Rattle.myi_shell.specs.Carrying.{IsCarried, IsTouchedBy};
 ghost use Rattle.myi_shell.specs.Changing as spec;
-ghost use Rattle.myi_shell.specs.Changing.{insert_of, reply_of, count_of, count_made, Steps};
+ghost use Rattle.myi_shell.specs.Changing.{insert_of, count_of, count_made, Steps};
 ghost use Rattle.myi_shell.specs.Changing.{IsChanged, NeverDamaged};
 
 use crate::fault::ShellFault;
-use myi_history::{RoundTexts, StepAnswer};
+use myi_history::StepAnswer;
 use myi_io::Files;
 use myi_pack::Row;
 use myi_script::Act;
 use myi_table::{ChangeFault, Table};
 use myi_tablestate::keyed_refusals_come_in_order;
-use std::alloc::AllocError;
 
 /// What a change of a table answers: its position, or why it is refused.
 #[derive(Clone, Copy, Debug, PartialEq, Eq)]
@@ -35,6 +32,13 @@ pub(crate) enum Reply {
     Duplicate { key: u64, at: u64 },
     /// Row pointers would not reach the whole data file.
     Full,
+}
+
+/// What is noted of a change, and whether it was made.
+#[derive(Clone, Copy)]
+pub(crate) struct Changed {
+    pub(crate) answer: StepAnswer,
+    pub(crate) made: bool,
 }
 
 // A change that was made, or its refusal, as a reply, and what cuts it off as a fault.
@@ -158,7 +162,7 @@ pub(crate) fn change<F: Files>(
     requires kept { IsKept (F.holds files.old) table.old }
     requires whole { table.old.broken ≡ None }
     ensures changed { IfOk result (λ reply. IfHolds (F.holds files.old) table.old (λ m s.
-        IsChanged table.old s (change_of together (Some act.now)) (F.holds files.new)
+        IsChanged table.old s (table_change together (Some act.now)) (F.holds files.new)
         table.new reply)) }
     ensures touched { IfOk result (λ reply. IsTouchedBy (F.holds files.old) (F.holds files.new)
         table.old table.new 0 (count_made reply)) }
@@ -173,18 +177,4 @@ pub(crate) fn change<F: Files>(
         Act::Delete { at } => Ok(Some(delete(table, files, *at)?)),
         _ => Ok(None),
     }
-}
-
-/// Notes the line of a reply.
-pub(crate) fn push_reply(texts: &mut RoundTexts, line: u32, reply: Reply) -> Result<(), AllocError>
-    ensures { OnOk result (texts.new
-        ≡ texts.old ++ text_of (answer_on line (by_reply (reply_of reply))) ∷ []) }
-{
-    let answer = match reply {
-        Reply::Made { at } => StepAnswer::Made { at },
-        Reply::NoRow { at } => StepAnswer::NoRow { at },
-        Reply::Duplicate { key, at } => StepAnswer::Duplicate { key, at },
-        Reply::Full => StepAnswer::Full,
-    };
-    texts.push(line, answer)
 }

@@ -7,15 +7,20 @@ ghost use Rattle.myi_history.specs.RoundTexts.{text_of};
 ghost use Rattle.myi_history.specs.Lines.{IsRange, ReadsRange};
 ghost use Rattle.myi_table.specs.Table.{defs_in, IsKept, IfHolds, StillHolds};
 ghost use Rattle.myi_shell.specs.Carrying.{IsCarried, IsUntouched};
-ghost use Rattle.myi_shell.specs.Changing.{NeverDamaged};
+ghost use Rattle.myi_shell.specs.Changing.{NeverDamaged, NothingDamaged};
 ghost use Rattle.myi_shell.specs.Stepping.{seen_rows, read_answer};
 ghost use Rattle.myi_shell.specs.Reading.{table_range};
+ghost use Rattle.myi_history.specs.Reads.{found, merged_found};
+ghost use Rattle.myi_history.specs.History.{in_list};
+ghost use Rattle.myi_shell.specs.Targets as on;
+ghost use Rattle.myi_shell.specs.declared.target.Target.TheVariants.{One, Many};
 ghost use Rattle.myi_shell.specs.declared.fault.ShellFault.TheVariants.{File};
 
 use crate::fault::ShellFault;
 use myi_history::RoundTexts;
 use myi_io::Files;
 use myi_keys::KeyVal;
+use myi_merge::Merge;
 use myi_pack::Row;
 use myi_script::{self as script, Act};
 use myi_table::{Range, Table};
@@ -66,8 +71,8 @@ pub(crate) fn push_found(
     }
 }
 
-/// Reads the rows of a statement, and notes the lines of them.
-pub(crate) fn read<F: Files>(
+// Reads the rows of a statement in a table, and notes the lines of them.
+fn read<F: Files>(
     table: &mut Table,
     files: &mut F,
     texts: &mut RoundTexts,
@@ -81,7 +86,8 @@ pub(crate) fn read<F: Files>(
     requires whole { table.old.broken ≡ None }
     ensures said { OnOk result (IfHolds (F.holds files.old) table.old (λ m s.
         texts.new ≡ texts.old ++ text_of (answer_on line
-        (read_answer (defs_in table.old) view s (Some act.now))) ∷ [])) }
+        (rows (seen_rows view.below (found (defs_in table.old) s (Some act.now))) view.number))
+        ∷ [])) }
     ensures still { StillHolds (F.holds files.old) (F.holds files.new) table.old table.new }
     ensures carried { IsCarried (F.holds files.old) (F.holds files.new) table.old table.new }
     ensures untouched { IsUntouched (F.holds files.old) (F.holds files.new) table.old table.new }
@@ -104,5 +110,100 @@ pub(crate) fn read<F: Files>(
         }
         _ => push_found(texts, line, &[], view)?,
     }
+    Ok(())
+}
+
+/// Reads the rows of a statement in a table that is a script's target.
+pub(crate) fn read_table<F: Files>(
+    table: &mut Table,
+    files: &mut F,
+    texts: &mut RoundTexts,
+    act: &Act,
+    line: u32,
+    view: Snapshot,
+) -> Result<(), ShellFault>
+    requires writable { IsTrue F.writable }
+    requires range { ReadsRange (on.defs_in (One table.old)) act.now }
+    requires kept { on.IsKept (F.holds files.old) (One table.old) }
+    requires whole { on.IsWhole (One table.old) }
+    ensures said { OnOk result (on.IfHolds (F.holds files.old) (One table.old) (λ m s.
+        texts.new ≡ texts.old ++ text_of (answer_on line (read_answer (on.taking (One table.old))
+        (on.defs_in (One table.old)) view s (Some act.now))) ∷ [])) }
+    ensures still { on.StillHolds (F.holds files.old) (F.holds files.new)
+        (One table.old) (One table.new) }
+    ensures carried { on.IsCarried (F.holds files.old) (F.holds files.new)
+        (One table.old) (One table.new) }
+    ensures untouched { on.IsUntouched (F.holds files.old) (F.holds files.new)
+        (One table.old) (One table.new) }
+    ensures whole { on.IsWhole (One table.new) }
+    ensures refused { IfErr result (NothingDamaged (F.holds files.old)) }
+    ensures cause { HasCause File (F.faults files.old) (F.faults files.new) result }
+{
+    read(table, files, texts, act, line, view)
+}
+
+// What a statement that reads finds in the tables of a list.
+fn found_in<F: Files>(
+    alloc: Global,
+    merge: &mut Merge,
+    files: &mut F,
+    act: &Act,
+) -> Result<Vec<(u32, u64, Row)>, ShellFault>
+    requires writable { IsTrue F.writable }
+    requires range { ReadsRange (on.defs_in (Many merge.old)) act.now }
+    requires kept { on.IsKept (F.holds files.old) (Many merge.old) }
+    requires whole { on.IsWhole (Many merge.old) }
+    ensures rows { IfOk result (λ rows. on.IfHolds (F.holds files.old) (Many merge.old) (λ m s.
+        rows.items ≡ merged_found (on.defs_in (Many merge.old)) (in_list s.beside s.table)
+        (Some act.now))) }
+    ensures still { on.StillHolds (F.holds files.old) (F.holds files.new)
+        (Many merge.old) (Many merge.new) }
+    ensures carried { on.IsCarried (F.holds files.old) (F.holds files.new)
+        (Many merge.old) (Many merge.new) }
+    ensures untouched { on.IsUntouched (F.holds files.old) (F.holds files.new)
+        (Many merge.old) (Many merge.new) }
+    ensures whole { on.IsWhole (Many merge.new) }
+    ensures refused { IfErr result (NothingDamaged (F.holds files.old)) }
+    ensures cause { HasCause File (F.faults files.old) (F.faults files.new) result }
+{
+    merge.defs();
+    match act {
+        Act::Scan => Ok(merge.scan(files)?),
+        Act::Over(range) => {
+            let range = range_of(alloc, range)?;
+            Ok(merge.range(files, &range)?)
+        }
+        _ => Ok(Vec::new(alloc)),
+    }
+}
+
+/// Reads the rows of a statement in the tables of a list, and notes the lines of them.
+pub(crate) fn read_list<F: Files>(
+    merge: &mut Merge,
+    files: &mut F,
+    texts: &mut RoundTexts,
+    act: &Act,
+    line: u32,
+    view: Snapshot,
+) -> Result<(), ShellFault>
+    requires writable { IsTrue F.writable }
+    requires range { ReadsRange (on.defs_in (Many merge.old)) act.now }
+    requires kept { on.IsKept (F.holds files.old) (Many merge.old) }
+    requires whole { on.IsWhole (Many merge.old) }
+    ensures said { OnOk result (on.IfHolds (F.holds files.old) (Many merge.old) (λ m s.
+        texts.new ≡ texts.old ++ text_of (answer_on line (read_answer (on.taking (Many merge.old))
+        (on.defs_in (Many merge.old)) view s (Some act.now))) ∷ [])) }
+    ensures still { on.StillHolds (F.holds files.old) (F.holds files.new)
+        (Many merge.old) (Many merge.new) }
+    ensures carried { on.IsCarried (F.holds files.old) (F.holds files.new)
+        (Many merge.old) (Many merge.new) }
+    ensures untouched { on.IsUntouched (F.holds files.old) (F.holds files.new)
+        (Many merge.old) (Many merge.new) }
+    ensures whole { on.IsWhole (Many merge.new) }
+    ensures refused { IfErr result (NothingDamaged (F.holds files.old)) }
+    ensures cause { HasCause File (F.faults files.old) (F.faults files.new) result }
+{
+    let found = found_in(texts.allocator(), merge, files, act)?;
+    texts.push_merged(line, &found, view.number)?;
     Ok(())
 }

@@ -2,11 +2,10 @@
 ghost use Rattle.std.specs.Prelude.{◌≡◌, ◌≤◌, None, OnOk, IfOk, IfErr, IsTrue};
 ghost use Rattle.myi_base.specs.Holding.{IfTold};
 ghost use Rattle.myi_base.specs.Causes.{HasCause};
-ghost use Rattle.myi_defs.specs.Sound.{IsSound};
 ghost use Rattle.myi_locks.specs.Script.{IsScript};
 ghost use Rattle.myi_history.specs.Lines.{MayRun, script_steps};
-ghost use Rattle.myi_table.specs.Table.{defs_in, IsKept, IfHolds, ChangesItsOwn};
-ghost use Rattle.myi_shell.specs.Carrying.{IsCarried};
+ghost use Rattle.myi_shell.specs.Targets.{defs_in, script_on, IsKept, IsWhole, ChangesItsOwn};
+ghost use Rattle.myi_shell.specs.Targets.{IfHolds, IsCarried};
 ghost use Rattle.myi_shell.specs.Damage.{IsPrintedDamage};
 ghost use Rattle.myi_shell.specs.Stepping.{begun, state_of};
 ghost use Rattle.myi_shell.specs.Running.{opening_on, standing, HasEnded, IsPrinted};
@@ -17,26 +16,28 @@ ghost use Rattle.myi_shell.specs.declared.fault.ShellFault.TheVariants.{File, Si
 use crate::fault::ShellFault;
 use crate::gate::Gate;
 use crate::script_run::ScriptRun;
+use crate::target::Target;
 use myi_history::{script_steps, scripts_may_run};
 use myi_io::{Files, Sink};
 use myi_locks::Locks;
 use myi_script::{Line, Script};
-use myi_table::{ChangeFault, Table};
+use myi_table::ChangeFault;
 use std::alloc::{AllocError, Global};
 
-/// Runs a script on a table, and closes the table. `setting` is that of concurrent inserts, as
-/// `Locks::new` has it. The lines are printed round by round, in order of their numbers. What is
-/// printed is the text of the script, with numbers within their bounds, and the files are a clean
-/// pair that stands for the table that the history leads to; with no accepted change the data file
-/// stays byte for byte. A run that is cut off has printed a first part of such a text. Where the
-/// output failed, the table is closed too, behind the round whose lines were being printed. Where
-/// closing a table fails that no fault broke, that is the answer, whatever happened before. `gate`
-/// is called before and after each step. Over files that tell nothing of what they hold a step may
-/// meet damage: the lines of its round so far are printed then, one of which says so, and nothing
-/// follows.
+/// Runs a script on a table or a list, and closes its tables. `setting` is that of concurrent
+/// inserts, as `Locks::new` has it. The lines are printed round by round, in order of their
+/// numbers. What is printed is the text of the script, with numbers within their bounds, and the
+/// files are a clean pair that stands for the table that the history leads to; with no accepted
+/// change the data file stays byte for byte. So it is with the table of a list that takes the rows,
+/// and the other tables stay as they were. A run that is cut off has printed a first part of such a
+/// text. Where the output failed, the table is closed too, behind the round whose lines were being
+/// printed. Where closing a table fails that no fault broke, that is the answer, whatever happened
+/// before. `gate` is called before and after each step. Over files that tell nothing of what they
+/// hold a step may meet damage: the lines of its round so far are printed then, one of which says
+/// so, and nothing follows.
 pub fn run_script<F: Files, O: Sink, G: Gate>(
     alloc: Global,
-    table: Table,
+    target: Target,
     script: &Script,
     setting: u8,
     files: &mut F,
@@ -45,33 +46,33 @@ pub fn run_script<F: Files, O: Sink, G: Gate>(
 ) -> Result<(), ShellFault>
     requires writable { IsTrue F.writable }
     requires setting { setting ≤ 2 }
-    requires script { MayRun (defs_in table) script.now.lines }
-    requires kept { IsKept (F.holds files.old) table }
-    requires whole { table.broken ≡ None }
-    ensures text { OnOk result (IfHolds (F.holds files.old) table (λ m s.
-        IsPrinted (opening_on (defs_in table) script.now.lines setting s)
+    requires script { MayRun (defs_in target) script.now.lines }
+    requires kept { IsKept (F.holds files.old) target }
+    requires whole { IsWhole target }
+    ensures text { OnOk result (IfHolds (F.holds files.old) target (λ m s.
+        IsPrinted (opening_on (defs_in target) (script_on target script.now.lines) setting s)
         (O.written out.old) (O.written out.new))) }
-    ensures table { OnOk result (IfHolds (F.holds files.old) table (λ m s.
+    ensures table { OnOk result (IfHolds (F.holds files.old) target (λ m s.
         IfTold (F.holds files.new) (AreClosedAtEnd
-        (opening_on (defs_in table) script.now.lines setting s) table m))) }
-    ensures part { IfErr result (λ f. IfHolds (F.holds files.old) table (λ m s.
-        IsPrintedPart (opening_on (defs_in table) script.now.lines setting s)
+        (opening_on (defs_in target) (script_on target script.now.lines) setting s) target m))) }
+    ensures part { IfErr result (λ f. IfHolds (F.holds files.old) target (λ m s.
+        IsPrintedPart (opening_on (defs_in target) (script_on target script.now.lines) setting s)
         (O.written out.old) (O.written out.new))) }
-    ensures closed { IfSink result (IfHolds (F.holds files.old) table (λ m s.
+    ensures closed { IfSink result (IfHolds (F.holds files.old) target (λ m s.
         IfTold (F.holds files.new) (AreClosedBehind
-        (opening_on (defs_in table) script.now.lines setting s) table
+        (opening_on (defs_in target) (script_on target script.now.lines) setting s) target
         (O.written out.old) (O.written out.new) m))) }
-    ensures refused { IfErr result (IsStopped (F.holds files.old) table) }
+    ensures refused { IfErr result (IsStopped (F.holds files.old)) }
     ensures damaged { IfErr result (IsPrintedDamage (O.written out.old) (O.written out.new)) }
-    ensures others { ChangesItsOwn (F.holds files.old) (F.holds files.new) table }
+    ensures others { ChangesItsOwn (F.holds files.old) (F.holds files.new) target }
     ensures file { HasCause File (F.faults files.old) (F.faults files.new) result }
     ensures sink { HasCause Sink (O.faults out.old) (O.faults out.new) result }
 {
-    let mut table = table;
+    let mut target = target;
     let lines = script.lines.as_slice();
     let host = Host { alloc, gate };
-    let ran = run(&host, &mut table, lines, setting, files, out);
-    let closed = table.close(files);
+    let ran = run(&host, &mut target, lines, setting, files, out);
+    let closed = target.close(files);
     ended(ran, closed)
 }
 
@@ -99,29 +100,26 @@ fn ended(ran: Result<(), ShellFault>, closed: Result<(), ChangeFault>) -> Result
 }
 
 // A script before its first round.
-fn begin(alloc: Global, lines: &[Line], setting: u8, length: u64) -> Result<ScriptRun, AllocError>
+fn begin(
+    alloc: Global,
+    list: bool,
+    lines: &[Line],
+    setting: u8,
+    length: u64,
+) -> Result<ScriptRun, AllocError>
     requires setting { setting ≤ 2 }
-    requires lines { IsScript (script_steps lines.now) }
-    ensures { IfOk result (λ state. state_of state ≡ begun setting lines.now length) }
+    requires lines { IsScript (script_steps list lines.now) }
+    ensures { IfOk result (λ state. state_of state ≡ begun setting list lines.now length) }
 {
-    let steps = script_steps(alloc, lines)?;
+    let steps = script_steps(alloc, list, lines)?;
     let locks = Locks::new(alloc, steps, setting)?;
     Ok(ScriptRun::new(alloc, locks, length))
-}
-
-// How long the data file of a table is. Its definitions are sound.
-fn length_of(table: &Table) -> u64
-    ensures length { result ≡ table.now.rows.rows.file.counts.length }
-    ensures sound { IsSound (defs_in table.now) }
-{
-    table.defs();
-    table.length()
 }
 
 // Does the rounds of a script one after the other.
 fn run<F: Files, O: Sink, G: Gate>(
     host: &Host<'_, G>,
-    table: &mut Table,
+    target: &mut Target,
     lines: &[Line],
     setting: u8,
     files: &mut F,
@@ -129,29 +127,36 @@ fn run<F: Files, O: Sink, G: Gate>(
 ) -> Result<(), ShellFault>
     requires writable { IsTrue F.writable }
     requires setting { setting ≤ 2 }
-    requires lines { MayRun (defs_in table.old) lines.now }
-    requires kept { IsKept (F.holds files.old) table.old }
-    requires whole { table.old.broken ≡ None }
-    ensures ran { OnOk result (IfHolds (F.holds files.old) table.old (λ m s.
-        HasEnded (opening_on (defs_in table.old) lines.now setting s)
-        (standing (O.written out.old) (F.holds files.old) table.old)
-        (F.holds files.new) table.new (O.written out.new))) }
-    ensures part { IfErr result (λ f. IfHolds (F.holds files.old) table.old (λ m s.
-        IsPrintedPart (opening_on (defs_in table.old) lines.now setting s)
+    requires lines { MayRun (defs_in target.old) lines.now }
+    requires kept { IsKept (F.holds files.old) target.old }
+    requires whole { IsWhole target.old }
+    ensures ran { OnOk result (IfHolds (F.holds files.old) target.old (λ m s.
+        HasEnded (opening_on (defs_in target.old) (script_on target.old lines.now) setting s)
+        (standing (O.written out.old) (F.holds files.old) target.old)
+        (F.holds files.new) target.new (O.written out.new))) }
+    ensures part { IfErr result (λ f. IfHolds (F.holds files.old) target.old (λ m s.
+        IsPrintedPart (opening_on (defs_in target.old) (script_on target.old lines.now) setting s)
         (O.written out.old) (O.written out.new))) }
-    ensures stands { IfSink result (IfHolds (F.holds files.old) table.old (λ m s.
-        StandsBehind (opening_on (defs_in table.old) lines.now setting s)
-        (standing (O.written out.old) (F.holds files.old) table.old)
-        (F.holds files.new) table.new (O.written out.new))) }
-    ensures carried { IsCarried (F.holds files.old) (F.holds files.new) table.old table.new }
-    ensures whole { OnOk result (table.new.broken ≡ None) }
-    ensures refused { IfErr result (IsStopped (F.holds files.old) table.old) }
+    ensures stands { IfSink result (IfHolds (F.holds files.old) target.old (λ m s.
+        StandsBehind (opening_on (defs_in target.old) (script_on target.old lines.now) setting s)
+        (standing (O.written out.old) (F.holds files.old) target.old)
+        (F.holds files.new) target.new (O.written out.new))) }
+    ensures carried { IsCarried (F.holds files.old) (F.holds files.new) target.old target.new }
+    ensures whole { OnOk result (IsWhole target.new) }
+    ensures refused { IfErr result (IsStopped (F.holds files.old)) }
     ensures damaged { IfErr result (IsPrintedDamage (O.written out.old) (O.written out.new)) }
     ensures file { HasCause File (F.faults files.old) (F.faults files.new) result }
     ensures sink { HasCause Sink (O.faults out.old) (O.faults out.new) result }
 {
     scripts_may_run();
-    let mut state = begin(host.alloc, lines, setting, length_of(table))?;
-    while state.next_round(host.gate, table, files, lines, out)? {}
+    target.tables_are_sound();
+    let mut state = begin(
+        host.alloc,
+        target.is_list(),
+        lines,
+        setting,
+        target.length(),
+    )?;
+    while state.next_round(host.gate, target, files, lines, out)? {}
     Ok(())
 }

@@ -4,17 +4,16 @@
 //! then what changes it. What the steps say is noted, and printed behind the round in order of
 //! the lines.
 
-use crate::changes::{Reply, change, push_reply};
 use crate::fault::{ShellFault, note_damage};
 use crate::gate::{Gate, end_step, pass_step};
-use crate::reading::{Snapshot, push_found, read};
+use crate::reading::Snapshot;
 use crate::statements::act_of;
+use crate::target::Target;
 use myi_history::{RoundTexts, StepAnswer};
 use myi_io::{Files, Sink};
 use myi_keycache::Counters;
 use myi_locks::{LockKind, Locks, Round, Run, Step, StepKind};
 use myi_script::Line;
-use myi_table::Table;
 use std::alloc::{AllocError, Global};
 use std::collections::BTreeMap;
 
@@ -39,8 +38,9 @@ pub(crate) struct ScriptRun {
 }
 
 impl ScriptRun {
-    ghost use Rattle.std.specs.Prelude.{◌≡◌, ◌==◌, ◌&&◌, ◌+◌, ◌<◌, ◌≤◌, ◌++◌, [], ◌∷◌, ℕ, true, false};
-    ghost use Rattle.std.specs.Prelude.{None, is_some, map, OnOk, OnErr, IfOk, IfErr, IsTrue};
+    ghost use Rattle.std.specs.Prelude.{◌≡◌, ◌==◌, ◌&&◌, ◌+◌, ◌<◌, ◌≤◌, ◌++◌, [], ◌∷◌};
+    ghost use Rattle.std.specs.Prelude.{ℕ, true, false};
+    ghost use Rattle.std.specs.Prelude.{map, OnOk, OnErr, IfOk, IfErr, IsTrue};
     ghost use Rattle.std.specs.Prelude.{if◌then◌else◌};
     ghost use Rattle.std.specs.List.{AllByRecursion, flat_map};
     ghost use Rattle.myi_base.specs.Causes.{HasCause};
@@ -56,16 +56,18 @@ impl ScriptRun {
     ghost use Rattle.myi_history.specs.History.{reads_only};
     ghost use Rattle.myi_history.specs.RoundTexts.{text_of, texts_of, answer_of};
     ghost use Rattle.myi_history.specs.Text.{done_said};
-    ghost use Rattle.myi_table.specs.Table.{defs_in, IsKept, IfHolds, StillHolds};
+    ghost use Rattle.myi_shell.specs.Targets.{defs_in, script_on, IsKept, IsWhole};
+    ghost use Rattle.myi_shell.specs.Targets.{IfHolds, StillHolds};
     ghost use Rattle.myi_shell.specs.declared.fault.ShellFault.TheVariants.{File, Memory, Sink};
     ghost use Rattle.myi_base.specs.Holding.{IfTold};
     ghost use Rattle.myi_base.specs.Causes.{Rose};
-    ghost use Rattle.myi_shell.specs.Carrying.{IsCarried, IsUntouched, IsTouchedBy};
-    ghost use Rattle.myi_shell.specs.Damage.{IsDamage, IsNoted, IsToldFor, IsPrintedDamage, Extends};
-    ghost use Rattle.myi_shell.specs.Changing.{NeverDamaged, count_of};
+    ghost use Rattle.myi_shell.specs.Targets.{IsCarried, IsUntouched, IsTouchedBy};
+    ghost use Rattle.myi_shell.specs.Damage.{IsDamage, IsNoted, IsToldFor};
+    ghost use Rattle.myi_shell.specs.Damage.{IsPrintedDamage, Extends};
+    ghost use Rattle.myi_shell.specs.Changing.{NothingDamaged, count_by};
     ghost use Rattle.myi_shell.specs.Stepping.{state_of, seen_by, read_by, writes_by, round_by};
     ghost use Rattle.myi_shell.specs.Stepping.{HasItsKinds, AreDone};
-    ghost use Rattle.myi_shell.specs.Stepping.{taken_behind, taken_now, taken_as};
+    ghost use Rattle.myi_shell.specs.Stepping.{taken_behind, taken_now, taken_as, holes_in};
     ghost use Rattle.myi_shell.specs.Running.{ForOpening, HasDone, HasGoneOn};
     ghost use Rattle.myi_shell.specs.Running.{IsPrintedPart, IsStopped, IfSink, StandsBehind};
 
@@ -126,34 +128,35 @@ impl ScriptRun {
     // A step that reads.
     fn read<F: Files>(
         &mut self,
-        table: &mut Table,
+        target: &mut Target,
         files: &mut F,
         lines: &[Line],
         step: &Step,
     ) -> Result<(), ShellFault>
         requires writable { IsTrue F.writable }
-        requires lines { MayRun (defs_in table.old) lines.now }
-        requires kept { IsKept (F.holds files.old) table.old }
-        requires whole { table.old.broken ≡ None }
-        ensures said { OnOk result (IfHolds (F.holds files.old) table.old (λ m s.
+        requires lines { MayRun (defs_in target.old) lines.now }
+        requires kept { IsKept (F.holds files.old) target.old }
+        requires whole { IsWhole target.old }
+        ensures said { OnOk result (IfHolds (F.holds files.old) target.old (λ m s.
             self.new.texts ≡ self.old.texts ++ text_of
-            (read_by (defs_in table.old) lines.now (seen_by (state_of self.old)) s step.now) ∷ [])) }
+            (read_by (defs_in target.old) (script_on target.old lines.now)
+            (seen_by (state_of self.old)) s step.now) ∷ [])) }
         ensures only { self.new ≡ record self.old { texts = self.new.texts } }
-        ensures still { StillHolds (F.holds files.old) (F.holds files.new) table.old table.new }
-        ensures carried { IsCarried (F.holds files.old) (F.holds files.new) table.old table.new }
+        ensures still { StillHolds (F.holds files.old) (F.holds files.new) target.old target.new }
+        ensures carried { IsCarried (F.holds files.old) (F.holds files.new) target.old target.new }
         ensures untouched { IsUntouched (F.holds files.old) (F.holds files.new)
-            table.old table.new }
-        ensures whole { table.new.broken ≡ None }
-        ensures refused { IfErr result (NeverDamaged (F.holds files.old) table.old) }
+            target.old target.new }
+        ensures whole { IsWhole target.new }
+        ensures refused { IfErr result (NothingDamaged (F.holds files.old)) }
         ensures noted { IfErr result (IsNoted self.new.texts) }
         ensures cause { HasCause File (F.faults files.old) (F.faults files.new) result }
     {
         let view = self.snapshot(step.session);
         let Some(act) = act_of(lines, step.line) else {
-            push_found(&mut self.texts, step.line, &[], view)?;
+            target.read_nothing(&mut self.texts, step.line, view)?;
             return Ok(());
         };
-        match read(table, files, &mut self.texts, act, step.line, view) {
+        match target.read(files, &mut self.texts, act, step.line, view) {
             Ok(()) => Ok(()),
             Err(fault) => Err(note_damage(&mut self.texts, step.line, fault)),
         }
@@ -163,31 +166,31 @@ impl ScriptRun {
     fn read_run<F: Files, G: Gate>(
         &mut self,
         gate: &G,
-        table: &mut Table,
+        target: &mut Target,
         files: &mut F,
         lines: &[Line],
         steps: &[Step],
     ) -> Result<(), ShellFault>
         requires writable { IsTrue F.writable }
-        requires lines { MayRun (defs_in table.old) lines.now }
-        requires kept { IsKept (F.holds files.old) table.old }
-        requires whole { table.old.broken ≡ None }
-        ensures said { OnOk result (IfHolds (F.holds files.old) table.old (λ m s.
-            self.new.texts ≡ self.old.texts ++ texts_of (map (read_by (defs_in table.old)
-            lines.now (seen_by (state_of self.old)) s) steps.now))) }
+        requires lines { MayRun (defs_in target.old) lines.now }
+        requires kept { IsKept (F.holds files.old) target.old }
+        requires whole { IsWhole target.old }
+        ensures said { OnOk result (IfHolds (F.holds files.old) target.old (λ m s.
+            self.new.texts ≡ self.old.texts ++ texts_of (map (read_by (defs_in target.old)
+            (script_on target.old lines.now) (seen_by (state_of self.old)) s) steps.now))) }
         ensures only { self.new ≡ record self.old { texts = self.new.texts } }
-        ensures still { StillHolds (F.holds files.old) (F.holds files.new) table.old table.new }
-        ensures carried { IsCarried (F.holds files.old) (F.holds files.new) table.old table.new }
+        ensures still { StillHolds (F.holds files.old) (F.holds files.new) target.old target.new }
+        ensures carried { IsCarried (F.holds files.old) (F.holds files.new) target.old target.new }
         ensures untouched { IsUntouched (F.holds files.old) (F.holds files.new)
-            table.old table.new }
-        ensures whole { table.new.broken ≡ None }
-        ensures refused { IfErr result (NeverDamaged (F.holds files.old) table.old) }
+            target.old target.new }
+        ensures whole { IsWhole target.new }
+        ensures refused { IfErr result (NothingDamaged (F.holds files.old)) }
         ensures noted { IfErr result (IsNoted self.new.texts) }
         ensures cause { HasCause File (F.faults files.old) (F.faults files.new) result }
     {
         for step in steps {
             pass_step(gate, step);
-            let read = self.read(table, files, lines, step);
+            let read = self.read(target, files, lines, step);
             end_step(gate, step);
             read?;
         }
@@ -198,31 +201,32 @@ impl ScriptRun {
     fn read_runs<F: Files, G: Gate>(
         &mut self,
         gate: &G,
-        table: &mut Table,
+        target: &mut Target,
         files: &mut F,
         lines: &[Line],
         runs: &[Run],
     ) -> Result<(), ShellFault>
         requires writable { IsTrue F.writable }
-        requires lines { MayRun (defs_in table.old) lines.now }
-        requires kept { IsKept (F.holds files.old) table.old }
-        requires whole { table.old.broken ≡ None }
-        ensures said { OnOk result (IfHolds (F.holds files.old) table.old (λ m s.
+        requires lines { MayRun (defs_in target.old) lines.now }
+        requires kept { IsKept (F.holds files.old) target.old }
+        requires whole { IsWhole target.old }
+        ensures said { OnOk result (IfHolds (F.holds files.old) target.old (λ m s.
             self.new.texts ≡ self.old.texts ++ texts_of
-            (map (read_by (defs_in table.old) lines.now (seen_by (state_of self.old)) s)
+            (map (read_by (defs_in target.old) (script_on target.old lines.now)
+            (seen_by (state_of self.old)) s)
             (flat_map (λ run. run.steps) runs.now)))) }
         ensures only { self.new ≡ record self.old { texts = self.new.texts } }
-        ensures still { StillHolds (F.holds files.old) (F.holds files.new) table.old table.new }
-        ensures carried { IsCarried (F.holds files.old) (F.holds files.new) table.old table.new }
+        ensures still { StillHolds (F.holds files.old) (F.holds files.new) target.old target.new }
+        ensures carried { IsCarried (F.holds files.old) (F.holds files.new) target.old target.new }
         ensures untouched { IsUntouched (F.holds files.old) (F.holds files.new)
-            table.old table.new }
-        ensures whole { table.new.broken ≡ None }
-        ensures refused { IfErr result (NeverDamaged (F.holds files.old) table.old) }
+            target.old target.new }
+        ensures whole { IsWhole target.new }
+        ensures refused { IfErr result (NothingDamaged (F.holds files.old)) }
         ensures noted { IfErr result (IsNoted self.new.texts) }
         ensures cause { HasCause File (F.faults files.old) (F.faults files.new) result }
     {
         for run in runs {
-            self.read_run(gate, table, files, lines, run.steps.as_slice())?;
+            self.read_run(gate, target, files, lines, run.steps.as_slice())?;
         }
         Ok(())
     }
@@ -230,28 +234,30 @@ impl ScriptRun {
     // A step that writes.
     fn write<F: Files>(
         &mut self,
-        table: &mut Table,
+        target: &mut Target,
         files: &mut F,
         lines: &[Line],
         step: &Step,
         together: bool,
     ) -> Result<(), ShellFault>
         requires writable { IsTrue F.writable }
-        requires lines { MayRun (defs_in table.old) lines.now }
-        requires kept { IsKept (F.holds files.old) table.old }
-        requires whole { table.old.broken ≡ None }
+        requires lines { MayRun (defs_in target.old) lines.now }
+        requires kept { IsKept (F.holds files.old) target.old }
+        requires whole { IsWhole target.old }
         requires kind { writes_rows step.now.kind ≡ true }
-        ensures done { OnOk result (IfHolds (F.holds files.old) table.old (λ m s.
-            AreDone (defs_in table.old) lines.now together (state_of self.old) s (step.now ∷ [])
-            (writes_by (defs_in table.old) lines.now self.old.locks together s (step.now ∷ []))
-            (F.holds files.new) table.new (state_of self.new))) }
+        ensures done { OnOk result (IfHolds (F.holds files.old) target.old (λ m s.
+            AreDone (defs_in target.old) (script_on target.old lines.now)
+            together (state_of self.old) s (step.now ∷ [])
+            (writes_by (defs_in target.old) (script_on target.old lines.now)
+            self.old.locks together s.table (step.now ∷ []))
+            (F.holds files.new) target.new (state_of self.new))) }
         ensures only { self.new
             ≡ record self.old { number = self.new.number; texts = self.new.texts } }
-        ensures carried { IsCarried (F.holds files.old) (F.holds files.new) table.old table.new }
+        ensures carried { IsCarried (F.holds files.old) (F.holds files.new) target.old target.new }
         ensures touched { OnOk result (IsTouchedBy (F.holds files.old) (F.holds files.new)
-            table.old table.new self.old.number self.new.number) }
-        ensures whole { OnOk result (table.new.broken ≡ None) }
-        ensures refused { IfErr result (NeverDamaged (F.holds files.old) table.old) }
+            target.old target.new self.old.number self.new.number) }
+        ensures whole { OnOk result (IsWhole target.new) }
+        ensures refused { IfErr result (NothingDamaged (F.holds files.old)) }
         ensures noted { IfErr result (IsNoted self.new.texts) }
         ensures cause { HasCause File (F.faults files.old) (F.faults files.new) result }
     {
@@ -261,24 +267,24 @@ impl ScriptRun {
         let Some(act) = act_of(lines, step.line) else {
             return Ok(());
         };
-        let changed = match change(table, files, together, act) {
+        let changed = match target.change(files, together, act) {
             Ok(changed) => changed,
             Err(fault) => return Err(note_damage(&mut self.texts, step.line, fault)),
         };
-        let Some(reply) = changed else {
+        let Some(changed) = changed else {
             return Ok(());
         };
-        push_reply(&mut self.texts, step.line, reply)?;
-        self.count(reply)
+        self.say(step.line, changed.answer)?;
+        self.count(changed.made)
     }
 
     // Counts a change that was made.
-    fn count(&mut self, reply: Reply) -> Result<(), ShellFault>
-        ensures number { OnOk result (self.new.number ≡ self.old.number + count_of reply) }
+    fn count(&mut self, made: bool) -> Result<(), ShellFault>
+        ensures number { OnOk result (self.new.number ≡ self.old.number + count_by made) }
         ensures only { self.new ≡ record self.old { number = self.new.number } }
         ensures memory { IfErr result (λ f. f ≡ Memory) }
     {
-        if let Reply::Made { .. } = reply {
+        if made {
             let Some(number) = self.number.checked_add(1) else {
                 return Err(ShellFault::Memory);
             };
@@ -291,33 +297,35 @@ impl ScriptRun {
     fn insert_run<F: Files, G: Gate>(
         &mut self,
         gate: &G,
-        table: &mut Table,
+        target: &mut Target,
         files: &mut F,
         lines: &[Line],
         steps: &[Step],
     ) -> Result<(), ShellFault>
         requires writable { IsTrue F.writable }
-        requires lines { MayRun (defs_in table.old) lines.now }
-        requires kept { IsKept (F.holds files.old) table.old }
-        requires whole { table.old.broken ≡ None }
+        requires lines { MayRun (defs_in target.old) lines.now }
+        requires kept { IsKept (F.holds files.old) target.old }
+        requires whole { IsWhole target.old }
         requires kinds { AllByRecursion (λ x. is_insert x.kind ≡ true) steps.now }
-        ensures done { OnOk result (IfHolds (F.holds files.old) table.old (λ m s.
-            AreDone (defs_in table.old) lines.now true (state_of self.old) s steps.now
-            (writes_by (defs_in table.old) lines.now self.old.locks true s steps.now)
-            (F.holds files.new) table.new (state_of self.new))) }
+        ensures done { OnOk result (IfHolds (F.holds files.old) target.old (λ m s.
+            AreDone (defs_in target.old) (script_on target.old lines.now)
+            true (state_of self.old) s steps.now
+            (writes_by (defs_in target.old) (script_on target.old lines.now)
+            self.old.locks true s.table steps.now)
+            (F.holds files.new) target.new (state_of self.new))) }
         ensures only { self.new
             ≡ record self.old { number = self.new.number; texts = self.new.texts } }
-        ensures carried { IsCarried (F.holds files.old) (F.holds files.new) table.old table.new }
+        ensures carried { IsCarried (F.holds files.old) (F.holds files.new) target.old target.new }
         ensures touched { OnOk result (IsTouchedBy (F.holds files.old) (F.holds files.new)
-            table.old table.new self.old.number self.new.number) }
-        ensures whole { OnOk result (table.new.broken ≡ None) }
-        ensures refused { IfErr result (NeverDamaged (F.holds files.old) table.old) }
+            target.old target.new self.old.number self.new.number) }
+        ensures whole { OnOk result (IsWhole target.new) }
+        ensures refused { IfErr result (NothingDamaged (F.holds files.old)) }
         ensures noted { IfErr result (IsNoted self.new.texts) }
         ensures cause { HasCause File (F.faults files.old) (F.faults files.new) result }
     {
         for step in steps {
             pass_step(gate, step);
-            let written = self.write(table, files, lines, step, true);
+            let written = self.write(target, files, lines, step, true);
             end_step(gate, step);
             written?;
         }
@@ -327,37 +335,39 @@ impl ScriptRun {
     // A step that goes alone, before which this was counted.
     fn step<F: Files>(
         &mut self,
-        table: &mut Table,
+        target: &mut Target,
         files: &mut F,
         lines: &[Line],
         step: &Step,
         counters: Counters,
     ) -> Result<(), ShellFault>
         requires writable { IsTrue F.writable }
-        requires lines { MayRun (defs_in table.old) lines.now }
-        requires kept { IsKept (F.holds files.old) table.old }
-        requires whole { table.old.broken ≡ None }
-        ensures done { OnOk result (IfHolds (F.holds files.old) table.old (λ m s.
-            AreDone (defs_in table.old) lines.now false (state_of self.old) s (step.now ∷ [])
-            (round_by (defs_in table.old) lines.now (state_of self.old) counters s (Alone step.now))
-            (F.holds files.new) table.new (state_of self.new))) }
+        requires lines { MayRun (defs_in target.old) lines.now }
+        requires kept { IsKept (F.holds files.old) target.old }
+        requires whole { IsWhole target.old }
+        ensures done { OnOk result (IfHolds (F.holds files.old) target.old (λ m s.
+            AreDone (defs_in target.old) (script_on target.old lines.now)
+            false (state_of self.old) s (step.now ∷ [])
+            (round_by (defs_in target.old) (script_on target.old lines.now)
+            (state_of self.old) counters s (Alone step.now))
+            (F.holds files.new) target.new (state_of self.new))) }
         ensures locks { self.new.locks ≡ self.old.locks }
         ensures taken { OnOk result ((n : ℕ) → (state_of self.new).taken n
-            ≡ taken_behind (Alone step.now) (taken_now (state_of self.old) table.old)
+            ≡ taken_behind (Alone step.now) (taken_now (state_of self.old) target.old)
             (state_of self.old).taken n) }
-        ensures carried { IsCarried (F.holds files.old) (F.holds files.new) table.old table.new }
+        ensures carried { IsCarried (F.holds files.old) (F.holds files.new) target.old target.new }
         ensures touched { OnOk result (IsTouchedBy (F.holds files.old) (F.holds files.new)
-            table.old table.new self.old.number self.new.number) }
-        ensures whole { OnOk result (table.new.broken ≡ None) }
-        ensures refused { IfErr result (NeverDamaged (F.holds files.old) table.old) }
+            target.old target.new self.old.number self.new.number) }
+        ensures whole { OnOk result (IsWhole target.new) }
+        ensures refused { IfErr result (NothingDamaged (F.holds files.old)) }
         ensures noted { IfErr result (IsNoted self.new.texts) }
         ensures cause { HasCause File (F.faults files.old) (F.faults files.new) result }
     {
         match step.kind {
             StepKind::Release => Ok(()),
-            StepKind::Take(lock) => self.take(step, lock, table.length()),
-            StepKind::Rows => self.read(table, files, lines, step),
-            StepKind::Insert | StepKind::Change => self.write(table, files, lines, step, false),
+            StepKind::Take(lock) => self.take(step, lock, target.length()),
+            StepKind::Rows => self.read(target, files, lines, step),
+            StepKind::Insert | StepKind::Change => self.write(target, files, lines, step, false),
             StepKind::Unlock => self.say(step.line, StepAnswer::Done),
             StepKind::Stats => self.say(step.line, StepAnswer::Counted(counters)),
             StepKind::End => self.end(step.line),
@@ -414,31 +424,33 @@ impl ScriptRun {
     fn round<F: Files, G: Gate>(
         &mut self,
         gate: &G,
-        table: &mut Table,
+        target: &mut Target,
         files: &mut F,
         lines: &[Line],
         round: &Round,
         counters: Counters,
     ) -> Result<(), ShellFault>
         requires writable { IsTrue F.writable }
-        requires lines { MayRun (defs_in table.old) lines.now }
-        requires kept { IsKept (F.holds files.old) table.old }
-        requires whole { table.old.broken ≡ None }
+        requires lines { MayRun (defs_in target.old) lines.now }
+        requires kept { IsKept (F.holds files.old) target.old }
+        requires whole { IsWhole target.old }
         requires kinds { HasItsKinds round.now }
-        ensures done { OnOk result (IfHolds (F.holds files.old) table.old (λ m s.
-            AreDone (defs_in table.old) lines.now (is_together round.now) (state_of self.old) s
+        ensures done { OnOk result (IfHolds (F.holds files.old) target.old (λ m s.
+            AreDone (defs_in target.old) (script_on target.old lines.now)
+            (is_together round.now) (state_of self.old) s
             (steps_of round.now)
-            (round_by (defs_in table.old) lines.now (state_of self.old) counters s round.now)
-            (F.holds files.new) table.new (state_of self.new))) }
+            (round_by (defs_in target.old) (script_on target.old lines.now)
+            (state_of self.old) counters s round.now)
+            (F.holds files.new) target.new (state_of self.new))) }
         ensures locks { self.new.locks ≡ self.old.locks }
         ensures taken { OnOk result ((n : ℕ) → (state_of self.new).taken n
-            ≡ taken_behind round.now (taken_now (state_of self.old) table.old)
+            ≡ taken_behind round.now (taken_now (state_of self.old) target.old)
             (state_of self.old).taken n) }
-        ensures carried { IsCarried (F.holds files.old) (F.holds files.new) table.old table.new }
+        ensures carried { IsCarried (F.holds files.old) (F.holds files.new) target.old target.new }
         ensures touched { OnOk result (IsTouchedBy (F.holds files.old) (F.holds files.new)
-            table.old table.new self.old.number self.new.number) }
-        ensures whole { OnOk result (table.new.broken ≡ None) }
-        ensures refused { IfErr result (NeverDamaged (F.holds files.old) table.old) }
+            target.old target.new self.old.number self.new.number) }
+        ensures whole { OnOk result (IsWhole target.new) }
+        ensures refused { IfErr result (NothingDamaged (F.holds files.old)) }
         ensures noted { IfErr result (IsNoted self.new.texts) }
         ensures cause { HasCause File (F.faults files.old) (F.faults files.new) result }
     {
@@ -446,14 +458,14 @@ impl ScriptRun {
             Round::Finished => Ok(()),
             Round::Alone(step) => {
                 pass_step(gate, step);
-                let stepped = self.step(table, files, lines, step, counters);
+                let stepped = self.step(target, files, lines, step, counters);
                 end_step(gate, step);
                 stepped
             }
             Round::Together { inserter, readers } => {
-                self.read_runs(gate, table, files, lines, readers.runs.as_slice())?;
+                self.read_runs(gate, target, files, lines, readers.runs.as_slice())?;
                 match inserter {
-                    Some(run) => self.insert_run(gate, table, files, lines, run.steps.as_slice()),
+                    Some(run) => self.insert_run(gate, target, files, lines, run.steps.as_slice()),
                     None => Ok(()),
                 }
             }
@@ -464,45 +476,48 @@ impl ScriptRun {
     fn do_round<F: Files, O: Sink, G: Gate>(
         &mut self,
         gate: &G,
-        table: &mut Table,
+        target: &mut Target,
         files: &mut F,
         lines: &[Line],
         out: &mut O,
         round: &Round,
     ) -> Result<(), ShellFault>
         requires writable { IsTrue F.writable }
-        requires lines { MayRun (defs_in table.old) lines.now }
-        requires sound { IsSound (defs_in table.old) }
-        requires kept { IsKept (F.holds files.old) table.old }
-        requires whole { table.old.broken ≡ None }
+        requires lines { MayRun (defs_in target.old) lines.now }
+        requires sound { IsSound (defs_in target.old) }
+        requires kept { IsKept (F.holds files.old) target.old }
+        requires whole { IsWhole target.old }
         requires lawful { IsLawful self.old.locks.sessions }
         requires left { has_steps self.old.locks ≡ true }
         requires next { round.now
-            ≡ next_round self.old.locks (is_some table.old.rows.rows.file.counts.dellink) }
-        ensures gone_on { OnOk result (ForOpening (defs_in table.old) lines.now (λ o from.
-            HasDone o from (F.holds files.old) (state_of self.old) table.old (O.written out.old)
-            → HasDone o from (F.holds files.new) (state_of self.new) table.new
+            ≡ next_round self.old.locks (holes_in target.old) }
+        ensures gone_on { OnOk result (ForOpening (defs_in target.old)
+            (script_on target.old lines.now) (λ o from.
+            HasDone o from (F.holds files.old) (state_of self.old) target.old (O.written out.old)
+            → HasDone o from (F.holds files.new) (state_of self.new) target.new
             (O.written out.new))) }
-        ensures stopped { OnErr result (ForOpening (defs_in table.old) lines.now (λ o from.
-            HasDone o from (F.holds files.old) (state_of self.old) table.old (O.written out.old)
+        ensures stopped { OnErr result (ForOpening (defs_in target.old)
+            (script_on target.old lines.now) (λ o from.
+            HasDone o from (F.holds files.old) (state_of self.old) target.old (O.written out.old)
             → IsPrintedPart o from.printed (O.written out.new))) }
-        ensures stands { IfSink result (ForOpening (defs_in table.old) lines.now (λ o from.
-            HasDone o from (F.holds files.old) (state_of self.old) table.old (O.written out.old)
-            → StandsBehind o from (F.holds files.new) table.new (O.written out.new))) }
+        ensures stands { IfSink result (ForOpening (defs_in target.old)
+            (script_on target.old lines.now) (λ o from.
+            HasDone o from (F.holds files.old) (state_of self.old) target.old (O.written out.old)
+            → StandsBehind o from (F.holds files.new) target.new (O.written out.new))) }
         ensures lawful { OnOk result (IsLawful self.new.locks.sessions) }
         ensures fewer { OnOk result
             (steps_left self.new.locks.sessions < steps_left self.old.locks.sessions) }
-        ensures carried { IsCarried (F.holds files.old) (F.holds files.new) table.old table.new }
-        ensures whole { OnOk result (table.new.broken ≡ None) }
-        ensures refused { IfErr result (IsStopped (F.holds files.old) table.old) }
+        ensures carried { IsCarried (F.holds files.old) (F.holds files.new) target.old target.new }
+        ensures whole { OnOk result (IsWhole target.new) }
+        ensures refused { IfErr result (IsStopped (F.holds files.old)) }
         ensures noted { IfErr result (IsNoted self.new.texts) }
         ensures unsaid { IfErr result (λ f. IsDamage f → O.written out.new ≡ O.written out.old) }
         ensures extends { OnOk result (IfTold (O.written out.old) (Extends (O.written out.new))) }
         ensures file { HasCause File (F.faults files.old) (F.faults files.new) result }
         ensures sink { HasCause Sink (O.faults out.old) (O.faults out.new) result }
     {
-        let counters = table.counters();
-        self.round(gate, table, files, lines, round, counters)?;
+        let counters = target.counters();
+        self.round(gate, target, files, lines, round, counters)?;
         self.texts.write(out)?;
         self.locks.advance(round);
         Ok(())
@@ -533,44 +548,47 @@ impl ScriptRun {
     pub(crate) fn next_round<F: Files, O: Sink, G: Gate>(
         &mut self,
         gate: &G,
-        table: &mut Table,
+        target: &mut Target,
         files: &mut F,
         lines: &[Line],
         out: &mut O,
     ) -> Result<bool, ShellFault>
         requires writable { IsTrue F.writable }
-        requires lines { MayRun (defs_in table.old) lines.now }
-        requires sound { IsSound (defs_in table.old) }
-        requires kept { IsKept (F.holds files.old) table.old }
-        requires whole { table.old.broken ≡ None }
+        requires lines { MayRun (defs_in target.old) lines.now }
+        requires sound { IsSound (defs_in target.old) }
+        requires kept { IsKept (F.holds files.old) target.old }
+        requires whole { IsWhole target.old }
         requires lawful { IsLawful self.old.locks.sessions }
-        ensures gone_on { IfOk result (λ more. ForOpening (defs_in table.old) lines.now (λ o from.
-            HasDone o from (F.holds files.old) (state_of self.old) table.old (O.written out.old)
-            → HasGoneOn more o from (F.holds files.new) (state_of self.new) table.new
+        ensures gone_on { IfOk result (λ more. ForOpening (defs_in target.old)
+            (script_on target.old lines.now) (λ o from.
+            HasDone o from (F.holds files.old) (state_of self.old) target.old (O.written out.old)
+            → HasGoneOn more o from (F.holds files.new) (state_of self.new) target.new
             (O.written out.new))) }
-        ensures stopped { OnErr result (ForOpening (defs_in table.old) lines.now (λ o from.
-            HasDone o from (F.holds files.old) (state_of self.old) table.old (O.written out.old)
+        ensures stopped { OnErr result (ForOpening (defs_in target.old)
+            (script_on target.old lines.now) (λ o from.
+            HasDone o from (F.holds files.old) (state_of self.old) target.old (O.written out.old)
             → IsPrintedPart o from.printed (O.written out.new))) }
-        ensures stands { IfSink result (ForOpening (defs_in table.old) lines.now (λ o from.
-            HasDone o from (F.holds files.old) (state_of self.old) table.old (O.written out.old)
-            → StandsBehind o from (F.holds files.new) table.new (O.written out.new))) }
+        ensures stands { IfSink result (ForOpening (defs_in target.old)
+            (script_on target.old lines.now) (λ o from.
+            HasDone o from (F.holds files.old) (state_of self.old) target.old (O.written out.old)
+            → StandsBehind o from (F.holds files.new) target.new (O.written out.new))) }
         ensures lawful { OnOk result (IsLawful self.new.locks.sessions) }
         ensures fewer { IfOk result (λ more. more ≡ true
             → steps_left self.new.locks.sessions < steps_left self.old.locks.sessions) }
-        ensures carried { IsCarried (F.holds files.old) (F.holds files.new) table.old table.new }
-        ensures whole { OnOk result (table.new.broken ≡ None) }
-        ensures refused { IfErr result (IsStopped (F.holds files.old) table.old) }
+        ensures carried { IsCarried (F.holds files.old) (F.holds files.new) target.old target.new }
+        ensures whole { OnOk result (IsWhole target.new) }
+        ensures refused { IfErr result (IsStopped (F.holds files.old)) }
         ensures damaged { IfErr result
             (IsPrintedDamage (O.written out.old) (O.written out.new)) }
         ensures extends { OnOk result (IfTold (O.written out.old) (Extends (O.written out.new))) }
         ensures file { HasCause File (F.faults files.old) (F.faults files.new) result }
         ensures sink { HasCause Sink (O.faults out.old) (O.faults out.new) result }
     {
-        let round = self.locks.round(table.holes())?;
+        let round = self.locks.round(target.holes())?;
         if let Round::Finished = round {
             return Ok(false);
         }
-        match self.do_round(gate, table, files, lines, out, &round) {
+        match self.do_round(gate, target, files, lines, out, &round) {
             Ok(()) => {}
             Err(fault) => return Err(self.cut_off(out, fault)),
         }

@@ -10,6 +10,7 @@ pub mod PrefixLaws
 pub mod ShellOptionLaws
 pub mod ShellWordLaws
 pub mod ShellLaws
+pub mod ShellCloseLaws
 pub mod ShellFoundLaws
 pub mod ShellRunLaws
 pub mod ShellSettingLaws

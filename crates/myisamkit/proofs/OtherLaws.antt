@@ -33,7 +33,8 @@ use Rattle.myisamkit.specs.Turns.{replaced, with_index, analyzed_turn, sorted_tu
 use Rattle.myisamkit.specs.Creates.{made, made_turn, CreateLeaves}
 use Rattle.myi_make.specs.MadeTable.{defs, damaged_file}
 use Rattle.myisamkit.specs.Makes.{MakeDone, MakeLeaves}
-use Rattle.myisamkit.specs.Shells.{ShellLeaves, ShellCutOff}
+use Rattle.myi_merge.specs.Changing.{IsFileOfOne}
+use Rattle.myisamkit.specs.Shells.{tables_in, ShellLeaves, ShellCutOff}
 use Rattle.myisamkit.specs.Statuses.{worse}
 use Rattle.myisamkit.specs.Runs.{TablesRun, CutsTablesOff, FailsInTables, TablesLeave, Leaves, IsApart, IsNoFileOf, KeepsOthers}
 
@@ -188,15 +189,22 @@ make_keeps count seed name now status.Usage m n q apart left = done_making_keeps
 make_keeps count seed name now status.Refused m n q apart left = done_making_keeps count seed name now m n q apart left
 make_keeps count seed name now status.Absent m n q apart left = done_making_keeps count seed name now m n q apart left
 
-cut_shell_keeps : (name script : List ℕ) (m n : Holding) (q : List ℕ) → IsApart q (names_for name) → ShellCutOff name script m n → n q ≡ m q
-cut_shell_keeps name script m n q apart (inl same) = ap (λ (h : Holding). h q) same
-cut_shell_keeps name script m n q apart (inr (there, keeps)) = keeps q apart.rows apart.index
+-- a file of none of these tables is no file of one of them
+no_file : (names : List (List ℕ)) (q : List ℕ) → IsNoFileOf q names → IsFileOfOne names q → ⊥
+no_file [] q apart is = is
+no_file (name ∷ names) q apart (inl (inl e)) = apart.0.rows e
+no_file (name ∷ names) q apart (inl (inr e)) = apart.0.index e
+no_file (name ∷ names) q apart (inr more) = no_file names q apart.1 more
 
-shell_keeps : (setting : ℕ) (name script : List ℕ) (s : Status) (m n : Holding) (q : List ℕ) → IsApart q (names_for name) → ShellLeaves setting name script s m n → n q ≡ m q
-shell_keeps setting name script status.FileFault m n q apart left = cut_shell_keeps name script m n q apart left
-shell_keeps setting name script status.Memory m n q apart left = cut_shell_keeps name script m n q apart left
-shell_keeps setting name script status.SinkFault m n q apart left = left q apart.rows apart.index
-shell_keeps setting name script status.Ok m n q apart left = left.others q apart.rows apart.index
+cut_shell_keeps : (setting : ℕ) (name script : List ℕ) (m n : Holding) (q : List ℕ) → IsNoFileOf q (tables_in name m) → ShellCutOff setting name script m n → n q ≡ m q
+cut_shell_keeps setting name script m n q apart (inl same) = ap (λ (h : Holding). h q) same
+cut_shell_keeps setting name script m n q apart (inr (there, keeps)) = keeps q (no_file (tables_in name m) q apart)
+
+shell_keeps : (setting : ℕ) (name script : List ℕ) (s : Status) (m n : Holding) (q : List ℕ) → IsNoFileOf q (tables_in name m) → ShellLeaves setting name script s m n → n q ≡ m q
+shell_keeps setting name script status.FileFault m n q apart left = cut_shell_keeps setting name script m n q apart left
+shell_keeps setting name script status.Memory m n q apart left = cut_shell_keeps setting name script m n q apart left
+shell_keeps setting name script status.SinkFault m n q apart left = left q (no_file (tables_in name m) q apart)
+shell_keeps setting name script status.Ok m n q apart left = left.others q (no_file (tables_in name m) q apart)
 shell_keeps setting name script status.Findings m n q apart left = ap (λ (h : Holding). h q) left
 shell_keeps setting name script status.Usage m n q apart left = ap (λ (h : Holding). h q) left
 shell_keeps setting name script status.Refused m n q apart left = ap (λ (h : Holding). h q) left
@@ -208,7 +216,7 @@ run_keeps (chk o names) now before after s m n leaves q apart = tables_keep o no
 run_keeps (create name file) now before after s m n leaves q apart = create_keeps name file s m n q apart.0 leaves
 run_keeps (dump name) now before after s m n leaves q apart = ap (λ (h : Holding). h q) leaves
 run_keeps (make count seed name) now before after s m n leaves q apart = make_keeps count seed name now s m n q apart.0 leaves
-run_keeps (shell o name script) now before after s m n leaves q apart = shell_keeps o.concurrent name script s m n q apart.0 leaves
+run_keeps (shell o name script) now before after s m n leaves q apart = shell_keeps o.concurrent name script s m n q apart leaves
 
 -- whatever a run leaves, it leaves other files
 pub others_told : (request : Request) (now before after : ℕ) (s : Status) (old new : Option Holding) → Told old new (Leaves request now before after s) → Told old new (KeepsOthers request)

@@ -1,43 +1,22 @@
--- What is found before a script is read, where files tell what they hold.
-use Rattle.std.proofs.Common.{◌≡◌, ◌⊎◌, ℕ, List, Option, Some, Result, Ok, Err, refl, sym, subst, inl, inr}
-use Rattle.std.specs.Prelude.{IfOk, String, string_bytes}
-use Rattle.std.specs.declared.alloc.Global.{Global}
-use Rattle.myi_base.specs.Holding.{Holding, IfTold}
-use Rattle.myi_defs.specs.declared.types.DefFault.{DefFault}
-use Rattle.myi_opening.specs.declared.fault.TableFault.TheVariants as fault
-use Rattle.myi_opening.specs.declared.fault.TableFile.{TableFile}
-use Rattle.myi_opening.specs.Names.{file_of}
-use Rattle.myi_opening.specs.Opening.{IsCutOff}
-use Rattle.myi_pair.specs.declared.finding.Finding.{Finding}
-use Rattle.myi_check.specs.Checking.{Finds, Refuses}
-use Rattle.myisamkit.specs.declared.status.Status.TheVariants as status
-use Rattle.myisamkit.specs.declared.status.Stop.{Stop}
-use Rattle.myisamkit.specs.declared.shell.Found.{Found}
-use Rattle.myisamkit.specs.declared.shell.Found.TheVariants as found
-use Rattle.myisamkit.specs.Lines.{absent_line}
-use Rattle.myisamkit.specs.Shells.{Refusal, text_by, text_in, IsRead, IsFound}
-use Rattle.myisamkit.proofs.ShellLaws.{found_by, defs_by, absent_by}
+-- The text of a script that is read, where files tell what they hold.
+use Rattle.std.proofs.Common.{◌≡◌, arith, ℕ, List, [], take, Option, Some, None, Result, Ok, sym, ap, ◌∙◌}
+use Rattle.std.specs.Prelude.{unwrap_or}
+use Rattle.std.proofs.lemmas.List.{take_all}
+use Rattle.myi_base.specs.Holding.{Holding, Measures, IsFront}
+use Rattle.myisamkit.specs.Shells.{Refusal, tables_in, text_by, text_among, text_in}
 
-read_as : (f : Found) (r q : Result (List ℕ) Refusal) → q ≡ r → IsRead r f → IsRead q f
-read_as f r q same is = subst (λ x. IsRead x f) (sym same) is
+-- a file is read whole
+pub file_is : (file front : List ℕ) (m : Holding) (size : Option ℕ) (n : ℕ) → size ≡ Some n → Measures (m file) size → IsFront file n front m → m file ≡ Some front
+file_is file front m None n is measured read = absurd cc
+file_is file front m (Some k) n is measured read =
+    let same : k ≡ n = ap (λ o. unwrap_or o 0) is in
+    let all : take n measured.0 ≡ measured.0 = take_all n measured.0 (omega (arith, measured.2, same)) in
+    measured.1 ∙ ap Some (sym (read ∙ ap (λ o. take n (unwrap_or o [])) measured.1 ∙ all))
 
--- the table was checked
-pub found_told : (q : Result Found Stop) (name script : List ℕ) (finds : List Finding) (told again : Option Holding) → again ≡ told → IfTold told (Finds name finds)
-    → IfOk q (λ f. IfTold again (λ m. IsRead (text_by name script (Ok finds) (m script)) f)) → IfOk q (λ f. IfTold told (IsFound name script f))
-found_told (Err e) name script finds told again same is read = tt
-found_told (Ok f) name script finds told again same is read = λ m held. read_as f (text_by name script (Ok finds) (m script)) (text_in name script m) (found_by name script finds m _ (is m held) refl) (read m (subst (λ o. o ≡ Some m) (sym same) held))
+pub text_read : (script : List ℕ) (absent wrong file : Option (List ℕ)) (text : List ℕ) → absent ≡ None → wrong ≡ None → file ≡ Some text → text_by script absent wrong file ≡ Ok text
+text_read script absent wrong file text one other there = ap (λ a. text_by script a wrong file) one ∙ ap (λ w. text_by script None w file) other ∙ ap (text_by script None None) there
 
--- its definitions are refused
-pub defs_told : (q : Result Found Stop) (name script : List ℕ) (e : DefFault) (told again : Option Holding) → again ≡ told → IsCutOff (fault.Def e) ⊎ IfTold told (Refuses name (fault.Def e))
-    → IfOk q (λ f. IfTold again (λ m. IsRead (text_by name script (Err e) (m script)) f)) → IfOk q (λ f. IfTold told (IsFound name script f))
-defs_told (Err s) name script e told again same is read = tt
-defs_told (Ok f) name script e told again same (inl (inl cut)) read = absurd cc
-defs_told (Ok f) name script e told again same (inl (inr cut)) read = absurd cc
-defs_told (Ok f) name script e told again same (inr is) read = λ m held. read_as f (text_by name script (Err e) (m script)) (text_in name script m) (defs_by name script e m _ (is m held) refl) (read m (subst (λ o. o ≡ Some m) (sym same) held))
-
--- a file of it is absent
-pub absent_told : (name script : List ℕ) (f : TableFile) (told : Option Holding) (line : String Global) → IsCutOff (fault.Absent f) ⊎ IfTold told (Refuses name (fault.Absent f)) → string_bytes line ≡ absent_line (file_of f name)
-    → IfTold told (IsFound name script (found.Refused status.Absent line))
-absent_told name script f told line (inl (inl cut)) said = absurd cc
-absent_told name script f told line (inl (inr cut)) said = absurd cc
-absent_told name script f told line (inr is) said = λ m held. absent_by name script f m (string_bytes line) (is m held) said
+-- the names that were read are those of the tables
+pub read_in : (names : List (List ℕ)) (name script : List ℕ) (m : Holding) (r : Result (List ℕ) Refusal) → names ≡ tables_in name m → text_among names script m ≡ r → text_in name script m ≡ r
+unfolding text_in
+read_in names name script m r same read = ap (λ (q : List (List ℕ)). text_among q script m) (sym same) ∙ read

@@ -1,20 +1,14 @@
--- What a script comes to, by what is found before it is read, and by how it ran.
-use Rattle.std.proofs.Common.{◌≡◌, arith, ℕ, Bool, true, false, List, [], ◌∷◌, ◌++◌, take, Option, Some, None, Result, Ok, Err, refl, sym, ap, subst, ◌∙◌, inr}
-use Rattle.std.specs.Prelude.{◌≢◌, unwrap_or, if◌then◌else◌}
+-- The tables of a script with which nothing is wrong: what stands before it, and how it begins.
+use Rattle.std.proofs.Common.{◌≡◌, ◌<◌, ◌+◌, ◌-◌, arith, ℕ, zero, suc, Bool, true, false, List, [], ◌∷◌, ◌++◌, length, map, Option, Some, None, Result, Ok, Err, refl, sym, ap, subst, ◌∙◌, inl, inr}
+use Rattle.std.specs.Prelude.{unwrap_or, slice_get}
+use Rattle.std.specs.List.{AllByRecursion}
 use Rattle.myi_base.specs.Numbers.{AreBytes}
-use Rattle.std.proofs.lemmas.List.{take_all}
-use Rattle.myi_base.specs.Holding.{Holding, IfTold, Told, HoldsBytes, Measures, IsFront, bytes_of}
+use Rattle.myi_base.specs.Holding.{Holding, IfTold, HoldsBytes}
 use Rattle.myi_defs.specs.declared.types.Defs.{Defs}
 use Rattle.myi_defs.specs.declared.types.DefFault.{DefFault}
-use Rattle.myi_defs.specs.Sound.{IsSound}
-use Rattle.myi_defs.specs.Elsewhere.{AgreeOutsideState}
-use Rattle.myi_defs.proofs.CallerLemmas.{sound, are_defs}
-use Rattle.myi_header.specs.declared.state.State.{State}
 use Rattle.myi_header.specs.StateOf.{state_of, has_mark}
 use Rattle.myi_opening.specs.declared.fault.TableFault.{TableFault}
-use Rattle.myi_opening.specs.declared.fault.TableFault.TheVariants as fault
-use Rattle.myi_opening.specs.declared.fault.TableFile.{TableFile}
-use Rattle.myi_opening.specs.Names.{rows_file, index_file, file_of}
+use Rattle.myi_opening.specs.Names.{rows_file, index_file}
 use Rattle.myi_opening.specs.Opening as opening
 use Rattle.myi_opening.proofs.CallerLemmas.{table_rows, table_read}
 use Rattle.myi_pair.specs.declared.finding.Finding.{Finding}
@@ -23,62 +17,64 @@ use Rattle.myi_pair.specs.Findings.{findings}
 use Rattle.myi_pair.proofs.CallerLemmas.{clean_where_none}
 use Rattle.myi_check.specs.Checking.{findings_by, findings_in}
 use Rattle.myi_state.specs.State.{TableState}
-use Rattle.myi_state.specs.Changes.{Change, replay}
 use Rattle.myi_tablestate.specs.Standing.{StandForTable}
-use Rattle.myi_keyedrows.specs.Files.{defs_with}
 use Rattle.myi_script.specs.declared.types.Line.{Line}
 use Rattle.myi_script.specs.Script.{IsScript}
-use Rattle.myi_history.specs.History.{Opening, history_in, history}
+use Rattle.myi_mergelist.specs.declared.list.InsertMethod.{InsertMethod}
+use Rattle.myi_mergelist.specs.declared.list.InsertMethod.TheVariants.{First, Last}
+use Rattle.myi_history.specs.History.{is_list}
 use Rattle.myi_table.specs.declared.fault.LoadFault.{LoadFault}
-use Rattle.myi_table.specs.Table.{OpenTable, defs_in, HoldState, IsKept, IfHolds, KeepsRows, KeepsOthers, ChangesItsOwn}
-use Rattle.myi_table.specs.Closing.{changed_bits}
-use Rattle.myi_table.specs.Loading.{marked_by, loaded_by}
+use Rattle.myi_table.specs.Table.{OpenTable, HoldState}
+use Rattle.myi_table.specs.Table as table
+use Rattle.myi_table.specs.Loading.{IsLoaded, marked_by, loaded_by}
 use Rattle.myi_table.specs.Loading as loading
-use Rattle.myi_shell.specs.Running.{opening_on, IsPrinted, IsPrintedPart, AreClosed, AreClosedAtEnd, AreClosedBehind}
-use Rattle.myisamkit.specs.declared.status.Status.{Status}
-use Rattle.myisamkit.specs.declared.status.Status.TheVariants as status
-use Rattle.myisamkit.specs.Lines.{absent_line}
-use Rattle.myisamkit.specs.Shells.{Refusal, refusal, said_of, text_unless, text_by, text_of, text_in, Begins, IsRun, ComesTo, ShellComesTo, ShellSaid, ShellSaidPart, bits_behind, header_in, KeepsRest, IsHeaderBehind, StandClean, ShellDone, ShellFails, IsReady}
+use Rattle.myi_merge.specs.Loading.{list_file, EachLoaded, IsListIn, IsLoadedMerge}
+use Rattle.myi_merge.specs.Merged.{OpenMerge, IsMerge, IsLike, HoldEach, AreKept}
+use Rattle.myi_merge.specs.Merged as merged
+use Rattle.myi_merge.specs.Changing.{target, target_by}
+use Rattle.myi_shell.specs.declared.target.Target.{Target}
+use Rattle.myi_shell.specs.declared.target.Target.TheVariants.{One, Many}
+use Rattle.myi_shell.specs.Targets.{index_by, index_in, taking_by, taking, defs_at, script_on}
+use Rattle.myi_shell.specs.Targets as on
+use Rattle.myi_shell.specs.Running.{opening_on}
+use Rattle.myisamkit.specs.Shells.{tables_by, tables_in, place_of, IsOn, or_else, first_said, wrong_in, said_of, said_by, text_by, text_in, Member, IsMember, AreAlike, Members, all_of, states_of, first_defs, AreMembers, Begins}
+use Rattle.myisamkit.specs.ShellSteps.{lines_defs, IsFresh, IsTarget, IsReady}
 
 ok_same : {A E : Type 0} (x y : A) → ◌≡◌ {A = Result A E} (Ok x) (Ok y) → x ≡ y
 ok_same x y same = cc
 
--- ---- nothing is wrong with a table whose script is read
+-- ---- nothing is wrong with tables whose script is read
 
-unless_none : (said : Option (List ℕ)) (file text : List ℕ) → text_unless said file ≡ Ok text → said ≡ None
-unless_none None file text is = refl
-unless_none (Some said) file text is = absurd cc
+none_of : (script : List ℕ) (absent wrong file : Option (List ℕ)) (text : List ℕ) → text_by script absent wrong file ≡ Ok text → wrong ≡ None
+none_of script (Some a) wrong file text is = absurd cc
+none_of script None wrong None text is = absurd cc
+none_of script None (Some w) (Some x) text is = absurd cc
+none_of script None None (Some x) text is = refl
+
+or_none : (a b : Option (List ℕ)) → or_else a b ≡ None → (a ≡ None) × (b ≡ None)
+or_none None b is = (refl, is)
+or_none (Some x) b is = absurd cc
+
+each_none : (say : List ℕ → Option (List ℕ)) (names : List (List ℕ)) → first_said say names ≡ None → AllByRecursion (λ name. say name ≡ None) names
+each_none say [] is = tt
+each_none say (name ∷ names) is =
+    let both = or_none (say name) (first_said say names) is in
+    (both.0, each_none say names both.1)
+
+pub none_wrong : (name script : List ℕ) (m : Holding) (text : List ℕ) → text_in name script m ≡ Ok text → AllByRecursion (λ q. wrong_in m q ≡ None) (tables_in name m)
+unfolding text_in
+none_wrong name script m text is = each_none (wrong_in m) (tables_in name m) (none_of script _ _ (m script) text is)
 
 none_found : (name : List ℕ) (found : List Finding) → said_of name (Ok found) ≡ None → found ≡ []
 none_found name [] is = refl
 none_found name (f ∷ fs) is = absurd cc
 
--- nothing was found
-by_file : (name script : List ℕ) (found : List Finding) (file : Option (List ℕ)) (text : List ℕ) → text_by name script (Ok found) file ≡ Ok text → found ≡ []
-by_file name script found None text is = absurd cc
-by_file name script found (Some bytes) text is = none_found name found (unless_none (said_of name (Ok found)) bytes text is)
+by_table : (name : List ℕ) (r : Result opening.Table TableFault) (t : opening.Table) → said_by name (findings_by r) ≡ None → r ≡ Ok t → findings t.defs t.rows t.index ≡ []
+by_table name r t said is = none_found name (findings t.defs t.rows t.index) (subst (λ q. said_by name (findings_by q) ≡ None) is said)
 
-def_said : (name script : List ℕ) (f : DefFault) (file : Option (List ℕ)) (text : List ℕ) → text_by name script (Err f) file ≡ Ok text → ⊥
-def_said name script f None text is = cc
-def_said name script f (Some bytes) text is = cc
-
-by_look : (name script : List ℕ) (looked : Result (List Finding) TableFault) (file : Option (List ℕ)) (text : List ℕ) → text_of name script looked file ≡ Ok text → looked ≡ Ok []
-by_look name script (Err (fault.Absent f)) file text is = absurd cc
-by_look name script (Err (fault.Def f)) file text is = absurd (def_said name script f file text is)
-by_look name script (Err fault.File) file text is = absurd cc
-by_look name script (Err fault.Memory) file text is = absurd cc
-by_look name script (Ok found) file text is = ap Ok (by_file name script found file text is)
-
-nothing_found : (name script : List ℕ) (m : Holding) (text : List ℕ) → text_in name script m ≡ Ok text → findings_in name m ≡ Ok []
-unfolding text_in
-nothing_found name script m text is = by_look name script (findings_in name m) (m script) text is
-
-by_table : (r : Result opening.Table TableFault) (t : opening.Table) → findings_by r ≡ Ok [] → r ≡ Ok t → findings t.defs t.rows t.index ≡ []
-by_table r t found is = ok_same {E = TableFault} (findings t.defs t.rows t.index) [] (ap findings_by (sym is) ∙ found)
-
-none_in : (name : List ℕ) (m : Holding) (t : opening.Table) → findings_in name m ≡ Ok [] → opening.table_in (index_file name) (rows_file name) m ≡ Ok t → findings t.defs t.rows t.index ≡ []
+none_in : (name : List ℕ) (m : Holding) (t : opening.Table) → wrong_in m name ≡ None → opening.table_in (index_file name) (rows_file name) m ≡ Ok t → findings t.defs t.rows t.index ≡ []
 unfolding findings_in
-none_in name m t found is = by_table (opening.table_in (index_file name) (rows_file name) m) t found is
+none_in name m t said is = by_table name (opening.table_in (index_file name) (rows_file name) m) t said is
 
 by_mark : (b : Bool) (t u : opening.Table) → marked_by b t ≡ Ok u → t ≡ u
 by_mark true t u is = ok_same {E = LoadFault} t u is
@@ -93,196 +89,267 @@ pub opened : (name : List ℕ) (m : Holding) (t : opening.Table) → loading.tab
 unfolding loading.table_in
 opened name m t is = by_opening (opening.table_in (index_file name) (rows_file name) m) t is
 
--- ---- by the file of the script
-
--- a file is read whole
-file_is : (file front : List ℕ) (m : Holding) (size : Option ℕ) (n : ℕ) → size ≡ Some n → Measures (m file) size → IsFront file n front m → m file ≡ Some front
-file_is file front m None n is measured read = absurd cc
-file_is file front m (Some k) n is measured read =
-    let same : k ≡ n = ap (λ o. unwrap_or o 0) is in
-    let all : take n measured.0 ≡ measured.0 = take_all n measured.0 (omega (arith, measured.2, same)) in
-    measured.1 ∙ ap Some (sym (read ∙ ap (λ o. take n (unwrap_or o [])) measured.1 ∙ all))
-
--- it is there, and nothing is said of the table
-pub text_found : (name script : List ℕ) (looked : Result (List Finding) DefFault) (m : Holding) (size : Option ℕ) (n : ℕ) (text : List ℕ) → size ≡ Some n → Measures (m script) size → IsFront script n text m → said_of name looked ≡ None → text_by name script looked (m script) ≡ Ok text
-text_found name script looked m size n text is measured read said = ap (text_by name script looked) (file_is script text m size n is measured read) ∙ ap (λ o. text_unless o text) said
-
--- by what a check finds
-pub found_by : (name script : List ℕ) (found : List Finding) (m : Holding) (r : Result (List ℕ) Refusal) → findings_in name m ≡ Ok found → text_by name script (Ok found) (m script) ≡ r → text_in name script m ≡ r
-unfolding text_in
-found_by name script found m r is by = ap (λ l. text_of name script l (m script)) is ∙ by
-
-pub defs_by : (name script : List ℕ) (f : DefFault) (m : Holding) (r : Result (List ℕ) Refusal) → findings_in name m ≡ Err (fault.Def f) → text_by name script (Err f) (m script) ≡ r → text_in name script m ≡ r
-unfolding text_in
-defs_by name script f m r is by = ap (λ l. text_of name script l (m script)) is ∙ by
-
-pub absent_by : (name script : List ℕ) (f : TableFile) (m : Holding) (line : List ℕ) → findings_in name m ≡ Err (fault.Absent f) → line ≡ absent_line (file_of f name) → text_in name script m ≡ Err (refusal line status.Absent)
-unfolding text_in
-absent_by name script f m line is said = ap (λ l. text_of name script l (m script)) is ∙ ap (λ l. Err (refusal l status.Absent)) (sym said)
-
--- ---- how a script begins
+-- ---- the tables that are loaded stand for states
 
 -- clean pairs stand for tables
 abbrev pub Stands : Type 0
 Stands = (b x : List ℕ) → AreBytes b → (c : IsClean b x) → (s : TableState) × StandForTable c.defs s b x
 
-abbrev pub AreCleanPairs : Type 0
-AreCleanPairs = (d : Defs) (s : TableState) (b x : List ℕ) → IsSound d → StandForTable d s b x → IsClean b x
+-- a table that was loaded and not changed is this one
+pub record Meets (m : Holding) (k : Member) (t : OpenTable) : Type 0 where
+  pub named : t.name ≡ k.name
+  pub defs : table.defs_in t ≡ k.table.defs
+  pub header : t.header ≡ state_of k.table.defs k.table.index
+  pub unchanged : t.changed ≡ false
+  pub holds : HoldState t k.state m
+  pub member : IsMember m k
 
--- a table that is ready stands for a state
-record Standing (name script : List ℕ) (t : OpenTable) (ls : List Line) (m : Holding) : Type 0 where
-  pub files : opening.Table
-  pub is : opening.table_in (index_file name) (rows_file name) m ≡ Ok files
-  pub defs : defs_in t ≡ files.defs
-  pub state : TableState
-  pub stand : StandForTable files.defs state files.rows files.index
-  pub holds : HoldState t state m
-  pub header : t.header ≡ state_of (defs_in t) files.index
+pub record MeetsOne (name : List ℕ) (m : Holding) (t : OpenTable) : Type 0 where
+  pub member : Member
+  pub named : member.name ≡ name
+  pub meets : Meets m member t
 
-stands : Stands → (name script : List ℕ) (t : OpenTable) (ls : List Line) (m : Holding) → HoldsBytes m → IsReady name script t ls m → Standing name script t ls m
-stands law name script t ls m bytes ready =
-    let files = ready.loaded.files in
-    let is = opened name m files ready.loaded.is in
-    let none = none_in name m files (nothing_found name script m ready.text ready.read) is in
+meet_one : Stands → (name : List ℕ) (t : OpenTable) (m : Holding) → HoldsBytes m → wrong_in m name ≡ None → IsLoaded name t m → t.name ≡ name → t.changed ≡ false → MeetsOne name m t
+meet_one law name t m bytes none loaded named unchanged =
+    let files = loaded.files in
+    let is = opened name m files loaded.is in
     let read = table_read (index_file name) (rows_file name) files m is in
-    let clean = clean_where_none files.defs files.rows files.index read none in
+    let clean = clean_where_none files.defs files.rows files.index read (none_in name m files none is) in
     let are : AreBytes files.rows = subst (λ (o : Option (List ℕ)). AreBytes (unwrap_or o [])) (table_rows (index_file name) (rows_file name) files m is) (bytes (rows_file name)) in
     let found = law files.rows files.index are clean in
     let same : clean.defs ≡ files.defs = ok_same {E = DefFault} clean.defs files.defs (sym clean.read ∙ read) in
     let stand = subst (λ d. StandForTable d found.0 files.rows files.index) same found.1 in
-    record { files = files; is = is; defs = ready.loaded.defs; state = found.0; stand = stand; holds = ready.loaded.stands found.0 stand; header = ready.loaded.header ∙ ap (λ d. state_of d files.index) (sym ready.loaded.defs) }
+    record {
+      member = record { name = name; table = files; state = found.0 };
+      named = refl;
+      meets = record { named = named; defs = loaded.defs; header = loaded.header; unchanged = unchanged; holds = loaded.stands found.0 stand; member = record { is = is; stands = stand } };
+    }
 
-pub kept : Stands → (name script : List ℕ) (t : OpenTable) (ls : List Line) (told : Option Holding) → IfTold told HoldsBytes → IfTold told (IsReady name script t ls) → IsKept told t
-kept law name script t ls told bytes ready whole m held =
-    let s = stands law name script t ls m (bytes m held) (ready m held) in
-    (s.state, s.holds)
+abbrev pub MeetEach : Holding → List Member → List OpenTable → Type 0
+MeetEach m [] [] = Unit {0}
+MeetEach m [] (t ∷ ts) = ⊥
+MeetEach m (k ∷ ks) [] = ⊥
+MeetEach m (k ∷ ks) (t ∷ ts) = Meets m k t × MeetEach m ks ts
 
--- what holds of each state holds of one
-pub never : Stands → (name script : List ℕ) (t : OpenTable) (ls : List Line) (told : Option Holding) → IfTold told HoldsBytes → IfTold told (IsReady name script t ls) → (P : Holding → Type 0) → IfHolds told t (λ m s. ⊥) → IfTold told P
-never law name script t ls told bytes ready P none m held =
-    let s = stands law name script t ls m (bytes m held) (ready m held) in
-    absurd (none m held s.state s.holds)
+abbrev pub names_of : List Member → List (List ℕ)
+names_of ks = map (λ (k : Member). k.name) ks
 
-begins_so : (setting : ℕ) (name script : List ℕ) (t : OpenTable) (ls : List Line) (m : Holding) (ready : IsReady name script t ls m) (s : Standing name script t ls m) → Begins setting name m ready.text (opening_on (defs_in t) ls setting s.state)
+abbrev pub opened_names : List OpenTable → List (List ℕ)
+opened_names ts = map (λ (t : OpenTable). t.name) ts
+
+pub record MeetsAll (names : List (List ℕ)) (m : Holding) (ts : List OpenTable) : Type 0 where
+  pub members : List Member
+  pub named : names_of members ≡ names
+  pub meets : MeetEach m members ts
+
+head_same : (x y : List ℕ) (xs ys : List (List ℕ)) → x ∷ xs ≡ y ∷ ys → x ≡ y
+head_same x y xs ys is = cc
+
+tail_same : (x y : List ℕ) (xs ys : List (List ℕ)) → x ∷ xs ≡ y ∷ ys → xs ≡ ys
+tail_same x y xs ys is = cc
+
+meet_each : Stands → (names : List (List ℕ)) (ts : List OpenTable) (m : Holding) → HoldsBytes m → AllByRecursion (λ q. wrong_in m q ≡ None) names → EachLoaded names ts m → opened_names ts ≡ names → AllByRecursion (λ (t : OpenTable). t.changed ≡ false) ts → MeetsAll names m ts
+meet_each law [] [] m bytes none loaded named unchanged = record { members = []; named = refl; meets = tt }
+meet_each law [] (t ∷ ts) m bytes none loaded named unchanged = absurd loaded
+meet_each law (name ∷ names) [] m bytes none loaded named unchanged = absurd loaded
+meet_each law (name ∷ names) (t ∷ ts) m bytes none loaded named unchanged =
+    let one = meet_one law name t m bytes none.0 loaded.0 (head_same t.name name (opened_names ts) names named) unchanged.0 in
+    let more = meet_each law names ts m bytes none.1 loaded.1 (tail_same t.name name (opened_names ts) names named) unchanged.1 in
+    record { members = one.member ∷ more.members; named = ap (λ (q : List ℕ). q ∷ names_of more.members) one.named ∙ ap (λ (qs : List (List ℕ)). name ∷ qs) more.named; meets = (one.meets, more.meets) }
+
+meet_long : (m : Holding) (ks : List Member) (ts : List OpenTable) → MeetEach m ks ts → length ks ≡ length ts
+meet_long m [] [] meets = refl
+meet_long m [] (t ∷ ts) meets = absurd meets
+meet_long m (k ∷ ks) [] meets = absurd meets
+meet_long m (k ∷ ks) (t ∷ ts) meets = ap suc (meet_long m ks ts meets.1)
+
+meet_members : (m : Holding) (ks : List Member) (ts : List OpenTable) → MeetEach m ks ts → AllByRecursion (IsMember m) ks
+meet_members m [] ts meets = tt
+meet_members m (k ∷ ks) [] meets = absurd meets
+meet_members m (k ∷ ks) (t ∷ ts) meets = (meets.0.member, meet_members m ks ts meets.1)
+
+-- ---- the one that takes the rows
+
+record SplitAt (ks : List Member) (i : ℕ) : Type 0 where
+  pub parts : Members
+  pub is : all_of parts ≡ ks
+  pub long : length parts.front ≡ i
+
+split_at : (ks : List Member) (i : ℕ) → i < length ks → SplitAt ks i
+split_at [] i lt = absurd (omega (arith, lt))
+split_at (k ∷ ks) zero lt = record { parts = record { front = []; taker = k; back = ks }; is = refl; long = refl }
+split_at (k ∷ ks) (suc i) lt =
+    let r = split_at ks i (omega (arith, lt)) in
+    record { parts = record { front = k ∷ r.parts.front; taker = r.parts.taker; back = r.parts.back }; is = ap (λ (q : List Member). k ∷ q) r.is; long = ap suc r.long }
+
+pub index_inside : (method : Option InsertMethod) (n : ℕ) → 0 < n → index_by (target_by method n) < n
+index_inside None n some = some
+index_inside (Some First) n some = some
+index_inside (Some Last) n some = omega (arith, some)
+
+place_by : (o : Option ℕ) → place_of (taking_by o) ≡ index_by o
+place_by None = refl
+place_by (Some i) = omega arith
+
+first_meets : (m : Holding) (front : List Member) (k : Member) (back : List Member) (ts : List OpenTable) → MeetEach m (front ++ k ∷ back) ts → defs_at (slice_get ts 0) ≡ first_defs front k
+first_meets m [] k back [] meets = absurd meets
+first_meets m [] k back (t ∷ ts) meets = meets.0.defs
+first_meets m (j ∷ front) k back [] meets = absurd meets
+first_meets m (j ∷ front) k back (t ∷ ts) meets = meets.0.defs
+
+taker_meets : (m : Holding) (front : List Member) (k : Member) (back : List Member) (ts : List OpenTable) → MeetEach m (front ++ k ∷ back) ts → defs_at (slice_get ts (length front)) ≡ k.table.defs
+taker_meets m [] k back [] meets = absurd meets
+taker_meets m [] k back (t ∷ ts) meets = meets.0.defs
+taker_meets m (j ∷ front) k back [] meets = absurd meets
+taker_meets m (j ∷ front) k back (t ∷ ts) meets = taker_meets m front k back ts meets.1
+
+hold_back : (m : Holding) (ks : List Member) (ts : List OpenTable) → MeetEach m ks ts → HoldEach ts (states_of ks) m
+hold_back m [] [] meets = tt
+hold_back m [] (t ∷ ts) meets = absurd meets
+hold_back m (k ∷ ks) [] meets = absurd meets
+hold_back m (k ∷ ks) (t ∷ ts) meets = (meets.0.holds, hold_back m ks ts meets.1)
+
+hold_front : (m : Holding) (front : List Member) (k : Member) (back : List Member) (ts : List OpenTable) → MeetEach m (front ++ k ∷ back) ts → HoldEach ts (states_of front ++ k.state ∷ states_of back) m
+hold_front m [] k back [] meets = absurd meets
+hold_front m [] k back (t ∷ ts) meets = (meets.0.holds, hold_back m back ts meets.1)
+hold_front m (j ∷ front) k back [] meets = absurd meets
+hold_front m (j ∷ front) k back (t ∷ ts) meets = (meets.0.holds, hold_front m front k back ts meets.1)
+
+like_same : (a b c d : Defs) → a ≡ c → b ≡ d → IsLike a b → IsLike c d
+like_same a b c d one other like = subst (λ q. IsLike q d) one (subst (λ q. IsLike a q) other like)
+
+like_others : (m : Holding) (first : Member) (f : OpenTable) (ks : List Member) (ts : List OpenTable) → table.defs_in f ≡ first.table.defs → MeetEach m ks ts → AllByRecursion (λ (t : OpenTable). IsLike (table.defs_in f) (table.defs_in t)) ts → AllByRecursion (λ (k : Member). IsLike first.table.defs k.table.defs) ks
+like_others m first f [] ts same meets like = tt
+like_others m first f (k ∷ ks) [] same meets like = absurd meets
+like_others m first f (k ∷ ks) (t ∷ ts) same meets like = (like_same (table.defs_in f) (table.defs_in t) first.table.defs k.table.defs same meets.0.defs like.0, like_others m first f ks ts same meets.1 like.1)
+
+like_members : (m : Holding) (ks : List Member) (ts : List OpenTable) → MeetEach m ks ts → merged.AreAlike ts → AreAlike ks
+like_members m [] ts meets like = tt
+like_members m (k ∷ ks) [] meets like = absurd meets
+like_members m (k ∷ ks) (t ∷ ts) meets like = like_others m k t ks ts meets.0.defs meets.1 like
+
+-- ---- what stands before a script
+
+abbrev pub opened_of : Target → List OpenTable
+opened_of (One t) = t ∷ []
+opened_of (Many g) = g.tables
+
+abbrev pub standing_of : Members → on.Standing
+standing_of ks = record { table = ks.taker.state; beside = record { front = states_of ks.front; back = states_of ks.back } }
+
+-- tables that are ready stand for states
+pub record Standing (name : List ℕ) (t : Target) (m : Holding) : Type 0 where
+  pub members : Members
+  pub are : AreMembers name (taking t) members m
+  pub meets : MeetEach m (all_of members) (opened_of t)
+  pub first : lines_defs t ≡ first_defs members.front members.taker
+  pub defs : on.defs_in t ≡ members.taker.table.defs
+  pub holds : on.HoldState t (standing_of members) m
+
+table_names : (name : List ℕ) (m : Holding) → m (list_file name) ≡ None → tables_in name m ≡ name ∷ []
+table_names name m none = ap (tables_by name) none
+
+pub list_names : (name : List ℕ) (members : List (List ℕ)) (method : Option InsertMethod) (m : Holding) → IsListIn name members method m → tables_in name m ≡ members
+list_names name members method m list = ap (tables_by name) list.there ∙ sym list.list.names_are
+
+table_stands : (name : List ℕ) (t : OpenTable) (m : Holding) → m (list_file name) ≡ None → MeetsOne name m t → Standing name (One t) m
+table_stands name t m none one = record {
+  members = record { front = []; taker = one.member; back = [] };
+  are = record { on = inl (none, refl); names = ap (λ (q : List ℕ). q ∷ []) one.named ∙ sym (table_names name m none); each = (one.meets.member, tt); alike = tt; place = refl };
+  meets = (one.meets, tt);
+  first = one.meets.defs;
+  defs = one.meets.defs;
+  holds = one.meets.holds;
+}
+
+pub list_on : (name : List ℕ) (g : OpenMerge) (m : Holding) → IsLoadedMerge name g m → IsOn name (taking (Many g)) m
+list_on name g m loaded =
+    let same : tables_in name m ≡ loaded.members = list_names name loaded.members g.method m loaded.list in
+    let long : length g.tables ≡ length (tables_in name m) = map_long g.tables ∙ ap length (loaded.names ∙ sym same) in
+    inr (g.method, subst (λ (q : List (List ℕ)). IsListIn name q g.method m) (sym same) loaded.list, ap (λ (n : ℕ). taking_by (target_by g.method n)) long)
+  where
+    map_long : (ts : List OpenTable) → length ts ≡ length (opened_names ts)
+    map_long [] = refl
+    map_long (t ∷ ts) = ap suc (map_long ts)
+
+list_parts : (name : List ℕ) (g : OpenMerge) (m : Holding) → IsMerge g → IsLoadedMerge name g m → (all : MeetsAll (tables_in name m) m g.tables) → SplitAt all.members (index_in g) → Standing name (Many g) m
+list_parts name g m sound loaded all split =
+    let ks = split.parts in
+    let meets : MeetEach m (all_of ks) g.tables = subst (λ (q : List Member). MeetEach m q g.tables) (sym split.is) all.meets in
+    record {
+      members = ks;
+      are = record {
+        on = list_on name g m loaded;
+        names = ap names_of split.is ∙ all.named;
+        each = meet_members m (all_of ks) g.tables meets;
+        alike = like_members m (all_of ks) g.tables meets sound.alike;
+        place = split.long ∙ sym (place_by (target g));
+      };
+      meets = meets;
+      first = first_meets m ks.front ks.taker ks.back g.tables meets;
+      defs = ap (λ (i : ℕ). defs_at (slice_get g.tables i)) (sym split.long) ∙ taker_meets m ks.front ks.taker ks.back g.tables meets;
+      holds = (hold_front m ks.front ks.taker ks.back g.tables meets, len ks.front ∙ split.long);
+    }
+  where
+    len : (ks : List Member) → length (states_of ks) ≡ length ks
+    len [] = refl
+    len (k ∷ ks) = ap suc (len ks)
+
+list_stands : (name : List ℕ) (g : OpenMerge) (m : Holding) → IsMerge g → IsLoadedMerge name g m → MeetsAll (tables_in name m) m g.tables → Standing name (Many g) m
+list_stands name g m sound loaded all = list_parts name g m sound loaded all (split_at all.members (index_in g) (omega (arith, index_inside g.method (length g.tables) sound.some, meet_long m all.members g.tables all.meets)))
+
+pub stands_on : Stands → (name script text : List ℕ) (list : Bool) (t : Target) (m : Holding) → HoldsBytes m → IsFresh list t → text_in name script m ≡ Ok text → IsTarget name t m → Standing name t m
+stands_on law name script text list (One t) m bytes fresh read loaded =
+    let none = subst (AllByRecursion (λ q. wrong_in m q ≡ None)) (table_names name m loaded.0) (none_wrong name script m text read) in
+    table_stands name t m loaded.0 (meet_one law name t m bytes none.0 loaded.1 loaded.2 fresh.unchanged)
+stands_on law name script text list (Many g) m bytes fresh read loaded =
+    let same : tables_in name m ≡ loaded.members = list_names name loaded.members g.method m loaded.list in
+    let none = none_wrong name script m text read in
+    list_stands name g m fresh.sound loaded (meet_each law (tables_in name m) g.tables m bytes none (subst (λ (q : List (List ℕ)). EachLoaded q g.tables m) (sym same) loaded.tables) (loaded.names ∙ sym same) fresh.unchanged)
+
+pub stands : Stands → (name script : List ℕ) (list : Bool) (t : Target) (ls : List Line) (m : Holding) → HoldsBytes m → IsFresh list t → IsReady name script t ls m → Standing name t m
+stands law name script list t ls m bytes fresh ready = stands_on law name script ready.text list t m bytes fresh ready.read ready.loaded
+
+-- how the script begins
+unfoldable pub begins_so : (setting : ℕ) (name script : List ℕ) (t : Target) (ls : List Line) (m : Holding) → IsReady name script t ls m → (s : Standing name t m) → Begins setting name script m (opening_on (on.defs_in t) (script_on t ls) setting (standing_of s.members))
 begins_so setting name script t ls m ready s = record {
-  table = s.files;
-  is = s.is;
+  text = ready.text;
+  read = ready.read;
+  members = s.members;
+  are = s.are;
+  lines = subst (λ d. IsScript (is_list (taking t)) d ready.text ls) s.first ready.lines;
   defs = s.defs;
-  lines = subst (λ d. IsScript false d ready.text ls) s.defs ready.lines;
-  base = s.stand;
+  base = refl;
+  beside = refl;
   inserts = refl;
 }
 
-comes_to_run : (setting : ℕ) (name script : List ℕ) (m : Holding) (text said : List ℕ) (s : Status) → text_in name script m ≡ Ok text → IsRun setting name m text said s → ShellComesTo setting name script m said s
-comes_to_run setting name script m text said s read run = subst (λ r. ComesTo setting name script m r said s) (sym read) (inr run)
+-- ---- what a run asks for
 
--- ---- what a run said and left
+kept_each : (told : Option Holding) (ts : List OpenTable) → IfTold told (λ m. (ks : List Member) × MeetEach m ks ts) → AreKept told ts
+kept_each told [] have = tt
+kept_each told (t ∷ ts) have = (λ whole m held. one m (have m held), kept_each told ts (λ m held. more m (have m held)))
+  where
+    one : (m : Holding) → ((ks : List Member) × MeetEach m ks (t ∷ ts)) → (s : TableState) × HoldState t s m
+    one m ([], meets) = absurd meets
+    one m (k ∷ ks, meets) = (k.state, meets.0.holds)
 
-pub run_said : Stands → (setting : ℕ) (name script : List ℕ) (t : OpenTable) (ls : List Line) (told : Option Holding) (old new : Option (List ℕ)) → IfTold told HoldsBytes → IfTold told (IsReady name script t ls)
-    → IfHolds told t (λ m s. IsPrinted (opening_on (defs_in t) ls setting s) old new) → IfTold told (ShellSaid setting name script status.Ok old new)
-run_said law setting name script t ls told old new bytes ready printed m held =
-    let r = ready m held in
-    let s = stands law name script t ls m (bytes m held) r in
-    let p = printed m held s.state s.holds in
-    (_, comes_to_run setting name script m r.text _ status.Ok r.read record { begin = opening_on (defs_in t) ls setting s.state; begins = begins_so setting name script t ls m r s; numbers = p.numbers; within = p.within; says = refl; ends = refl }, p.text)
+    more : (m : Holding) → ((ks : List Member) × MeetEach m ks (t ∷ ts)) → (ks : List Member) × MeetEach m ks ts
+    more m ([], meets) = absurd meets
+    more m (k ∷ ks, meets) = (ks, meets.1)
 
-pub run_part : Stands → (setting : ℕ) (name script : List ℕ) (t : OpenTable) (ls : List Line) (told : Option Holding) (old new : Option (List ℕ)) → IfTold told HoldsBytes → IfTold told (IsReady name script t ls)
-    → IfHolds told t (λ m s. IsPrintedPart (opening_on (defs_in t) ls setting s) old new) → IfTold told (ShellSaidPart setting name script old new)
-run_part law setting name script t ls told old new bytes ready printed m held =
-    let r = ready m held in
-    let s = stands law name script t ls m (bytes m held) r in
-    let p = printed m held s.state s.holds in
-    inr (_, status.Ok, comes_to_run setting name script m r.text _ status.Ok r.read record { begin = opening_on (defs_in t) ls setting s.state; begins = begins_so setting name script t ls m r s; numbers = p.numbers; within = p.within; says = refl; ends = refl }, p.text)
+kept_all : (told : Option Holding) (t : Target) → IfTold told (λ m. (ks : List Member) × MeetEach m ks (opened_of t)) → on.IsKept told t
+kept_all told (One t) have = (kept_each told (t ∷ []) have).0
+kept_all told (Many g) have = kept_each told g.tables have
 
-bits_by : (changes : List Change) (b : Bool) (bits : ℕ) → (changes ≡ [] → b ≡ false) → (changes ≢ [] → b ≡ true) → (if b then changed_bits bits else bits) ≡ bits_behind changes bits
-bits_by [] b bits none some = ap (λ q. if q then changed_bits bits else bits) (none refl)
-bits_by (c ∷ cs) b bits none some = ap (λ q. if q then changed_bits bits else bits) (some (λ e. cc))
+pub kept : Stands → (name script : List ℕ) (list : Bool) (t : Target) (ls : List Line) (told : Option Holding) → IfTold told HoldsBytes → IsFresh list t → IfTold told (IsReady name script t ls) → on.IsKept told t
+kept law name script list t ls told bytes fresh ready = kept_all told t (λ m held. by m (stands law name script list t ls m (bytes m held) fresh (ready m held)))
+  where
+    by : (m : Holding) → Standing name t m → (ks : List Member) × MeetEach m ks (opened_of t)
+    by m s = (all_of s.members, s.meets)
 
--- the header of a table that was closed behind these changes
-header_so : (o : Opening) (was : List ℕ) (changes : List Change) (t : OpenTable) (m n : Holding) → o.defs ≡ defs_in t → t.header ≡ state_of o.defs was → t.changed ≡ false → (closed : AreClosed o changes t m n)
-    → IsHeaderBehind o.defs was changes (header_in o.defs closed.closed.index)
-header_so o was changes t m n defs header unchanged closed =
-    let last = closed.last in
-    let index = closed.closed.index in
-    let of_defs : defs_in last ≡ o.defs = closed.same.defs ∙ sym defs in
-    let has = closed.closed.header in
-    let read : last.header ≡ state_of o.defs was = closed.same.header ∙ header in
-    let bits_now : (if last.changed then changed_bits last.header.changed else last.header.changed) ≡ bits_behind changes last.header.changed =
-    bits_by changes last.changed last.header.changed (λ none. closed.unmarked none ∙ unchanged) closed.marked in
-    record {
-      elsewhere = subst (λ (d : Defs). AgreeOutsideState d.raw (header_in d index)) of_defs has.elsewhere;
-      mark = subst (λ (d : Defs). has_mark d (header_in d index) ≡ true) of_defs has.mark;
-      bits = subst (λ (d : Defs). (state_of d (header_in d index)).changed ≡ bits_behind changes (state_of o.defs was).changed) of_defs
-          (ap (λ (z : State). z.changed) has.state ∙ bits_now ∙ ap (λ (z : State). bits_behind changes z.changed) read);
-      kept = subst (λ (d : Defs). KeepsRest (state_of o.defs was) (state_of d (header_in d index))) of_defs (record {
-        open_count = ap (λ (z : State). z.open_count) has.state ∙ ap (λ (z : State). z.open_count) read;
-        sortkey = ap (λ (z : State). z.sortkey) has.state ∙ ap (λ (z : State). z.sortkey) read;
-        auto_increment = ap (λ (z : State). z.auto_increment) has.state ∙ ap (λ (z : State). z.auto_increment) read;
-        key_map = ap (λ (z : State). z.key_map) has.state ∙ ap (λ (z : State). z.key_map) read;
-        recover_time = ap (λ (z : State). z.recover_time) has.state ∙ ap (λ (z : State). z.recover_time) read;
-        rest = ap (λ (z : State). z.rest) has.state ∙ ap (λ (z : State). z.rest) read;
-      });
-    }
-
-closed_so : AreCleanPairs → (name : List ℕ) (o : Opening) (was : List ℕ) (changes : List Change) (t : OpenTable) (m n : Holding) → t.name ≡ name → o.defs ≡ defs_in t → t.header ≡ state_of o.defs was → t.changed ≡ false → AreClosed o changes t m n → StandClean name o was changes n
-closed_so law name o was changes t m n named defs header unchanged closed =
-    let at : closed.last.name ≡ name = closed.same.name ∙ named in
-    let of_defs : defs_in closed.last ≡ o.defs = closed.same.defs ∙ sym defs in
-    let index = closed.closed.index in
-    let s = replay o.defs o.base changes in
-    let there : n (index_file name) ≡ Some index = ap (λ (q : List ℕ). n (index_file q)) (sym at) ∙ closed.closed.there in
-    let stand : StandForTable (defs_with o.defs index) s (bytes_of (rows_file name) n) index = subst (λ (d : Defs). StandForTable (defs_with d index) s (bytes_of (rows_file name) n) index) of_defs (subst (λ (q : List ℕ). StandForTable (defs_with (defs_in closed.last) index) s (bytes_of (rows_file q) n) index) at closed.closed.stand) in
-    record { index = index; there = there; stand = stand; clean = law _ s _ index (sound _ (are_defs index _ stand.read)) stand; header = header_so o was changes t m n defs header unchanged closed }
-
-kept_rows : (name : List ℕ) (o : Opening) (changes : List Change) (t : OpenTable) (m n : Holding) → t.name ≡ name → AreClosed o changes t m n → changes ≡ [] → KeepsRows name m n
-kept_rows name o changes t m n named closed none = subst (λ (q : List ℕ). KeepsRows q m n) named (closed.rows none)
-
-pub run_done : Stands → AreCleanPairs → (setting : ℕ) (name script : List ℕ) (t : OpenTable) (ls : List Line) (told next : Option Holding) → IfTold told HoldsBytes → IfTold told (IsReady name script t ls) → t.name ≡ name
-    → IfHolds told t (λ m s. IfTold next (AreClosedAtEnd (opening_on (defs_in t) ls setting s) t m)) → ChangesItsOwn told next t → Told told next (ShellDone setting name script)
-unfolding begins_so stands
-run_done law pairs setting name script t ls told next bytes ready named closed own = record {
-  told = λ m held.
-      let r = ready m held in
-      let s = stands law name script t ls m (bytes m held) r in
-      let n = own.told m held in
-      let o = opening_on (defs_in t) ls setting s.state in
-      let c = closed m held s.state s.holds n.0 n.1 in (
-        n.0,
-        n.1,
-        record {
-          text = r.text;
-          read = r.read;
-          begin = o;
-          begins = begins_so setting name script t ls m r s;
-          pair = closed_so pairs name o s.files.index (history o) t m n.0 named refl s.header r.unchanged c;
-          rows = kept_rows name o (history o) t m n.0 named c;
-          others = subst (λ (q : List ℕ). KeepsOthers q m n.0) named n.2;
-        },
-      );
-  untold = own.untold;
-}
-
--- the output failed at the lines of a round
-pub run_fails : Stands → AreCleanPairs → (setting : ℕ) (name script : List ℕ) (t : OpenTable) (ls : List Line) (told next : Option Holding) (old new : Option (List ℕ)) → IfTold told HoldsBytes → IfTold told (IsReady name script t ls) → t.name ≡ name
-    → IfHolds told t (λ m s. IfTold next (AreClosedBehind (opening_on (defs_in t) ls setting s) t old new m)) → IfTold told (λ m. IfTold next (ShellFails setting name script old new m))
-unfolding begins_so stands
-run_fails law pairs setting name script t ls told next old new bytes ready named closed m held n after =
-    let r = ready m held in
-    let s = stands law name script t ls m (bytes m held) r in
-    let o = opening_on (defs_in t) ls setting s.state in
-    let c = closed m held s.state s.holds n after in
-    inr record {
-      text = r.text;
-      read = r.read;
-      begin = o;
-      begins = begins_so setting name script t ls m r s;
-      front = c.front;
-      last = c.last;
-      cut = c.cut;
-      pair = closed_so pairs name o s.files.index (history_in o (c.front ++ c.last ∷ [])) t m n named refl s.header r.unchanged c.closed;
-      rows = kept_rows name o (history_in o (c.front ++ c.last ∷ [])) t m n named c.closed;
-    }
-
--- files that tell nothing
-pub none_told : (told next : Option Holding) (P : Holding → Holding → Type 0) → IfTold told (λ m. ⊥) → (told ≡ None → next ≡ None) → Told told next P
-none_told told next P none untold = record { told = λ m held. absurd (none m held); untold = untold }
+-- what holds of each state holds of one
+pub never : Stands → (name script : List ℕ) (list : Bool) (t : Target) (ls : List Line) (told : Option Holding) → IfTold told HoldsBytes → IsFresh list t → IfTold told (IsReady name script t ls) → (P : Holding → Type 0) → on.IfHolds told t (λ m s. ⊥) → IfTold told P
+never law name script list t ls told bytes fresh ready P none m held =
+    let s = stands law name script list t ls m (bytes m held) fresh (ready m held) in
+    absurd (none m held (standing_of s.members) s.holds)

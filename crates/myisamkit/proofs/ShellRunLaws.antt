@@ -1,119 +1,225 @@
 -- The turn of `shell`, by the steps that it takes.
-use Rattle.std.proofs.Common.{◌≡◌, ℕ, List, Option, Some, Result, Ok, Err, refl, sym, subst, ◌∙◌, inl, inr}
-use Rattle.std.specs.Prelude.{IfOk, IfErr, false}
-use Rattle.myi_base.specs.Holding.{Holding, IfTold, Told}
-use Rattle.myi_base.proofs.CallerLemmas.{told_same}
+use Rattle.std.proofs.Common.{◌≡◌, ◌<◌, ◌-◌, arith, ℕ, zero, suc, Bool, true, false, List, [], ◌∷◌, ◌++◌, codes, length, Option, Some, None, Ok, Err, refl, sym, ap, subst, ◌∙◌, inl, inr}
+use Rattle.std.specs.Prelude.{slice_get, String}
+use Rattle.std.specs.declared.alloc.Global.{Global}
+use Rattle.std.specs.List.{AllByRecursion}
+use Rattle.myi_base.specs.Holding.{Holding, IfTold, HoldsBytes}
 use Rattle.myi_base.specs.Output.{Appends, AppendsPart}
 use Rattle.myi_defs.specs.declared.types.Defs.{Defs}
+use Rattle.myi_defs.specs.declared.types.Key.{Key}
 use Rattle.myi_deftext.specs.Text.{lines}
+use Rattle.myi_data.specs.Keys.{IsKeyNumber}
+use Rattle.myi_keys.specs.declared.values.KeySeg.{KeySeg}
+use Rattle.myi_script.specs.declared.types.Act.{Act}
+use Rattle.myi_script.specs.declared.types.Act.TheVariants as act
+use Rattle.myi_script.specs.declared.types.Range.{Range}
 use Rattle.myi_script.specs.declared.types.Line.{Line}
+use Rattle.myi_script.specs.Grammar.{segments_from}
 use Rattle.myi_script.specs.Script.{IsScript, IsFirstOutside}
-use Rattle.myi_table.specs.Table.{OpenTable, defs_in, KeepsOthers, ChangesItsOwn}
+use Rattle.myi_opening.specs.Opening as opening
+use Rattle.myi_history.specs.History.{Taking, is_list}
+use Rattle.myi_history.specs.Lines.{BringsRow, HasAllSegments, IsRange, ReadsRange, MayRun}
+use Rattle.myi_table.specs.Table.{OpenTable}
+use Rattle.myi_table.specs.Table as table
 use Rattle.myi_table.specs.Loading.{IsLoaded}
+use Rattle.myi_merge.specs.declared.fault.MergeFault.TheVariants as merge
+use Rattle.myi_keycache.specs.declared.setup.CacheSetup.{CacheSetup}
+use Rattle.myi_merge.specs.Loading as loading
+use Rattle.myi_merge.specs.Loading.{HasMembers, HasNoList, EachLoaded, RefusesMerge, FirstStopped}
+use Rattle.myi_merge.specs.Merged.{OpenMerge, IsMerge, IsLike, IsLikeFirst}
+use Rattle.myi_merge.specs.Changing.{target}
+use Rattle.myi_merge.proofs.CallerLemmas.{fits_like, like_at}
+use Rattle.myi_shell.specs.declared.target.Target.{Target}
+use Rattle.myi_shell.specs.declared.target.Target.TheVariants.{One, Many}
+use Rattle.myi_shell.specs.Targets.{defs_in, defs_at, index_in, taking, taking_by}
+use Rattle.myisamkit.specs.declared.status.Status.{Status}
 use Rattle.myisamkit.specs.declared.status.Status.TheVariants as status
-use Rattle.myisamkit.specs.declared.status.Stop.{Stop}
-use Rattle.myisamkit.specs.declared.status.Stop.TheVariants as stop
-use Rattle.myisamkit.specs.Stops.{status_of_stop}
-use Rattle.myisamkit.specs.Lines.{text_line}
-use Rattle.myisamkit.specs.Shells.{Refusal, text_in, ComesTo, ShellComesTo, ShellSaid, ShellSaidPart, ShellFails, ShellLeaves, ShellCutOff, IsNotRunBy, IsReady}
-use Rattle.myisamkit.proofs.ShellLaws.{opened}
-
--- what holds of every value holds of an answer
-pub each_ok : {A E : Type 0} (r : Result A E) (P : A → Type 0) → ((x : A) → P x) → IfOk r P
-each_ok (Ok x) P all = all x
-each_ok (Err e) P all = tt
+use Rattle.myisamkit.specs.Lines.{text_line, refused_line}
+use Rattle.myisamkit.specs.Shells.{refusal, tables_in, text_in, IsOn, IsTable, IsFirst, IsOneOf, Differ, IsRefused, ShellSaid, ShellSaidPart, ShellFails}
+use Rattle.myisamkit.specs.ShellSteps.{IsListed, lines_defs, IsFresh, IsTarget, IsReady, IsRunnable}
+use Rattle.myisamkit.proofs.ShellLaws.{Stands, opened, list_names, index_inside, Standing, stands_on}
 
 -- the same is held
-same_holding : (told next : Option Holding) (m n : Holding) → next ≡ told → told ≡ Some m → next ≡ Some n → n ≡ m
+pub same_holding : (told next : Option Holding) (m n : Holding) → next ≡ told → told ≡ Some m → next ≡ Some n → n ≡ m
 same_holding told next m n same held after = let e : Some n ≡ Some m = sym after ∙ same ∙ held in cc
+
+-- ---- no script is run
+
+-- what is said so is said
+pub refused_said : (setting : ℕ) (name script line : List ℕ) (s : Status) (told : Option Holding) (old new : Option (List ℕ)) → IfTold told (λ m. IsRefused name script m line s) → IfTold old (Appends line new) → IfTold told (ShellSaid setting name script s old new)
+refused_said setting name script line s told old new is said m held = (line, inl (is m held), said)
+
+pub refused_part : (setting : ℕ) (name script line : List ℕ) (s : Status) (told : Option Holding) (old new : Option (List ℕ)) → IfTold told (λ m. IsRefused name script m line s) → IfTold old (AppendsPart line new) → IfTold told (ShellSaidPart setting name script old new)
+refused_part setting name script line s told old new is said m held = inr (line, s, inl (is m held), said)
+
+pub refused_fails : (setting : ℕ) (name script line : List ℕ) (s : Status) (told next : Option Holding) (old new : Option (List ℕ)) → next ≡ told → IfTold told (λ m. IsRefused name script m line s) → IfTold told (λ m. IfTold next (ShellFails setting name script old new m))
+refused_fails setting name script line s told next old new same is m held n after = inl ((line, s, is m held), same_holding told next m n same held after)
+
+-- ---- the list
+
+listed_on : (list : Bool) (name : List ℕ) (m : Holding) → IsListed list name m → (takes : Taking) × IsOn name takes m
+listed_on true name m listed = (_, inr (listed.0, listed.1, refl))
+listed_on false name m none = (_, inl (none, refl))
+
+-- the script is not read
+pub not_read : (name script line : List ℕ) (s : Status) (list : Bool) (m : Holding) → IsListed list name m → text_in name script m ≡ Err (refusal line s) → IsRefused name script m line s
+not_read name script line s list m listed why = let o = listed_on list name m listed in inr (inl (record { takes = o.0; on = o.1; why = why }))
+
+pub no_list : (name script : List ℕ) (m : Holding) → HasNoList name m → IsRefused name script m (refused_line name (codes "list")) status.Refused
+no_list name script m none = inl (record { none = none; says = refl; ends = refl })
+
+pub unlike : (name script text : List ℕ) (list : Bool) (m : Holding) → IsListed list name m → text_in name script m ≡ Ok text → Differ name m → IsRefused name script m (refused_line name (codes "differs")) status.Refused
+unlike name script text list m listed read differ = let o = listed_on list name m listed in inr (inr (inl (record { takes = o.0; on = o.1; text = text; read = read; differ = differ; says = refl; ends = refl })))
 
 -- ---- a line of it is not in the grammar
 
-outside_comes : (setting : ℕ) (name script text : List ℕ) (k : ℕ) (d : Defs) (t : OpenTable) (m : Holding) → text_in name script m ≡ Ok text → IsLoaded name t m → d ≡ defs_in t → IsFirstOutside false d (lines text) k → ShellComesTo setting name script m (text_line script k) status.Refused
-outside_comes setting name script text k d t m read loaded defs first = subst (λ r. ComesTo setting name script m r (text_line script k) status.Refused) (sym read) (inl record {
-  table = loaded.files;
-  is = opened name m loaded.files loaded.is;
+pub outside : (name script text : List ℕ) (k : ℕ) (t : Target) (m : Holding) → text_in name script m ≡ Ok text → (s : Standing name t m) → IsFirstOutside (is_list (taking t)) (lines_defs t) (lines text) k → IsRefused name script m (text_line script k) status.Refused
+outside name script text k t m read s first = inr (inr (inr (record {
+  text = text;
+  read = read;
+  takes = taking t;
+  members = s.members;
+  are = s.are;
   line = k;
-  first = subst (λ e. IsFirstOutside false e (lines text) k) (defs ∙ loaded.defs) first;
+  first = subst (λ d. IsFirstOutside (is_list (taking t)) d (lines text) k) s.first first;
   says = refl;
   ends = refl;
-})
+})))
 
-pub outside_said : (setting : ℕ) (name script text line : List ℕ) (k : ℕ) (d : Defs) (t : OpenTable) (told : Option Holding) (old new : Option (List ℕ)) → IfTold told (λ m. text_in name script m ≡ Ok text) → IfTold told (IsLoaded name t) → d ≡ defs_in t → IsFirstOutside false d (lines text) k → line ≡ text_line script k → IfTold old (Appends line new) → IfTold told (ShellSaid setting name script status.Refused old new)
-outside_said setting name script text line k d t told old new read loaded defs first is said m held =
-    (text_line script k, outside_comes setting name script text k d t m (read m held) (loaded m held) defs first, subst (λ l. IfTold old (Appends l new)) is said)
+-- ---- a script that may run on the first table may run on the one that takes the rows
 
-pub outside_part : (setting : ℕ) (name script text line : List ℕ) (k : ℕ) (d : Defs) (t : OpenTable) (told : Option Holding) (old new : Option (List ℕ)) → IfTold told (λ m. text_in name script m ≡ Ok text) → IfTold told (IsLoaded name t) → d ≡ defs_in t → IsFirstOutside false d (lines text) k → line ≡ text_line script k → IfTold old (AppendsPart line new) → IfTold told (ShellSaidPart setting name script old new)
-outside_part setting name script text line k d t told old new read loaded defs first is said m held =
-    inr (text_line script k, status.Refused, outside_comes setting name script text k d t m (read m held) (loaded m held) defs first, subst (λ l. IfTold old (AppendsPart l new)) is said)
+rows_like : (d e : Defs) (a : Act) → IsLike d e → BringsRow d a → BringsRow e a
+rows_like d e (act.Insert row) like fit = fits_like d e row like fit
+rows_like d e (act.Update at row) like fit = fits_like d e row like fit
+rows_like d e (act.Delete at) like fit = tt
+rows_like d e act.Scan like fit = tt
+rows_like d e (act.Over range) like fit = tt
+rows_like d e (act.Lock lock) like fit = tt
+rows_like d e act.Unlock like fit = tt
+rows_like d e act.Stats like fit = tt
+rows_like d e act.End like fit = tt
 
-pub outside_fails : (setting : ℕ) (name script text : List ℕ) (k : ℕ) (d : Defs) (t : OpenTable) (told next : Option Holding) (old new : Option (List ℕ)) → next ≡ told → IfTold told (λ m. text_in name script m ≡ Ok text) → IfTold told (IsLoaded name t) → d ≡ defs_in t → IsFirstOutside false d (lines text) k
-    → IfTold told (λ m. IfTold next (ShellFails setting name script old new m))
-outside_fails setting name script text k d t told next old new same read loaded defs first m held n after =
-    let l = loaded m held in
-    inl (
-      subst (IsNotRunBy name script m) (sym (read m held)) (
-        text_line script k,
-        record {
-          table = l.files;
-          is = opened name m l.files l.is;
-          line = k;
-          first = subst (λ e. IsFirstOutside false e (lines text) k) (defs ∙ l.defs) first;
-          says = refl;
-          ends = refl;
-        },
-      ),
-      same_holding told next m n same held after,
+range_like : (d e : Defs) (r : Range) → IsLike d e → IsRange d r → IsRange e r
+range_like d e r like is = record {
+  key = subst (λ (ks : List Key). IsKeyNumber (record d { keys = ks }) r.key) like.keys is.key;
+  from = bound r.from is.from;
+  to = bound r.to is.to;
+}
+  where
+    bound : (b : Option (List KeySeg)) → HasAllSegments d r.key b → HasAllSegments e r.key b
+    bound None has = tt
+    bound (Some b) has = has ∙ ap (λ (ks : List Key). length (segments_from ks (r.key - 1))) like.keys
+
+ranges_like : (d e : Defs) (a : Act) → IsLike d e → ReadsRange d a → ReadsRange e a
+ranges_like d e (act.Insert row) like is = tt
+ranges_like d e (act.Update at row) like is = tt
+ranges_like d e (act.Delete at) like is = tt
+ranges_like d e act.Scan like is = tt
+ranges_like d e (act.Over range) like is = range_like d e range like is
+ranges_like d e (act.Lock lock) like is = tt
+ranges_like d e act.Unlock like is = tt
+ranges_like d e act.Stats like is = tt
+ranges_like d e act.End like is = tt
+
+all_like : (P Q : Act → Type 0) → ((a : Act) → P a → Q a) → (ls : List Line) → AllByRecursion (λ (l : Line). P l.act) ls → AllByRecursion (λ (l : Line). Q l.act) ls
+all_like P Q each [] all = tt
+all_like P Q each (l ∷ ls) all = (each l.act all.0, all_like P Q each ls all.1)
+
+run_like : (d e : Defs) (ls : List Line) → IsLike d e → MayRun d ls → MayRun e ls
+run_like d e ls like may = record {
+  grow = may.grow;
+  ends = may.ends;
+  sessions = may.sessions;
+  rows = all_like (BringsRow d) (BringsRow e) (λ a. rows_like d e a like) ls may.rows;
+  ranges = all_like (ReadsRange d) (ReadsRange e) (λ a. ranges_like d e a like) ls may.ranges;
+}
+
+got : (ts : List OpenTable) (i : ℕ) → i < length ts → (t : OpenTable) × (slice_get ts i ≡ Some t)
+got [] i lt = absurd (omega (arith, lt))
+got (t ∷ ts) zero lt = (t, refl)
+got (t ∷ ts) (suc i) lt = got ts i (omega (arith, lt))
+
+pub may_run : (list : Bool) (t : Target) (ls : List Line) → IsFresh list t → MayRun (lines_defs t) ls → MayRun (defs_in t) ls
+may_run list (One t) ls fresh may = may
+may_run list (Many g) ls fresh may =
+    let is : IsMerge g = fresh.sound in
+    let first = got g.tables 0 is.some in
+    let taker = got g.tables (index_in g) (index_inside g.method (length g.tables) is.some) in
+    let like = like_at g.tables first.0 (index_in g) taker.0 is.alike first.1 taker.1 in
+    subst (λ (d : Defs). MayRun d ls) (sym (ap defs_at taker.1)) (run_like (table.defs_in first.0) (table.defs_in taker.0) ls like (subst (λ (d : Defs). MayRun d ls) (ap defs_at first.1) may))
+
+-- ---- tables of a list that are not alike
+
+one_of : (before : List (List ℕ)) (name : List ℕ) (after : List (List ℕ)) (t : opening.Table) (m : Holding) → IsTable name t m → IsOneOf (before ++ name ∷ after) t m
+one_of [] name after t m is = inl is
+one_of (q ∷ before) name after t m is = inr (one_of before name after t m is)
+
+pub record FirstLoaded (names : List (List ℕ)) (before : List OpenTable) (m : Holding) : Type 0 where
+  pub first : OpenTable
+  pub others : List OpenTable
+  pub parts : before ≡ first ∷ others
+  pub files : opening.Table
+  pub is : IsFirst names files m
+  pub defs : table.defs_in first ≡ files.defs
+
+first_loaded : (before : List (List ℕ)) (name : List ℕ) (after : List (List ℕ)) (ts : List OpenTable) (t : OpenTable) (m : Holding) → EachLoaded before ts m → (IsLikeFirst ts t → ⊥) → FirstLoaded (before ++ name ∷ after) ts m
+first_loaded [] name after [] t m loaded unlike = absurd (unlike tt)
+first_loaded [] name after (u ∷ ts) t m loaded unlike = absurd loaded
+first_loaded (q ∷ before) name after [] t m loaded unlike = absurd loaded
+first_loaded (q ∷ before) name after (u ∷ ts) t m loaded unlike = record { first = u; others = ts; parts = refl; files = loaded.0.files; is = opened q m loaded.0.files loaded.0.is; defs = loaded.0.defs }
+
+differ_at : (names before : List (List ℕ)) (name : List ℕ) (after : List (List ℕ)) (ts : List OpenTable) (t : OpenTable) (m : Holding) → names ≡ before ++ name ∷ after → EachLoaded before ts m → IsLoaded name t m → (IsLikeFirst ts t → ⊥)
+    → (first : opening.Table) × (other : opening.Table) × IsFirst names first m × IsOneOf names other m × (IsLike first.defs other.defs → ⊥)
+differ_at names before name after ts t m parts loaded is unlike =
+    let f = first_loaded before name after ts t m loaded unlike in (
+      f.files,
+      is.files,
+      subst (λ (qs : List (List ℕ)). IsFirst qs f.files m) (sym parts) f.is,
+      subst (λ (qs : List (List ℕ)). IsOneOf qs is.files m) (sym parts) (one_of before name after is.files m (opened name m is.files is.is)),
+      λ like. unlike (subst (λ (us : List OpenTable). IsLikeFirst us t) (sym f.parts) (subst (λ (d : Defs). IsLike d (table.defs_in t)) (sym f.defs) (subst (λ (d : Defs). IsLike f.files.defs d) (sym is.defs) like))),
     )
 
--- ---- nothing is read
-pub refused_fails : (setting : ℕ) (name script : List ℕ) (r : Refusal) (told next : Option Holding) (old new : Option (List ℕ)) → next ≡ told → IfTold told (λ m. text_in name script m ≡ Err r)
-    → IfTold told (λ m. IfTold next (ShellFails setting name script old new m))
-refused_fails setting name script r told next old new same read m held n after =
-    inl (subst (IsNotRunBy name script m) (sym (read m held)) tt, same_holding told next m n same held after)
+differ_among : (name : List ℕ) (members : List (List ℕ)) (q : String Global) (m : Holding) → HasMembers name members m → FirstStopped members (merge.Differs q) m → Differ name m
+differ_among name members q m has stopped =
+    let same : tables_in name m ≡ members = list_names name members has.0 m has.1 in
+    let at = stopped.stopped.1 in
+    let d = differ_at (tables_in name m) stopped.before stopped.name stopped.after stopped.tables at.table m (same ∙ stopped.parts) stopped.loaded at.loaded at.differs in
+    record { first = d.0; is_first = d.2; other = d.1; is_other = d.3; unlike = d.4 }
 
--- ---- it is in the grammar
+-- a list that is refused for a table that is not like the first one
+pub differ_so : (name : List ℕ) (q : String Global) (m : Holding) → RefusesMerge name (merge.Differs q) m → Differ name m
+differ_so name q m (inl bad) = absurd bad
+differ_so name q m (inr (members, has, stopped)) = differ_among name members q m has stopped
 
-pub ready_so : (name script text : List ℕ) (d : Defs) (t : OpenTable) (ls : List Line) (told again : Option Holding) → again ≡ told → IfTold told (λ m. text_in name script m ≡ Ok text) → IfTold told (IsLoaded name t) → t.changed ≡ false → d ≡ defs_in t → IsScript false d text ls → IfTold again (IsReady name script t ls)
-ready_so name script text d t ls told again same read loaded unchanged defs says m held =
-    let held_before : told ≡ Some m = sym same ∙ held in
-    record { text = text; read = read m held_before; lines = subst (λ e. IsScript false e text ls) defs says; loaded = loaded m held_before; unchanged = unchanged }
+-- ---- what is ready
 
--- ---- it is cut off
+each_fresh : (setup : CacheSetup) (P : OpenTable → Type 0) → ((t : OpenTable) → loading.IsFresh setup t → P t) → (ts : List OpenTable) → AllByRecursion (loading.IsFresh setup) ts → AllByRecursion P ts
+each_fresh setup P of [] all = tt
+each_fresh setup P of (t ∷ ts) all = (of t all.0, each_fresh setup P of ts all.1)
 
--- what holds of every fault holds of an answer
-pub each_err : {A E : Type 0} (r : Result A E) (P : E → Type 0) → ((x : E) → P x) → IfErr r P
-each_err (Ok x) P all = tt
-each_err (Err e) P all = all e
+list_kind : (o : Option ℕ) → is_list (taking_by o) ≡ true
+list_kind None = refl
+list_kind (Some i) = refl
 
--- where nothing was changed
-pub same_stops : (setting : ℕ) (name script : List ℕ) (told next : Option Holding) → next ≡ told → (s : Stop) → Told told next (ShellLeaves setting name script (status_of_stop s))
-same_stops setting name script told next same s = told_same told next (ShellLeaves setting name script (status_of_stop s)) same (λ m held. by s m)
-  where
-    by : (s : Stop) (m : Holding) → ShellLeaves setting name script (status_of_stop s) m m
-    by stop.File m = inl refl
-    by stop.Memory m = inl refl
-    by stop.Sink m = λ q one two. refl
-
--- where the script was run
-pub ran_off : (name script : List ℕ) (t : OpenTable) (ls : List Line) (told next : Option Holding) → IfTold told (IsReady name script t ls) → t.name ≡ name → ChangesItsOwn told next t → Told told next (ShellCutOff name script)
-ran_off name script t ls told next ready named own = record {
-  told = λ m held.
-      let r = ready m held in
-      let n = own.told m held in (
-        n.0,
-        n.1,
-        inr (
-          record {
-            text = r.text;
-            read = r.read;
-            table = r.loaded.files;
-            is = opened name m r.loaded.files r.loaded.is;
-            said = ls;
-            lines = subst (λ (d : Defs). IsScript false d r.text ls) r.loaded.defs r.lines;
-          },
-          subst (λ (q : List ℕ). KeepsOthers q m n.0) named n.2,
-        ),
-      );
-  untold = own.untold;
+-- a list as loading leaves it
+pub list_fresh : (g : OpenMerge) (setup : CacheSetup) → AllByRecursion (loading.IsFresh setup) g.tables → IsMerge g → IsFresh true (Many g)
+list_fresh g setup fresh sound = record {
+  kind = list_kind (target g);
+  whole = each_fresh setup (λ (t : OpenTable). t.broken ≡ None) (λ t f. f.whole) g.tables fresh;
+  unchanged = each_fresh setup (λ (t : OpenTable). t.changed ≡ false) (λ t f. f.unchanged) g.tables fresh;
+  sound = sound;
 }
+
+pub ready_so : (name script text : List ℕ) (d : Defs) (list : Bool) (t : Target) (ls : List Line) (m : Holding) → text_in name script m ≡ Ok text → IsFresh list t → d ≡ lines_defs t → IsScript list d text ls → IsTarget name t m → IsReady name script t ls m
+ready_so name script text d list t ls m read fresh defs says loaded = record {
+  text = text;
+  read = read;
+  lines = subst (λ b. IsScript b (lines_defs t) text ls) (sym fresh.kind) (subst (λ e. IsScript list e text ls) defs says);
+  loaded = loaded;
+}
+
+pub runnable_so : (d : Defs) (list : Bool) (t : Target) (ls : List Line) → IsFresh list t → d ≡ lines_defs t → MayRun d ls → IsRunnable t ls
+runnable_so d list t ls fresh defs may = record { list = list; fresh = fresh; may = may_run list t ls fresh (subst (λ e. MayRun e ls) defs may) }
+
+pub outside_so : Stands → (name script text : List ℕ) (k : ℕ) (d : Defs) (list : Bool) (t : Target) (m : Holding) → HoldsBytes m → text_in name script m ≡ Ok text → IsFresh list t → d ≡ lines_defs t → IsFirstOutside list d (lines text) k → IsTarget name t m → IsRefused name script m (text_line script k) status.Refused
+outside_so law name script text k d list t m bytes read fresh defs first loaded = outside name script text k t m read (stands_on law name script text list t m bytes fresh read loaded) (subst (λ b. IsFirstOutside b (lines_defs t) (lines text) k) (sym fresh.kind) (subst (λ e. IsFirstOutside list e (lines text) k) defs first))

@@ -24,7 +24,7 @@ pub mod Creates
 pub mod Makes
 -- what a dump of a table says
 pub mod Dumps
--- what the run of a script says and leaves
+-- what the run of a script on a table or a list says and leaves
 pub mod Shells
 -- what a run says and does: its tables one after the other
 pub mod Runs
@@ -40,3 +40,5 @@ pub mod Reading
 pub mod ShellReading
 -- the plan that the code makes of the words
 pub mod Plans
+-- what is found of a script and its tables, step by step
+pub mod ShellSteps

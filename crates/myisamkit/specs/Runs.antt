@@ -15,7 +15,7 @@ use Rattle.myisamkit.specs.Lines.{usage_line}
 use Rattle.myisamkit.specs.Creates.{create_turn, CreateLeaves}
 use Rattle.myisamkit.specs.Dumps.{dump_turn}
 use Rattle.myisamkit.specs.Makes.{make_turn, MakeLeaves}
-use Rattle.myisamkit.specs.Shells.{text_in, shell_begin_turn, ShellComesTo, ShellSaid, ShellSaidPart, ShellSays, ShellLeaves, ShellFails}
+use Rattle.myisamkit.specs.Shells.{tables_in, ShellComesTo, ShellSaid, ShellSaidPart, ShellSays, ShellLeaves, ShellFails}
 use Rattle.myisamkit.specs.Turns.{Turn, turn, MayFind, TurnDone, CutsTurnOff, FailsInTurn}
 
 -- ---- the tables of `chk`
@@ -44,15 +44,14 @@ TablesSayPart o now (name ∷ names) part m =
 
 -- ---- any request
 
--- what a run comes to that nothing cuts off; of tables and of a script what it comes to before the first table, and before its lines
--- are read
+-- what a run comes to that nothing cuts off; of tables and of a script what it comes to before the first table, and before the script
 abbrev pub run_of : Request → ℕ → Holding → Turn
 run_of usage now m = record { text = usage_line; status = status.Usage; files = m }
 run_of (chk o names) now m = record { text = []; status = status.Ok; files = m }
 run_of (create name file) now m = create_turn name file m
 run_of (dump name) now m = dump_turn name m
 run_of (make count seed name) now m = make_turn count seed name now m
-run_of (shell o name script) now m = shell_begin_turn (text_in name script m) m
+run_of (shell o name script) now m = record { text = []; status = status.Ok; files = m }
 
 -- the answer may be that something was found: of `make` by its own check, which finds nothing where files tell
 abbrev pub MayFindAny : Request → Type 0
@@ -102,7 +101,7 @@ Leaves (dump name) now before after s m n = n ≡ m
 Leaves (make count seed name) now before after s m n = MakeLeaves count seed name now s m n
 Leaves (shell o name script) now before after s m n = ShellLeaves o.concurrent name script s m n
 
--- Where the output failed in a script, its table was closed behind the round whose lines were being written. Of the other requests
+-- Where the output failed in a script, its tables were closed behind the round whose lines were being written. Of the other requests
 -- `Leaves` says all.
 abbrev pub FailsInScript : Request → Option (List ℕ) → Option (List ℕ) → Holding → Holding → Type 0
 FailsInScript usage old new m n = Unit {0}
@@ -180,14 +179,15 @@ abbrev pub IsNoFileOf : List ℕ → List (List ℕ) → Type 0
 IsNoFileOf q [] = Unit {0}
 IsNoFileOf q (name ∷ names) = IsApart q (names_for name) × IsNoFileOf q names
 
-abbrev pub tables_of : Request → List (List ℕ)
-tables_of usage = []
-tables_of (chk o names) = names
-tables_of (create name file) = name ∷ []
-tables_of (dump name) = name ∷ []
-tables_of (make count seed name) = name ∷ []
-tables_of (shell o name script) = name ∷ []
+-- the tables that a request works on: of a script on a list those of the list
+abbrev pub tables_of : Request → Holding → List (List ℕ)
+tables_of usage m = []
+tables_of (chk o names) m = names
+tables_of (create name file) m = name ∷ []
+tables_of (dump name) m = name ∷ []
+tables_of (make count seed name) m = name ∷ []
+tables_of (shell o name script) m = tables_in name m
 
 -- files that are none of a request's tables hold what they held
 abbrev pub KeepsOthers : Request → Holding → Holding → Type 0
-KeepsOthers request m n = (q : List ℕ) → IsNoFileOf q (tables_of request) → n q ≡ m q
+KeepsOthers request m n = (q : List ℕ) → IsNoFileOf q (tables_of request m) → n q ≡ m q

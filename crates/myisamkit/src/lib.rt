@@ -39,6 +39,8 @@ mod recover;
 mod say;
 mod shell;
 mod shell_options;
+mod shell_ready;
+mod shell_text;
 mod shell_words;
 mod sort;
 mod sort_index;

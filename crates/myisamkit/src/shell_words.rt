@@ -5,8 +5,8 @@ ghost use Rattle.myisamkit.specs.ShellReading as reading;
 ghost use Rattle.myisamkit.specs.ShellOptions.{kind_of};
 ghost use Rattle.myisamkit.specs.Plans.{asked};
 
-use crate::shell::Job;
 use crate::shell_options::{ShellKind, ShellSeen, shell_flag};
+use crate::shell_ready::Job;
 use crate::words::{Plan, has_dash, is_end, is_name, names_table, table_name};
 
 /// What was read of the words but names.

@@ -69,7 +69,7 @@ pub fn kit<R: Threads + Sync, F: Files, O: Sink, G: Gate>(
     ensures files { Told (F.holds files.old) (F.holds files.new)
         (Leaves (request_of words.now) now (F.faults files.old) (F.faults files.new) result) }
 
-    // Where the output fails in a script, its table is closed behind the round whose lines were being
+    // Where the output fails in a script, its tables are closed behind the round whose lines were being
     // written; where it fails and no script is run, nothing is changed.
     ensures fails { result ≡ Status.SinkFault → IfTold (F.holds files.old) (λ m.
         IfTold (F.holds files.new)

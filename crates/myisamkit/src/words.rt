@@ -8,7 +8,7 @@ ghost use Rattle.myisamkit.specs.Plans.{asked};
 
 use crate::numbers::number_in;
 use crate::options::{Options, Seen, letter_flag, long_flag, sort_flag};
-use crate::shell::Job;
+use crate::shell_ready::Job;
 use crate::shell_words::plan_shell;
 
 /// How many rows a table is made of, and the seed that decides them.

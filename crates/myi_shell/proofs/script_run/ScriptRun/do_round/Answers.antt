@@ -1,12 +1,11 @@
 use Rattle.std.proofs.Common.{◌≡◌, ◌<◌, ◌∙◌, sym, ap, subst, refl}
 use Rattle.std.proofs.lemmas.Result.{err_from_is_err_and}
-use Rattle.std.specs.Prelude.{is_some}
 use Rattle.myi_locks.specs.declared.steps.Round.{Round}
 use Rattle.myi_locks.specs.Rounds.{LockState, next_round}
 use Rattle.myi_locks.specs.Done.{advanced}
 use Rattle.myi_locks.specs.Laws.{IsLawful, steps_left}
 use Rattle.myi_locks.proofs.CallerLemmas.{kept, fewer}
-use Rattle.myi_shell.specs.Stepping.{state_of, HasItsKinds}
+use Rattle.myi_shell.specs.Stepping.{state_of, holes_in, HasItsKinds}
 use Rattle.myi_shell.specs.declared.fault.ShellFault.{ShellFault}
 use Rattle.myi_shell.specs.Running.{of_sink}
 use Rattle.myi_shell.specs.Damage.{IsDamage, IsNoted}
@@ -17,16 +16,16 @@ use Rattle.myi_shell.proofs.RoundsLemmas.{round_on, round_part, round_behind, st
 use Rattle.myi_shell.proofs.script_run.ScriptRun.do_round.Goals as goal
 
 pub round-requires-clause-kinds : goal.round-requires-clause-kinds
-round-requires-clause-kinds g c κs within = subst HasItsKinds (sym c.requires.next) (has_its_kinds c.args.self.now.locks (is_some c.args.table.now.rows.rows.file.counts.dellink))
+round-requires-clause-kinds g c κs within = subst HasItsKinds (sym c.requires.next) (has_its_kinds c.args.self.now.locks (holes_in c.args.target.now))
 
 pub returns-in_err-round-clause-stopped : goal.returns-in_err-round-clause-stopped
 returns-in_err-round-clause-stopped g c =
-    on_err c.from_residual.result (λ setting base from state w. stops_between _ from (g.F.Files.holds c.args.files.now) (g.O.Sink.written c.args.out.now) (g.O.Sink.written c.args.out.now) (state_of c.args.self.now) c.args.table.now w refl)
+    on_err c.from_residual.result (λ setting base from state w. stops_between _ from (g.F.Files.holds c.args.files.now) (g.O.Sink.written c.args.out.now) (g.O.Sink.written c.args.out.now) (state_of c.args.self.now) c.args.target.now w refl)
 
 pub returns-in_err-write-clause-stopped : goal.returns-in_err-write-clause-stopped
 returns-in_err-write-clause-stopped g c =
     on_err c.from_residual-in_err-write.result (λ setting base from state w.
-    round_part c.args.table.now c.round.new.table c.args.lines.now setting base from (g.F.Files.holds c.args.files.now) (g.F.Files.holds c.round.new.files) (g.O.Sink.written c.args.out.now) (g.O.Sink.written c.write.new.out) (state_of c.args.self.now) (state_of c.round.new.self) c.args.round.now c.counters-counters.result
+    round_part c.args.target.now c.round.new.target c.args.lines.now setting base from (g.F.Files.holds c.args.files.now) (g.F.Files.holds c.round.new.files) (g.O.Sink.written c.args.out.now) (g.O.Sink.written c.write.new.out) (state_of c.args.self.now) (state_of c.round.new.self) c.args.round.now c.counters-counters.result
     c.requires.lines c.requires.sound state c.requires.left c.counters-counters.ensures.sum c.counters-counters.ensures.fewer c.requires.next c.in_ok-round.ensures.done c.in_ok-round.ensures.taken c.in_err-write.ensures.err w)
 
 pub returns-in_err-write-clause-sink : goal.returns-in_err-write-clause-sink
@@ -36,7 +35,7 @@ returns-in_err-write-clause-sink g c =
 
 pub returns-clause-gone_on : goal.returns-clause-gone_on
 returns-clause-gone_on g c = λ setting base from state w.
-    round_on c.args.table.now c.round.new.table c.args.lines.now setting base from (g.F.Files.holds c.args.files.now) (g.F.Files.holds c.round.new.files) (g.O.Sink.written c.args.out.now) (g.O.Sink.written c.write.new.out) (state_of c.args.self.now) (state_of c.round.new.self)
+    round_on c.args.target.now c.round.new.target c.args.lines.now setting base from (g.F.Files.holds c.args.files.now) (g.F.Files.holds c.round.new.files) (g.O.Sink.written c.args.out.now) (g.O.Sink.written c.write.new.out) (state_of c.args.self.now) (state_of c.round.new.self)
     (record (state_of c.round.new.self) { locks = c.advance.new.self; texts = c.write.new.self }) c.args.round.now c.counters-counters.result
     c.requires.lines c.requires.sound state c.requires.left c.counters-counters.ensures.sum c.counters-counters.ensures.fewer c.requires.next c.in_ok-round.ensures.done c.in_ok-round.ensures.taken
     (ap (λ (z : LockState). record (state_of c.round.new.self) { locks = z; texts = c.write.new.self }) (c.advance.ensures ∙ ap (λ (z : LockState). advanced z c.args.round.now) c.in_ok-round.ensures.locks)
@@ -46,20 +45,20 @@ returns-clause-gone_on g c = λ setting base from state w.
 pub returns-clause-lawful : goal.returns-clause-lawful
 returns-clause-lawful g c =
     let r = c.args.self.now.locks in
-    let b = is_some c.args.table.now.rows.rows.file.counts.dellink in
+    let b = holes_in c.args.target.now in
     let after : c.advance.new.self ≡ advanced r (next_round r b) = c.advance.ensures ∙ ap (λ (z : LockState). advanced z c.args.round.now) c.in_ok-round.ensures.locks ∙ ap (λ (x : Round). advanced r x) c.requires.next in
     subst (λ (z : LockState). IsLawful z.sessions) (sym after) (kept r b c.requires.lawful)
 
 pub returns-clause-fewer : goal.returns-clause-fewer
 returns-clause-fewer g c =
     let r = c.args.self.now.locks in
-    let b = is_some c.args.table.now.rows.rows.file.counts.dellink in
+    let b = holes_in c.args.target.now in
     let after : c.advance.new.self ≡ advanced r (next_round r b) = c.advance.ensures ∙ ap (λ (z : LockState). advanced z c.args.round.now) c.in_ok-round.ensures.locks ∙ ap (λ (x : Round). advanced r x) c.requires.next in
     subst (λ (z : LockState). steps_left z.sessions < steps_left r.sessions) (sym after) (fewer r b c.requires.lawful c.requires.left)
 
 pub returns-in_err-write-clause-stands : goal.returns-in_err-write-clause-stands
 returns-in_err-write-clause-stands g c = λ failed setting base from state w.
-    round_behind c.args.table.now c.round.new.table c.args.lines.now setting base from (g.F.Files.holds c.args.files.now) (g.F.Files.holds c.round.new.files) (g.O.Sink.written c.args.out.now) (g.O.Sink.written c.write.new.out) (state_of c.args.self.now) (state_of c.round.new.self) c.args.round.now c.counters-counters.result
+    round_behind c.args.target.now c.round.new.target c.args.lines.now setting base from (g.F.Files.holds c.args.files.now) (g.F.Files.holds c.round.new.files) (g.O.Sink.written c.args.out.now) (g.O.Sink.written c.write.new.out) (state_of c.args.self.now) (state_of c.round.new.self) c.args.round.now c.counters-counters.result
     c.requires.lines c.requires.sound state c.requires.left c.counters-counters.ensures.sum c.counters-counters.ensures.fewer c.requires.next c.in_ok-round.ensures.done c.in_ok-round.ensures.taken c.round.ensures.carried c.in_ok-round.ensures.touched c.in_err-write.ensures.err w
 
 pub returns-in_err-round-clause-noted : goal.returns-in_err-round-clause-noted

@@ -4,30 +4,30 @@ use Rattle.myi_locks.specs.declared.steps.Step.{Step}
 use Rattle.myi_defs.specs.declared.types.Defs.{Defs}
 use Rattle.myi_history.specs.Lines.{MayRun}
 use Rattle.myi_history.specs.RoundTexts.{texts_of}
-use Rattle.myi_table.specs.Table.{defs_in}
-use Rattle.myi_shell.specs.Changing.{NeverDamaged}
+use Rattle.myi_shell.specs.Targets.{defs_in, script_on}
+use Rattle.myi_shell.specs.Changing.{NothingDamaged}
 use Rattle.myi_shell.specs.Damage.{IsNoted}
 use Rattle.myi_shell.proofs.DamageLemmas.{if_err_by}
 use Rattle.myi_shell.specs.declared.script_run.ScriptRun.{ScriptRun}
 use Rattle.myi_shell.specs.Stepping.{state_of, seen_by, read_by}
 use Rattle.myi_shell.proofs.CarryLemmas.{carried_none, carried_then, still_none, still_then, never_before, cause_then}
-use Rattle.myi_shell.proofs.LoopLemmas.{read_more, texts_end, drop_none}
-use Rattle.myi_shell.proofs.TouchLemmas.{untouched_none, untouched_then}
+use Rattle.myi_shell.proofs.LoopLemmas.{read_more_on, texts_end, drop_none}
+use Rattle.myi_shell.proofs.TargetTouches.{untouched_none, untouched_then}
 use Rattle.myi_shell.proofs.script_run.ScriptRun.read_run.Goals as goal
 
 pub loop-step-init : goal.loop-step-init
 loop-step-init g c = record {
   only = refl;
   so_far = λ m held s h. refl;
-  still = still_none (g.F.Files.holds c.args.files.now) (g.F.Files.holds c.args.files.now) c.args.table.now refl;
-  untouched = untouched_none (g.F.Files.holds c.args.files.now) (g.F.Files.holds c.args.files.now) c.args.table.now refl;
-  carried = carried_none (g.F.Files.holds c.args.files.now) (g.F.Files.holds c.args.files.now) c.args.table.now refl c.requires.kept;
+  still = still_none (g.F.Files.holds c.args.files.now) (g.F.Files.holds c.args.files.now) c.args.target.now refl;
+  untouched = untouched_none (g.F.Files.holds c.args.files.now) (g.F.Files.holds c.args.files.now) c.args.target.now refl;
+  carried = carried_none (g.F.Files.holds c.args.files.now) (g.F.Files.holds c.args.files.now) c.args.target.now refl c.requires.kept;
   whole = c.requires.whole;
   later = omega arith;
 }
 
 pub read-read-requires-clause-lines : goal.read-read-requires-clause-lines
-read-read-requires-clause-lines g c κs within = subst (λ (d : Defs). MayRun d c.args.lines.now) (sym c.loop-step.invariant.carried.same.defs) c.requires.lines
+read-read-requires-clause-lines g c κs within = subst (λ (d : Defs). MayRun d c.args.lines.now) (sym c.loop-step.invariant.carried.defs) c.requires.lines
 
 pub read-read-requires-clause-kept : goal.read-read-requires-clause-kept
 read-read-requires-clause-kept g c κs within = c.loop-step.invariant.carried.kept
@@ -39,17 +39,16 @@ pub returns-in_err-read-clause-only : goal.returns-in_err-read-clause-only
 returns-in_err-read-clause-only g c = c.read-read.ensures.only ∙ ap (λ (p : ScriptRun). record p { texts = c.read-read.new.self.texts }) c.loop-step.invariant.only
 
 pub returns-in_err-read-clause-still : goal.returns-in_err-read-clause-still
-returns-in_err-read-clause-still g c = still_then (g.F.Files.holds c.args.files.now) (g.F.Files.holds c.loop-step.files) (g.F.Files.holds c.read-read.new.files) c.args.table.now c.loop-step.table c.read-read.new.table c.loop-step.invariant.still c.read-read.ensures.still
+returns-in_err-read-clause-still g c = still_then (g.F.Files.holds c.args.files.now) (g.F.Files.holds c.loop-step.files) (g.F.Files.holds c.read-read.new.files) c.args.target.now c.loop-step.target c.read-read.new.target c.loop-step.invariant.still c.read-read.ensures.still
 
 pub returns-in_err-read-clause-carried : goal.returns-in_err-read-clause-carried
-returns-in_err-read-clause-carried g c = carried_then (g.F.Files.holds c.args.files.now) (g.F.Files.holds c.loop-step.files) (g.F.Files.holds c.read-read.new.files) c.args.table.now c.loop-step.table c.read-read.new.table c.loop-step.invariant.carried c.read-read.ensures.carried
+returns-in_err-read-clause-carried g c = carried_then (g.F.Files.holds c.args.files.now) (g.F.Files.holds c.loop-step.files) (g.F.Files.holds c.read-read.new.files) c.args.target.now c.loop-step.target c.read-read.new.target c.loop-step.invariant.carried c.read-read.ensures.carried
 
 pub returns-in_err-read-clause-refused : goal.returns-in_err-read-clause-refused
 returns-in_err-read-clause-refused g c =
     let e = err_from_is_err_and c.from_residual.result c.from_residual.ensures.1 in
     let told = g.F.Files.holds c.args.files.now in
-    let t = c.args.table.now in
-    subst (λ r. IfErr r (NeverDamaged told t)) (sym e.1) (subst (NeverDamaged told t) (sym e.2) (never_before told (g.F.Files.holds c.loop-step.files) t c.loop-step.table c.in_err-read.field-0.0 c.loop-step.invariant.carried c.loop-step.invariant.whole c.in_err-read.ensures.refused))
+    subst (λ r. IfErr r (NothingDamaged told)) (sym e.1) (subst (NothingDamaged told) (sym e.2) (never_before told (g.F.Files.holds c.loop-step.files) c.args.target.now c.loop-step.target c.in_err-read.field-0.0 c.loop-step.invariant.carried c.in_err-read.ensures.refused))
 
 pub returns-in_err-read-clause-cause : goal.returns-in_err-read-clause-cause
 returns-in_err-read-clause-cause g c =
@@ -62,21 +61,21 @@ loop-step-preserved g c =
     let told = g.F.Files.holds c.args.files.now in
     let mid = g.F.Files.holds c.loop-step.files in
     let next = g.F.Files.holds c.read-read.new.files in
-    let old = c.args.table.now in
-    let half = c.loop-step.table in
+    let old = c.args.target.now in
+    let half = c.loop-step.target in
     record {
       only = c.read-read.ensures.only ∙ ap (λ (p : ScriptRun). record p { texts = c.read-read.new.self.texts }) was.only;
-      so_far = read_more told mid old half c.args.lines.now (state_of c.args.self.now) (state_of c.loop-step.self) c.read-read.new.self.texts c.args.steps.now c.loop-step.step-index _ c.loop-step-test.true (ap state_of was.only) was.carried.same was.still was.so_far c.in_ok-read.ensures.said;
-      still = still_then told mid next old half c.read-read.new.table was.still c.read-read.ensures.still;
-      untouched = untouched_then told mid next old half c.read-read.new.table was.carried.same.name was.untouched c.read-read.ensures.untouched;
-      carried = carried_then told mid next old half c.read-read.new.table was.carried c.read-read.ensures.carried;
+      so_far = read_more_on told mid old half c.args.lines.now (state_of c.args.self.now) (state_of c.loop-step.self) c.read-read.new.self.texts c.args.steps.now c.loop-step.step-index _ c.loop-step-test.true (ap state_of was.only) was.carried.defs was.carried.takes was.still was.so_far c.in_ok-read.ensures.said;
+      still = still_then told mid next old half c.read-read.new.target was.still c.read-read.ensures.still;
+      untouched = untouched_then told mid next old half c.read-read.new.target was.untouched c.read-read.ensures.untouched;
+      carried = carried_then told mid next old half c.read-read.new.target was.carried c.read-read.ensures.carried;
       whole = c.read-read.ensures.whole;
       later = omega (arith, was.later, c.read-read.ensures.cause.later);
     }
 
 pub returns-clause-said : goal.returns-clause-said
 returns-clause-said g c = λ m held s h.
-    texts_end (λ (xs : List Step). texts_of (map (read_by (defs_in c.args.table.now) c.args.lines.now (seen_by (state_of c.args.self.now)) s) xs)) c.args.self.now.texts c.loop-step.self.texts c.args.steps.now c.loop-step.step-index refl
+    texts_end (λ (xs : List Step). texts_of (map (read_by (defs_in c.args.target.now) (script_on c.args.target.now c.args.lines.now) (seen_by (state_of c.args.self.now)) s) xs)) c.args.self.now.texts c.loop-step.self.texts c.args.steps.now c.loop-step.step-index refl
     (drop_none c.args.steps.now c.loop-step.step-index c.loop-step-test.false) (c.loop-step.invariant.so_far m held s h)
 
 pub returns-clause-only : goal.returns-clause-only
@@ -101,7 +100,7 @@ returns-in_err-read-clause-noted g c =
 
 pub returns-in_err-read-clause-untouched : goal.returns-in_err-read-clause-untouched
 returns-in_err-read-clause-untouched g c =
-    untouched_then (g.F.Files.holds c.args.files.now) (g.F.Files.holds c.loop-step.files) (g.F.Files.holds c.read-read.new.files) c.args.table.now c.loop-step.table c.read-read.new.table c.loop-step.invariant.carried.same.name c.loop-step.invariant.untouched c.read-read.ensures.untouched
+    untouched_then (g.F.Files.holds c.args.files.now) (g.F.Files.holds c.loop-step.files) (g.F.Files.holds c.read-read.new.files) c.args.target.now c.loop-step.target c.read-read.new.target c.loop-step.invariant.untouched c.read-read.ensures.untouched
 
 pub returns-clause-untouched : goal.returns-clause-untouched
 returns-clause-untouched g c = c.loop-step.invariant.untouched

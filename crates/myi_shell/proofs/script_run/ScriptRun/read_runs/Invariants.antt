@@ -1,21 +1,21 @@
-use Rattle.std.proofs.Common.{◌≡◌, ◌≤◌, ◌++◌, None, map, drop}
+use Rattle.std.proofs.Common.{◌≡◌, ◌≤◌, ◌++◌, map, drop}
 use Rattle.std.specs.List.{flat_map}
 use Rattle.myi_locks.specs.declared.steps.Run.{Run}
 use Rattle.myi_history.specs.RoundTexts.{texts_of}
-use Rattle.myi_table.specs.Table.{defs_in, IfHolds, StillHolds}
-use Rattle.myi_shell.specs.Carrying.{IsCarried, IsUntouched}
+use Rattle.myi_shell.specs.Targets.{defs_in, script_on, IsWhole, IfHolds, StillHolds}
+use Rattle.myi_shell.specs.Targets.{IsCarried, IsUntouched}
 use Rattle.myi_shell.specs.Stepping.{state_of, seen_by, read_by}
 use Rattle.myi_shell.proofs.script_run.ScriptRun.read_runs.Given as goal
 
 abbrev pub invariant-loop-run : goal.invariant-loop-run
 invariant-loop-run g l = record {
   only : l.self ≡ record l.fn.self { texts = l.self.texts };
-  so_far : IfHolds (g.F.Files.holds l.fn.files) l.fn.table (λ m s.
-      l.self.texts ++ texts_of (map (read_by (defs_in l.fn.table) l.lines (seen_by (state_of l.fn.self)) s) (flat_map (λ (r : Run). r.steps) (drop l.run-index l.runs)))
-      ≡ l.fn.self.texts ++ texts_of (map (read_by (defs_in l.fn.table) l.lines (seen_by (state_of l.fn.self)) s) (flat_map (λ (r : Run). r.steps) l.runs)));
-  still : StillHolds (g.F.Files.holds l.fn.files) (g.F.Files.holds l.files) l.fn.table l.table;
-  untouched : IsUntouched (g.F.Files.holds l.fn.files) (g.F.Files.holds l.files) l.fn.table l.table;
-  carried : IsCarried (g.F.Files.holds l.fn.files) (g.F.Files.holds l.files) l.fn.table l.table;
-  whole : l.table.broken ≡ None;
+  so_far : IfHolds (g.F.Files.holds l.fn.files) l.fn.target (λ m s.
+      l.self.texts ++ texts_of (map (read_by (defs_in l.fn.target) (script_on l.fn.target l.lines) (seen_by (state_of l.fn.self)) s) (flat_map (λ (r : Run). r.steps) (drop l.run-index l.runs)))
+      ≡ l.fn.self.texts ++ texts_of (map (read_by (defs_in l.fn.target) (script_on l.fn.target l.lines) (seen_by (state_of l.fn.self)) s) (flat_map (λ (r : Run). r.steps) l.runs)));
+  still : StillHolds (g.F.Files.holds l.fn.files) (g.F.Files.holds l.files) l.fn.target l.target;
+  untouched : IsUntouched (g.F.Files.holds l.fn.files) (g.F.Files.holds l.files) l.fn.target l.target;
+  carried : IsCarried (g.F.Files.holds l.fn.files) (g.F.Files.holds l.files) l.fn.target l.target;
+  whole : IsWhole l.target;
   later : g.F.Files.faults l.fn.files ≤ g.F.Files.faults l.files;
 }
