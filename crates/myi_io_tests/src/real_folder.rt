@@ -99,6 +99,29 @@ fn a_file_is_no_folder(rt: HostRuntime) -> Result<(), Fail> {
     Ok(())
 }
 
+// No file has the name, and that is no fault.
+fn has_no_file<F: Files>(rt: &impl Abort, files: &mut F, name: &str)
+    requires { IsTrue F.writable }
+{
+    expect(rt, files.length(name), Ok(None));
+    expect(rt, files.remove(name), Ok(()));
+    expect(rt, files.fault_count(), 0);
+}
+
+#[test]
+fn no_file_has_a_name_that_none_can_have(rt: HostRuntime) -> Result<(), Fail> {
+    let alloc = rt.alloc();
+    let mut files = Gathering::new(alloc, RealFiles::new(&rt));
+    let mut long = name_in(&rt, "long")?;
+    for _ in 0..300 {
+        long.push('a')?;
+    }
+    has_no_file(&rt, &mut files, long.as_str());
+    let zero = format!(in alloc; "{}\0", name_in(&rt, "zero")?)?;
+    has_no_file(&rt, &mut files, zero.as_str());
+    Ok(())
+}
+
 // Gives a file a mode that no new file has.
 fn set_mode(rt: &impl rt::Files, name: &str) -> io::Result<()> {
     let mut mode = fs::metadata(rt, name)?.permissions();

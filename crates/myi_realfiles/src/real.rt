@@ -39,9 +39,15 @@ pub struct RealFiles<R> {
     faults: u64,
 }
 
-// Whether an error says that no file has the name.
+// Whether an error says that no file has the name, as where none can have it: one that is too long, or has a zero byte.
 fn is_absent(error: &io::Error) -> bool {
-    matches!(error.kind(), ErrorKind::NotFound | ErrorKind::NotADirectory)
+    matches!(
+        error.kind(),
+        ErrorKind::NotFound
+            | ErrorKind::NotADirectory
+            | ErrorKind::InvalidFilename
+            | ErrorKind::InvalidInput
+    )
 }
 
 // Whether an error says that a file may be read but not written.
