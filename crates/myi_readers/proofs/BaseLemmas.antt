@@ -1,5 +1,5 @@
 -- Rows and trees that were opened again beside a table, over other files that hold the same.
-use Rattle.std.proofs.Common.{◌≡◌, ℕ, ◌<◌, List, [], ◌∷◌, Option, None, unwrap_or, sym, ap, subst, ◌∙◌, arith}
+use Rattle.std.proofs.Common.{◌≡◌, ℕ, ◌<◌, List, [], ◌∷◌, None, sym, ap, subst, ◌∙◌, arith}
 use Rattle.std.specs.List.{AllByRecursion}
 use Rattle.myi_base.specs.Ranges.{Range}
 use Rattle.myi_base.specs.Holding.{Holding, bytes_of}
@@ -35,14 +35,14 @@ ascending cache m (p ∷ places) (l ∷ lists) (own ∷ pages) h = (h.0.ascend, 
 
 pub base_stands : (t : OpenTable) (k : KeyedRows) (s : TableState) (m n : Holding) → IsSound (defs_in t) → k.rows ≡ record { file = t.rows.rows.file; places = None } → k.trees.places ≡ t.rows.trees.places → AllByRecursion IsPlaced k.trees.places
     → k.trees.room ≡ record { end = t.rows.trees.room.end; free = [] } → k.trees.cache.name ≡ t.rows.trees.cache.name → pages_of k.trees.cache ≡ [] → IsCurrent k.trees.cache n → HoldState t s m → AllWritten (pages_of t.rows.trees.cache)
-    → n t.rows.rows.file.name ≡ m t.rows.rows.file.name → n t.rows.trees.cache.name ≡ m t.rows.trees.cache.name → (own : ℕ → ℕ) × HoldTable k own s n
+    → bytes_of t.rows.rows.file.name n ≡ bytes_of t.rows.rows.file.name m → bytes_of t.rows.trees.cache.name n ≡ bytes_of t.rows.trees.cache.name m → (own : ℕ → ℕ) × HoldTable k own s n
 base_stands t k s m n sound rows places placed room name none current hold written same_rows same_index =
     let d : Defs = defs_in t in
     let h = hold.files.table in
     let front : ℕ = first_page_of d in
     let busy : List Range = (0, front) ∷ [] in
     let i = stand_in t.rows.trees m hold.own (lists_of d s.rows) front (some_page d sound) written hold.files.behind h.trees in
-    let bytes : bytes_of t.rows.trees.cache.name m ≡ bytes_of k.trees.cache.name n = ap (λ (o : Option (List ℕ)). unwrap_or o []) (sym same_index) ∙ ap (λ (q : List ℕ). bytes_of q n) (sym name) in
+    let bytes : bytes_of t.rows.trees.cache.name m ≡ bytes_of k.trees.cache.name n = sym same_index ∙ ap (λ (q : List ℕ). bytes_of q n) (sym name) in
     let have : HaveWalks (bytes_of k.trees.cache.name n) busy k.trees.places i.walks =
     subst (λ (ps : List Place). HaveWalks (bytes_of k.trees.cache.name n) busy ps i.walks) (sym places) (subst (λ (b : List ℕ). HaveWalks b busy t.rows.trees.places i.walks) bytes i.have) in
     let end : k.trees.room.end ≡ t.rows.trees.room.end = ap (λ (r : Room). r.end) room in
@@ -54,7 +54,7 @@ base_stands t k s m n sound rows places placed room name none current hold writt
       bytes_owned k.trees i.walks,
       record {
         table = subst (λ (e : Defs). IsTable e s) (sym same) h.table;
-        rows = subst (λ (f : NotedFile). IsNotedFileOf f s n) (sym rows) (record { counts = h.rows.0.counts; stands = subst (λ (b : List ℕ). StandsFor d s b) (ap (λ (o : Option (List ℕ)). unwrap_or o []) (sym same_rows)) h.rows.0.stands }, tt);
+        rows = subst (λ (f : NotedFile). IsNotedFileOf f s n) (sym rows) (record { counts = h.rows.0.counts; stands = subst (λ (b : List ℕ). StandsFor d s b) (sym same_rows) h.rows.0.stands }, tt);
         trees = subst (λ (ls : List (List Pair)). Stand k.trees n (bytes_owned k.trees i.walks) ls) (i.contents ∙ ap (λ (e : Defs). lists_of e s.rows) (sym same)) stand;
       },
     )

@@ -1,7 +1,7 @@
 //! `TableReader`: a seat, the rows that its words spell, and an object on the table's files.
 ghost use Rattle.std.specs.Prelude.{◌≡◌, ◌+◌, ◌^◌, ◌<◌, ◌≤◌, [], None, length, IfOk};
 ghost use Rattle.std.specs.Prelude.{ℕ, List};
-ghost use Rattle.myi_base.specs.Holding.{Holding};
+ghost use Rattle.myi_base.specs.Holding.{Holding, bytes_of};
 ghost use Rattle.myi_keycache.specs.Kept.{AllWritten};
 ghost use Rattle.myi_keycache.specs.Caching.{pages_of};
 ghost use Rattle.myi_keyedrows.specs.KeyedRows.{HoldTable};
@@ -78,8 +78,9 @@ impl TableReader {
         // Once all pages of the table are written, other files that hold the same of its two hold its state.
         ensures base { IfOk result (λ r. (s : TableState) (m n : Holding)
             → HoldState table.now s m → AllWritten (pages_of table.now.rows.trees.cache)
-            → n table.now.rows.rows.file.name ≡ m table.now.rows.rows.file.name
-            → n table.now.rows.trees.cache.name ≡ m table.now.rows.trees.cache.name
+            → bytes_of table.now.rows.rows.file.name n ≡ bytes_of table.now.rows.rows.file.name m
+            → bytes_of table.now.rows.trees.cache.name n
+            ≡ bytes_of table.now.rows.trees.cache.name m
             → (own : ℕ → ℕ) × HoldTable r.rows own s n) }
     {
         let defs = table.defs().copy()?;
@@ -124,5 +125,20 @@ impl TableReader {
             number: self.number + self.known.count() as u64,
             length: self.known.end(),
         }
+    }
+
+    /// The seat of a reader that is given up.
+    pub fn into_seat(self) -> ReaderSeat
+        ensures { result ≡ self.seat }
+    {
+        let TableReader {
+            defs: _,
+            name: _,
+            rows: _,
+            seat,
+            known: _,
+            number: _,
+        } = self;
+        seat
     }
 }

@@ -110,7 +110,7 @@ impl TableReader {
     }
 
     /// All rows that are seen by a snapshot with their positions, in order of these: those that stand before its length, of
-    /// the base and of the rows that are known. The data file is read once. Nothing is found damaged.
+    /// the base and of the rows that are known. Nothing is found damaged.
     pub fn scan<F: Files>(
         &self,
         files: &mut F,

@@ -1,0 +1,11 @@
+pub mod SizeLemmas
+pub mod PutLemmas
+pub mod FoundLemmas
+pub mod RowLemmas
+pub mod NoteLemmas
+pub mod BaseLemmas
+pub mod SearchLemmas
+pub mod RefuseLemmas
+pub mod InsertLemmas
+pub mod OpenLemmas
+pub mod LawLemmas

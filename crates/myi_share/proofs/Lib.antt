@@ -1,0 +1,5 @@
+mod OpenLemmas
+mod PartLemmas
+mod TakeLemmas
+mod CloseLemmas
+mod KeepLemmas

@@ -1,0 +1,21 @@
+-- Taking a table back: what its key cache counts then.
+use Rattle.std.specs.Prelude.{ℕ, List, [], ◌∷◌, map}
+use Rattle.myi_keycache.specs.declared.setup.Counters.{Counters}
+use Rattle.myi_table.specs.Table.{OpenTable}
+use Rattle.myi_table.specs.Counting.{sum_of}
+use Rattle.myi_readers.specs.declared.reader.TableReader.{TableReader}
+use Rattle.myi_inserter.specs.declared.inserter.TableInserter.{TableInserter}
+use Rattle.myi_readers.specs.declared.file_reader.Reader.{Reader}
+
+-- counters with others, one after the other
+abbrev pub sum_with : Counters → List Counters → Counters
+sum_with counters [] = counters
+sum_with counters (more ∷ others) = sum_with (sum_of counters more) others
+
+-- what the key cache of a reader counted
+abbrev pub counted : {R : Type 0} → Reader R → Counters
+counted r = r.table.rows.trees.cache.counters
+
+-- the table with what the key caches of an inserter and of readers counted
+abbrev pub with_counts : {R : Type 0} → OpenTable → TableInserter → List (Reader R) → OpenTable
+with_counts table i readers = record table { added = sum_with (sum_of table.added i.rows.trees.cache.counters) (map counted readers) }
