@@ -1,5 +1,5 @@
 -- Reader objects of the two files of a table.
-use Rattle.std.proofs.Common.{◌≡◌, ◌≢◌, ◌==◌, ◌&&◌, ℕ, Bool, true, false, not, if◌then◌else◌, List, [], length, Option, Some, None, unwrap_or, bytes_eq, refl, sym, ap, subst, ◌∙◌, eq-eqb}
+use Rattle.std.proofs.Common.{◌≡◌, ◌≢◌, ◌==◌, ◌&&◌, ℕ, Bool, true, false, not, if◌then◌else◌, List, [], length, Option, Some, None, unwrap_or, bytes_eq, refl, sym, ap, ◌∙◌, eq-eqb}
 use Rattle.std.proofs.lemmas.Slice.Eq.{bytes_eq-Decides}
 use Rattle.myi_base.specs.Holding.{Holding, bytes_of}
 use Rattle.myi_adapters.specs.TwoReaders.{two_files, two_told}

@@ -3,11 +3,9 @@ use Rattle.std.specs.Prelude.{◌≡◌, ℕ, List, All, Option, None, Some}
 use Rattle.myi_base.specs.Holding.{Holding, IfTold}
 use Rattle.myi_adapters.specs.TwoReaders.{told_by}
 use Rattle.myi_pack.specs.Packed.{Values}
-use Rattle.myi_state.specs.State.{TableState}
-use Rattle.myi_opening.specs.Names.{rows_file, index_file}
 use Rattle.myi_keyedrows.specs.declared.keyed_rows.KeyedRows.{KeyedRows}
 use Rattle.myi_keyedrows.specs.KeyedRows.{HoldTable}
-use Rattle.myi_table.specs.Table.{OpenTable, defs_in, HoldState, IsKept, IfHolds}
+use Rattle.myi_table.specs.Table.{OpenTable, defs_in, IsKept, IfHolds}
 use Rattle.myi_table.specs.Folding.{CanFold}
 use Rattle.myi_tail.specs.Seats.{TailId}
 use Rattle.myi_readers.specs.declared.reader.TableReader.{TableReader}

@@ -1,9 +1,8 @@
 -- Taking a table back: what its key cache counts then.
-use Rattle.std.specs.Prelude.{ℕ, List, [], ◌∷◌, map}
+use Rattle.std.specs.Prelude.{List, [], ◌∷◌, map}
 use Rattle.myi_keycache.specs.declared.setup.Counters.{Counters}
 use Rattle.myi_table.specs.Table.{OpenTable}
 use Rattle.myi_table.specs.Counting.{sum_of}
-use Rattle.myi_readers.specs.declared.reader.TableReader.{TableReader}
 use Rattle.myi_inserter.specs.declared.inserter.TableInserter.{TableInserter}
 use Rattle.myi_readers.specs.declared.file_reader.Reader.{Reader}
 

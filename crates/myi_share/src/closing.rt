@@ -2,7 +2,6 @@
 ghost use Rattle.std.specs.Prelude.{◌≡◌, All, IfOk, map, length};
 ghost use Rattle.myi_defs.specs.Sound.{IsSound};
 ghost use Rattle.myi_tail.specs.Prefix.{BeginsWith};
-ghost use Rattle.myi_tail.specs.Seats.{TailReader};
 ghost use Rattle.myi_snapshots.specs.Known.{known_rows, values_of};
 ghost use Rattle.myi_readers.specs.declared.file_reader.Reader.{Reader};
 ghost use Rattle.myi_share.specs.Taking.{sum_with, counted};

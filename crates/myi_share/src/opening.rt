@@ -1,6 +1,6 @@
 //! The parts of a sharing, each with reader objects of its own.
-ghost use Rattle.std.specs.Prelude.{◌≡◌, ◌+◌, ◌^◌, ◌<◌, [], All, IfOk, IsTrue, length, string_bytes, vec_len, Some, None};
-ghost use Rattle.myi_base.specs.Holding.{IfTold, Holding, Shows, bytes_of};
+ghost use Rattle.std.specs.Prelude.{◌≡◌, ◌+◌, ◌^◌, ◌<◌, [], All, IfOk, IsTrue, length, string_bytes, vec_len};
+ghost use Rattle.myi_base.specs.Holding.{IfTold};
 ghost use Rattle.myi_base.specs.Causes.{HasCause};
 ghost use Rattle.myi_adapters.specs.TwoReaders.{told_by};
 ghost use Rattle.myi_keycache.specs.Kept.{AllWritten};

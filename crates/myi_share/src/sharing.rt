@@ -3,8 +3,6 @@ ghost use Rattle.std.specs.Prelude.{◌≡◌, ◌+◌, ◌^◌, ◌<◌, ◌≤
 ghost use Rattle.myi_base.specs.Holding.{Told};
 ghost use Rattle.myi_base.specs.Causes.{HasCause, Rose};
 ghost use Rattle.myi_adapters.specs.TwoReaders.{told_by};
-ghost use Rattle.myi_keycache.specs.Kept.{AllWritten};
-ghost use Rattle.myi_keycache.specs.Caching.{pages_of};
 ghost use Rattle.myi_search.specs.Counting.{CountsOn};
 ghost use Rattle.myi_keyedrows.specs.KeyedRows.{IsLeft};
 ghost use Rattle.myi_table.specs.Table.{IsKept, StillHolds, IsSame, KeepsRows, ChangesItsOwn};

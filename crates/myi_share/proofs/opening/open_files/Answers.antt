@@ -1,4 +1,4 @@
-use Rattle.std.proofs.Common.{ℕ, List, string_bytes, sym, ap, subst, ◌∙◌}
+use Rattle.std.proofs.Common.{ℕ, List, string_bytes, ap, subst, ◌∙◌}
 use Rattle.myi_opening.specs.Names.{rows_file, index_file}
 use Rattle.myi_share.specs.Opening.{IsOpenedAs}
 use Rattle.myi_share.proofs.OpenLemmas.{are_opened}
