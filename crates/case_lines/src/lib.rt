@@ -15,7 +15,7 @@ mod words;
 pub use files::{file_name, halves, push_file, push_files};
 pub use lines::{Calls, run};
 pub use spelled::{PlaceText, digest, push_word, word};
-pub use untold::Untold;
+pub use untold::{Untold, UntoldReader};
 pub use words::{
     Fault, Words, four_bytes, key_of_code, number, one_byte, place, sides, size, two_bytes,
     yes_or_no,

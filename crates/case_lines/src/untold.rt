@@ -1,12 +1,13 @@
-//! `Untold`: files in memory that tell nothing, as those of a disk do.
+//! `Untold`: files in memory that tell nothing, as those of a disk do, and their readers.
 //!
 //! A call on a file that tells nothing asks nothing of what the file holds, so that any line may be read
 //! into it.
 ghost use Rattle.std.specs.Prelude.{None, true};
 ghost use Rattle.myi_memfiles.specs.MemFiles.{files_faults, files_reads};
+ghost use Rattle.myi_memfiles.specs.MemReader.{reader_faults, reader_reads};
 
-use myi_io::{FileErr, Files};
-use myi_memfiles::MemFiles;
+use myi_io::{FileErr, FileReader, Files};
+use myi_memfiles::{MemFiles, MemReader};
 
 /// Files in memory, of which nothing is told.
 #[derive(Drop)]
@@ -15,7 +16,7 @@ pub struct Untold {
 }
 
 impl Files for Untold {
-    type Reader = <MemFiles as Files>::Reader;
+    type Reader = UntoldReader;
 
     ghost holds = { λ _. None };
 
@@ -55,9 +56,9 @@ impl Files for Untold {
         Ok(())
     }
 
-    fn reader(&mut self, name: &str) -> Result<<MemFiles as Files>::Reader, FileErr> {
+    fn reader(&mut self, name: &str) -> Result<UntoldReader, FileErr> {
         let reader = self.files.reader(name)?;
-        Ok(reader)
+        Ok(UntoldReader { reader })
     }
 
     fn fault_count(&self) -> u64 {
@@ -65,4 +66,29 @@ impl Files for Untold {
     }
 
     ghost told_bytes = { λ s m told. absurd cc };
+}
+
+/// The bytes of a file in memory, of which nothing is told.
+#[derive(Drop)]
+pub struct UntoldReader {
+    reader: MemReader,
+}
+
+impl FileReader for UntoldReader {
+    ghost holds = { λ _. None };
+
+    ghost faults = { λ s. reader_faults s.reader };
+
+    ghost reads = { λ s. reader_reads s.reader };
+
+    fn read_at(&mut self, at: u64, into: &mut [u8]) -> Result<usize, FileErr> {
+        let count = self.reader.read_at(at, into)?;
+        Ok(count)
+    }
+
+    fn fault_count(&self) -> u64 {
+        self.reader.fault_count()
+    }
+
+    ghost told_bytes = { λ s x told. absurd cc };
 }

@@ -2,7 +2,7 @@
 ghost use Rattle.std.specs.Prelude.{IsTrue};
 
 use crate::short::ShortFiles;
-use case_lines::{Fault, Words, halves, number, push_files};
+use case_lines::{Fault, Untold, Words, halves, number, push_files};
 use myi_io::Files;
 use myi_memfiles::MemSink;
 use myi_shell::OpenGate;
@@ -56,12 +56,14 @@ fn run_short<R: Threads + Sync>(rt: &R, words: &Words, args: &[&str]) -> Result<
     };
     let (given, asked) = halves(others)?;
     let mut files = ShortFiles {
-        files: words.files(given, "-")?,
+        files: Untold {
+            files: words.files(given, "-")?,
+        },
         name: String::from_str(words.alloc(), *name)?,
         length: number(*length)?,
     };
     let mut out = answered(rt, words, *now, &mut files, "-", asked)?;
-    push_files(&mut out, &files.files, given)?;
+    push_files(&mut out, &files.files.files, given)?;
     Ok(out)
 }
 

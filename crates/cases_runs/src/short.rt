@@ -2,13 +2,13 @@
 ghost use Rattle.std.specs.Prelude.{None, true};
 ghost use Rattle.myi_memfiles.specs.MemFiles.{files_faults, files_reads};
 
+use case_lines::{Untold, UntoldReader};
 use myi_io::{FileErr, Files};
-use myi_memfiles::MemFiles;
 
 /// Files in memory, of which nothing is told.
 #[derive(Drop)]
 pub struct ShortFiles {
-    pub files: MemFiles,
+    pub files: Untold,
     /// The file that says a length of its own.
     pub name: String,
     /// That length.
@@ -16,13 +16,13 @@ pub struct ShortFiles {
 }
 
 impl Files for ShortFiles {
-    type Reader = <MemFiles as Files>::Reader;
+    type Reader = UntoldReader;
 
     ghost holds = { λ _. None };
 
-    ghost faults = { λ s. files_faults s.files };
+    ghost faults = { λ s. files_faults s.files.files };
 
-    ghost reads = { λ s. files_reads s.files };
+    ghost reads = { λ s. files_reads s.files.files };
 
     ghost writable = { true };
 
@@ -54,7 +54,7 @@ impl Files for ShortFiles {
         self.files.remove(name)
     }
 
-    fn reader(&mut self, name: &str) -> Result<<MemFiles as Files>::Reader, FileErr> {
+    fn reader(&mut self, name: &str) -> Result<UntoldReader, FileErr> {
         self.files.reader(name)
     }
 

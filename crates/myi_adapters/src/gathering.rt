@@ -163,7 +163,7 @@ impl<F: Writable + Drop> Files for Gathering<F> {
     type Reader = F::Reader;
 
     ghost use Rattle.std.specs.Prelude.{◌≡◌, ◌≤◌, ◌+◌, ◌-◌, ◌^◌};
-    ghost use Rattle.std.specs.Prelude.{true, length, min, OnOk, OnErr, IfOk, IfErr};
+    ghost use Rattle.std.specs.Prelude.{None, true, length, min, OnOk, OnErr, IfOk, IfErr};
     ghost use Rattle.myi_base.specs.Holding.{IfTold, Told, Gives, Fills, Shows, Writes};
     ghost use Rattle.myi_base.specs.Holding.{WritesPart, Cuts, CutsOrKeeps, Renames};
     ghost use Rattle.myi_base.specs.Holding.{Removes, Keeps, Measures, blocks};
@@ -299,6 +299,8 @@ impl<F: Writable + Drop> Files for Gathering<F> {
     fn reader(&mut self, name: &str) -> Result<F::Reader, FileErr>
         ensures told { IfOk result (λ r. IfTold (told_with self.old (F.holds self.old.files))
             (Shows name.now (F.Reader.holds r))) }
+        ensures untold { IfOk result (λ r. told_with self.old (F.holds self.old.files) ≡ None
+            → F.Reader.holds r ≡ None) }
         ensures fresh { IfOk result (λ r. F.Reader.faults r ≡ 0) }
         ensures holds { told_with self.new (F.holds self.new.files)
             ≡ told_with self.old (F.holds self.old.files) }

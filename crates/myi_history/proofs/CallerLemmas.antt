@@ -23,6 +23,10 @@ pub use Rattle.myi_history.proofs.NumberLemmas.{counted_fit, in_turn_fits}
 pub use Rattle.myi_history.proofs.ForcedLemmas.{forced_once, one_session}
 -- runs_begin
 pub use Rattle.myi_history.proofs.RunLemmas.{has_begun}
+-- rounds_go_on_in_turn
+pub use Rattle.myi_history.proofs.PastLemmas.{next_in_turn}
+-- rounds_go_on_side_by_side
+pub use Rattle.myi_history.proofs.SideLemmas.{side_by_side}
 -- runs_go_on
 pub use Rattle.myi_history.proofs.RunLemmas.{goes_on, locks_more, table_more, number_more, taken_more, counted_more, text_more}
 -- runs_end

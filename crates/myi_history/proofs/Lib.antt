@@ -8,10 +8,12 @@ mod ReadLemmas
 mod PlaceLemmas
 mod MergedLemmas
 mod AppendLemmas
+mod PastLemmas
 mod RunLemmas
 mod FoundLemmas
 mod StepLemmas
 mod SeenLemmas
+mod SideLemmas
 mod PartLemmas
 mod LineOrderLemmas
 mod SpokenLemmas

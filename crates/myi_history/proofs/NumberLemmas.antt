@@ -26,19 +26,19 @@ none_counted = no_numbers.counters
 abbrev pub Low : ℕ → List SessionNumber → Type 0
 Low n ms = AllByRecursion (λ m. m.1 ≤ n) ms
 
-low_more : (n k : ℕ) (ms : List SessionNumber) → n ≤ k → Low n ms → Low k ms
+pub low_more : (n k : ℕ) (ms : List SessionNumber) → n ≤ k → Low n ms → Low k ms
 low_more n k [] le h = tt
 low_more n k (m ∷ ms) le h = (let a : m.1 ≤ n = h.0 in omega arith, low_more n k ms le h.1)
 
-low_join : (n : ℕ) (ms ks : List SessionNumber) → Low n ms → Low n ks → Low n (ms ++ ks)
+pub low_join : (n : ℕ) (ms ks : List SessionNumber) → Low n ms → Low n ks → Low n (ms ++ ks)
 low_join n [] ks h k = k
 low_join n (m ∷ ms) ks h k = (h.0, low_join n ms ks h.1 k)
 
-low_own : (n s : ℕ) (ms : List SessionNumber) → Low n ms → AllByRecursion (λ m. m.0 ≡ s → m.1 ≤ n) ms
+pub low_own : (n s : ℕ) (ms : List SessionNumber) → Low n ms → AllByRecursion (λ m. m.0 ≡ s → m.1 ≤ n) ms
 low_own n s [] h = tt
 low_own n s (m ∷ ms) h = (λ e. h.0, low_own n s ms h.1)
 
-low_at : (n s : ℕ) (ms : List SessionNumber) → Low n ms → number_at s ms ≤ n
+pub low_at : (n s : ℕ) (ms : List SessionNumber) → Low n ms → number_at s ms ≤ n
 low_at n s [] h = omega arith
 low_at n s (m ∷ ms) h = go (m.0 == s) (low_at n s ms h.1)
   where
@@ -82,7 +82,7 @@ low_reads p past (x ∷ xs) low tak =
     go true with without = with
     go false with without = without
 
-low_changes : (d : Defs) (asked : Step → Option Change) (s : TableState) (n : ℕ) (xs : List Step) → Low (n + length (changes d asked s xs)) (own_numbers d asked s n xs)
+pub low_changes : (d : Defs) (asked : Step → Option Change) (s : TableState) (n : ℕ) (xs : List Step) → Low (n + length (changes d asked s xs)) (own_numbers d asked s n xs)
 low_changes d asked s n [] = tt
 low_changes d asked s n (x ∷ xs) =
     let k = length (accepted_of d s (asked x)) in
@@ -98,7 +98,7 @@ low_changes d asked s n (x ∷ xs) =
     own_low m [] le = tt
     own_low m (c ∷ cs) le = (omega arith, each m cs (omega arith))
 
-low_taken : (n k : ℕ) (round : Round) → n ≤ k → Low k (taken_by n round)
+pub low_taken : (n k : ℕ) (round : Round) → n ≤ k → Low k (taken_by n round)
 low_taken n k Finished le = tt
 low_taken n k (Together i rs) le = tt
 low_taken n k (Alone x) le = go (takes_read x.kind)
@@ -116,7 +116,7 @@ pub record AreLow (n : ℕ) (past : PastNumbers) : Type 0 where
 abbrev pub InTurn : ScriptRound → PastNumbers → Numbers → Type 0
 InTurn p past ns = ns.reads ≡ numbers_now p past.taken (steps_of p.round)
 
-reads_fit : (o : Opening) (p : ScriptRound) (past : PastNumbers) (ns : Numbers) → InTurn p past ns → AreLow p.before past → ReadsFit p (number_behind o p) past (steps_of p.round) ns.reads
+pub reads_fit : (o : Opening) (p : ScriptRound) (past : PastNumbers) (ns : Numbers) → InTurn p past ns → AreLow p.before past → ReadsFit p (number_behind o p) past (steps_of p.round) ns.reads
 reads_fit o p past ns same q =
     let P : List ℕ → Type 0 = λ k. ReadsFit p (number_behind o p) past (steps_of p.round) k in
     subst P (sym same) (fit_in_turn p (number_behind o p) past (steps_of p.round) (omega arith) q.numbers q.taken)

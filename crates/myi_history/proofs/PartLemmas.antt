@@ -2,16 +2,16 @@
 use Rattle.std.proofs.Common.{◌≡◌, ℕ, ◌+◌, ◌-◌, ◌<◌, ◌≤◌, Bool, true, false, cond, List, [], ◌∷◌, ◌++◌, map, filter, length, take, drop, get_or, nat_lt, Option, Some, refl, sym, ap, subst, ◌∙◌, arith, append_assoc, append-nil, length-append}
 use Rattle.std.specs.List.{AllByRecursion, flat_map, slice_range}
 use Rattle.std.specs.Prelude.{Result, Ok, Err, OnOk, OnErr}
-use Rattle.std.proofs.Math.Seq.{take-append-add}
+use Rattle.std.proofs.Math.Seq.{take-append-add, drop-append-add}
 use Rattle.std.proofs.lemmas.Bool.Decides.{nat_tests}
-use Rattle.std.proofs.lemmas.List.{take_at, take_all, drop_at, drop_all, drop_more, length-drop, take-append-drop, take-append-le, drop-append-le}
+use Rattle.std.proofs.lemmas.List.{map-append, take_at, take_all, drop_at, drop_all, drop_more, length-drop, take-append-drop, take-append-le, drop-append-le}
 use Rattle.std.proofs.lemmas.List.Edits.{length-between}
 use Rattle.std.proofs.lemmas.List.Elements.{All-get_or, All-from_recursion}
 use Rattle.std.proofs.lemmas.List.Folds.{drop_split}
 use Rattle.myi_base.specs.Holding.{IfTold}
 use Rattle.myi_base.specs.Output.{Appends, AppendsPart}
 use Rattle.myi_history.specs.declared.round_texts.Said.{Said}
-use Rattle.myi_history.specs.RoundTexts.{LineText, part_of, said_in, IsWithin}
+use Rattle.myi_history.specs.RoundTexts.{LineText, part_of, said_in, IsWithin, moved_by}
 
 -- ---- a text that is appended
 
@@ -257,3 +257,50 @@ cut_texts old new text xs was h part is = grown_texts old new (take part.0 text)
 
 pub cut_within : (old new text : List ℕ) (xs : List Said) → AllByRecursion (IsWithin (length old)) xs → AppendsPart text (Some new) old → AllByRecursion (IsWithin (length new)) xs
 cut_within old new text xs h part = grown_within old new (take part.0 text) xs xs h (part_is old new text part) refl
+
+-- ---- texts of another buffer
+
+pub within_all : (n : ℕ) (xs ys : List Said) → AllByRecursion (IsWithin n) xs → AllByRecursion (IsWithin n) ys → AllByRecursion (IsWithin n) (xs ++ ys)
+within_all n [] ys h k = k
+within_all n (x ∷ xs) ys h k = (h.0, within_all n xs ys h.1 k)
+
+pub moved_within : (m n by : ℕ) (xs : List Said) → AllByRecursion (IsWithin m) xs → by + m ≤ n → AllByRecursion (IsWithin n) (map (moved_by by) xs)
+moved_within m n by [] h le = tt
+moved_within m n by (x ∷ xs) h le =
+    let low : x.from ≤ x.to = h.0.0 in
+    let high : x.to ≤ m = h.0.1 in
+    ((omega (arith, low), omega (arith, high, le)), moved_within m n by xs h.1 le)
+
+range_moved : (a b : List ℕ) (i j : ℕ) → slice_range (a ++ b) (length a + i) (length a + j) ≡ slice_range b i j
+range_moved a b i j =
+    ap (λ (n : ℕ). take n (drop (length a + i) (a ++ b))) (let e : (length a + j) - (length a + i) ≡ j - i = omega arith in e) ∙ ap (take (j - i)) (drop-append-add a b i)
+
+two_texts : (a b : LineText) (us vs : List LineText) → a ≡ b → us ≡ vs → a ∷ us ≡ b ∷ vs
+two_texts a b us vs one more = ap (λ (t : LineText). t ∷ us) one ∙ ap (λ (l : List LineText). b ∷ l) more
+
+pub texts_moved : (a b : List ℕ) (xs : List Said) → map (said_in (a ++ b)) (map (moved_by (length a)) xs) ≡ map (said_in b) xs
+texts_moved a b [] = refl
+texts_moved a b (x ∷ xs) = two_texts _ _ _ _ (ap (λ (t : List ℕ). (x.line, t)) (range_moved a b x.from x.to)) (texts_moved a b xs)
+
+-- the texts stand where they stood
+pub texts_grown : (a b new : List ℕ) (xs : List Said) (old : List LineText) → AllByRecursion (IsWithin (length a)) xs → new ≡ a ++ b → old ≡ map (said_in a) xs → map (said_in new) xs ≡ old
+texts_grown a b new xs old h is is_old = ap (λ (t : List ℕ). map (said_in t) xs) is ∙ texts_kept a b xs h ∙ sym is_old
+
+pub within_grown : (a b new : List ℕ) (xs same : List Said) → AllByRecursion (IsWithin (length a)) xs → new ≡ a ++ b → same ≡ xs → AllByRecursion (IsWithin (length new)) same
+within_grown a b new xs same h is kept =
+    let long : length new ≡ length a + length b = ap (λ (l : List ℕ). length l) is ∙ length-append a b in
+    subst (AllByRecursion (IsWithin (length new))) (sym kept) (within_more (length a) (length new) xs (omega (arith, long)) h)
+
+-- texts of another buffer stand behind those of this one
+pub texts_joined : (a b new : List ℕ) (by : ℕ) (xs ys moved both : List Said) (old more : List LineText) → AllByRecursion (IsWithin (length a)) xs → new ≡ a ++ b → by ≡ length a → moved ≡ map (moved_by by) ys → both ≡ xs ++ moved → old ≡ map (said_in a) xs → more ≡ map (said_in b) ys → map (said_in new) both ≡ old ++ more
+texts_joined a b new by xs ys moved both old more h is_new is_by is_moved is_both is_old is_more =
+    let moved_are : moved ≡ map (moved_by (length a)) ys = is_moved ∙ ap (λ (n : ℕ). map (moved_by n) ys) is_by in
+    ap (λ (t : List ℕ). map (said_in t) both) is_new ∙ ap (map (said_in (a ++ b))) is_both ∙ map-append (said_in (a ++ b)) xs moved
+    ∙ ap (λ (t : List LineText). t ++ map (said_in (a ++ b)) moved) (texts_kept a b xs h ∙ sym is_old)
+    ∙ ap (λ (t : List Said). old ++ map (said_in (a ++ b)) t) moved_are ∙ ap (λ (t : List LineText). old ++ t) (texts_moved a b ys ∙ sym is_more)
+
+pub joined_within : (a b new : List ℕ) (by : ℕ) (xs ys moved both : List Said) → AllByRecursion (IsWithin (length a)) xs → AllByRecursion (IsWithin (length b)) ys → new ≡ a ++ b → by ≡ length a → moved ≡ map (moved_by by) ys → both ≡ xs ++ moved → AllByRecursion (IsWithin (length new)) both
+joined_within a b new by xs ys moved both h k is_new is_by is_moved is_both =
+    let long : length new ≡ length a + length b = ap (λ (l : List ℕ). length l) is_new ∙ length-append a b in
+    let moved_are : moved ≡ map (moved_by (length a)) ys = is_moved ∙ ap (λ (n : ℕ). map (moved_by n) ys) is_by in
+    subst (AllByRecursion (IsWithin (length new))) (sym (is_both ∙ ap (λ (l : List Said). xs ++ l) moved_are)) (within_all (length new) xs (map (moved_by (length a)) ys) (within_more (length a) (length new) xs (omega (arith, long)) h) (moved_within (length b) (length new) (length a) ys k (omega (arith, long))))

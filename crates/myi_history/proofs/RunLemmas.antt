@@ -1,4 +1,4 @@
--- A run on one thread goes on by the next round, prints its rounds one after the other, and ends with the script.
+-- A run goes on by the next round, prints its rounds one after the other, and ends with the script.
 use Rattle.std.proofs.Common.{◌≡◌, ℕ, ◌≤◌, List, [], ◌∷◌, ◌++◌, fold, take, length, Bool, true, false, cond, refl, ap, sym, ◌∙◌, arith, subst, length-append, append_assoc, append-nil}
 use Rattle.std.specs.List.{flat_map}
 use Rattle.std.proofs.lemmas.List.{map-append, length-map}
@@ -15,11 +15,11 @@ use Rattle.myi_history.specs.Lines.{MayRun}
 use Rattle.myi_history.specs.History.{Opening, ScriptRound, changes_in, round_from, state_behind, number_behind, first_locks, rounds_of, history_in, history, locks_behind, has_hole}
 use Rattle.myi_history.specs.Answers.{said_text}
 use Rattle.myi_history.specs.Text.{Numbers, said_in, round_said, shell_text, state_at}
-use Rattle.myi_history.specs.Bounds.{SessionNumber, taken_by, is_stats, AreWithin}
-use Rattle.myi_history.specs.OneThread.{round_numbers, in_turn, counted_by, StatsRise}
-use Rattle.myi_history.specs.Running.{taken_in, counted_in, locks_after, table_after, number_after, next_after, run_text, HasRun, IsNext}
+use Rattle.myi_history.specs.Bounds.{SessionNumber, taken_by, nothing_past, FitFrom, AreWithin}
+use Rattle.myi_history.specs.OneThread.{counted_by}
+use Rattle.myi_history.specs.Running.{taken_in, counted_in, locks_after, table_after, number_after, next_after, run_text, past_after, HasRun, IsNext}
 use Rattle.myi_history.proofs.ReplayLemmas.{replay_append, replay_round, follows_history, none_left}
-use Rattle.myi_history.proofs.NumberLemmas.{none_counted, reads_of, counted_fit}
+use Rattle.myi_history.proofs.PastLemmas.{as_many_fit, fit_join, low_after, fewer_after, rest_of, rest_fits}
 
 -- ---- behind one round more
 
@@ -45,21 +45,8 @@ taken_more front p = fold-append also_taken [] front (p ∷ [])
 
 -- ---- numbers of rounds, one list behind the other
 
-turns_many : (taken : List SessionNumber) (ps : List ScriptRound) → length (in_turn taken ps) ≡ length ps
-turns_many taken [] = refl
-turns_many taken (p ∷ ps) = let h = turns_many (taken_by p.before p.round ++ taken) ps in omega arith
-
 pub as_many : (o : Opening) (front : List ScriptRound) (c : List Numbers) → HasRun o front c → length c ≡ length front
-as_many o front c has = sym (length-map c (λ (n : Numbers). n.reads)) ∙ ap length has.reads ∙ length-map (in_turn [] front) (λ (n : Numbers). n.reads) ∙ turns_many [] front
-
-turns_join : (taken : List SessionNumber) (front back : List ScriptRound) → in_turn taken (front ++ back) ≡ in_turn taken front ++ in_turn (fold also_taken taken front) back
-turns_join taken [] back = refl
-turns_join taken (p ∷ front) back = ap (λ c. round_numbers p taken none_counted ∷ c) (turns_join (taken_by p.before p.round ++ taken) front back)
-
-reads_join : (front back : List ScriptRound) (c e : List Numbers) → reads_of c ≡ reads_of (in_turn [] front) → reads_of e ≡ reads_of (in_turn (taken_in front) back) → reads_of (c ++ e) ≡ reads_of (in_turn [] (front ++ back))
-reads_join front back c e a b =
-    map-append (λ (n : Numbers). n.reads) c e ∙ ap (λ q. q ++ reads_of e) a ∙ ap (λ q. reads_of (in_turn [] front) ++ q) b
-    ∙ sym (map-append (λ (n : Numbers). n.reads) (in_turn [] front) (in_turn (taken_in front) back)) ∙ ap reads_of (sym (turns_join [] front back))
+as_many o front c has = as_many_fit o nothing_past front c has.within
 
 counted_join : (last : Counters) (front : List ScriptRound) (c : List Numbers) (p : ScriptRound) (ns : Numbers) → length c ≡ length front → counted_in last (front ++ p ∷ []) (c ++ ns ∷ []) ≡ counted_by (counted_in last front c) p ns
 counted_join last [] [] p ns e = refl
@@ -69,12 +56,6 @@ counted_join last (q ∷ front) (m ∷ c) p ns e = counted_join (counted_by last
 
 pub counted_more : (o : Opening) (front : List ScriptRound) (c : List Numbers) (last : Counters) (p : ScriptRound) (ns : Numbers) → HasRun o front c → counted_in last (front ++ p ∷ []) (c ++ ns ∷ []) ≡ counted_by (counted_in last front c) p ns
 counted_more o front c last p ns has = counted_join last front c p ns (as_many o front c has)
-
-rise_join : (last : Counters) (front back : List ScriptRound) (c e : List Numbers) → length c ≡ length front → StatsRise last front c → StatsRise (counted_in last front c) back e → StatsRise last (front ++ back) (c ++ e)
-rise_join last [] back [] e many rise more = more
-rise_join last [] back (m ∷ c) e many rise more = absurd (omega arith)
-rise_join last (q ∷ front) back [] e many rise more = absurd (omega arith)
-rise_join last (q ∷ front) back (m ∷ c) e many rise more = (rise.0, rise_join (counted_by last q m) front back c e (omega arith) rise.1 more)
 
 said_join : (o : Opening) (h : List Change) (front back : List ScriptRound) (c e : List Numbers) → length c ≡ length front → said_in o h (front ++ back) (c ++ e) ≡ said_in o h front c ++ said_in o h back e
 said_join o h [] back [] e many = refl
@@ -96,7 +77,7 @@ text_more o front c p ns has =
 -- ---- the next round
 
 pub has_begun : (o : Opening) → HasRun o [] []
-has_begun o = record { first = (rounds_of o, refl); reads = refl; counted = tt }
+has_begun o = record { first = (rounds_of o, refl); within = refl }
 
 round_is : (o : Opening) (p : ScriptRound) (r : LockState) (s : TableState) (n : ℕ) → p.locks ≡ r → p.state ≡ s → p.before ≡ n → p.round ≡ next_round p.locks (has_hole o.script.takes s) → p ≡ round_from o.script.takes r s n
 round_is o p r s n locks state before round =
@@ -125,8 +106,7 @@ goes_on o front c ns run has left next =
     let more = next_stands o front has.first.0 run has.first.1 left in
     record {
       first = (more.0, has.first.1 ∙ ap (λ ps. front ++ ps) more.1 ∙ sym (append_assoc front (p ∷ []) more.0));
-      reads = reads_join front (p ∷ []) c (ns ∷ []) has.reads (ap (λ k. k ∷ []) next.reads);
-      counted = rise_join none_counted front (p ∷ []) c (ns ∷ []) (as_many o front c has) has.counted (next.counted, tt);
+      within = fit_join o nothing_past front (p ∷ []) c (ns ∷ []) has.within (next, refl);
     }
 
 -- ---- the end
@@ -141,10 +121,7 @@ all_done : (o : Opening) (front : List ScriptRound) (c : List Numbers) → HasRu
 all_done o front c has none = none_behind o front has.first.0 has.first.1 none
 
 pub ends_within : (o : Opening) (front : List ScriptRound) (c : List Numbers) → HasRun o front c → has_steps (locks_after o front) ≡ false → AreWithin o c
-ends_within o front c has none =
-    let same = all_done o front c has none in
-    let P : List ScriptRound → Type 0 = λ ps. StatsRise none_counted ps c in
-    counted_fit o c (has.reads ∙ ap (λ ps. reads_of (in_turn [] ps)) (sym same)) (subst P (sym same) has.counted)
+ends_within o front c has none = subst (λ ps. FitFrom o nothing_past ps c) (sym (all_done o front c has none)) has.within
 
 pub ends_text : (o : Opening) (front : List ScriptRound) (c : List Numbers) → HasRun o front c → has_steps (locks_after o front) ≡ false → shell_text o c ≡ run_text o front c
 ends_text o front c has none = ap (λ ps. flat_map said_text (said_in o (history o) ps c)) (all_done o front c has none)
@@ -154,51 +131,16 @@ ends_table o front c has none = ap (λ ps. replay o.defs o.base (history_in o ps
 
 -- ---- a run that stops could have gone on
 
--- the numbers of rounds on one thread, where each `stats` counts as much as the last one
-rest_of : Counters → List SessionNumber → List ScriptRound → List Numbers
-rest_of k taken [] = []
-rest_of k taken (p ∷ ps) = round_numbers p taken k ∷ rest_of k (taken_by p.before p.round ++ taken) ps
-
-rest_reads : (k : Counters) (taken : List SessionNumber) (ps : List ScriptRound) → reads_of (rest_of k taken ps) ≡ reads_of (in_turn taken ps)
-unfolding rest_of
-rest_reads k taken [] = refl
-rest_reads k taken (p ∷ ps) = ap (λ q. (round_numbers p taken k).reads ∷ q) (rest_reads k (taken_by p.before p.round ++ taken) ps)
-
-rest_rises : (k : Counters) (taken : List SessionNumber) (ps : List ScriptRound) → k.reads ≤ k.read_requests → StatsRise k ps (rest_of k taken ps)
-unfolding rest_of
-rest_rises k taken [] fewer = tt
-rest_rises k taken (p ∷ ps) fewer = (
-  λ e. record { read_requests = omega arith; reads = omega arith; write_requests = omega arith; writes = omega arith; fewer = fewer },
-  (let P : Counters → Type 0 = λ q. StatsRise q ps (rest_of k (taken_by p.before p.round ++ taken) ps) in
-      subst P (sym (counts (is_stats (steps_of p.round)))) (rest_rises k (taken_by p.before p.round ++ taken) ps fewer)),
-)
-  where
-    counts : (b : Bool) → cond b k k ≡ k
-    counts true = refl
-    counts false = refl
-
-fewer_last : (last : Counters) (front : List ScriptRound) (c : List Numbers) → length c ≡ length front → last.reads ≤ last.read_requests → StatsRise last front c → (counted_in last front c).reads ≤ (counted_in last front c).read_requests
-fewer_last last [] c many fewer rise = fewer
-fewer_last last (p ∷ front) [] many fewer rise = absurd (omega arith)
-fewer_last last (p ∷ front) (ns ∷ c) many fewer rise = fewer_last (counted_by last p ns) front c (omega arith) (go (is_stats (steps_of p.round)) refl) rise.1
-  where
-    go : (b : Bool) → is_stats (steps_of p.round) ≡ b → (cond b ns.counters last).reads ≤ (cond b ns.counters last).read_requests
-    go true is = (rise.0 is).fewer
-    go false is = fewer
-
 pub stops : (o : Opening) (front : List ScriptRound) (c : List Numbers) → HasRun o front c → (e : List Numbers) × AreWithin o e × (rest : List ℕ) × (shell_text o e ≡ run_text o front c ++ rest)
 stops o front c has =
     let back : List ScriptRound = has.first.0 in
-    let many = as_many o front c has in
-    let last : Counters = counted_in none_counted front c in
-    let more : List Numbers = rest_of last (taken_in front) back in
-    let P : List ScriptRound → Type 0 = λ ps. StatsRise none_counted ps (c ++ more) in (
+    let past = past_after o front c in
+    let more : List Numbers = rest_of past.counters past.taken back in (
       c ++ more,
-      counted_fit o (c ++ more)
-          (reads_join front back c more has.reads (rest_reads last (taken_in front) back) ∙ ap (λ ps. reads_of (in_turn [] ps)) (sym has.first.1))
-          (subst P (sym has.first.1) (rise_join none_counted front back c more many has.counted (rest_rises last (taken_in front) back (fewer_last none_counted front c many (omega arith) has.counted)))),
+      subst (λ ps. FitFrom o nothing_past ps (c ++ more)) (sym has.first.1)
+          (fit_join o nothing_past front back c more has.within (rest_fits o front back past has.first.1 (low_after o front c has) (fewer_after o front c has))),
       run_text o back more,
-      ap (λ ps. flat_map said_text (said_in o (history o) ps (c ++ more))) has.first.1 ∙ text_join o front back c more many,
+      ap (λ ps. flat_map said_text (said_in o (history o) ps (c ++ more))) has.first.1 ∙ text_join o front back c more (as_many o front c has),
     )
 
 -- ---- the table of the history so far

@@ -18,5 +18,7 @@ pub mod Bounds
 pub mod Appending
 -- the numbers of a run on one thread, and what the laws say of rounds
 pub mod OneThread
--- such a run that has come so far, and what stands behind it
+-- the numbers of a round whose sessions go side by side
+pub mod SideBySide
+-- a run that has come so far, and what stands behind it
 pub mod Running

@@ -1,5 +1,5 @@
 -- The texts of what the steps of a round said, each with the number of its line, and their order.
-use Rattle.std.specs.Prelude.{◌≡◌, ◌≢◌, ◌≤◌, ℕ, nat_lt, map, fold, List, [], ◌∷◌, ◌++◌, Option, Some, if◌then◌else◌}
+use Rattle.std.specs.Prelude.{◌≡◌, ◌≢◌, ◌≤◌, ◌+◌, ℕ, nat_lt, map, fold, List, [], ◌∷◌, ◌++◌, Option, Some, if◌then◌else◌}
 use Rattle.std.specs.List.{AllByRecursion, flat_map, slice_range}
 use Rattle.std.specs.List.Sorted.{IsPermutation}
 use Rattle.myi_state.specs.Changes.{Change}
@@ -85,3 +85,7 @@ said_in bytes x = (x.line, part_of bytes x)
 -- the part lies within so many bytes
 abbrev pub IsWithin : ℕ → Said → Type 0
 IsWithin size x = (x.from ≤ x.to) × (x.to ≤ size)
+
+-- the part that much further on
+abbrev pub moved_by : ℕ → Said → Said
+moved_by by x = record { line = x.line; from = by + x.from; to = by + x.to }

@@ -1,6 +1,6 @@
--- A run of a script on one thread that has come so far: the rounds that are done, and their numbers. And what stands behind them:
--- the locks, the table, the number of changes, and what was printed.
-use Rattle.std.specs.Prelude.{◌≡◌, ℕ, true, List, [], ◌∷◌, ◌++◌, map, fold, drop, length}
+-- A run of a script that has come so far: the rounds that are done, and their numbers. And what stands behind them: the locks, the
+-- table, the number of changes, and what was printed.
+use Rattle.std.specs.Prelude.{◌≡◌, ℕ, true, List, [], ◌∷◌, ◌++◌, fold, drop, length}
 use Rattle.std.specs.List.{flat_map}
 use Rattle.myi_keycache.specs.declared.setup.Counters.{Counters}
 use Rattle.myi_state.specs.State.{TableState}
@@ -10,8 +10,8 @@ use Rattle.myi_locks.specs.Done.{steps_of}
 use Rattle.myi_history.specs.History.{Opening, ScriptRound, round_from, first_locks, locks_behind, rounds_of, history_in, history}
 use Rattle.myi_history.specs.Answers.{said_text}
 use Rattle.myi_history.specs.Text.{Numbers, no_numbers, first_numbers, said_in, state_at}
-use Rattle.myi_history.specs.Bounds.{SessionNumber, number_at, taken_by, is_stats, CountersRise}
-use Rattle.myi_history.specs.OneThread.{numbers_now, in_turn, counted_by, StatsRise}
+use Rattle.myi_history.specs.Bounds.{SessionNumber, number_at, taken_by, is_stats, CountersRise, PastNumbers, nothing_past, past_behind, RoundFits, FitFrom}
+use Rattle.myi_history.specs.OneThread.{numbers_now, counted_by}
 
 -- ---- numbers
 
@@ -51,16 +51,27 @@ seen_number o front n = number_at n (taken_in front)
 abbrev pub seen_state : Opening → List ScriptRound → ℕ → TableState
 seen_state o front n = state_at o (history o) (seen_number o front n)
 
+-- what is past behind rounds that have these numbers
+abbrev pub past_from : Opening → PastNumbers → List ScriptRound → List Numbers → PastNumbers
+past_from o past [] c = past
+past_from o past (p ∷ ps) c = past_from o (past_behind o past p (first_numbers c)) ps (drop 1 c)
+
+abbrev pub past_after : Opening → List ScriptRound → List Numbers → PastNumbers
+past_after o front c = past_from o nothing_past front c
+
 -- ---- runs
 
--- These rounds of a script are done on one thread, with these numbers: they are its first rounds; their reads have the numbers of
--- a run on one thread; and what is counted rises from one `stats` to the next.
+-- These rounds of a script are done, with these numbers: they are its first rounds, and the numbers are within their bounds.
 pub record HasRun (o : Opening) (front : List ScriptRound) (c : List Numbers) : Type 0 where
   pub first : (back : List ScriptRound) × (rounds_of o ≡ front ++ back)
-  pub reads : map (λ (n : Numbers). n.reads) c ≡ map (λ (n : Numbers). n.reads) (in_turn [] front)
-  pub counted : StatsRise no_numbers.counters front c
+  pub within : FitFrom o nothing_past front c
 
--- the numbers of the next round go on from those of the rounds before it
-pub record IsNext (o : Opening) (front : List ScriptRound) (c : List Numbers) (ns : Numbers) : Type 0 where
+-- the numbers of the next round are within their bounds, by those of the rounds before it
+abbrev pub IsNext : Opening → List ScriptRound → List Numbers → Numbers → Type 0
+IsNext o front c ns = RoundFits o (past_after o front c) (next_after o front) ns
+
+-- They are those of a round that one thread does, where its reads go before its inserts; and what is counted rises from the `stats`
+-- before.
+pub record IsNextInTurn (o : Opening) (front : List ScriptRound) (c : List Numbers) (ns : Numbers) : Type 0 where
   pub reads : ns.reads ≡ numbers_now (next_after o front) (taken_in front) (steps_of (next_after o front).round)
   pub counted : is_stats (steps_of (next_after o front).round) ≡ true → CountersRise (counted_in no_numbers.counters front c) ns.counters

@@ -19,11 +19,12 @@
 //! - `specs/Appending`: inserts at the end, and the rows that stand before them.
 //! - `specs/RoundTexts`: texts of lines, and their order.
 //! - `specs/OneThread`: the numbers of a run on one thread, and what the laws say of rounds.
-//! - `specs/Running`: such a run that has come so far, and what stands behind it.
+//! - `specs/SideBySide`: the numbers of a round whose sessions go side by side.
+//! - `specs/Running`: a run that has come so far, and what stands behind it.
 //!
 //! `script_steps` makes the steps of a script for `Locks::new`, `AnswerTexts` appends the lines of
 //! answers, and `RoundTexts` holds what a round said and writes it in order of line. The laws are
-//! the contracts of the functions in `laws`, and those of runs on one thread in `running`.
+//! the contracts of the functions in `laws`, and those of runs that have come so far in `running`.
 #![tactic(auto)]
 
 mod answers;
@@ -41,4 +42,7 @@ pub use laws::{
 };
 pub use lines::script_steps;
 pub use round_texts::RoundTexts;
-pub use running::{runs_begin, runs_end, runs_go_on, runs_that_stop, tables_are_read};
+pub use running::{
+    rounds_go_on_in_turn, rounds_go_on_side_by_side, runs_begin, runs_end, runs_go_on,
+    runs_that_stop, tables_are_read,
+};

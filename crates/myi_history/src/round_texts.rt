@@ -3,13 +3,14 @@
 //! The texts stand in one buffer, in the order in which they came; to each belongs a `Said`, which
 //! tells its line and where it stands. Bytes behind the last text are of one for which memory ran
 //! out.
-ghost use Rattle.std.specs.Prelude.{◌≡◌, ◌∷◌, ◌++◌, [], length, OnOk, OnErr};
+ghost use Rattle.std.specs.Prelude.{◌≡◌, ◌∷◌, ◌++◌, ◌+◌, ◌^◌, ◌<◌, [], length, map, IfOk, OnOk, OnErr};
 ghost use Rattle.std.specs.List.{AllByRecursion, flat_map};
 ghost use Rattle.std.specs.List.Sorted.{IsPermutation, IsNonDecreasingBy};
 ghost use Rattle.myi_base.specs.Holding.{IfTold};
 ghost use Rattle.myi_base.specs.Output.{Appends, AppendsPart};
 ghost use Rattle.myi_base.specs.Causes.{HasCause};
 ghost use Rattle.myi_io.specs.declared.sink.SinkErr.TheVariants.{Failed};
+ghost use Rattle.myi_history.specs.RoundTexts as spec;
 ghost use Rattle.myi_history.specs.RoundTexts.{IsWithin, part_of};
 
 use crate::answers::{AnswerTexts, StepAnswer};
@@ -154,6 +155,18 @@ impl RoundTexts {
         note(&mut self.said, line, from, self.bytes.len())
     }
 
+    /// Adds the texts of another.
+    pub fn append(&mut self, more: &RoundTexts) -> Result<(), AllocError>
+        ensures texts { OnOk result (self.new ≡ self.old ++ more.now) }
+        ensures same { OnErr result (self.new ≡ self.old) }
+    {
+        let from = self.bytes.len();
+        self.bytes.extend_from_slice(&more.bytes)?;
+        let moved = moved_by(self.allocator(), &more.said, from, more.bytes.len())?;
+        self.said.extend_from_slice(&moved)?;
+        Ok(())
+    }
+
     /// The allocator of the texts.
     pub fn allocator(&self) -> Global {
         *self.bytes.allocator()
@@ -194,6 +207,23 @@ fn note(said: &mut Vec<Said>, line: u32, from: usize, to: usize) -> Result<(), A
 {
     said.push(Said { line, from, to })?;
     Ok(())
+}
+
+// The same texts, in a buffer in which they stand that much further on.
+fn moved_by(alloc: Global, said: &[Said], by: usize, size: usize) -> Result<Vec<Said>, AllocError>
+    requires within { AllByRecursion (IsWithin size) said.now }
+    requires small { by + size < 2 ^ 64 }
+    ensures { IfOk result (λ v. v.items ≡ map (spec.moved_by by) said.now) }
+{
+    let mut moved = Vec::with_capacity(alloc, said.len())?;
+    for text in said {
+        moved.push(Said {
+            line: text.line,
+            from: by + text.from,
+            to: by + text.to,
+        })?;
+    }
+    Ok(moved)
 }
 
 // Puts texts in the order of their lines.

@@ -1,6 +1,8 @@
-//! Laws of a run of a script on one thread, which does one round after the other: what it has done
-//! so far (`HasRun`), and what stands behind that. Each is the contract of a function that does
-//! nothing, so that it is proved with the crate and stands for the crates above.
+//! Laws of a run of a script, which does one round after the other: what it has done so far
+//! (`HasRun`), and what stands behind that. The numbers of its reads are any within their bounds;
+//! those of one thread that does a round's reads before its inserts are among them. Each law is the
+//! contract of a function that does nothing, so that it is proved with the crate and stands for the
+//! crates above.
 ghost use Rattle.std.specs.Prelude.{◌≡◌, ◌++◌, [], ◌∷◌, ℕ, true, false, nat_lt, List, filter, Option};
 ghost use Rattle.std.specs.List.{flat_map};
 ghost use Rattle.myi_keycache.specs.declared.setup.Counters.{Counters};
@@ -10,6 +12,9 @@ ghost use Rattle.myi_script.specs.declared.types.Act.{Act};
 ghost use Rattle.myi_state.specs.Changes.{replay};
 ghost use Rattle.myi_state.specs.Sound.{IsState};
 ghost use Rattle.myi_state.specs.State.{TableState};
+ghost use Rattle.myi_locks.specs.declared.steps.Run.{Run};
+ghost use Rattle.myi_locks.specs.declared.steps.Runs.{Runs};
+ghost use Rattle.myi_locks.specs.declared.steps.Round.TheVariants.{Together};
 ghost use Rattle.myi_locks.specs.Rounds.{has_steps};
 ghost use Rattle.myi_locks.specs.Done.{advanced};
 ghost use Rattle.myi_history.specs.Answers.{said_text};
@@ -20,9 +25,10 @@ ghost use Rattle.myi_history.specs.History.{number_behind, reads_only, state_beh
 ghost use Rattle.myi_history.specs.Lines.{MayRun};
 ghost use Rattle.myi_history.specs.OneThread.{counted_by};
 ghost use Rattle.myi_history.specs.Reads.{found};
-ghost use Rattle.myi_history.specs.Running.{HasRun, IsNext, counted_in, taken_in};
+ghost use Rattle.myi_history.specs.Running.{HasRun, IsNext, IsNextInTurn, counted_in, taken_in};
 ghost use Rattle.myi_history.specs.Running.{locks_after, next_after, number_after, run_text};
 ghost use Rattle.myi_history.specs.Running.{seen_state, table_after};
+ghost use Rattle.myi_history.specs.SideBySide.{RunsFit};
 ghost use Rattle.myi_history.specs.Text.{Numbers, round_said, shell_text, state_at};
 
 /// Before the first round nothing is done.
@@ -30,8 +36,26 @@ pub fn runs_begin()
     ensures { (o : Opening) → HasRun o [] [] }
 {}
 
-/// Where a step is left, the run goes on by the next round, with numbers that go on from those
-/// before. What stands behind a round more.
+/// The numbers of a round that one thread does, whose reads go before its inserts, are within their
+/// bounds, whatever numbers the rounds before it had.
+pub fn rounds_go_on_in_turn()
+    ensures { (o : Opening) (front : List ScriptRound) (c : List Numbers) (ns : Numbers)
+        → HasRun o front c → IsNextInTurn o front c ns → IsNext o front c ns }
+{}
+
+/// So are those of a round of kind Together whose sessions go side by side: the numbers of each
+/// session's reads are that of its Take, or lie between the changes before the round and those
+/// behind it and do not fall.
+pub fn rounds_go_on_side_by_side()
+    ensures { (o : Opening) (front : List ScriptRound) (c : List Numbers) (ns : Numbers)
+        (inserter : Option Run) (readers : Runs) → MayRun o.defs o.script.lines → HasRun o front c
+        → (next_after o front).round ≡ Together inserter readers
+        → RunsFit (next_after o front) (number_behind o (next_after o front)) (taken_in front)
+        readers.runs ns.reads → IsNext o front c ns }
+{}
+
+/// Where a step is left, the run goes on by the next round, with numbers that are within their
+/// bounds, by those before. What stands behind a round more.
 pub fn runs_go_on()
     ensures next { (o : Opening) (front : List ScriptRound) (c : List Numbers) (ns : Numbers)
         → MayRun o.defs o.script.lines → HasRun o front c → has_steps (locks_after o front) ≡ true

@@ -4,7 +4,7 @@
 //! failed. A caller that does not, as over real files, learns only that no call gave more bytes than
 //! it was asked for, and why a call failed.
 ghost use Rattle.std.specs.Prelude.{◌≡◌, ◌≤◌, ◌+◌, ◌-◌, ◌^◌};
-ghost use Rattle.std.specs.Prelude.{ℕ, Bool, Option, length, min, OnOk, OnErr, IfOk, IfErr, IsTrue};
+ghost use Rattle.std.specs.Prelude.{ℕ, Bool, Option, None, length, min, OnOk, OnErr, IfOk, IfErr, IsTrue};
 ghost use Rattle.myi_io.specs.declared.files.FileErr.TheVariants.{Failed, Memory};
 ghost use Rattle.myi_base.specs.Holding.{Holding, HoldsBytes, IfTold, Told, Gives, Fills};
 ghost use Rattle.myi_base.specs.Holding.{Shows, Writes, WritesPart, Cuts, CutsOrKeeps};
@@ -124,11 +124,13 @@ pub trait Files {
         ensures cause { HasCause Failed (faults self.old) (faults self.new) result };
 
     /// An object that reads the bytes that the file has now, of which there are none where no file has
-    /// the name. None of its reads has failed yet.
+    /// the name. It tells them exactly where these files tell what they hold. None of its reads has
+    /// failed yet.
     fn reader(&mut self, name: &str) -> Result<Self::Reader, FileErr>
         requires { IsTrue writable }
         ensures told { IfOk result (λ r.
             IfTold (holds self.old) (Shows name.now (Self.Reader.holds r))) }
+        ensures untold { IfOk result (λ r. holds self.old ≡ None → Self.Reader.holds r ≡ None) }
         ensures fresh { IfOk result (λ r. Self.Reader.faults r ≡ 0) }
         ensures holds { holds self.new ≡ holds self.old }
         ensures reads { reads self.new ≡ reads self.old }

@@ -1,5 +1,5 @@
 -- What goes together: reads, and the inserts of one session.
-use Rattle.std.proofs.Common.{◌≡◌, ◌||◌, ◌&&◌, not, List, [], ◌∷◌, map, filter, Option, Some, None, Bool, true, false, cond, refl, ap, sym, ◌∙◌}
+use Rattle.std.proofs.Common.{◌≡◌, ◌<◌, ℕ, ◌||◌, ◌&&◌, not, List, [], ◌∷◌, map, filter, Option, Some, None, Bool, true, false, cond, refl, ap, sym, ◌∙◌}
 use Rattle.std.specs.Prelude.{option_map}
 use Rattle.std.specs.List.{AllByRecursion, flat_map}
 use Rattle.myi_locks.specs.declared.steps.StepKind.{StepKind}
@@ -10,8 +10,8 @@ use Rattle.myi_locks.specs.declared.steps.Round.{Round}
 use Rattle.myi_locks.specs.declared.steps.Round.TheVariants.{Finished, Alone, Together}
 use Rattle.myi_locks.specs.Steps.{is_insert, is_read, writes_rows}
 use Rattle.myi_locks.specs.Sessions.{Session, first, is_next, holds_any}
-use Rattle.myi_locks.specs.Rounds.{LockState, next_round, run_of, inserter, session_at, together}
-use Rattle.myi_locks.specs.Laws.{CanDo, IsLawful, HasOneWriter, ReadsOrInserts, InsertsAreConcurrent, goes_together}
+use Rattle.myi_locks.specs.Rounds.{LockState, next_round, run_of, reads, inserter, session_at, together}
+use Rattle.myi_locks.specs.Laws.{CanDo, Rising, IsLawful, HasOneWriter, ReadsOrInserts, InsertsAreConcurrent, IsRunOf, AreRising, IsInserter, HasOwnRuns, goes_together}
 use Rattle.myi_locks.proofs.FirstLemmas.{all_in, first_some}
 use Rattle.myi_locks.proofs.CaseLemmas.{by_case}
 use Rattle.myi_locks.proofs.HoldLemmas.{own_head, inserter_is, GoesAlone, GoesBeside, alone_inserts, beside, and_both}
@@ -28,14 +28,6 @@ reads_are test (u ∷ ss) = go (test u && is_next is_read u) (reads_are test ss)
     go : (b : Bool) → AreReads (read_steps test ss) → AreReads (flat_map (λ (run : Run). run.steps) (map (run_of is_read) (cond b (u ∷ filter (λ t. test t && is_next is_read t) ss) (filter (λ t. test t && is_next is_read t) ss))))
     go true ih = all_join _ (run_of is_read u).steps (read_steps test ss) (all_passes is_read u.left) ih
     go false ih = ih
-
--- the inserts of one session
-abbrev AreInsertsOf : Run → Type 0
-AreInsertsOf run = AllByRecursion (λ (x : Step). (is_insert x.kind ≡ true) × (x.session ≡ run.session)) run.steps
-
-abbrev IsInserter : Option Run → Type 0
-IsInserter None = Unit {0}
-IsInserter (Some run) = AreInsertsOf run
 
 -- what a round of kind Together is made of
 abbrev HasParts : Round → Type 0
@@ -131,3 +123,36 @@ inserts_by r holes (Together (Some run) readers) h a b =
 
 pub concurrent_inserts : (r : LockState) (holes : Bool) → IsLawful r.sessions → InsertsAreConcurrent r holes (next_round r holes)
 concurrent_inserts r holes ok = inserts_by r holes (next_round r holes) (parts r holes ok) (alone_inserts r holes ok) (beside r holes ok)
+
+-- ---- runs
+
+-- runs of reads are those of the sessions
+runs_own : (test : Session → Bool) (ss : List Session) → AllByRecursion (λ (s : Session). CanDo s.number s.held s.left) ss → AllByRecursion (IsRunOf is_read) (reads test ss)
+runs_own test [] can = tt
+runs_own test (u ∷ ss) can = go (test u && is_next is_read u) (runs_own test ss can.1)
+  where
+    go : (b : Bool) → AllByRecursion (IsRunOf is_read) (reads test ss) → AllByRecursion (IsRunOf is_read) (map (run_of is_read) (cond b (u ∷ filter (λ t. test t && is_next is_read t) ss) (filter (λ t. test t && is_next is_read t) ss)))
+    go true ih = (all_both (λ (x : Step). is_read x.kind ≡ true) (λ (x : Step). x.session ≡ u.number) (run_of is_read u).steps (all_passes is_read u.left) (run_own is_read u can.0), ih)
+    go false ih = ih
+
+runs_above : (n : ℕ) (test : Session → Bool) (ss : List Session) → AllByRecursion (λ (s : Session). n < s.number) ss → AllByRecursion (λ (run : Run). n < run.session) (reads test ss)
+runs_above n test [] above = tt
+runs_above n test (u ∷ ss) above = go (test u && is_next is_read u) (runs_above n test ss above.1)
+  where
+    go : (b : Bool) → AllByRecursion (λ (run : Run). n < run.session) (reads test ss) → AllByRecursion (λ (run : Run). n < run.session) (map (run_of is_read) (cond b (u ∷ filter (λ t. test t && is_next is_read t) ss) (filter (λ t. test t && is_next is_read t) ss)))
+    go true ih = (above.0, ih)
+    go false ih = ih
+
+runs_rise : (test : Session → Bool) (ss : List Session) → Rising ss → AreRising (reads test ss)
+runs_rise test [] rising = tt
+runs_rise test (u ∷ ss) rising = go (test u && is_next is_read u) (runs_rise test ss rising.1)
+  where
+    go : (b : Bool) → AreRising (reads test ss) → AreRising (map (run_of is_read) (cond b (u ∷ filter (λ t. test t && is_next is_read t) ss) (filter (λ t. test t && is_next is_read t) ss)))
+    go true ih = (runs_above u.number test ss rising.0, ih)
+    go false ih = ih
+
+pub own_runs : (r : LockState) (holes : Bool) → IsLawful r.sessions → HasOwnRuns (next_round r holes)
+own_runs r holes ok =
+    by_case HasOwnRuns r holes (λ e. tt) (λ x e. tt) (λ x e. tt) (λ x p e. tt)
+    (λ p e. (tt, runs_own (λ s. holds_any s.held) r.sessions ok.each, runs_rise (λ s. holds_any s.held) r.sessions ok.rising)) (λ x e. tt)
+    (λ p. (inserter_part r.sessions ok (first (is_next is_insert) r.sessions) refl, runs_own (λ s. true) r.sessions ok.each, runs_rise (λ s. true) r.sessions ok.rising))

@@ -2,9 +2,11 @@
 use Rattle.std.specs.Prelude.{◌≡◌, ℕ, ◌<◌, Bool, true, false, not, ◌&&◌, ◌||◌, List, [], ◌∷◌, length, ◌+◌, fold, Option, Some, None, Contains, ◌⊎◌}
 use Rattle.std.specs.List.{AllByRecursion, list_any}
 use Rattle.myi_locks.specs.declared.steps.LockKind.{LockKind}
+use Rattle.myi_locks.specs.declared.steps.StepKind.{StepKind}
 use Rattle.myi_locks.specs.declared.steps.Step.{Step}
+use Rattle.myi_locks.specs.declared.steps.Run.{Run}
 use Rattle.myi_locks.specs.declared.steps.Round.{Round}
-use Rattle.myi_locks.specs.declared.steps.Round.TheVariants.{Alone}
+use Rattle.myi_locks.specs.declared.steps.Round.TheVariants.{Finished, Alone, Together}
 use Rattle.myi_locks.specs.Steps.{lock_after, comes_before, writes_rows, is_insert, is_read}
 use Rattle.myi_locks.specs.Sessions.{Session, head, holds_any, holds_write, holds_read, holds_local, others_hold}
 use Rattle.myi_locks.specs.Rounds.{LockState, next_round, may_be_concurrent}
@@ -94,6 +96,29 @@ InsertsAreConcurrent r holes round =
 abbrev pub AreReadsOrNone : List Step → Type 0
 AreReadsOrNone xs =
     AllByRecursion (λ x. is_read x.kind ≡ true) xs ⊎ AllByRecursion (λ x. is_read x.kind ≡ false) xs
+
+-- ---- runs
+
+-- the steps of a run are of such kinds, and those of its session
+abbrev pub IsRunOf : (StepKind → Bool) → Run → Type 0
+IsRunOf test run = AllByRecursion (λ x. (test x.kind ≡ true) × (x.session ≡ run.session)) run.steps
+
+-- the sessions of runs rise
+abbrev pub AreRising : List Run → Type 0
+AreRising [] = Unit {0}
+AreRising (run ∷ runs) = AllByRecursion (λ q. run.session < q.session) runs × AreRising runs
+
+abbrev pub IsInserter : Option Run → Type 0
+IsInserter None = Unit {0}
+IsInserter (Some run) = IsRunOf is_insert run
+
+-- In a round of kind Together the run beside the readers is one of inserts, and those of the readers are of reads, each of a session of
+-- its own, in the order of these.
+abbrev pub HasOwnRuns : Round → Type 0
+HasOwnRuns Finished = Unit {0}
+HasOwnRuns (Alone x) = Unit {0}
+HasOwnRuns (Together inserter readers) =
+    IsInserter inserter × AllByRecursion (IsRunOf is_read) readers.runs × AreRising readers.runs
 
 -- ---- locks
 

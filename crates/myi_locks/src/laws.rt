@@ -12,6 +12,7 @@ ghost use Rattle.myi_locks.specs.Rounds.{LockState, next_round, has_steps};
 ghost use Rattle.myi_locks.specs.Done.{steps_of, advanced, held};
 ghost use Rattle.myi_locks.specs.Script.{opening, own, IsScript};
 ghost use Rattle.myi_locks.specs.Laws.{EachRound, HoldsStep, HasOneWriter, ReadsOrInserts};
+ghost use Rattle.myi_locks.specs.Laws.{HasOwnRuns};
 ghost use Rattle.myi_locks.specs.Laws.{AreReadsOrNone, InsertsAreConcurrent};
 ghost use Rattle.myi_locks.specs.Laws.{IsExclusive, IsRefused, IsLawful, IsFirst};
 ghost use Rattle.myi_locks.specs.Laws.{steps_left, after_rounds, lock_left};
@@ -38,10 +39,11 @@ pub fn rounds_end()
 {}
 
 /// In a round at most one session changes the table, and a round of kind Together is of reads and
-/// of inserts alone.
+/// of inserts alone: at most one run of inserts, and runs of reads, each of a session of its own.
 pub fn one_session_changes()
     ensures one { EachRound (λ r holes round. HasOneWriter round) }
     ensures kinds { EachRound (λ r holes round. ReadsOrInserts round) }
+    ensures runs { EachRound (λ r holes round. HasOwnRuns round) }
 {}
 
 /// An insert runs in a round of kind Together exactly where it may be concurrent and its session

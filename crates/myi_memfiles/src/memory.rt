@@ -229,7 +229,7 @@ impl Files for MemFiles {
     type Reader = MemReader;
 
     ghost use Rattle.std.specs.Prelude.{◌≡◌, ◌≤◌, ◌+◌, ◌-◌, ◌^◌};
-    ghost use Rattle.std.specs.Prelude.{true, length, min, OnOk, OnErr, IfOk, IfErr, Some};
+    ghost use Rattle.std.specs.Prelude.{true, length, min, OnOk, OnErr, IfOk, IfErr, Some, None};
     ghost use Rattle.myi_base.specs.Holding.{Gives, Fills, Shows, Writes};
     ghost use Rattle.myi_base.specs.Holding.{WritesPart, Cuts, CutsOrKeeps, Renames};
     ghost use Rattle.myi_base.specs.Holding.{Removes, Keeps, Measures, blocks};
@@ -351,6 +351,8 @@ impl Files for MemFiles {
     fn reader(&mut self, name: &str) -> Result<MemReader, FileErr>
         ensures told { IfOk result (λ r.
             IfMemTold self.old (Shows name.now (Some (reader_bytes r)))) }
+        ensures untold { IfOk result (λ r. Some (held self.old.files) ≡ None
+            → Some (reader_bytes r) ≡ None) }
         ensures holds { MemSame self.old self.new }
         ensures reads { files_reads self.new ≡ files_reads self.old }
         ensures cause { HasCause Failed (files_faults self.old) (files_faults self.new) result }

@@ -1,5 +1,5 @@
 -- Parts of a sharing after calls, and over files that tell the same of its table.
-use Rattle.std.proofs.Common.{◌≡◌, ℕ, List, [], ◌∷◌, ◌++◌, Option, Some, sym, subst, ◌∙◌}
+use Rattle.std.proofs.Common.{◌≡◌, ℕ, List, [], ◌∷◌, ◌++◌, Option, Some, None, refl, sym, subst, ◌∙◌}
 use Rattle.myi_base.specs.Holding.{Holding}
 use Rattle.myi_defs.specs.declared.types.Defs.{Defs}
 use Rattle.myi_pack.specs.Packed.{Values}
@@ -31,6 +31,7 @@ inserter_on of told objects i j rows more is same ready still can = record {
   number = same.number ∙ is.number;
   stands = stands_on told objects of.table i.rows j.rows is.stands still;
   can = can;
+  untold = is.untold;
 }
 
 abbrev pub FoldsMore : Type 0
@@ -54,13 +55,16 @@ read_on of told objects r q is same ready still = record {
   tail = same.tail ∙ is.tail;
   number = same.number ∙ is.number;
   stands = stands_on told objects of.table r.rows q.rows is.stands still;
+  untold = is.untold;
 }
 
-pub objects_kept : (of : Sharing) (told objects : Option Holding) (m : Holding) (s : TableState) (r : TableReader) → IsReaderOf of told objects r → told ≡ Some m → HoldState of.table s m → rows.IsKept objects r.rows
-objects_kept of told objects m s r is held hold = λ n shown.
-    let h = is.stands m held s hold in
+pub objects_kept : (of : Sharing) (told objects : Option Holding) (r : TableReader) → of.table.broken ≡ None → IsKept told of.table → IsReaderOf of told objects r → rows.IsKept objects r.rows
+objects_kept of None objects r whole kept is = λ n shown. absurd (let bad : None ≡ Some n = sym (is.untold refl) ∙ shown in cc)
+objects_kept of (Some m) objects r whole kept is = λ n shown.
+    let s = kept whole m refl in
+    let h = is.stands m refl s.0 s.1 in
     let same : h.0 ≡ n = (let e : Some h.0 ≡ Some n = sym h.1 ∙ shown in cc) in
-    (h.2, s, subst (HoldTable r.rows h.2 s) same h.3)
+    (h.2, s.0, subst (HoldTable r.rows h.2 s.0) same h.3)
 
 -- ---- over files that tell the same
 
@@ -69,7 +73,7 @@ Rests = (t : OpenTable) (s : TableState) (m n : Holding) → n t.rows.rows.file.
 
 if_holds : Rests → (table : OpenTable) (told next : Option Holding) (P : TableState → Type 0) → TellsSame table told next → IfHolds told table (λ m s. P s) → IfHolds next table (λ m s. P s)
 if_holds law table told next P same all = λ n held s hold.
-    let t = same n held in
+    let t = same.tells n held in
     all t.0 t.1 s (law table s n t.0 (sym t.2) (sym t.3) hold)
 
 pub inserter_there : Rests → (of : Sharing) (told next objects : Option Holding) (i : TableInserter) (rows : List Values) → TellsSame of.table told next → IsInserterOf of told objects i rows → IsInserterOf of next objects i rows
@@ -80,6 +84,7 @@ inserter_there law of told next objects i rows same is = record {
   number = is.number;
   stands = if_holds law of.table told next (λ (s : TableState). (n : Holding) × (objects ≡ Some n) × (own : ℕ → ℕ) × HoldTable i.rows own s n) same is.stands;
   can = if_holds law of.table told next (λ (s : TableState). CanFold (defs_in of.table) s rows) same is.can;
+  untold = λ none. is.untold (same.nothing none);
 }
 
 pub reader_there : Rests → (of : Sharing) (told next objects : Option Holding) (r : TableReader) → TellsSame of.table told next → IsReaderOf of told objects r → IsReaderOf of next objects r
@@ -89,10 +94,11 @@ reader_there law of told next objects r same is = record {
   tail = is.tail;
   number = is.number;
   stands = if_holds law of.table told next (λ (s : TableState). (n : Holding) × (objects ≡ Some n) × (own : ℕ → ℕ) × HoldTable r.rows own s n) same is.stands;
+  untold = λ none. is.untold (same.nothing none);
 }
 
 pub kept_there : Rests → (of : Sharing) (told next : Option Holding) → TellsSame of.table told next → IsKept told of.table → IsKept next of.table
 kept_there law of told next same kept = λ whole n held.
-    let t = same n held in
+    let t = same.tells n held in
     let h = kept whole t.0 t.1 in
     (h.0, law of.table h.0 t.0 n t.2 t.3 h.1)

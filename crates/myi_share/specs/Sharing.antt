@@ -25,7 +25,8 @@ pub record Sharing : Type 0 where
 abbrev pub StandsBeside : Option Holding → OpenTable → Option Holding → KeyedRows → Type 0
 StandsBeside told table objects rows = IfHolds told table (λ m s. (n : Holding) × (objects ≡ Some n) × (own : ℕ → ℕ) × HoldTable rows own s n)
 
--- It is an inserter of the sharing, and these are the rows that it put: each was accepted behind those before it.
+-- It is an inserter of the sharing, and these are the rows that it put: each was accepted behind those before it. Where the files tell
+-- nothing, its reader objects tell nothing.
 pub record IsInserterOf (of : Sharing) (told objects : Option Holding) (i : TableInserter) (rows : List Values) : Type 0 where
   pub ready : IsInserter i rows
   pub defs : i.defs ≡ defs_in of.table
@@ -33,14 +34,16 @@ pub record IsInserterOf (of : Sharing) (told objects : Option Holding) (i : Tabl
   pub number : i.number ≡ of.number
   pub stands : StandsBeside told of.table objects i.rows
   pub can : IfHolds told of.table (λ m s. CanFold (defs_in of.table) s rows)
+  pub untold : told ≡ None → objects ≡ None
 
--- it is a reader of the sharing
+-- it is a reader of the sharing; where the files tell nothing, its reader objects tell nothing
 pub record IsReaderOf (of : Sharing) (told objects : Option Holding) (r : TableReader) : Type 0 where
   pub ready : IsReader r
   pub defs : r.defs ≡ defs_in of.table
   pub tail : r.seat.tail ≡ of.tail
   pub number : r.number ≡ of.number
   pub stands : StandsBeside told of.table objects r.rows
+  pub untold : told ≡ None → objects ≡ None
 
 -- the sharing that an inserter and the rest are of
 abbrev pub sharing_of : OpenTable → TableInserter → Sharing
@@ -55,7 +58,8 @@ pub record ArePartsOf {R : Type 0} (shows : R → Option (List ℕ)) (of : Shari
   pub inserter : IsInserterOf of told (told_by shows s.inserter.files) s.inserter.table rows
   pub readers : All (λ r. IsReaderOf of told (told_by shows r.files) r.table) s.readers.items
 
--- other files, or the same at another time, tell of the two files of a table what these tell
-abbrev pub TellsSame : OpenTable → Option Holding → Option Holding → Type 0
-TellsSame table told next = IfTold next (λ n. (m : Holding) × (told ≡ Some m)
-    × (n table.rows.rows.file.name ≡ m table.rows.rows.file.name) × (n table.rows.trees.cache.name ≡ m table.rows.trees.cache.name))
+-- Other files, or the same at another time, tell of the two files of a table what these tell; and they tell nothing where these do not.
+pub record TellsSame (table : OpenTable) (told next : Option Holding) : Type 0 where
+  pub tells : IfTold next (λ n. (m : Holding) × (told ≡ Some m)
+      × (n table.rows.rows.file.name ≡ m table.rows.rows.file.name) × (n table.rows.trees.cache.name ≡ m table.rows.trees.cache.name))
+  pub nothing : next ≡ None → told ≡ None

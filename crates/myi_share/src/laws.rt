@@ -1,11 +1,9 @@
 //! A law over the parts of a sharing. It is the contract of a function that does nothing, so that it is proved with the crate
 //! and stands for the crates above.
-ghost use Rattle.std.specs.Prelude.{◌≡◌, ◌∷◌, ◌++◌, ℕ, List, [], Option, Some};
+ghost use Rattle.std.specs.Prelude.{◌≡◌, ◌∷◌, ◌++◌, ℕ, List, [], Option, None};
 ghost use Rattle.myi_base.specs.Holding.{Holding};
 ghost use Rattle.myi_pack.specs.Packed.{Values};
-ghost use Rattle.myi_state.specs.State.{TableState};
 ghost use Rattle.myi_keyedrows.specs.KeyedRows.{HoldTable, IsKept, IfHold};
-ghost use Rattle.myi_table.specs.Table.{HoldState};
 ghost use Rattle.myi_table.specs.Table as table;
 ghost use Rattle.myi_readers.specs.declared.reader.TableReader.{TableReader};
 ghost use Rattle.myi_readers.specs.Reader.{IsReader, IsSameReader};
@@ -16,8 +14,8 @@ ghost use Rattle.myi_share.specs.Sharing.{Sharing, IsInserterOf, IsReaderOf, Tel
 use myi_inserter::put_rows_can_be_folded;
 use myi_table::tables_rest_on_their_files;
 
-/// What the calls of an inserter and of readers tell is enough: after each they are of the same sharing. The files of other
-/// names may change meanwhile.
+/// What the calls of an inserter and of readers tell is enough: after each they are of the same sharing, and a reader is one
+/// that its next call may be made of (`kept`). The files of other names may change meanwhile.
 pub fn calls_keep_parts()
     ensures inserted { (of : Sharing) (told objects : Option Holding) (i j : TableInserter)
         (rows : List Values) (row : Values) (at : ℕ) → IsInserterOf of told objects i rows
@@ -34,8 +32,8 @@ pub fn calls_keep_parts()
         → IsReaderOf of told objects r → IsSameReader r q → IsReader q
         → IfHold objects r.rows (λ m own base. HoldTable q.rows own base m)
         → IsReaderOf of told objects q }
-    ensures kept { (of : Sharing) (told objects : Option Holding) (m : Holding) (s : TableState)
-        (r : TableReader) → IsReaderOf of told objects r → told ≡ Some m → HoldState of.table s m
+    ensures kept { (of : Sharing) (told objects : Option Holding) (r : TableReader)
+        → of.table.broken ≡ None → table.IsKept told of.table → IsReaderOf of told objects r
         → IsKept objects r.rows }
     ensures inserter { (of : Sharing) (told next objects : Option Holding) (i : TableInserter)
         (rows : List Values) → TellsSame of.table told next → IsInserterOf of told objects i rows

@@ -1,5 +1,5 @@
 //! The parts of a sharing, each with reader objects of its own.
-ghost use Rattle.std.specs.Prelude.{◌≡◌, ◌+◌, ◌^◌, ◌<◌, [], All, IfOk, IsTrue, length, string_bytes, vec_len};
+ghost use Rattle.std.specs.Prelude.{◌≡◌, ◌+◌, ◌^◌, ◌<◌, [], None, All, IfOk, IsTrue, length, string_bytes, vec_len};
 ghost use Rattle.myi_base.specs.Holding.{IfTold};
 ghost use Rattle.myi_base.specs.Causes.{HasCause};
 ghost use Rattle.myi_adapters.specs.TwoReaders.{told_by};
@@ -33,6 +33,7 @@ fn open<F: Files>(files: &mut F, name: String) -> Result<Opened<F::Reader>, Shar
     ensures name { IfOk result (λ o. string_bytes o.name ≡ string_bytes name) }
     ensures told { IfOk result (λ o. IfTold (F.holds files.old)
         (IsOpenedAs (string_bytes name) o.length (F.Reader.holds o.reader))) }
+    ensures untold { IfOk result (λ o. F.holds files.old ≡ None → F.Reader.holds o.reader ≡ None) }
     ensures holds { F.holds files.new ≡ F.holds files.old }
     ensures cause { HasCause File (F.faults files.old) (F.faults files.new) result }
 {
@@ -54,6 +55,8 @@ fn open_files<F: Files>(
     requires writable { IsTrue F.writable }
     ensures told { IfOk result (λ o. IfTold (F.holds files.old)
         (AreOpened table.now (told_by F.Reader.holds o))) }
+    ensures untold { IfOk result (λ o. F.holds files.old ≡ None
+        → told_by F.Reader.holds o ≡ None) }
     ensures holds { F.holds files.new ≡ F.holds files.old }
     ensures cause { HasCause File (F.faults files.old) (F.faults files.new) result }
 {

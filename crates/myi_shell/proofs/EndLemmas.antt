@@ -54,9 +54,12 @@ on_ok P Q (Err e) f p = tt
 told_ok : (P : Type 0) (result mine : Result (Unit {0}) ShellFault) → result ≡ mine → OnOk mine P → OnOk result P
 told_ok P result mine is h = subst (λ r. OnOk r P) (sym is) h
 
+pub at_ok : {T E P : Type 0} (result : Result T E) → P → OnOk result P
+at_ok (Ok done) p = p
+at_ok (Err e) p = tt
+
 always : {T E : Type 0} (result : Result T E) → OnOk result (Unit {0})
-always (Ok done) = tt
-always (Err e) = tt
+always result = at_ok result tt
 
 -- ---- the text
 

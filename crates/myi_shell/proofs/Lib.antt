@@ -10,6 +10,8 @@ mod ListTouches
 mod ListReads
 mod ListCarries
 mod StatementLemmas
+mod LikeLemmas
+mod IdleLemmas
 mod ReadLemmas
 mod KindLemmas
 mod DoneLemmas

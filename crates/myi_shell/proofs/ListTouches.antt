@@ -40,7 +40,7 @@ inside (u ∷ ts) zero t is = omega arith
 inside (u ∷ ts) (suc i) t is = let more = inside ts i t is in omega (arith, more)
 
 -- the files of the other tables stay
-but_kept : (told next : Option Holding) (g : OpenMerge) (index : ℕ) (before : OpenTable) → IsMerge g → slice_get g.tables index ≡ Some before → table.ChangesItsOwn told next before → Told told next (KeepBut index g.tables)
+pub but_kept : (told next : Option Holding) (g : OpenMerge) (index : ℕ) (before : OpenTable) → IsMerge g → slice_get g.tables index ≡ Some before → table.ChangesItsOwn told next before → Told told next (KeepBut index g.tables)
 but_kept told next g index before is stood others =
     told_more told next (KeepsOthers before.name) (KeepBut index g.tables) others (λ m n held k. keep_but g.tables index before m n is.named (inside g.tables index before stood)
     (subst (λ (z : OpenTable). KeepsOthers z.name m n) (sym (got g.tables index before before stood)) k))

@@ -23,7 +23,7 @@ use Rattle.myi_history.specs.Bounds.{SessionNumber, number_at, taken_by, is_stat
 use Rattle.myi_history.specs.OneThread.{numbers_now}
 use Rattle.myi_history.specs.RoundTexts.{LineText, texts_of, joined, in_line_order, HaveOwnLines}
 use Rattle.myi_history.specs.Running.{HasRun, IsNext, taken_in, counted_in, locks_after, table_after, number_after, next_after, seen_number, seen_state, run_text}
-use Rattle.myi_history.proofs.CallerLemmas.{follows_history, goes_on, locks_more, table_more, number_more, taken_more, counted_more, text_more, ends_within, ends_text, ends_table, stops, read_now, texts_in_order, answered_once}
+use Rattle.myi_history.proofs.CallerLemmas.{follows_history, next_in_turn, goes_on, locks_more, table_more, number_more, taken_more, counted_more, text_more, ends_within, ends_text, ends_table, stops, read_now, texts_in_order, answered_once}
 use Rattle.myi_shell.specs.declared.target.Target.{Target}
 use Rattle.myi_shell.specs.Targets as on
 use Rattle.myi_shell.specs.Targets.{Standing, AreNotBelow, taking, defs_in, script_on, HoldsThen, IsCarried, IsTouchedBy}
@@ -109,7 +109,8 @@ pub next_run : (o : Opening) (front : List ScriptRound) (c : List Numbers) (told
     → HasRun o (front ++ next_after o front ∷ []) (c ++ numbers_of o front k ∷ [])
 next_run o front c told p t k may w left is few =
     let last = counted_in no_numbers.counters front c in
-    let on : IsNext o front c (numbers_of o front k) = record { reads = refl; counted = λ stats. rises last k (subst (λ n. AreNotBelow last n) (sym is) w.counted) few } in
+    let on : IsNext o front c (numbers_of o front k) =
+    next_in_turn o front c (numbers_of o front k) w.run (record { reads = refl; counted = λ stats. rises last k (subst (λ n. AreNotBelow last n) (sym is) w.counted) few }) in
     goes_on o front c (numbers_of o front k) may w.run (subst (λ (z : LockState). has_steps z ≡ true) w.locks left) on
 
 -- no line is answered twice

@@ -4,6 +4,8 @@
 pub mod Running
 -- damage, and the line on it
 pub mod Damage
+-- what is left of the tables that take no rows
+pub mod Idle
 -- ---- what serves the contracts of the crate's own calls
 
 -- what a script is run on

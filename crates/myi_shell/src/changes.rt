@@ -2,10 +2,11 @@
 ghost use Rattle.std.specs.Prelude.{◌≡◌, ◌++◌, [], ◌∷◌, true, Some, None, Result};
 ghost use Rattle.std.specs.Prelude.{IfOk, IfErr, OnOk, IsTrue};
 ghost use Rattle.myi_base.specs.Causes.{HasCause};
+ghost use Rattle.myi_base.specs.Holding.{Told};
 ghost use Rattle.myi_pack.specs.Spelling.{fits};
 ghost use Rattle.myi_search.specs.Counting.{CountsOn};
 ghost use Rattle.myi_state.specs.Changes as change;
-ghost use Rattle.myi_table.specs.Table.{defs_in, IsKept, IsSame, IfHolds, ChangesItsOwn};
+ghost use Rattle.myi_table.specs.Table.{defs_in, IsKept, IsSame, IfHolds, KeepsRows, ChangesItsOwn};
 ghost use Rattle.myi_shell.specs.declared.fault.ShellFault.TheVariants.{File};
 ghost use Rattle.myi_history.specs.History.{table_change};
 ghost use Rattle.myi_history.specs.Lines.{BringsRow};
@@ -166,6 +167,8 @@ pub(crate) fn change<F: Files>(
         table.new reply)) }
     ensures touched { IfOk result (λ reply. IsTouchedBy (F.holds files.old) (F.holds files.new)
         table.old table.new 0 (count_made reply)) }
+    ensures idle { table_change together (Some act.now) ≡ None
+        → Told (F.holds files.old) (F.holds files.new) (KeepsRows table.old.name) }
     ensures carried { IsCarried (F.holds files.old) (F.holds files.new) table.old table.new }
     ensures whole { OnOk result (table.new.broken ≡ None) }
     ensures refused { IfErr result (NeverDamaged (F.holds files.old) table.old) }

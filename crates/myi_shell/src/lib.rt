@@ -16,6 +16,7 @@
 //! - `reading.rt`, `changes.rt`: statements that read and that change.
 //! - `statements.rt`: the statement of a line.
 //! - `Target` (`target.rt`): a table or a list, for what is the same on both.
+//! - `laws.rt`: scripts of tables that are alike.
 //!
 //! ```
 //! let script = myi_script::parse_script(alloc, text, table.defs(), false)?;
@@ -26,6 +27,7 @@
 mod changes;
 mod fault;
 mod gate;
+mod laws;
 mod reading;
 mod run;
 mod script_run;
@@ -34,5 +36,6 @@ mod target;
 
 pub use fault::ShellFault;
 pub use gate::{Gate, OpenGate};
+pub use laws::scripts_run_on_like_tables;
 pub use run::run_script;
 pub use target::Target;

@@ -1,11 +1,12 @@
 //! `run_script`: a script from its first round to its last.
 ghost use Rattle.std.specs.Prelude.{◌≡◌, ◌≤◌, None, OnOk, IfOk, IfErr, IsTrue};
-ghost use Rattle.myi_base.specs.Holding.{IfTold};
+ghost use Rattle.myi_base.specs.Holding.{IfTold, Told};
 ghost use Rattle.myi_base.specs.Causes.{HasCause};
 ghost use Rattle.myi_locks.specs.Script.{IsScript};
 ghost use Rattle.myi_history.specs.Lines.{MayRun, script_steps};
 ghost use Rattle.myi_shell.specs.Targets.{defs_in, script_on, IsKept, IsWhole, ChangesItsOwn};
 ghost use Rattle.myi_shell.specs.Targets.{IfHolds, IsCarried};
+ghost use Rattle.myi_shell.specs.Idle.{LeavesIdle};
 ghost use Rattle.myi_shell.specs.Damage.{IsPrintedDamage};
 ghost use Rattle.myi_shell.specs.Stepping.{begun, state_of};
 ghost use Rattle.myi_shell.specs.Running.{opening_on, standing, HasEnded, IsPrinted};
@@ -29,12 +30,14 @@ use std::alloc::{AllocError, Global};
 /// numbers. What is printed is the text of the script, with numbers within their bounds, and the
 /// files are a clean pair that stands for the table that the history leads to; with no accepted
 /// change the data file stays byte for byte. So it is with the table of a list that takes the rows,
-/// and the other tables stay as they were. A run that is cut off has printed a first part of such a
-/// text. Where the output failed, the table is closed too, behind the round whose lines were being
-/// printed. Where closing a table fails that no fault broke, that is the answer, whatever happened
-/// before. `gate` is called before and after each step. Over files that tell nothing of what they
-/// hold a step may meet damage: the lines of its round so far are printed then, one of which says
-/// so, and nothing follows.
+/// and the other tables stay as they were. Whatever the answer, the data file of each table that
+/// takes no rows of the script stays byte for byte: of a list that of each other table, and that of
+/// every table where no line asks for a change. A run that is cut off has printed a first part of
+/// such a text. Where the output failed, the table is closed too, behind the round whose lines were
+/// being printed. Where closing a table fails that no fault broke, that is the answer, whatever
+/// happened before. `gate` is called before and after each step. Over files that tell nothing of
+/// what they hold a step may meet damage: the lines of its round so far are printed then, one of
+/// which says so, and nothing follows.
 pub fn run_script<F: Files, O: Sink, G: Gate>(
     alloc: Global,
     target: Target,
@@ -64,6 +67,8 @@ pub fn run_script<F: Files, O: Sink, G: Gate>(
         (O.written out.old) (O.written out.new) m))) }
     ensures refused { IfErr result (IsStopped (F.holds files.old)) }
     ensures damaged { IfErr result (IsPrintedDamage (O.written out.old) (O.written out.new)) }
+    ensures idle { Told (F.holds files.old) (F.holds files.new)
+        (LeavesIdle target script.now.lines) }
     ensures others { ChangesItsOwn (F.holds files.old) (F.holds files.new) target }
     ensures file { HasCause File (F.faults files.old) (F.faults files.new) result }
     ensures sink { HasCause Sink (O.faults out.old) (O.faults out.new) result }
@@ -141,6 +146,8 @@ fn run<F: Files, O: Sink, G: Gate>(
         StandsBehind (opening_on (defs_in target.old) (script_on target.old lines.now) setting s)
         (standing (O.written out.old) (F.holds files.old) target.old)
         (F.holds files.new) target.new (O.written out.new))) }
+    ensures idle { Told (F.holds files.old) (F.holds files.new)
+        (LeavesIdle target.old lines.now) }
     ensures carried { IsCarried (F.holds files.old) (F.holds files.new) target.old target.new }
     ensures whole { OnOk result (IsWhole target.new) }
     ensures refused { IfErr result (IsStopped (F.holds files.old)) }

@@ -59,9 +59,10 @@ impl ScriptRun {
     ghost use Rattle.myi_shell.specs.Targets.{defs_in, script_on, IsKept, IsWhole};
     ghost use Rattle.myi_shell.specs.Targets.{IfHolds, StillHolds};
     ghost use Rattle.myi_shell.specs.declared.fault.ShellFault.TheVariants.{File, Memory, Sink};
-    ghost use Rattle.myi_base.specs.Holding.{IfTold};
+    ghost use Rattle.myi_base.specs.Holding.{IfTold, Told};
     ghost use Rattle.myi_base.specs.Causes.{Rose};
     ghost use Rattle.myi_shell.specs.Targets.{IsCarried, IsUntouched, IsTouchedBy};
+    ghost use Rattle.myi_shell.specs.Idle.{LeavesIdle};
     ghost use Rattle.myi_shell.specs.Damage.{IsDamage, IsNoted, IsToldFor};
     ghost use Rattle.myi_shell.specs.Damage.{IsPrintedDamage, Extends};
     ghost use Rattle.myi_shell.specs.Changing.{NothingDamaged, count_by};
@@ -253,6 +254,8 @@ impl ScriptRun {
             (F.holds files.new) target.new (state_of self.new))) }
         ensures only { self.new
             ≡ record self.old { number = self.new.number; texts = self.new.texts } }
+        ensures idle { Told (F.holds files.old) (F.holds files.new)
+            (LeavesIdle target.old lines.now) }
         ensures carried { IsCarried (F.holds files.old) (F.holds files.new) target.old target.new }
         ensures touched { OnOk result (IsTouchedBy (F.holds files.old) (F.holds files.new)
             target.old target.new self.old.number self.new.number) }
@@ -315,6 +318,8 @@ impl ScriptRun {
             (F.holds files.new) target.new (state_of self.new))) }
         ensures only { self.new
             ≡ record self.old { number = self.new.number; texts = self.new.texts } }
+        ensures idle { Told (F.holds files.old) (F.holds files.new)
+            (LeavesIdle target.old lines.now) }
         ensures carried { IsCarried (F.holds files.old) (F.holds files.new) target.old target.new }
         ensures touched { OnOk result (IsTouchedBy (F.holds files.old) (F.holds files.new)
             target.old target.new self.old.number self.new.number) }
@@ -355,6 +360,8 @@ impl ScriptRun {
         ensures taken { OnOk result ((n : ℕ) → (state_of self.new).taken n
             ≡ taken_behind (Alone step.now) (taken_now (state_of self.old) target.old)
             (state_of self.old).taken n) }
+        ensures idle { Told (F.holds files.old) (F.holds files.new)
+            (LeavesIdle target.old lines.now) }
         ensures carried { IsCarried (F.holds files.old) (F.holds files.new) target.old target.new }
         ensures touched { OnOk result (IsTouchedBy (F.holds files.old) (F.holds files.new)
             target.old target.new self.old.number self.new.number) }
@@ -446,6 +453,8 @@ impl ScriptRun {
         ensures taken { OnOk result ((n : ℕ) → (state_of self.new).taken n
             ≡ taken_behind round.now (taken_now (state_of self.old) target.old)
             (state_of self.old).taken n) }
+        ensures idle { Told (F.holds files.old) (F.holds files.new)
+            (LeavesIdle target.old lines.now) }
         ensures carried { IsCarried (F.holds files.old) (F.holds files.new) target.old target.new }
         ensures touched { OnOk result (IsTouchedBy (F.holds files.old) (F.holds files.new)
             target.old target.new self.old.number self.new.number) }
@@ -507,6 +516,8 @@ impl ScriptRun {
         ensures lawful { OnOk result (IsLawful self.new.locks.sessions) }
         ensures fewer { OnOk result
             (steps_left self.new.locks.sessions < steps_left self.old.locks.sessions) }
+        ensures idle { Told (F.holds files.old) (F.holds files.new)
+            (LeavesIdle target.old lines.now) }
         ensures carried { IsCarried (F.holds files.old) (F.holds files.new) target.old target.new }
         ensures whole { OnOk result (IsWhole target.new) }
         ensures refused { IfErr result (IsStopped (F.holds files.old)) }
@@ -575,6 +586,8 @@ impl ScriptRun {
         ensures lawful { OnOk result (IsLawful self.new.locks.sessions) }
         ensures fewer { IfOk result (λ more. more ≡ true
             → steps_left self.new.locks.sessions < steps_left self.old.locks.sessions) }
+        ensures idle { Told (F.holds files.old) (F.holds files.new)
+            (LeavesIdle target.old lines.now) }
         ensures carried { IsCarried (F.holds files.old) (F.holds files.new) target.old target.new }
         ensures whole { OnOk result (IsWhole target.new) }
         ensures refused { IfErr result (IsStopped (F.holds files.old)) }

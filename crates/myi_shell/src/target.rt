@@ -6,6 +6,7 @@ ghost use Rattle.myi_shell.specs.declared.fault.ShellFault.TheVariants.{File};
 ghost use Rattle.myi_shell.specs.declared.target.Target.TheVariants.{One, Many};
 ghost use Rattle.myi_shell.specs.Targets.{defs_in, IsKept, IsWhole, IfHolds, IsCarried};
 ghost use Rattle.myi_shell.specs.Targets.{taking, IsTouchedBy, IsShut, KeepsRows, ChangesItsOwn};
+ghost use Rattle.myi_shell.specs.Idle.{LeavesRow, LeavesUnasked};
 ghost use Rattle.myi_base.specs.Holding.{IfTold, Told};
 ghost use Rattle.myi_history.specs.Lines.{BringsRow};
 ghost use Rattle.myi_table.specs.declared.fault.ChangeFault.TheVariants as change;
@@ -96,6 +97,7 @@ fn insert_in<F: Files>(merge: &mut Merge, files: &mut F, row: &Row) -> Result<Ch
         IsInsertedBy (Many merge.old) s row.now (F.holds files.new) (Many merge.new) c)) }
     ensures touched { IfOk result (λ c. IsTouchedBy (F.holds files.old) (F.holds files.new)
         (Many merge.old) (Many merge.new) 0 (count_by c.made)) }
+    ensures idle { Told (F.holds files.old) (F.holds files.new) (LeavesRow (Many merge.old)) }
     ensures carried { IsCarried (F.holds files.old) (F.holds files.new)
         (Many merge.old) (Many merge.new) }
     ensures whole { OnOk result (IsWhole (Many merge.new)) }
@@ -124,6 +126,8 @@ fn change_table<F: Files>(
         (F.holds files.new) (One table.new) c)) }
     ensures touched { IfOk result (λ c. IsTouchedBy (F.holds files.old) (F.holds files.new)
         (One table.old) (One table.new) 0 (count_changed c)) }
+    ensures idle { Told (F.holds files.old) (F.holds files.new)
+        (LeavesUnasked (One table.old) together act.now) }
     ensures carried { IsCarried (F.holds files.old) (F.holds files.new)
         (One table.old) (One table.new) }
     ensures whole { OnOk result (IsWhole (One table.new)) }
@@ -152,6 +156,8 @@ fn change_list<F: Files>(
         (F.holds files.new) (Many merge.new) c)) }
     ensures touched { IfOk result (λ c. IsTouchedBy (F.holds files.old) (F.holds files.new)
         (Many merge.old) (Many merge.new) 0 (count_changed c)) }
+    ensures idle { Told (F.holds files.old) (F.holds files.new)
+        (LeavesUnasked (Many merge.old) together act.now) }
     ensures carried { IsCarried (F.holds files.old) (F.holds files.new)
         (Many merge.old) (Many merge.new) }
     ensures whole { OnOk result (IsWhole (Many merge.new)) }
@@ -171,8 +177,7 @@ fn close_table<F: Files>(table: Table, files: &mut F) -> Result<(), ChangeFault>
     requires kept { IsKept (F.holds files.old) (One table) }
     ensures closed { OnOk result (IfHolds (F.holds files.old) (One table) (λ m s.
         IfTold (F.holds files.new) (IsShut (One table) s))) }
-    ensures rows { OnOk result (Told (F.holds files.old) (F.holds files.new)
-        (KeepsRows (One table))) }
+    ensures rows { Told (F.holds files.old) (F.holds files.new) (KeepsRows (One table)) }
     ensures others { ChangesItsOwn (F.holds files.old) (F.holds files.new) (One table) }
     ensures cause { HasCause change.File (F.faults files.old) (F.faults files.new) result }
 {
@@ -185,8 +190,7 @@ fn close_list<F: Files>(merge: Merge, files: &mut F) -> Result<(), ChangeFault>
     requires kept { IsKept (F.holds files.old) (Many merge) }
     ensures closed { OnOk result (IfHolds (F.holds files.old) (Many merge) (λ m s.
         IfTold (F.holds files.new) (IsShut (Many merge) s))) }
-    ensures rows { OnOk result (Told (F.holds files.old) (F.holds files.new)
-        (KeepsRows (Many merge))) }
+    ensures rows { Told (F.holds files.old) (F.holds files.new) (KeepsRows (Many merge)) }
     ensures others { ChangesItsOwn (F.holds files.old) (F.holds files.new) (Many merge) }
     ensures cause { HasCause change.File (F.faults files.old) (F.faults files.new) result }
 {
@@ -211,6 +215,7 @@ impl Target {
     ghost use Rattle.myi_shell.specs.Targets.{taking, defs_in, counted_in, IsKept, IsWhole, IsShut};
     ghost use Rattle.myi_shell.specs.Targets.{IfHolds, StillHolds, IsCarried, IsUntouched};
     ghost use Rattle.myi_shell.specs.Targets.{IsTouchedBy, ChangesItsOwn, KeepsRows};
+    ghost use Rattle.myi_shell.specs.Idle.{LeavesUnasked};
 
     /// The definitions of the table that takes the rows are sound.
     pub(crate) fn tables_are_sound(&self)
@@ -283,6 +288,8 @@ impl Target {
             (F.holds files.new) self.new c)) }
         ensures touched { IfOk result (λ c. IsTouchedBy (F.holds files.old) (F.holds files.new)
             self.old self.new 0 (count_changed c)) }
+        ensures idle { Told (F.holds files.old) (F.holds files.new)
+            (LeavesUnasked self.old together act.now) }
         ensures carried { IsCarried (F.holds files.old) (F.holds files.new) self.old self.new }
         ensures whole { OnOk result (IsWhole self.new) }
         ensures refused { IfErr result (NothingDamaged (F.holds files.old)) }
@@ -346,8 +353,7 @@ impl Target {
         requires kept { IsKept (F.holds files.old) self }
         ensures closed { OnOk result (IfHolds (F.holds files.old) self (λ m s.
             IfTold (F.holds files.new) (IsShut self s))) }
-        ensures rows { OnOk result (Told (F.holds files.old) (F.holds files.new)
-            (KeepsRows self)) }
+        ensures rows { Told (F.holds files.old) (F.holds files.new) (KeepsRows self) }
         ensures others { ChangesItsOwn (F.holds files.old) (F.holds files.new) self }
         ensures cause { HasCause change.File (F.faults files.old) (F.faults files.new) result }
     {

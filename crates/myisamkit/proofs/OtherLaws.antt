@@ -198,7 +198,7 @@ no_file (name ∷ names) q apart (inr more) = no_file names q apart.1 more
 
 cut_shell_keeps : (setting : ℕ) (name script : List ℕ) (m n : Holding) (q : List ℕ) → IsNoFileOf q (tables_in name m) → ShellCutOff setting name script m n → n q ≡ m q
 cut_shell_keeps setting name script m n q apart (inl same) = ap (λ (h : Holding). h q) same
-cut_shell_keeps setting name script m n q apart (inr (there, keeps)) = keeps q (no_file (tables_in name m) q apart)
+cut_shell_keeps setting name script m n q apart (inr cut) = cut.others q (no_file (tables_in name m) q apart)
 
 shell_keeps : (setting : ℕ) (name script : List ℕ) (s : Status) (m n : Holding) (q : List ℕ) → IsNoFileOf q (tables_in name m) → ShellLeaves setting name script s m n → n q ≡ m q
 shell_keeps setting name script status.FileFault m n q apart left = cut_shell_keeps setting name script m n q apart left

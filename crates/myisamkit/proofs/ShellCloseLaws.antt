@@ -2,6 +2,7 @@
 use Rattle.std.proofs.Common.{◌≡◌, ℕ, Bool, true, false, List, [], ◌∷◌, ◌++◌, Option, Some, None, refl, sym, ap, subst, ◌∙◌, inl, inr}
 use Rattle.std.specs.Prelude.{◌≢◌, if◌then◌else◌}
 use Rattle.std.specs.List.{AllByRecursion}
+use Rattle.std.proofs.lemmas.Option.{same_Some}
 use Rattle.myi_base.specs.Holding.{Holding, IfTold, Told, HoldsBytes, bytes_of}
 use Rattle.myi_defs.specs.declared.types.Defs.{Defs}
 use Rattle.myi_defs.specs.Sound.{IsSound}
@@ -25,6 +26,7 @@ use Rattle.myi_shell.specs.declared.target.Target.{Target}
 use Rattle.myi_shell.specs.declared.target.Target.TheVariants.{One, Many}
 use Rattle.myi_shell.specs.Targets.{script_on}
 use Rattle.myi_shell.specs.Targets as on
+use Rattle.myi_shell.specs.Idle.{KeepsIdle, names_of, LeavesIdle}
 use Rattle.myi_shell.specs.Running.{opening_on, IsPrinted, IsPrintedPart, IsClosedBy, AreClosedUnchanged, AreClosedWith, AreClosed, AreClosedAtEnd, AreClosedBehind}
 use Rattle.myisamkit.specs.declared.status.Status.TheVariants as status
 use Rattle.myisamkit.specs.Shells.{tables_by, tables_in, Member, Members, states_of, ShellSaid, ShellSaidPart, bits_behind, header_in, KeepsRest, IsHeaderBehind, StandsBehind, AreLeft, KeepsOthers, ShellDone, ShellCutOff, ShellFails}
@@ -197,16 +199,33 @@ run_fails law pairs setting name script list t ls told next old new bytes fresh 
       left = left_so pairs name t m n s o (history_in o (c.front ++ c.last ∷ [])) refl refl refl c.closed;
     }
 
+-- the names of the tables
+named_so : (name : List ℕ) (t : Target) (m : Holding) → IsTarget name t m → tables_in name m ≡ names_of t
+named_so name (One t) m target = ap (tables_by name) target.0 ∙ ap (λ (q : List ℕ). q ∷ []) (sym target.2)
+named_so name (Many g) m target = list_names name target.members g.method m target.list ∙ sym target.names
+
 -- the script was run and cut off
-pub ran_off : Stands → (setting : ℕ) (name script : List ℕ) (list : Bool) (t : Target) (ls : List Line) (told next : Option Holding) → IfTold told HoldsBytes → IsFresh list t → IfTold told (IsReady name script t ls) → on.ChangesItsOwn told next t → Told told next (ShellCutOff setting name script)
-ran_off law setting name script list t ls told next bytes fresh ready own =
+pub ran_off : Stands → (setting : ℕ) (name script : List ℕ) (list : Bool) (t : Target) (ls : List Line) (told next : Option Holding) → IfTold told HoldsBytes → IsFresh list t → IfTold told (IsReady name script t ls) → on.ChangesItsOwn told next t → Told told next (LeavesIdle t ls)
+    → Told told next (ShellCutOff setting name script)
+unfolding begins_so
+ran_off law setting name script list t ls told next bytes fresh ready own idle =
     let others = own_told name t told next (λ m held. (ready m held).loaded) own in
     record {
       told = λ m held.
           let r = ready m held in
           let s = stands law name script list t ls m (bytes m held) fresh r in
           let n = others.told m held in
-          (n.0, n.1, inr ((opening_on (on.defs_in t) (script_on t ls) setting (standing_of s.members), begins_so setting name script t ls m r s), n.2));
+          let k = idle.told m held in
+          let rows : LeavesIdle t ls m n.0 = subst (λ (z : Holding). LeavesIdle t ls m z) (same_Some k.0 n.0 (sym k.1 ∙ n.1)) k.2 in (
+            n.0,
+            n.1,
+            inr record {
+              begin = opening_on (on.defs_in t) (script_on t ls) setting (standing_of s.members);
+              begins = begins_so setting name script t ls m r s;
+              others = n.2;
+              idle = subst (λ (ns : List (List ℕ)). KeepsIdle (script_on t ls) ns m n.0) (sym (named_so name t m r.loaded)) rows;
+            },
+          );
       untold = others.untold;
     }
 

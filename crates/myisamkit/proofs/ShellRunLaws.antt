@@ -6,19 +6,12 @@ use Rattle.std.specs.List.{AllByRecursion}
 use Rattle.myi_base.specs.Holding.{Holding, IfTold, HoldsBytes}
 use Rattle.myi_base.specs.Output.{Appends, AppendsPart}
 use Rattle.myi_defs.specs.declared.types.Defs.{Defs}
-use Rattle.myi_defs.specs.declared.types.Key.{Key}
 use Rattle.myi_deftext.specs.Text.{lines}
-use Rattle.myi_data.specs.Keys.{IsKeyNumber}
-use Rattle.myi_keys.specs.declared.values.KeySeg.{KeySeg}
-use Rattle.myi_script.specs.declared.types.Act.{Act}
-use Rattle.myi_script.specs.declared.types.Act.TheVariants as act
-use Rattle.myi_script.specs.declared.types.Range.{Range}
 use Rattle.myi_script.specs.declared.types.Line.{Line}
-use Rattle.myi_script.specs.Grammar.{segments_from}
 use Rattle.myi_script.specs.Script.{IsScript, IsFirstOutside}
 use Rattle.myi_opening.specs.Opening as opening
 use Rattle.myi_history.specs.History.{Taking, is_list}
-use Rattle.myi_history.specs.Lines.{BringsRow, HasAllSegments, IsRange, ReadsRange, MayRun}
+use Rattle.myi_history.specs.Lines.{MayRun}
 use Rattle.myi_table.specs.Table.{OpenTable}
 use Rattle.myi_table.specs.Table as table
 use Rattle.myi_table.specs.Loading.{IsLoaded}
@@ -28,7 +21,7 @@ use Rattle.myi_merge.specs.Loading as loading
 use Rattle.myi_merge.specs.Loading.{HasMembers, HasNoList, EachLoaded, RefusesMerge, FirstStopped}
 use Rattle.myi_merge.specs.Merged.{OpenMerge, IsMerge, IsLike, IsLikeFirst}
 use Rattle.myi_merge.specs.Changing.{target}
-use Rattle.myi_merge.proofs.CallerLemmas.{fits_like, like_at}
+use Rattle.myi_merge.proofs.CallerLemmas.{like_at}
 use Rattle.myi_shell.specs.declared.target.Target.{Target}
 use Rattle.myi_shell.specs.declared.target.Target.TheVariants.{One, Many}
 use Rattle.myi_shell.specs.Targets.{defs_in, defs_at, index_in, taking, taking_by}
@@ -88,65 +81,22 @@ outside name script text k t m read s first = inr (inr (inr (record {
 
 -- ---- a script that may run on the first table may run on the one that takes the rows
 
-rows_like : (d e : Defs) (a : Act) → IsLike d e → BringsRow d a → BringsRow e a
-rows_like d e (act.Insert row) like fit = fits_like d e row like fit
-rows_like d e (act.Update at row) like fit = fits_like d e row like fit
-rows_like d e (act.Delete at) like fit = tt
-rows_like d e act.Scan like fit = tt
-rows_like d e (act.Over range) like fit = tt
-rows_like d e (act.Lock lock) like fit = tt
-rows_like d e act.Unlock like fit = tt
-rows_like d e act.Stats like fit = tt
-rows_like d e act.End like fit = tt
-
-range_like : (d e : Defs) (r : Range) → IsLike d e → IsRange d r → IsRange e r
-range_like d e r like is = record {
-  key = subst (λ (ks : List Key). IsKeyNumber (record d { keys = ks }) r.key) like.keys is.key;
-  from = bound r.from is.from;
-  to = bound r.to is.to;
-}
-  where
-    bound : (b : Option (List KeySeg)) → HasAllSegments d r.key b → HasAllSegments e r.key b
-    bound None has = tt
-    bound (Some b) has = has ∙ ap (λ (ks : List Key). length (segments_from ks (r.key - 1))) like.keys
-
-ranges_like : (d e : Defs) (a : Act) → IsLike d e → ReadsRange d a → ReadsRange e a
-ranges_like d e (act.Insert row) like is = tt
-ranges_like d e (act.Update at row) like is = tt
-ranges_like d e (act.Delete at) like is = tt
-ranges_like d e act.Scan like is = tt
-ranges_like d e (act.Over range) like is = range_like d e range like is
-ranges_like d e (act.Lock lock) like is = tt
-ranges_like d e act.Unlock like is = tt
-ranges_like d e act.Stats like is = tt
-ranges_like d e act.End like is = tt
-
-all_like : (P Q : Act → Type 0) → ((a : Act) → P a → Q a) → (ls : List Line) → AllByRecursion (λ (l : Line). P l.act) ls → AllByRecursion (λ (l : Line). Q l.act) ls
-all_like P Q each [] all = tt
-all_like P Q each (l ∷ ls) all = (each l.act all.0, all_like P Q each ls all.1)
-
-run_like : (d e : Defs) (ls : List Line) → IsLike d e → MayRun d ls → MayRun e ls
-run_like d e ls like may = record {
-  grow = may.grow;
-  ends = may.ends;
-  sessions = may.sessions;
-  rows = all_like (BringsRow d) (BringsRow e) (λ a. rows_like d e a like) ls may.rows;
-  ranges = all_like (ReadsRange d) (ReadsRange e) (λ a. ranges_like d e a like) ls may.ranges;
-}
+abbrev pub RunOnLike : Type 0
+RunOnLike = (d e : Defs) (ls : List Line) → IsLike d e → MayRun d ls → MayRun e ls
 
 got : (ts : List OpenTable) (i : ℕ) → i < length ts → (t : OpenTable) × (slice_get ts i ≡ Some t)
 got [] i lt = absurd (omega (arith, lt))
 got (t ∷ ts) zero lt = (t, refl)
 got (t ∷ ts) (suc i) lt = got ts i (omega (arith, lt))
 
-pub may_run : (list : Bool) (t : Target) (ls : List Line) → IsFresh list t → MayRun (lines_defs t) ls → MayRun (defs_in t) ls
-may_run list (One t) ls fresh may = may
-may_run list (Many g) ls fresh may =
+pub may_run : RunOnLike → (list : Bool) (t : Target) (ls : List Line) → IsFresh list t → MayRun (lines_defs t) ls → MayRun (defs_in t) ls
+may_run law list (One t) ls fresh may = may
+may_run law list (Many g) ls fresh may =
     let is : IsMerge g = fresh.sound in
     let first = got g.tables 0 is.some in
     let taker = got g.tables (index_in g) (index_inside g.method (length g.tables) is.some) in
     let like = like_at g.tables first.0 (index_in g) taker.0 is.alike first.1 taker.1 in
-    subst (λ (d : Defs). MayRun d ls) (sym (ap defs_at taker.1)) (run_like (table.defs_in first.0) (table.defs_in taker.0) ls like (subst (λ (d : Defs). MayRun d ls) (ap defs_at first.1) may))
+    subst (λ (d : Defs). MayRun d ls) (sym (ap defs_at taker.1)) (law (table.defs_in first.0) (table.defs_in taker.0) ls like (subst (λ (d : Defs). MayRun d ls) (ap defs_at first.1) may))
 
 -- ---- tables of a list that are not alike
 
@@ -218,8 +168,8 @@ ready_so name script text d list t ls m read fresh defs says loaded = record {
   loaded = loaded;
 }
 
-pub runnable_so : (d : Defs) (list : Bool) (t : Target) (ls : List Line) → IsFresh list t → d ≡ lines_defs t → MayRun d ls → IsRunnable t ls
-runnable_so d list t ls fresh defs may = record { list = list; fresh = fresh; may = may_run list t ls fresh (subst (λ e. MayRun e ls) defs may) }
+pub runnable_so : RunOnLike → (d : Defs) (list : Bool) (t : Target) (ls : List Line) → IsFresh list t → d ≡ lines_defs t → MayRun d ls → IsRunnable t ls
+runnable_so law d list t ls fresh defs may = record { list = list; fresh = fresh; may = may_run law list t ls fresh (subst (λ e. MayRun e ls) defs may) }
 
 pub outside_so : Stands → (name script text : List ℕ) (k : ℕ) (d : Defs) (list : Bool) (t : Target) (m : Holding) → HoldsBytes m → text_in name script m ≡ Ok text → IsFresh list t → d ≡ lines_defs t → IsFirstOutside list d (lines text) k → IsTarget name t m → IsRefused name script m (text_line script k) status.Refused
 outside_so law name script text k d list t m bytes read fresh defs first loaded = outside name script text k t m read (stands_on law name script text list t m bytes fresh read loaded) (subst (λ b. IsFirstOutside b (lines_defs t) (lines text) k) (sym fresh.kind) (subst (λ e. IsFirstOutside list e (lines text) k) defs first))

@@ -34,6 +34,7 @@ use Rattle.myi_merge.specs.Loading.{list_file, IsListIn, HasNoList}
 use Rattle.myi_merge.specs.Merged.{IsLike}
 use Rattle.myi_merge.specs.Changing.{target_by, IsFileOfOne}
 use Rattle.myi_shell.specs.Targets.{taking_by}
+use Rattle.myi_shell.specs.Idle.{KeepsIdle}
 use Rattle.myi_shell.specs.Running.{IsCutIn}
 use Rattle.myisamkit.specs.declared.status.Status.{Status}
 use Rattle.myisamkit.specs.declared.status.Status.TheVariants as status
@@ -331,13 +332,16 @@ pub record ShellDone (setting : ℕ) (name script : List ℕ) (m n : Holding) : 
   pub left : AreLeft begins.members (history begin) m n
   pub others : KeepsOthers name m n
 
--- a script that may be run is there
-abbrev pub HasScript : ℕ → List ℕ → List ℕ → Holding → Type 0
-HasScript setting name script m = (begin : Opening) × Begins setting name script m begin
+-- a script that may be run is there: files of other names stay, and of its tables the data file of each that takes no rows of it
+pub record IsCutOff (setting : ℕ) (name script : List ℕ) (m n : Holding) : Type 0 where
+  pub begin : Opening
+  pub begins : Begins setting name script m begin
+  pub others : KeepsOthers name m n
+  pub idle : KeepsIdle begin.script (tables_in name m) m n
 
--- it is cut off: nothing was changed, or a script was run, and files of other names stay
+-- it is cut off: nothing was changed, or a script was run
 abbrev pub ShellCutOff : ℕ → List ℕ → List ℕ → Holding → Holding → Type 0
-ShellCutOff setting name script m n = (n ≡ m) ⊎ (HasScript setting name script m × KeepsOthers name m n)
+ShellCutOff setting name script m n = (n ≡ m) ⊎ IsCutOff setting name script m n
 
 -- The files at a status. Where no script is run nothing is changed.
 abbrev pub ShellLeaves : ℕ → List ℕ → List ℕ → Status → Holding → Holding → Type 0

@@ -18,7 +18,7 @@ use myi_io::Files;
 use myi_keycache::CacheSetup;
 use myi_merge::{Merge, MergeFault};
 use myi_script::{Script, ScriptFault, parse_script};
-use myi_shell::Target;
+use myi_shell::{Target, scripts_run_on_like_tables};
 use myi_table::{LoadFault, Table};
 use myi_tablestate::clean_pairs_stand_for_tables;
 use std::alloc::Global;
@@ -84,6 +84,7 @@ fn load_and_parse<F: Files>(
         return Ok(Found::Refused(Status::Refused, line));
     };
     scripts_may_run();
+    scripts_run_on_like_tables();
     clean_pairs_stand_for_tables();
     match parse_script(alloc, text, lines_defs(&target), list) {
         Ok(script) => Ok(Found::Ready(target, script)),

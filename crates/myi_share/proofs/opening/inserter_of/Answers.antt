@@ -15,4 +15,5 @@ returns-clause-of g c =
           let b = i.base s m o.0 hold c.requires.written o.2 o.3 in
           (o.0, o.1, b.0, b.1);
       can = λ m told s hold. tt;
+      untold = c.in_ok-files.ensures.untold;
     }

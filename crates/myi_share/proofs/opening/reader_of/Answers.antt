@@ -14,4 +14,5 @@ returns-clause-of g c =
           let o = c.in_ok-files.ensures.told m told in
           let b = r.base s m o.0 hold c.requires.written o.2 o.3 in
           (o.0, o.1, b.0, b.1);
+      untold = c.in_ok-files.ensures.untold;
     }

@@ -10,6 +10,7 @@ use Rattle.myi_shell.proofs.CarryLemmas.{carried_none, carried_then, if_err}
 use Rattle.myi_shell.proofs.RunLemmas.{nothing_printed, begins, begun_lawful, goes_on_by, stops_by, stands_by, sink_again, stopped_before}
 use Rattle.myi_shell.specs.Damage.{IsPrintedDamage}
 use Rattle.myi_shell.proofs.DamageLemmas.{extends_none, extends_then, damage_behind, if_err_by}
+use Rattle.myi_shell.proofs.IdleLemmas.{leaves_none, leaves_then}
 use Rattle.myi_shell.proofs.run.run.Goals as goal
 
 pub returns-in_err-state-clause-part : goal.returns-in_err-state-clause-part
@@ -18,6 +19,7 @@ returns-in_err-state-clause-part g c = if_err c.from_residual.result (λ m held 
 pub loop-state-init : goal.loop-state-init
 loop-state-init g c = record {
   done = λ m held s h. begins c.args.lines.now c.args.setting s c.args.target.now (g.F.Files.holds c.args.files.now) m (g.O.Sink.written c.args.out.now) (state_of c.in_ok-state.state) held h (c.in_ok-state.ensures ∙ ap (λ (b : Bool). begun c.args.setting b c.args.lines.now c.length.result) c.is_list.ensures ∙ ap (begun c.args.setting (is_list (taking c.args.target.now)) c.args.lines.now) c.length.ensures);
+  idle = leaves_none (g.F.Files.holds c.args.files.now) (g.F.Files.holds c.args.files.now) c.args.target.now c.args.lines.now refl;
   carried = carried_none (g.F.Files.holds c.args.files.now) (g.F.Files.holds c.args.files.now) c.args.target.now refl c.requires.kept;
   whole = c.requires.whole;
   sound = c.tables_are_sound.ensures;
@@ -53,6 +55,7 @@ loop-state-preserved g c =
     record {
       done = λ m held s h. subst (λ (b : Bool). HasGoneOn b (opening_on (defs_in old) (script_on c.args.target.now c.args.lines.now) c.args.setting s) (standing start told old) next (state_of c.next_round.new.self) new printed) c.if-branch.true
           (goes_on_by told mid next old half new c.args.lines.now c.args.setting (standing start told old) (g.O.Sink.written c.loop-state.out) printed (state_of c.loop-state.state) (state_of c.next_round.new.self) c.in_ok-next_round.field-0 was.carried.defs was.carried.takes was.done c.in_ok-next_round.ensures.gone_on m held s h);
+      idle = leaves_then told mid next old half c.args.lines.now was.carried.same was.carried.takes was.idle c.next_round.ensures.idle;
       carried = carried_then told mid next old half new was.carried c.next_round.ensures.carried;
       whole = c.in_ok-next_round.ensures.whole;
       sound = subst (λ (d : Defs). IsSound d) (sym c.next_round.ensures.carried.defs) was.sound;
@@ -97,3 +100,12 @@ returns-in_err-next_round-clause-carried g c = carried_then (g.F.Files.holds c.a
 
 pub returns-clause-carried : goal.returns-clause-carried
 returns-clause-carried g c = carried_then (g.F.Files.holds c.args.files.now) (g.F.Files.holds c.loop-state.files) (g.F.Files.holds c.next_round.new.files) c.args.target.now c.loop-state.target c.next_round.new.target c.loop-state.invariant.carried c.next_round.ensures.carried
+
+pub returns-in_err-state-clause-idle : goal.returns-in_err-state-clause-idle
+returns-in_err-state-clause-idle g c = leaves_none (g.F.Files.holds c.args.files.now) (g.F.Files.holds c.args.files.now) c.args.target.now c.args.lines.now refl
+
+pub returns-in_err-next_round-clause-idle : goal.returns-in_err-next_round-clause-idle
+returns-in_err-next_round-clause-idle g c = leaves_then (g.F.Files.holds c.args.files.now) (g.F.Files.holds c.loop-state.files) (g.F.Files.holds c.next_round.new.files) c.args.target.now c.loop-state.target c.args.lines.now c.loop-state.invariant.carried.same c.loop-state.invariant.carried.takes c.loop-state.invariant.idle c.next_round.ensures.idle
+
+pub returns-clause-idle : goal.returns-clause-idle
+returns-clause-idle g c = leaves_then (g.F.Files.holds c.args.files.now) (g.F.Files.holds c.loop-state.files) (g.F.Files.holds c.next_round.new.files) c.args.target.now c.loop-state.target c.args.lines.now c.loop-state.invariant.carried.same c.loop-state.invariant.carried.takes c.loop-state.invariant.idle c.next_round.ensures.idle

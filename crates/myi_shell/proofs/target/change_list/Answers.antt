@@ -6,6 +6,7 @@ use Rattle.myi_shell.specs.Changing.{IsChangedBy}
 use Rattle.myi_shell.proofs.CarryLemmas.{carried_none}
 use Rattle.myi_shell.proofs.TargetTouches.{touched_none}
 use Rattle.myi_shell.proofs.ListInserts.{list_unchanged}
+use Rattle.myi_shell.proofs.IdleLemmas.{unasked_none, list_leaves}
 use Rattle.myi_shell.proofs.target.change_list.Goals as goal
 
 pub returns-in_ok-insert_in-in-Insert-clause-changed : goal.returns-in_ok-insert_in-in-Insert-clause-changed
@@ -20,8 +21,15 @@ returns-in_default g c =
     record {
       changed = list_unchanged c.args.merge.now told c.args.together c.args.act.now c.in_default.not-Insert;
       touched = touched_none told told list 0 refl;
+      idle = unasked_none told told list c.args.together c.args.act.now refl;
       carried = carried_none told told list refl c.requires.kept;
       whole = c.requires.whole;
       refused = tt;
       cause = record { later = omega arith; cause = λ e. cc };
     }
+
+pub returns-in_err-insert_in-in-Insert-clause-idle : goal.returns-in_err-insert_in-in-Insert-clause-idle
+returns-in_err-insert_in-in-Insert-clause-idle g c = list_leaves (g.F.Files.holds c.args.files.now) (g.F.Files.holds c.insert_in.new.files) c.args.merge.now c.args.together c.args.act.now _ c.in-Insert.is c.insert_in.ensures.idle
+
+pub returns-in_ok-insert_in-in-Insert-clause-idle : goal.returns-in_ok-insert_in-in-Insert-clause-idle
+returns-in_ok-insert_in-in-Insert-clause-idle g c = list_leaves (g.F.Files.holds c.args.files.now) (g.F.Files.holds c.insert_in.new.files) c.args.merge.now c.args.together c.args.act.now _ c.in-Insert.is c.insert_in.ensures.idle

@@ -6,6 +6,7 @@ use Rattle.myi_shell.specs.declared.changes.Changed.{Changed}
 use Rattle.myi_shell.specs.declared.target.Target.TheVariants.{One}
 use Rattle.myi_shell.specs.Changing.{IsChangedBy, NothingDamaged, table_changed}
 use Rattle.myi_shell.proofs.TableTargets.{table_changes, nothing_damaged}
+use Rattle.myi_shell.proofs.IdleLemmas.{table_leaves}
 use Rattle.myi_shell.proofs.target.change_table.Goals as goal
 
 pub returns-in_err-reply-clause-refused : goal.returns-in_err-reply-clause-refused
@@ -31,3 +32,12 @@ returns-in-None-clause-changed g c = λ m held s h.
     let new = c.change.new.table in
     subst (λ (r : Option Changed). IsChangedBy in_table (One old) s c.args.together (Some c.args.act.now) next (One new) r) (ap (option_map table_changed) c.in-None.is)
     (table_changes told next old new c.args.together c.args.act.now c.in_ok-reply.field-0 c.in_ok-reply.ensures.changed m held s h)
+
+pub returns-in_err-reply-clause-idle : goal.returns-in_err-reply-clause-idle
+returns-in_err-reply-clause-idle g c = table_leaves (g.F.Files.holds c.args.files.now) (g.F.Files.holds c.change.new.files) c.args.table.now c.args.together c.args.act.now c.change.ensures.carried.others c.change.ensures.idle
+
+pub returns-in-Some-clause-idle : goal.returns-in-Some-clause-idle
+returns-in-Some-clause-idle g c = table_leaves (g.F.Files.holds c.args.files.now) (g.F.Files.holds c.change.new.files) c.args.table.now c.args.together c.args.act.now c.change.ensures.carried.others c.change.ensures.idle
+
+pub returns-in-None-clause-idle : goal.returns-in-None-clause-idle
+returns-in-None-clause-idle g c = table_leaves (g.F.Files.holds c.args.files.now) (g.F.Files.holds c.change.new.files) c.args.table.now c.args.together c.args.act.now c.change.ensures.carried.others c.change.ensures.idle

@@ -4,6 +4,7 @@ use Rattle.myi_shell.specs.Changing.{IsInsertedBy}
 use Rattle.myi_shell.proofs.ListLemmas.{fits_first}
 use Rattle.myi_shell.proofs.ListInserts.{list_changed, list_never, told_changed, told_never}
 use Rattle.myi_shell.proofs.ListTouches.{list_touched, told_list_touched, insert_carried, list_whole, told_whole, list_cause}
+use Rattle.myi_shell.proofs.IdleLemmas.{insert_leaves}
 use Rattle.myi_shell.proofs.target.insert_in.Goals as goal
 
 pub insert-requires-clause-fits : goal.insert-requires-clause-fits
@@ -37,3 +38,6 @@ returns-clause-whole g c =
 
 pub returns-clause-cause : goal.returns-clause-cause
 returns-clause-cause g c = list_cause _ _ c.list_replied.result c.insert.result c.list_replied.ensures c.insert.ensures.cause
+
+pub returns-clause-idle : goal.returns-clause-idle
+returns-clause-idle g c = insert_leaves (g.F.Files.holds c.args.files.now) (g.F.Files.holds c.insert.new.files) c.args.merge.now c.insert.new.self c.args.row.now c.insert.result c.defs.ensures.list c.insert.ensures.made c.insert.ensures.refused (λ e. (c.insert.ensures.nowhere e).2)

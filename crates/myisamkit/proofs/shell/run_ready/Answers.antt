@@ -37,7 +37,7 @@ pub returns-in-Err-Damaged-clause-done : goal.returns-in-Err-Damaged-clause-done
 returns-in-Err-Damaged-clause-done g c = none_told (g.F.Files.holds c.args.files.now) (g.F.Files.holds c.run_script.new.files) (ShellLeaves c.args.job.now.options.concurrent c.args.job.now.name.now c.args.job.now.script.now status.Refused) (subst (IsStopped (g.F.Files.holds c.args.files.now)) c.in-Err-Damaged.field-0-is c.in-Err-Damaged.ensures.refused) (own_told c.args.job.now.name.now c.args.target (g.F.Files.holds c.args.files.now) (g.F.Files.holds c.run_script.new.files) (λ m held. (c.requires.ready m held).loaded) c.run_script.ensures.others).untold
 
 pub returns-in-Err-File-clause-stops : goal.returns-in-Err-File-clause-stops
-returns-in-Err-File-clause-stops g c = ran_off c.clean_pairs_stand_for_tables.ensures.stands c.args.job.now.options.concurrent c.args.job.now.name.now c.args.job.now.script.now c.requires.runnable.list c.args.target c.args.script.lines _ _ (λ m held. g.met.F.Files.told_bytes c.args.files.now m held) c.requires.runnable.fresh c.requires.ready c.run_script.ensures.others
+returns-in-Err-File-clause-stops g c = ran_off c.clean_pairs_stand_for_tables.ensures.stands c.args.job.now.options.concurrent c.args.job.now.name.now c.args.job.now.script.now c.requires.runnable.list c.args.target c.args.script.lines _ _ (λ m held. g.met.F.Files.told_bytes c.args.files.now m held) c.requires.runnable.fresh c.requires.ready c.run_script.ensures.others c.run_script.ensures.idle
 
 pub returns-clause-stops : goal.returns-clause-stops
-returns-clause-stops g c = ran_off c.clean_pairs_stand_for_tables.ensures.stands c.args.job.now.options.concurrent c.args.job.now.name.now c.args.job.now.script.now c.requires.runnable.list c.args.target c.args.script.lines _ _ (λ m held. g.met.F.Files.told_bytes c.args.files.now m held) c.requires.runnable.fresh c.requires.ready c.run_script.ensures.others
+returns-clause-stops g c = ran_off c.clean_pairs_stand_for_tables.ensures.stands c.args.job.now.options.concurrent c.args.job.now.name.now c.args.job.now.script.now c.requires.runnable.list c.args.target c.args.script.lines _ _ (λ m held. g.met.F.Files.told_bytes c.args.files.now m held) c.requires.runnable.fresh c.requires.ready c.run_script.ensures.others c.run_script.ensures.idle

@@ -19,7 +19,7 @@ returns-in-Ok-clause-found g c m held =
 pub returns-in-Ok-clause-plain : goal.returns-in-Ok-clause-plain
 returns-in-Ok-clause-plain g c =
     let fresh : IsFresh c.args.list c.in-Some.target = subst (λ o. IfSome o (IsFresh c.args.list)) c.in-Some.is c.in_ok-target.ensures.fresh in
-    runnable_so c.lines_defs.result.now c.args.list c.in-Some.target c.in-Ok.script.lines fresh c.lines_defs.ensures.defs (c.scripts_may_run.ensures.lines c.args.list c.lines_defs.result.now c.args.text.now c.in-Ok.script.lines c.in-Ok.ensures.inside)
+    runnable_so c.scripts_run_on_like_tables.ensures c.lines_defs.result.now c.args.list c.in-Some.target c.in-Ok.script.lines fresh c.lines_defs.ensures.defs (c.scripts_may_run.ensures.lines c.args.list c.lines_defs.result.now c.args.text.now c.in-Ok.script.lines c.in-Ok.ensures.inside)
 
 pub returns-in-Err-Line-clause-found : goal.returns-in-Err-Line-clause-found
 returns-in-Err-Line-clause-found g c m held =

@@ -11,6 +11,7 @@ use Rattle.myi_shell.specs.Stepping.{state_of}
 use Rattle.myi_shell.proofs.CarryLemmas.{carried_none, carried_then, never_before, cause_then}
 use Rattle.myi_shell.proofs.LoopLemmas.{drop_none, half_begins, half_steps, half_ends, done_on}
 use Rattle.myi_shell.proofs.TargetTouches.{touched_none, touched_then}
+use Rattle.myi_shell.proofs.IdleLemmas.{leaves_none, leaves_then}
 use Rattle.myi_shell.proofs.script_run.ScriptRun.insert_run.Goals as goal
 
 pub loop-step-init : goal.loop-step-init
@@ -18,6 +19,7 @@ loop-step-init g c = record {
   only = refl;
   so_far = λ m held s h. half_begins (defs_in c.args.target.now) (script_on c.args.target.now c.args.lines.now) _ (state_of c.args.self.now) s c.args.steps.now (g.F.Files.holds c.args.files.now) c.args.target.now (m, held, h);
   touched = touched_none (g.F.Files.holds c.args.files.now) (g.F.Files.holds c.args.files.now) c.args.target.now c.args.self.now.number refl;
+  idle = leaves_none (g.F.Files.holds c.args.files.now) (g.F.Files.holds c.args.files.now) c.args.target.now c.args.lines.now refl;
   carried = carried_none (g.F.Files.holds c.args.files.now) (g.F.Files.holds c.args.files.now) c.args.target.now refl c.requires.kept;
   whole = c.requires.whole;
   later = omega arith;
@@ -61,6 +63,7 @@ loop-step-preserved g c =
       only = c.write-written.ensures.only ∙ ap (λ (p : ScriptRun). record p { number = c.write-written.new.self.number; texts = c.write-written.new.self.texts }) was.only;
       so_far = half_steps told mid next old half c.write-written.new.target (script_on c.args.target.now c.args.lines.now) (state_of c.args.self.now) (state_of c.loop-step.self) (state_of c.write-written.new.self) c.args.steps.now c.loop-step.step-index _ c.loop-step-test.true (ap (λ (p : ScriptRun). p.locks) was.only) was.carried.defs was.so_far (done_on mid next old half c.write-written.new.target was.carried.takes c.args.lines.now (state_of c.loop-step.self) (state_of c.write-written.new.self) _ c.in_ok-written.ensures.done);
       touched = touched_then told mid next old half c.write-written.new.target c.args.self.now.number c.loop-step.self.number c.write-written.new.self.number was.touched c.in_ok-written.ensures.touched;
+      idle = leaves_then told mid next old half c.args.lines.now was.carried.same was.carried.takes was.idle c.write-written.ensures.idle;
       carried = carried_then told mid next old half c.write-written.new.target was.carried c.write-written.ensures.carried;
       whole = c.in_ok-written.ensures.whole;
       later = omega (arith, was.later, c.write-written.ensures.cause.later);
@@ -89,3 +92,9 @@ returns-in_err-written-clause-noted g c =
 
 pub returns-clause-touched : goal.returns-clause-touched
 returns-clause-touched g c = c.loop-step.invariant.touched
+
+pub returns-in_err-written-clause-idle : goal.returns-in_err-written-clause-idle
+returns-in_err-written-clause-idle g c = leaves_then (g.F.Files.holds c.args.files.now) (g.F.Files.holds c.loop-step.files) (g.F.Files.holds c.write-written.new.files) c.args.target.now c.loop-step.target c.args.lines.now c.loop-step.invariant.carried.same c.loop-step.invariant.carried.takes c.loop-step.invariant.idle c.write-written.ensures.idle
+
+pub returns-clause-idle : goal.returns-clause-idle
+returns-clause-idle g c = c.loop-step.invariant.idle

@@ -4,6 +4,7 @@ use Rattle.myi_shell.proofs.CarryLemmas.{carried_none, on_err}
 use Rattle.myi_shell.proofs.RunLemmas.{err_is}
 use Rattle.myi_shell.proofs.RoundsLemmas.{ends_run, stops_between, is_over, is_left}
 use Rattle.myi_shell.proofs.DamageLemmas.{cut_stopped, cut_stands, cut_never, cut_damage, cut_file, cut_sink, extends_none}
+use Rattle.myi_shell.proofs.IdleLemmas.{leaves_none}
 use Rattle.myi_shell.proofs.script_run.ScriptRun.next_round.Goals as goal
 
 pub returns-in_err-round-clause-stopped : goal.returns-in_err-round-clause-stopped
@@ -46,3 +47,9 @@ returns-in_err-round-clause-carried g c = carried_none (g.F.Files.holds c.args.f
 
 pub returns-in-Finished-clause-carried : goal.returns-in-Finished-clause-carried
 returns-in-Finished-clause-carried g c = carried_none (g.F.Files.holds c.args.files.now) (g.F.Files.holds c.args.files.now) c.args.target.now refl c.requires.kept
+
+pub returns-in_err-round-clause-idle : goal.returns-in_err-round-clause-idle
+returns-in_err-round-clause-idle g c = leaves_none (g.F.Files.holds c.args.files.now) (g.F.Files.holds c.args.files.now) c.args.target.now c.args.lines.now refl
+
+pub returns-in-Finished-clause-idle : goal.returns-in-Finished-clause-idle
+returns-in-Finished-clause-idle g c = leaves_none (g.F.Files.holds c.args.files.now) (g.F.Files.holds c.args.files.now) c.args.target.now c.args.lines.now refl

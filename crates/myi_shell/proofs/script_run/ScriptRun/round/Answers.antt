@@ -12,6 +12,7 @@ use Rattle.myi_shell.proofs.LoopLemmas.{run_done_on}
 use Rattle.myi_shell.proofs.DoneLemmas.{AreRounds, together_done, readers_done}
 use Rattle.myi_shell.proofs.TargetTouches.{touched_none, touched_same, behind_ok}
 use Rattle.myi_shell.specs.declared.script_run.ScriptRun.{ScriptRun}
+use Rattle.myi_shell.proofs.IdleLemmas.{leaves_none, leaves_then, untouched_leaves}
 use Rattle.myi_shell.proofs.script_run.ScriptRun.round.Goals as goal
 
 pub returns-in-Alone-clause-done : goal.returns-in-Alone-clause-done
@@ -71,3 +72,17 @@ returns-in-Finished-clause-touched g c = touched_none (g.F.Files.holds c.args.fi
 
 pub returns-in-Some-clause-carried : goal.returns-in-Some-clause-carried
 returns-in-Some-clause-carried g c = carried_then (g.F.Files.holds c.args.files.now) (g.F.Files.holds c.read_runs.new.files) (g.F.Files.holds c.insert_run.new.files) c.args.target.now c.read_runs.new.target c.insert_run.new.target c.read_runs.ensures.carried c.insert_run.ensures.carried
+
+pub returns-in-Finished-clause-idle : goal.returns-in-Finished-clause-idle
+returns-in-Finished-clause-idle g c = leaves_none (g.F.Files.holds c.args.files.now) (g.F.Files.holds c.args.files.now) c.args.target.now c.args.lines.now refl
+
+pub returns-in_err-read_runs-in-Together-clause-idle : goal.returns-in_err-read_runs-in-Together-clause-idle
+returns-in_err-read_runs-in-Together-clause-idle g c = untouched_leaves (g.F.Files.holds c.args.files.now) (g.F.Files.holds c.read_runs.new.files) c.args.target.now c.read_runs.new.target c.args.lines.now c.read_runs.ensures.untouched c.read_runs.ensures.carried.others
+
+pub returns-in-None-clause-idle : goal.returns-in-None-clause-idle
+returns-in-None-clause-idle g c = untouched_leaves (g.F.Files.holds c.args.files.now) (g.F.Files.holds c.read_runs.new.files) c.args.target.now c.read_runs.new.target c.args.lines.now c.read_runs.ensures.untouched c.read_runs.ensures.carried.others
+
+pub returns-in-Some-clause-idle : goal.returns-in-Some-clause-idle
+returns-in-Some-clause-idle g c =
+    leaves_then (g.F.Files.holds c.args.files.now) (g.F.Files.holds c.read_runs.new.files) (g.F.Files.holds c.insert_run.new.files) c.args.target.now c.read_runs.new.target c.args.lines.now c.read_runs.ensures.carried.same c.read_runs.ensures.carried.takes
+    (untouched_leaves (g.F.Files.holds c.args.files.now) (g.F.Files.holds c.read_runs.new.files) c.args.target.now c.read_runs.new.target c.args.lines.now c.read_runs.ensures.untouched c.read_runs.ensures.carried.others) c.insert_run.ensures.idle

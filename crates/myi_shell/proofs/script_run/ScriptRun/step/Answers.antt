@@ -7,6 +7,7 @@ use Rattle.myi_shell.specs.Stepping.{state_of}
 use Rattle.myi_shell.proofs.DoneLemmas.{reads_done_by, writes_done_by, kind_writes}
 use Rattle.myi_shell.proofs.CarryLemmas.{carried_none}
 use Rattle.myi_shell.proofs.TargetTouches.{untouched_none, untouched_ok, touched_none}
+use Rattle.myi_shell.proofs.IdleLemmas.{leaves_none, untouched_leaves}
 use Rattle.myi_shell.proofs.script_run.ScriptRun.step.Goals as goal
 
 pub returns-in-Rows-clause-done : goal.returns-in-Rows-clause-done
@@ -60,3 +61,21 @@ returns-in-Stats-clause-carried g c = carried_none (g.F.Files.holds c.args.files
 
 pub returns-in-End-clause-carried : goal.returns-in-End-clause-carried
 returns-in-End-clause-carried g c = carried_none (g.F.Files.holds c.args.files.now) (g.F.Files.holds c.args.files.now) c.args.target.now refl c.requires.kept
+
+pub returns-in-Release-clause-idle : goal.returns-in-Release-clause-idle
+returns-in-Release-clause-idle g c = leaves_none (g.F.Files.holds c.args.files.now) (g.F.Files.holds c.args.files.now) c.args.target.now c.args.lines.now refl
+
+pub returns-in-Take-clause-idle : goal.returns-in-Take-clause-idle
+returns-in-Take-clause-idle g c = leaves_none (g.F.Files.holds c.args.files.now) (g.F.Files.holds c.args.files.now) c.args.target.now c.args.lines.now refl
+
+pub returns-in-Unlock-clause-idle : goal.returns-in-Unlock-clause-idle
+returns-in-Unlock-clause-idle g c = leaves_none (g.F.Files.holds c.args.files.now) (g.F.Files.holds c.args.files.now) c.args.target.now c.args.lines.now refl
+
+pub returns-in-Stats-clause-idle : goal.returns-in-Stats-clause-idle
+returns-in-Stats-clause-idle g c = leaves_none (g.F.Files.holds c.args.files.now) (g.F.Files.holds c.args.files.now) c.args.target.now c.args.lines.now refl
+
+pub returns-in-End-clause-idle : goal.returns-in-End-clause-idle
+returns-in-End-clause-idle g c = leaves_none (g.F.Files.holds c.args.files.now) (g.F.Files.holds c.args.files.now) c.args.target.now c.args.lines.now refl
+
+pub returns-in-Rows-clause-idle : goal.returns-in-Rows-clause-idle
+returns-in-Rows-clause-idle g c = untouched_leaves (g.F.Files.holds c.args.files.now) (g.F.Files.holds c.read.new.files) c.args.target.now c.read.new.target c.args.lines.now c.read.ensures.untouched c.read.ensures.carried.others

@@ -13,6 +13,7 @@ use Rattle.myi_shell.proofs.StepLemmas.{changed_steps, unchanged_step}
 use Rattle.myi_shell.proofs.DamageLemmas.{never_for, cause_for}
 use Rattle.myi_shell.proofs.CarryLemmas.{carried_none}
 use Rattle.myi_shell.proofs.TargetTouches.{untouched_none, untouched_ok, touched_none, touched_from, touched_ok}
+use Rattle.myi_shell.proofs.IdleLemmas.{leaves_none, asked_leaves}
 use Rattle.myi_shell.proofs.script_run.ScriptRun.write.Goals as goal
 
 pub change-requires-clause-row : goal.change-requires-clause-row
@@ -67,3 +68,21 @@ returns-in_default-clause-carried g c = carried_none (g.F.Files.holds c.args.fil
 
 pub returns-in_default-clause-touched : goal.returns-in_default-clause-touched
 returns-in_default-clause-touched g c = touched_none (g.F.Files.holds c.args.files.now) (g.F.Files.holds c.args.files.now) c.args.target.now c.args.self.now.number refl
+
+pub returns-then-reads_only-clause-idle : goal.returns-then-reads_only-clause-idle
+returns-then-reads_only-clause-idle g c = leaves_none (g.F.Files.holds c.args.files.now) (g.F.Files.holds c.args.files.now) c.args.target.now c.args.lines.now refl
+
+pub returns-in_default-clause-idle : goal.returns-in_default-clause-idle
+returns-in_default-clause-idle g c = leaves_none (g.F.Files.holds c.args.files.now) (g.F.Files.holds c.args.files.now) c.args.target.now c.args.lines.now refl
+
+pub returns-in-Err-clause-idle : goal.returns-in-Err-clause-idle
+returns-in-Err-clause-idle g c = asked_leaves (g.F.Files.holds c.args.files.now) (g.F.Files.holds c.change.new.files) c.args.target.now c.args.lines.now c.args.step.now.line c.args.together c.in-Some.act.now (sym c.act_of.ensures ∙ ap option_copied c.in-Some.is) c.change.ensures.idle
+
+pub returns-in_default-changed-clause-idle : goal.returns-in_default-changed-clause-idle
+returns-in_default-changed-clause-idle g c = asked_leaves (g.F.Files.holds c.args.files.now) (g.F.Files.holds c.change.new.files) c.args.target.now c.args.lines.now c.args.step.now.line c.args.together c.in-Some.act.now (sym c.act_of.ensures ∙ ap option_copied c.in-Some.is) c.change.ensures.idle
+
+pub returns-in_err-say-clause-idle : goal.returns-in_err-say-clause-idle
+returns-in_err-say-clause-idle g c = asked_leaves (g.F.Files.holds c.args.files.now) (g.F.Files.holds c.change.new.files) c.args.target.now c.args.lines.now c.args.step.now.line c.args.together c.in-Some.act.now (sym c.act_of.ensures ∙ ap option_copied c.in-Some.is) c.change.ensures.idle
+
+pub returns-clause-idle : goal.returns-clause-idle
+returns-clause-idle g c = asked_leaves (g.F.Files.holds c.args.files.now) (g.F.Files.holds c.change.new.files) c.args.target.now c.args.lines.now c.args.step.now.line c.args.together c.in-Some.act.now (sym c.act_of.ensures ∙ ap option_copied c.in-Some.is) c.change.ensures.idle
