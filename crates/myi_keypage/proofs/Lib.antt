@@ -1,3 +1,4 @@
+pub mod FirstBytes
 pub mod CallerLemmas
 pub mod Numbers
 pub mod ItemForms

@@ -4,6 +4,7 @@
 //! its key, its row pointer, and in a node the child after it. Each reader here takes one thing from
 //! the front of the bytes and answers it with what is left, and None where it does not stand there.
 ghost use Rattle.std.specs.Prelude.{◌≡◌, ◌≤◌, length, option_map};
+ghost use Rattle.myi_base.specs.Numbers.{num};
 ghost use Rattle.myi_keypage.specs.PageItems.{number_at, pointer_at, place_at};
 ghost use Rattle.myi_keypage.specs.PageItems.{child_at, item_at, piece_at, item_view};
 
@@ -40,6 +41,7 @@ pub struct PageItem<'a> {
     pub child: Option<u64>,
 }
 
+#[inline(always)]
 #[tactic(auto, unfolding(crate::specs::PageItems::number_at))]
 fn read_number(bytes: &[u8]) -> Option<(usize, &[u8])>
     ensures { option_map (λ x. (x.0, x.1.now)) result ≡ number_at bytes.now }
@@ -58,6 +60,7 @@ fn read_number(bytes: &[u8]) -> Option<(usize, &[u8])>
     }
 }
 
+#[inline(always)]
 fn read_piece(count: usize, bytes: &[u8]) -> Option<(&[u8], &[u8])>
     ensures { option_map (λ x. (x.0.now, x.1.now)) result ≡ piece_at count bytes.now }
 {
@@ -67,6 +70,22 @@ fn read_piece(count: usize, bytes: &[u8]) -> Option<(&[u8], &[u8])>
     Some(bytes.split_at(count))
 }
 
+// The number of so many bytes, by one load where eight bytes stand there.
+#[inline(always)]
+fn short_number(count: usize, bytes: &[u8]) -> u64
+    requires few { count ≤ 8 }
+    requires inside { count ≤ length bytes.now }
+    ensures { result ≡ num count bytes.now }
+{
+    match bytes {
+        [a, b, c, d, e, f, g, h, ..] if count > 0 => {
+            u64::from_be_bytes([*a, *b, *c, *d, *e, *f, *g, *h]) >> (64 - 8 * count)
+        }
+        _ => number_at(bytes, 0, count),
+    }
+}
+
+#[inline(always)]
 #[tactic(auto, unfolding(crate::specs::PageItems::pointer_at))]
 fn read_pointer(count: usize, bytes: &[u8]) -> Option<(u64, &[u8])>
     requires { count ≤ 8 }
@@ -75,9 +94,10 @@ fn read_pointer(count: usize, bytes: &[u8]) -> Option<(u64, &[u8])>
     if bytes.len() < count {
         return None;
     }
-    Some((number_at(bytes, 0, count), &bytes[count..]))
+    Some((short_number(count, bytes), &bytes[count..]))
 }
 
+#[inline(always)]
 #[tactic(auto, unfolding(crate::specs::PageItems::place_at))]
 fn read_place(bytes: &[u8]) -> Option<(u64, &[u8])>
     ensures { option_map (λ x. (x.0, x.1.now)) result ≡ place_at bytes.now }
@@ -91,6 +111,7 @@ fn read_place(bytes: &[u8]) -> Option<(u64, &[u8])>
 }
 
 /// The place of a child in a node, and nothing in a leaf.
+#[inline(always)]
 #[tactic(auto, unfolding(crate::specs::PageItems::child_at))]
 pub(crate) fn read_child(node: bool, bytes: &[u8]) -> Option<(Option<u64>, &[u8])>
     ensures { option_map (λ x. (x.0, x.1.now)) result ≡ child_at node bytes.now }
@@ -103,6 +124,7 @@ pub(crate) fn read_child(node: bool, bytes: &[u8]) -> Option<(Option<u64>, &[u8]
 }
 
 /// The item at the front of the bytes, and what is left.
+#[inline(always)]
 #[tactic(auto, unfolding(crate::specs::PageItems::item_at))]
 pub(crate) fn read_item<'a>(
     node: bool,

@@ -15,6 +15,7 @@ const MOST_USED: usize = 32_768;
 /// page to read.
 const FEW_USED: usize = 1_024;
 
+#[inline(always)]
 #[tactic(auto, using(crate::proofs::Shared::shared_empty, crate::proofs::Shared::shared_heads))]
 fn none_shared(before: &[u8], rest: &[u8]) -> bool
     ensures { result ≡ (shared before.now rest.now == 0) }
@@ -25,6 +26,7 @@ fn none_shared(before: &[u8], rest: &[u8]) -> bool
     before[0] != rest[0]
 }
 
+#[inline(always)]
 fn is_longest_prefix(before: &[u8], item: &PageItem) -> bool
     ensures { result ≡ is_longest before.now (item_view item.now) }
 {
@@ -32,6 +34,7 @@ fn is_longest_prefix(before: &[u8], item: &PageItem) -> bool
 }
 
 /// Makes the key of `item` out of the key before it, and answers its length.
+#[inline(always)]
 pub(crate) fn keep_key(key: &mut [u8], len: usize, item: &PageItem) -> usize
     requires len { len ≤ length key.old }
     requires prefix { item.now.prefix ≤ len }

@@ -131,6 +131,7 @@ impl<'a> PageView<'a> {
 
 impl<'a> PageWalk<'a> {
     /// The next item, and None behind the last one.
+    #[inline(always)]
     pub fn next_item(&mut self) -> Option<PageItem<'a>>
         ensures item { option_map item_view result ≡ slice_get self.old 0 }
         ensures rest { self.new ≡ drop 1 self.old }

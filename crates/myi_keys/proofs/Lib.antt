@@ -7,6 +7,7 @@ pub mod IntegerOrders
 pub mod ByteLists
 pub mod TextCuts
 pub mod Tables
+pub mod WeightLists
 pub mod WeightSizes
 pub mod CodeSizes
 pub mod Fronts

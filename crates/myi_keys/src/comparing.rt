@@ -5,6 +5,8 @@
 //! as they can be read, so that the order of all bytes is total and a sort may go by it.
 ghost use Rattle.std.specs.Prelude.{◌≡◌, ℕ, ◌+◌, ◌*◌, ◌^◌};
 ghost use Rattle.std.specs.Option.{option_copied};
+ghost use Rattle.std.specs.Ordering.{nat_cmp};
+ghost use Rattle.std.specs.Cmp.Lexicographic.{slice_cmp};
 ghost use Rattle.myi_keys.specs.Limits.{is_complete};
 ghost use Rattle.myi_keys.specs.Order.{seg_cmp};
 ghost use Rattle.myi_keys.specs.Comparing.{number_front, seg_front, key_front, code_cmp};
@@ -13,6 +15,9 @@ ghost use Rattle.myi_keys.specs.Comparing.{seg_with, weights_number, key_prefix}
 use crate::codes::WIDE;
 use crate::values::MOST_SEGMENTS;
 use std::cmp::Ordering;
+
+/// How many weights of two segments are compared one by one.
+const NEAR: usize = 16;
 
 /// Which of two codes is first: the one whose key is. It takes no memory.
 pub fn compare_codes(one: &[u8], other: &[u8]) -> Ordering
@@ -55,6 +60,7 @@ pub fn is_complete_code(code: &[u8]) -> bool
 }
 
 // Which of two segments is first, each by its weights where it has any.
+#[inline(always)]
 fn compare_segments(one: Option<&[u8]>, other: Option<&[u8]>) -> Ordering
     ensures { result
         ≡ seg_cmp (seg_with (option_copied one.entry)) (seg_with (option_copied other.entry)) }
@@ -63,11 +69,28 @@ fn compare_segments(one: Option<&[u8]>, other: Option<&[u8]>) -> Ordering
         (None, None) => Ordering::Equal,
         (None, Some(_)) => Ordering::Less,
         (Some(_), None) => Ordering::Greater,
-        (Some(weights), Some(others)) => weights.cmp(&others),
+        (Some(weights), Some(others)) => compare_weights(weights, others),
     }
 }
 
+// Which of two lists of weights is first. The first of them are compared one by one, since most lists differ there.
+#[inline(always)]
+fn compare_weights(one: &[u8], other: &[u8]) -> Ordering
+    ensures { result ≡ slice_cmp nat_cmp one.now other.now }
+{
+    let near = one.len().min(other.len()).min(NEAR);
+    for i in 0..near {
+        let order = one[i].cmp(&other[i]);
+        if order.is_ne() {
+            return order;
+        }
+    }
+    let (left, others) = (&one[near..], &other[near..]);
+    left.cmp(&others)
+}
+
 /// The segment that a code begins with, by its weights where it has any, and the bytes behind it.
+#[inline(always)]
 #[tactic(auto, unfolding(crate::specs::Comparing::seg_front))]
 pub fn first_segment(code: &[u8]) -> (Option<&[u8]>, &[u8])
     ensures { seg_front code.now ≡ (seg_with (option_copied result.0), result.1.now) }
@@ -81,6 +104,7 @@ pub fn first_segment(code: &[u8]) -> (Option<&[u8]>, &[u8])
 }
 
 // The number that bytes begin with, and the bytes behind it.
+#[inline(always)]
 #[tactic(auto, unfolding(crate::specs::Comparing::number_front))]
 fn first_number(bytes: &[u8]) -> (usize, &[u8])
     ensures { number_front bytes.now ≡ (result.0, result.1.now) }

@@ -11,6 +11,7 @@ use myi_keys::{MOST_SEGMENTS, MOST_WEIGHTS, codes_read_back};
 const LEAST_WIDE: usize = 255;
 
 // The number that a segment begins with, and the bytes behind it. None where no number stands there.
+#[inline(always)]
 #[tactic(auto, unfolding(myi_keys::specs::Decoding::number_at))]
 fn number_of(bytes: &[u8]) -> Option<(usize, &[u8])>
     ensures { option_map (λ x. (x.0, x.1.now)) result ≡ if_read (number_at bytes.now) }
@@ -30,6 +31,7 @@ fn number_of(bytes: &[u8]) -> Option<(usize, &[u8])>
 }
 
 // The bytes behind the first segment of a code. None where no segment stands there.
+#[inline(always)]
 #[tactic(auto, unfolding(myi_keys::specs::Decoding::seg_at))]
 fn behind_segment(bytes: &[u8]) -> Option<&[u8]>
     ensures { option_map (λ x. x.now) result ≡ behind (seg_at bytes.now) }
@@ -43,6 +45,7 @@ fn behind_segment(bytes: &[u8]) -> Option<&[u8]>
 }
 
 // Whether bytes can be read as a key to their end.
+#[inline(always)]
 fn can_be_read(bytes: &[u8]) -> bool
     ensures { result ≡ is_ok (key_at bytes.now) }
 {

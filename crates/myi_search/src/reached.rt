@@ -61,6 +61,7 @@ impl Reached {
     }
 
     /// Reads the code of an item's key, of which it keeps a front.
+    #[inline(always)]
     pub(crate) fn read(&mut self, item: &PageItem) -> Result<(), AllocError>
         ensures code { OnOk result
             (self.new.code.items ≡ take item.now.prefix self.old.code.items ++ item.now.rest.now) }
