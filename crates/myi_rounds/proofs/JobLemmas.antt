@@ -1,9 +1,8 @@
 -- A job that goes on.
-use Rattle.std.proofs.Common.{◌≡◌, ℕ, suc, ◌+◌, ◌<◌, ◌≤◌, List, [], ◌∷◌, ◌++◌, length, take, get_or, Option, refl, sym, ap, subst, ◌∙◌, arith, add-one}
+use Rattle.std.proofs.Common.{◌≡◌, ℕ, ◌+◌, ◌<◌, ◌≤◌, List, [], ◌∷◌, ◌++◌, length, take, get_or, Option, refl, sym, ap, subst, ◌∙◌, arith, add-one}
 use Rattle.std.proofs.Math.Seq.{take-suc}
 use Rattle.myi_adapters.specs.TwoReaders.{told_by}
 use Rattle.myi_keyedrows.specs.KeyedRows.{IfHold}
-use Rattle.myi_state.specs.State.{TableState}
 use Rattle.myi_locks.specs.declared.steps.Step.{Step}
 use Rattle.myi_script.specs.declared.types.Line.{Line}
 use Rattle.myi_defs.specs.declared.types.Defs.{Defs}
@@ -11,7 +10,7 @@ use Rattle.myi_history.specs.Lines.{MayRun}
 use Rattle.myi_history.specs.RoundTexts.{LineText}
 use Rattle.myi_snapshots.specs.declared.snapshot.Snapshot.{Snapshot}
 use Rattle.myi_readers.specs.declared.file_reader.Reader.{Reader}
-use Rattle.myi_rounds.specs.ReadJob.{Reads, SaidBy, HasSaid, IsReadJob, ReadsOn, GoesOn}
+use Rattle.myi_rounds.specs.ReadJob.{Reads, SaidBy, IsReadJob, ReadsOn, GoesOn}
 use Rattle.myi_rounds.proofs.ReaderLemmas.{on_then, on_same, kept_on}
 use Rattle.myi_rounds.proofs.SaidLemmas.{knows_more}
 

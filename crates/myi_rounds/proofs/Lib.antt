@@ -7,3 +7,7 @@ pub mod ReaderLemmas
 pub mod SaidLemmas
 -- jobs that go on
 pub mod JobLemmas
+-- the numbers of a job's reads
+pub mod FitLemmas
+-- what the crates above cite
+pub mod CallerLemmas

@@ -3,7 +3,6 @@ use Rattle.std.proofs.Common.{◌≡◌, ℕ, zero, suc, ◌≤◌, List, [], �
 use Rattle.std.proofs.lemmas.List.{length-take, take_all}
 use Rattle.myi_base.specs.Holding.{Holding}
 use Rattle.myi_adapters.specs.TwoReaders.{told_by}
-use Rattle.myi_adapters.specs.declared.reader_files.ReaderFiles.{ReaderFiles}
 use Rattle.myi_defs.specs.declared.types.Defs.{Defs}
 use Rattle.myi_state.specs.declared.counts.Counts.{Counts}
 use Rattle.myi_state.specs.Numbers.{counts_of}

@@ -2,8 +2,6 @@
 -- leave.
 use Rattle.std.specs.Prelude.{◌≡◌, ◌+◌, ◌^◌, ◌<◌, ◌≤◌, ℕ, List, take, length, Option, Some, None}
 use Rattle.myi_adapters.specs.TwoReaders.{told_by}
-use Rattle.myi_base.specs.Holding.{Holding}
-use Rattle.myi_defs.specs.declared.types.Defs.{Defs}
 use Rattle.myi_pack.specs.Packed.{Values}
 use Rattle.myi_state.specs.State.{TableState}
 use Rattle.myi_keyedrows.specs.KeyedRows.{HoldTable, IsKept, IfHold}

@@ -17,7 +17,7 @@ use Rattle.myi_history.specs.RoundTexts.{LineText, texts_of}
 use Rattle.myi_history.specs.SideBySide.{RisesFrom}
 use Rattle.myi_snapshots.specs.declared.snapshot.Snapshot.{Snapshot}
 use Rattle.myi_snapshots.specs.Appended.{rows_before}
-use Rattle.myi_snapshots.specs.Seen.{seen_rows, state_at}
+use Rattle.myi_snapshots.specs.Seen.{seen_rows}
 
 -- ---- what a read finds
 

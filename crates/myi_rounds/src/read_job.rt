@@ -103,7 +103,8 @@ impl<'a, R: FileReader> ReadJob<'a, R> {
 
     /// Does the next step, if one is left. A refusal leaves it to be done: a later call may be made.
     pub fn step<G: Gate>(&mut self, gate: &G) -> Result<(), SeenFault>
-        ensures next { OnOk result (self.new.done ≡ min (self.old.done + 1) (length self.old.steps)) }
+        ensures next { OnOk result
+            (self.new.done ≡ min (self.old.done + 1) (length self.old.steps)) }
         ensures refused { OnErr result (self.new.done ≡ self.old.done) }
         ensures on { GoesOn R.holds self.old self.new }
         ensures never { IfErr result (NeverDamaged (told_by R.holds self.old.reader.files)) }

@@ -1,6 +1,5 @@
 use Rattle.std.proofs.Common.{◌≡◌, ◌∙◌, Some, sym, ap, subst}
 use Rattle.myi_adapters.specs.TwoReaders.{told_by}
-use Rattle.myi_defs.specs.declared.types.Defs.{Defs}
 use Rattle.myi_state.specs.Sound.{IsState}
 use Rattle.myi_keyedrows.specs.declared.keyed_rows.KeyedRows.{KeyedRows}
 use Rattle.myi_keyedrows.specs.KeyedRows.{HoldTable}

@@ -1,5 +1,4 @@
-use Rattle.std.proofs.Common.{◌≡◌, ℕ, List, length, ap, arith}
-use Rattle.myi_rounds.specs.ReadJob.{Reads}
+use Rattle.std.proofs.Common.{◌≡◌, List, length, ap, arith}
 use Rattle.myi_locks.specs.declared.steps.Step.{Step}
 use Rattle.myi_rounds.proofs.JobLemmas.{goes_then}
 use Rattle.myi_rounds.proofs.read_job.ReadJob.run.Goals as goal

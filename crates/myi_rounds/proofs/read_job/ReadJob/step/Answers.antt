@@ -1,4 +1,4 @@
-use Rattle.std.proofs.Common.{◌+◌, sym, subst, ap, ◌∙◌, arith, refl}
+use Rattle.std.proofs.Common.{◌+◌, subst, arith, refl}
 use Rattle.myi_rounds.specs.ReadJob.{GoesOn}
 use Rattle.myi_rounds.proofs.JobLemmas.{job, job_on, goes_next, goes_none}
 use Rattle.myi_rounds.proofs.read_job.ReadJob.step.Goals as goal
