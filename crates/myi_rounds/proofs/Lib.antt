@@ -1,0 +1,13 @@
+-- statements of lines
+pub mod StatementLemmas
+-- what a reader finds, and what stays of it
+pub mod FindLemmas
+pub mod ReaderLemmas
+-- what the reads of a session said
+pub mod SaidLemmas
+-- jobs that go on
+pub mod JobLemmas
+-- the numbers of a job's reads
+pub mod FitLemmas
+-- what the crates above cite
+pub mod CallerLemmas

@@ -1,0 +1,6 @@
+-- what a reader of the contracts must believe
+
+-- what reads say that go beside inserts
+pub mod Reads
+-- the reads of a session as a job
+pub mod ReadJob

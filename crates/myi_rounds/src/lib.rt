@@ -1,0 +1,30 @@
+//! The runs of a round of kind Together, as jobs over the parts of a shared table.
+//!
+//! In such a round several sessions read, and at most one inserts at the table's end. The table is shared (`myi_share`), and
+//! each session's run is a job that owns its part, so that the jobs may go on threads.
+//!
+//! - `ReadJob` does the reads of a session, one after the other: it has a `Reader`, and notes what they say in `RoundTexts`. What
+//!   holds of each is `IsReadJob`; what its calls leave is `GoesOn`, which says of the texts what `HasSaid` does: they are those
+//!   of the reads of the run's first steps, each with a number of changes. A refusal ends a run, and the job keeps how many
+//!   steps are done, so that the others may be done later, by the job or by whoever has the table back.
+//! - The law `said_stays_said` says that nothing of it is lost while others insert, and `jobs_fit_their_runs` that the numbers
+//!   are those which `myi_history` asks of a run (`RunFits`).
+//! - `Gate` is called when a step begins and when it ends.
+//!
+//! ```
+//! let mut job = ReadJob::new(alloc, reader, lines, run.steps.as_slice(), None);
+//! let ran = job.run(&gate);
+//! let (reader, texts) = job.into_parts();
+//! ```
+#![tactic(auto)]
+
+mod finding;
+mod gate;
+mod laws;
+mod read_job;
+mod reads;
+mod statements;
+
+pub use gate::{Gate, OpenGate};
+pub use laws::{jobs_fit_their_runs, said_stays_said};
+pub use read_job::ReadJob;
