@@ -41,11 +41,11 @@ whole_is new items len e f =
     ap (λ (t : List ℕ). take len (new ++ t)) none ∙ ap (take len) (append-nil new) ∙ take_all len new (omega (arith, e, f))
 
 -- the leaf, as the list of its entries
-pub leaf_page : (rec_ref : ℕ) (bytes : List ℕ) (p : Pair) (spot : Spot) → (r : IsSpot rec_ref bytes p spot) → spot.child ≡ None → IsPage rec_ref bytes (page_with (entries_of r.pairs) [])
-leaf_page rec_ref bytes p spot r none = subst (λ (cs : List ℕ). IsPage rec_ref bytes (page_with (entries_of r.pairs) cs)) (spot_leaf rec_ref bytes p spot r none) r.page
+pub spot_page : (rec_ref : ℕ) (bytes : List ℕ) (p : Pair) (spot : Spot) → (r : IsSpot rec_ref bytes p spot) → spot.child ≡ None → IsPage rec_ref bytes (page_with (entries_of r.pairs) [])
+spot_page rec_ref bytes p spot r none = subst (λ (cs : List ℕ). IsPage rec_ref bytes (page_with (entries_of r.pairs) cs)) (spot_leaf rec_ref bytes p spot r none) r.page
 
-pub leaf_inside : (rec_ref : ℕ) (bytes : List ℕ) (p : Pair) (spot : Spot) → (r : IsSpot rec_ref bytes p spot) → spot.index ≤ length (entries_of r.pairs)
-leaf_inside rec_ref bytes p spot r = omega (arith, r.inside, length-entries r.pairs)
+pub spot_inside : (rec_ref : ℕ) (bytes : List ℕ) (p : Pair) (spot : Spot) → (r : IsSpot rec_ref bytes p spot) → spot.index ≤ length (entries_of r.pairs)
+spot_inside rec_ref bytes p spot r = omega (arith, r.inside, length-entries r.pairs)
 
 -- what was written is the leaf with the pair
 pub leaf_read : (place : Place) (bytes new : List ℕ) (p : Pair) (spot : Spot) (code : List ℕ) (row long : ℕ) (pairs : List Pair) → ((place : Place) (node : Node) → IsWritten place node → node_in place.rec_ref (page_for place node) ≡ Some node) → IsPlaced place → (r : IsSpot place.rec_ref bytes p spot) → spot.child ≡ None

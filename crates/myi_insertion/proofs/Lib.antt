@@ -24,3 +24,4 @@ pub mod HalfLaws
 pub mod KeptLaws
 pub mod SpotLaws
 pub mod LeafLaws
+pub mod ByteLaws

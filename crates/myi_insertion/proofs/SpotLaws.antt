@@ -1,5 +1,5 @@
 -- Where a pair goes on a page that is read item by item.
-use Rattle.std.proofs.Common.{◌≡◌, ℕ, suc, ◌+◌, ◌<◌, ◌≤◌, Bool, true, false, Option, Some, None, List, [], ◌∷◌, ◌++◌, length, get_or, take, drop, refl, sym, ap, subst, ◌∙◌, append_assoc, append-nil, arith, inl, inr}
+use Rattle.std.proofs.Common.{◌≡◌, ℕ, suc, ◌+◌, ◌<◌, ◌≤◌, Bool, true, false, Option, Some, None, Ok, List, [], ◌∷◌, ◌++◌, length, get_or, take, drop, refl, sym, ap, subst, ◌∙◌, append_assoc, append-nil, arith, inl, inr}
 use Rattle.std.specs.Prelude.{is_some, IsTrue}
 use Rattle.std.specs.Option.{option_to_list}
 use Rattle.std.specs.List.{slice_get, AllByRecursion}
@@ -21,7 +21,8 @@ use Rattle.myi_keys.specs.declared.values.KeySeg.{KeySeg}
 use Rattle.myi_keys.specs.Limits.{IsKey}
 use Rattle.myi_keys.specs.Comparing.{key_front, IsCode}
 use Rattle.myi_keys.specs.Decoding.{key_at}
-use Rattle.myi_keys.proofs.CallerLemmas.{key_read}
+use Rattle.myi_keys.specs.Codes.{key_code}
+use Rattle.myi_keys.proofs.CallerLemmas.{key_read, front_again}
 use Rattle.myi_btree.specs.Nodes.{ok_or_none, key_in, pair_in, entry_of, entries_of, node_in}
 use Rattle.myi_btree.proofs.CallerLemmas.{bind_some}
 use Rattle.myi_insertion.specs.declared.pass.Spot.{Spot}
@@ -31,10 +32,13 @@ use Rattle.myi_base.specs.Holding.{Holding}
 use Rattle.myi_keycache.specs.Caching.{Caching}
 use Rattle.myi_btree.specs.declared.place.Place.{Place}
 use Rattle.myi_btree.specs.declared.place.Room.{Room}
-use Rattle.myi_insertion.specs.Spots.{HaveCodes, IsSpot, with_pair}
+use Rattle.myi_base.specs.Numbers.{AreBytes}
+use Rattle.myi_insertion.specs.Spots.{HaveCodes, IsOnPage, IsSpot, with_pair}
+use Rattle.myi_insertion.proofs.ByteLaws.{keys_are_bytes, codes_read}
+use Rattle.myi_insertion.proofs.WriteLaws.{length-entries}
 use Rattle.myi_insertion.proofs.PuttingLaws.{Fills}
 use Rattle.myi_insertion.proofs.RoomLaws.{all_both}
-use Rattle.myi_insertion.proofs.PageLaws.{Reads, reads_start, reads_step, reads_none, child_first, node_made, node_failed, can_write_read}
+use Rattle.myi_insertion.proofs.PageLaws.{child_first, node_made, node_failed, can_write_read}
 
 entries_count : (before : List ℕ) (items : List Item) → length (entries_after before items) ≡ length items
 entries_count before [] = refl
@@ -110,21 +114,29 @@ items_few rec_ref bytes s page =
     let text = page.text in
     omega (arith, page_length rec_ref p page.branching, entries_few rec_ref (is_node p) [] p.entries, entries_count [] s.items, ap length text.1, length-append (page_bytes rec_ref p) text.0)
 
+-- the pair that an entry is, where its key is a code
+abbrev front_of : Entry → Pair
+front_of e = pair_with (key_front e.key) e.row
+
+-- the first of some entries does not stand before the pair
+abbrev Stops : Pair → List Entry → Type 0
+Stops p [] = Unit {0}
+Stops p (e ∷ es) = is_gt (pair_cmp p (front_of e)) ≡ false
+
 -- what was read, and where the pair goes behind it
 pub record HasRead (rec_ref : ℕ) (bytes : List ℕ) (p : Pair) (code : List ℕ) (walk : List Item) (index : ℕ) (child : Option ℕ) : Type 0 where
   pub s : ViewedPage
   pub shows : Some s ≡ viewed_in rec_ref bytes
   pub page : IsPage rec_ref bytes (page_of s)
-  pub pairs : List Pair
+  pub done : List Entry
   pub kids : List ℕ
-  pub reads : Reads (entries_after [] s.items) code walk pairs
+  pub split : done ++ entries_after code walk ≡ entries_after [] s.items
   pub kids_are : kids ++ children_of walk ≡ with_child s.first (children_of s.items)
-  pub sum : length pairs + length walk ≡ length s.items
-  pub few : length kids ≤ suc (length pairs)
-  pub before : AreBefore p pairs
-  pub index_is : index ≡ length pairs
-  pub next : slice_get kids (length pairs) ≡ child
-  pub codes : HaveCodes (entries_after code walk) → HaveCodes (entries_after [] s.items)
+  pub sum : length done + length walk ≡ length s.items
+  pub few : length kids ≤ suc (length done)
+  pub before : AllByRecursion (λ (e : Entry). is_gt (pair_cmp p (front_of e)) ≡ true) done
+  pub index_is : index ≡ length done
+  pub next : slice_get kids (length done) ≡ child
 
 -- the pairs of entries whose keys have codes
 code_in : (code : List ℕ) → IsCode code → key_in code ≡ Some (key_front code)
@@ -146,76 +158,85 @@ coded (x ∷ es) ps e all =
     let key : IsKey a.0.key = subst (λ (p : Pair). IsKey p.key) first all.0.key in
     (ap entries_of (sym whole) ∙ ap (λ (e : Entry). e ∷ entries_of b.0) one ∙ ap (λ (t : List Entry). x ∷ t) more.0, subst (AllByRecursion (λ (p : Pair). IsKey p.key)) whole (key, more.1))
 
-take_front : (xs ys : List Pair) (n : ℕ) → n ≡ length xs → take n (xs ++ ys) ≡ xs
-take_front [] ys n e = ap (λ (k : ℕ). take k ys) e
-take_front (x ∷ xs) ys n e = ap (λ (k : ℕ). take k (x ∷ (xs ++ ys))) e ∙ ap (λ (t : List Pair). x ∷ t) (take_front xs ys (length xs) refl)
+front_is : (e : Entry) (q : Pair) → entry_of q ≡ e → IsKey q.key → front_of e ≡ q
+front_is e q is key = ap front_of (sym is) ∙ ap (λ (k : List KeySeg). pair_with k q.row) (front_again q.key key)
 
-drop_front : (xs ys : List Pair) (n : ℕ) → n ≡ length xs → drop n (xs ++ ys) ≡ ys
-drop_front xs ys n e = ap (λ (k : ℕ). drop k (xs ++ ys)) e ∙ drop_at xs ys (length xs) refl
+first_is : (q : Pair) (e : Entry) (ps : List Pair) (es : List Entry) → entries_of (q ∷ ps) ≡ e ∷ es → (entry_of q ≡ e) × (entries_of ps ≡ es)
+first_is q e ps es is = (ap (λ (t : List Entry). get_or t 0 e) is, ap (drop 1) is)
+
+before_of : (p : Pair) (done rest : List Entry) (ps : List Pair) → entries_of ps ≡ done ++ rest → AllByRecursion (λ (q : Pair). IsKey q.key) ps → AllByRecursion (λ (e : Entry). is_gt (pair_cmp p (front_of e)) ≡ true) done → AreBefore p (take (length done) ps)
+before_of p [] rest ps is keys h = tt
+before_of p (e ∷ done) rest [] is keys h = absurd cc
+before_of p (e ∷ done) rest (q ∷ ps) is keys h =
+    let f = first_is q e ps (done ++ rest) is in
+    (ap (λ (t : Pair). is_gt (pair_cmp p t)) (sym (front_is e q f.0 keys.0)) ∙ h.0, before_of p done rest ps f.1 keys.1 h.1)
+
+behind_of : (p : Pair) (done rest : List Entry) (ps : List Pair) → entries_of ps ≡ done ++ rest → AllByRecursion (λ (q : Pair). IsKey q.key) ps → Stops p rest → BeginsBehind p (drop (length done) ps)
+behind_of p [] rest [] is keys h = tt
+behind_of p [] [] (q ∷ ps) is keys h = absurd cc
+behind_of p [] (e ∷ rest) (q ∷ ps) is keys h = ap (λ (t : Pair). is_gt (pair_cmp p t)) (sym (front_is e q (first_is q e ps rest is).0 keys.0)) ∙ h
+behind_of p (e ∷ done) rest [] is keys h = absurd cc
+behind_of p (e ∷ done) rest (q ∷ ps) is keys h = behind_of p done rest ps (first_is q e ps (done ++ rest) is).1 keys.1 h
+
+node_pairs : (rec_ref : ℕ) (bytes : List ℕ) (s : ViewedPage) → Some s ≡ viewed_in rec_ref bytes → IsTrue (is_some (node_in rec_ref bytes)) → (ps : List Pair) × (each pair_in (entries_after [] s.items) ≡ Some ps)
+node_pairs rec_ref bytes s shows some = by (each pair_in (entries_after [] s.items)) refl
+  where
+    by : (o : Option (List Pair)) → each pair_in (entries_after [] s.items) ≡ o → (ps : List Pair) × (each pair_in (entries_after [] s.items) ≡ Some ps)
+    by None e = absurd (let k : false ≡ true = ap is_some (node_failed rec_ref bytes s shows e) ∙ some in cc)
+    by (Some ps) e = (ps, e)
+
+-- the child that is next, of all children
+next_is : (rec_ref : ℕ) (bytes : List ℕ) (p : Pair) (code : List ℕ) (walk : List Item) (index : ℕ) (child : Option ℕ) → (r : HasRead rec_ref bytes p code walk index child) → slice_get (r.kids ++ children_of walk) index ≡ child
+next_is rec_ref bytes p code walk index child r =
+    ap (slice_get (r.kids ++ children_of walk)) r.index_is ∙ next_stays r.s r.kids walk (length r.done) r.page.branching r.kids_are r.sum r.few ∙ r.next
+
+-- the spot is one on the page
+pub on_page : (rec_ref : ℕ) (bytes : List ℕ) (p : Pair) (code : List ℕ) (walk : List Item) (index : ℕ) (child : Option ℕ) → HasRead rec_ref bytes p code walk index child → IsOnPage rec_ref bytes (record { index = index; child = child })
+on_page rec_ref bytes p code walk index child r = record {
+  entries = entries_after [] r.s.items;
+  children = r.kids ++ children_of walk;
+  page = subst (λ (cs : List ℕ). IsPage rec_ref bytes (page_with (entries_after [] r.s.items) cs)) (sym r.kids_are) r.page;
+  inside = omega (arith, r.index_is, r.sum, entries_count [] r.s.items);
+  next = next_is rec_ref bytes p code walk index child r;
+}
+
+-- what is read of bytes as a key is its code
+abbrev pub ReadBack : Type 0
+ReadBack = ((bytes : List ℕ) (key : List KeySeg) → AreBytes bytes → key_at bytes ≡ Ok key → bytes ≡ key_code key) × ((bytes : List ℕ) (key : List KeySeg) → AreBytes bytes → key_at bytes ≡ Ok key → IsKey key)
 
 -- the pair goes there, where the others do not stand before it
-pub spot_made : (rec_ref : ℕ) (bytes : List ℕ) (p : Pair) (code : List ℕ) (walk : List Item) (index : ℕ) (child : Option ℕ) (more : List Pair) → (r : HasRead rec_ref bytes p code walk index child) → each pair_in (entries_after [] r.s.items) ≡ Some (r.pairs ++ more) → HaveCodes (entries_after code walk) → BeginsBehind p more
+spot_made : ReadBack → (rec_ref : ℕ) (bytes : List ℕ) (p : Pair) (code : List ℕ) (walk : List Item) (index : ℕ) (child : Option ℕ) → AreBytes bytes → (r : HasRead rec_ref bytes p code walk index child) → Stops p (entries_after code walk) → IsTrue (is_some (node_in rec_ref bytes))
     → IsSpot rec_ref bytes p (record { index = index; child = child })
-spot_made rec_ref bytes p code walk index child more r all codes behind =
-    let pairs : List Pair = r.pairs ++ more in
-    let coded_are = coded (entries_after [] r.s.items) pairs all (r.codes codes) in
+spot_made back rec_ref bytes p code walk index child fits r stops some =
+    let all : List Entry = entries_after [] r.s.items in
+    let kids : List ℕ = r.kids ++ children_of walk in
+    let n = node_pairs rec_ref bytes r.s r.shows some in
+    let codes = codes_read back.0 back.1 all n.0 (keys_are_bytes rec_ref bytes (page_of r.s) fits r.page) n.1 in
+    let coded_are = coded all n.0 n.1 codes in
+    let parts : entries_of n.0 ≡ r.done ++ entries_after code walk = coded_are.0 ∙ sym r.split in
     record {
-      pairs = pairs;
-      children = r.kids ++ children_of walk;
-      stands = sym (node_made rec_ref bytes r.s pairs (r.kids ++ children_of walk) r.shows all r.kids_are);
-      page = subst (λ (cs : List ℕ). IsPage rec_ref bytes (page_with (entries_of pairs) cs)) (sym r.kids_are) (subst (λ (es : List Entry). IsPage rec_ref bytes (page_with es (with_child r.s.first (children_of r.s.items)))) (sym coded_are.0) r.page);
-      written = can_write_read rec_ref bytes r.s pairs (r.kids ++ children_of walk) r.page all r.kids_are coded_are.1;
-      inside = omega (arith, r.index_is, length-append r.pairs more);
-      before = subst (AreBefore p) (sym (take_front r.pairs more index r.index_is)) r.before;
-      behind = subst (BeginsBehind p) (sym (drop_front r.pairs more index r.index_is)) behind;
-      next = ap (slice_get (r.kids ++ children_of walk)) r.index_is ∙ next_stays r.s r.kids walk (length r.pairs) r.page.branching r.kids_are r.sum r.few ∙ r.next;
+      pairs = n.0;
+      children = kids;
+      stands = sym (node_made rec_ref bytes r.s n.0 kids r.shows n.1 r.kids_are);
+      page = subst (λ (cs : List ℕ). IsPage rec_ref bytes (page_with (entries_of n.0) cs)) (sym r.kids_are) (subst (λ (es : List Entry). IsPage rec_ref bytes (page_with es (with_child r.s.first (children_of r.s.items)))) (sym coded_are.0) r.page);
+      written = can_write_read rec_ref bytes r.s n.0 kids r.page n.1 r.kids_are coded_are.1;
+      inside = omega (arith, r.index_is, ap length parts, length-append r.done (entries_after code walk), length-entries n.0);
+      before = subst (λ (i : ℕ). AreBefore p (take i n.0)) (sym r.index_is) (before_of p r.done (entries_after code walk) n.0 parts coded_are.1 r.before);
+      behind = subst (λ (i : ℕ). BeginsBehind p (drop i n.0)) (sym r.index_is) (behind_of p r.done (entries_after code walk) n.0 parts coded_are.1 stops);
+      next = next_is rec_ref bytes p code walk index child r;
     }
 
 -- all items were read
-pub spot_end : (rec_ref : ℕ) (bytes : List ℕ) (p : Pair) (code : List ℕ) (walk : List Item) (index : ℕ) (child : Option ℕ) → HasRead rec_ref bytes p code walk index child → walk ≡ [] → IsSpot rec_ref bytes p (record { index = index; child = child })
-spot_end rec_ref bytes p code walk index child r none =
-    let all : each pair_in (entries_after [] r.s.items) ≡ Some (r.pairs ++ []) = subst (λ (t : List Item). Reads (entries_after [] r.s.items) code t r.pairs) none r.reads in
-    spot_made rec_ref bytes p code walk index child [] r all (subst (λ (t : List Item). HaveCodes (entries_after code t)) (sym none) tt) tt
+pub spot_end : ReadBack → (rec_ref : ℕ) (bytes : List ℕ) (p : Pair) (code : List ℕ) (walk : List Item) (index : ℕ) (child : Option ℕ) → AreBytes bytes → HasRead rec_ref bytes p code walk index child → walk ≡ [] → IsTrue (is_some (node_in rec_ref bytes)) → IsSpot rec_ref bytes p (record { index = index; child = child })
+spot_end back rec_ref bytes p code walk index child fits r none some =
+    spot_made back rec_ref bytes p code walk index child fits r (subst (λ (t : List Item). Stops p (entries_after code t)) (sym none) tt) some
 
--- what is left are codes or not
-left_some : (all rest : Option (List Pair)) (pairs : List Pair) → all ≡ (rest >>= λ ys. Some (pairs ++ ys)) → is_some rest ≡ true → (ys : List Pair) × (all ≡ Some (pairs ++ ys))
-left_some all None pairs e some = absurd cc
-left_some all (Some ys) pairs e some = (ys, e)
-
-pub left_none : (all rest : Option (List Pair)) (pairs : List Pair) → all ≡ (rest >>= λ ys. Some (pairs ++ ys)) → is_some rest ≡ false → all ≡ None
-left_none all None pairs e none = e
-left_none all (Some ys) pairs e none = absurd cc
-
--- an item was read that does not stand before the pair, and the others have codes
-pub spot_stop : (rec_ref : ℕ) (bytes : List ℕ) (p q : Pair) (code next_code : List ℕ) (it : Item) (walk rest : List Item) (index : ℕ) (child : Option ℕ) → (r : HasRead rec_ref bytes p code walk index child) → walk ≡ it ∷ rest → Reads (entries_after [] r.s.items) next_code rest (r.pairs ++ q ∷ [])
-    → is_some (each pair_in (entries_after next_code rest)) ≡ true → HaveCodes (entries_after code (it ∷ rest)) → is_gt (pair_cmp p q) ≡ false → IsSpot rec_ref bytes p (record { index = index; child = child })
-spot_stop rec_ref bytes p q code next_code it walk rest index child r is reads some codes behind =
-    let l = left_some (each pair_in (entries_after [] r.s.items)) (each pair_in (entries_after next_code rest)) (r.pairs ++ q ∷ []) reads some in
-    spot_made rec_ref bytes p code walk index child (q ∷ l.0) r (l.1 ∙ ap (λ (t : List Pair). Some t) (append_assoc r.pairs (q ∷ []) l.0)) (subst (λ (t : List Item). HaveCodes (entries_after code t)) (sym is) codes) behind
-
--- ---- the codes that are left
-
-pub codes_step : (code : List ℕ) (it : Item) (rest : List Item) (k : List KeySeg) → key_in (key_after code it) ≡ Some k → is_some (each pair_in (entries_after code (it ∷ rest))) ≡ is_some (each pair_in (entries_after (key_after code it) rest))
-unfolding pair_in
-codes_step code it rest k e =
-    let step : each pair_in (entries_after code (it ∷ rest)) ≡ (each pair_in (entries_after (key_after code it) rest) >>= λ ys. Some (pair_with k it.row ∷ ys)) = rw e refl in
-    ap is_some step ∙ by (each pair_in (entries_after (key_after code it) rest))
-  where
-    by : (o : Option (List Pair)) → is_some (o >>= λ ys. Some (pair_with k it.row ∷ ys)) ≡ is_some o
-    by None = refl
-    by (Some ys) = refl
-
-pub codes_fail : (code : List ℕ) (it : Item) (rest : List Item) → key_in (key_after code it) ≡ None → is_some (each pair_in (entries_after code (it ∷ rest))) ≡ false
-unfolding pair_in
-codes_fail code it rest e =
-    let step : each pair_in (entries_after code (it ∷ rest)) ≡ None = rw e refl in
-    ap is_some step
-
-pub codes_after : (code next_code : List ℕ) (it : Item) (rest : List Item) → next_code ≡ key_after code it → IsCode next_code → HaveCodes (entries_after next_code rest) → HaveCodes (entries_after code (it ∷ rest))
-codes_after code next_code it rest after own left = (subst IsCode after own, subst (λ (t : List ℕ). HaveCodes (entries_after t rest)) after left)
-
-pub codes_more : (code : List ℕ) (it : Item) (walk rest : List Item) → walk ≡ it ∷ rest → IsCode (key_after code it) → HaveCodes (entries_after (key_after code it) rest) → HaveCodes (entries_after code walk)
-codes_more code it walk rest is own left = subst (λ (t : List Item). HaveCodes (entries_after code t)) (sym is) (own, left)
+-- an item was read that does not stand before the pair
+pub spot_stop : ReadBack → (rec_ref : ℕ) (bytes : List ℕ) (p : Pair) (code next_code : List ℕ) (it : Item) (walk rest : List Item) (index : ℕ) (child : Option ℕ) → AreBytes bytes → HasRead rec_ref bytes p code walk index child → walk ≡ it ∷ rest → next_code ≡ key_after code it
+    → is_gt (pair_cmp p (pair_with (key_front next_code) it.row)) ≡ false → IsTrue (is_some (node_in rec_ref bytes)) → IsSpot rec_ref bytes p (record { index = index; child = child })
+spot_stop back rec_ref bytes p code next_code it walk rest index child fits r is after behind some =
+    spot_made back rec_ref bytes p code walk index child fits r
+    (subst (λ (t : List Item). Stops p (entries_after code t)) (sym is) (ap (λ (t : List ℕ). is_gt (pair_cmp p (pair_with (key_front t) it.row))) (sym after) ∙ behind)) some
 
 -- ---- items that are read
 
@@ -224,65 +245,55 @@ read_start rec_ref bytes p s code walk child shows page empty all first = record
   s = s;
   shows = shows;
   page = page;
-  pairs = [];
+  done = [];
   kids = option_to_list s.first;
-  reads = subst (λ (t : List Item). Reads (entries_after [] s.items) code t []) (sym all) (subst (λ (t : List ℕ). Reads (entries_after [] s.items) t s.items []) (sym empty) (reads_start s.items));
+  split = ap (entries_after code) all ∙ ap (λ (t : List ℕ). entries_after t s.items) empty;
   kids_are = ap (λ (t : List Item). option_to_list s.first ++ children_of t) all ∙ sym (child_first s.first (children_of s.items));
   sum = omega (arith, ap length all);
   few = first_few s.first;
   before = tt;
   index_is = refl;
   next = first_next s.first ∙ sym first;
-  codes = λ all_are. subst (λ (t : List ℕ). HaveCodes (entries_after t s.items)) empty (subst (λ (t : List Item). HaveCodes (entries_after code t)) all all_are);
 }
 
 -- an item was read that stands before the pair
-pub read_more : (rec_ref : ℕ) (bytes : List ℕ) (p q : Pair) (code next_code : List ℕ) (it : Item) (walk rest : List Item) (index next_index : ℕ) (child next_child : Option ℕ) → (r : HasRead rec_ref bytes p code walk index child) → walk ≡ it ∷ rest
-    → next_code ≡ key_after code it → IsCode next_code → Reads (entries_after [] r.s.items) next_code rest (r.pairs ++ q ∷ []) → is_gt (pair_cmp p q) ≡ true → next_index ≡ index + 1 → next_child ≡ it.child → HasRead rec_ref bytes p next_code rest next_index next_child
-read_more rec_ref bytes p q code next_code it walk rest index next_index child next_child r is after own reads behind more next =
-    let pairs : List Pair = r.pairs ++ q ∷ [] in
-    let one : length pairs ≡ suc (length r.pairs) = omega (arith, length-append r.pairs (q ∷ [])) in
+pub read_more : (rec_ref : ℕ) (bytes : List ℕ) (p : Pair) (code next_code : List ℕ) (it : Item) (walk rest : List Item) (index next_index : ℕ) (child next_child : Option ℕ) → HasRead rec_ref bytes p code walk index child → walk ≡ it ∷ rest
+    → next_code ≡ key_after code it → is_gt (pair_cmp p (pair_with (key_front next_code) it.row)) ≡ true → next_index ≡ index + 1 → next_child ≡ it.child → HasRead rec_ref bytes p next_code rest next_index next_child
+read_more rec_ref bytes p code next_code it walk rest index next_index child next_child r is after behind more next =
+    let e : Entry = entry_with (key_after code it) it.row in
+    let one : length (r.done ++ e ∷ []) ≡ suc (length r.done) = omega (arith, length-append r.done (e ∷ [])) in
     let kids_are : r.kids ++ children_of (it ∷ rest) ≡ with_child r.s.first (children_of r.s.items) = ap (λ (t : List Item). r.kids ++ children_of t) (sym is) ∙ r.kids_are in
-    let sum : length r.pairs + length (it ∷ rest) ≡ length r.s.items = ap (λ (t : List Item). length r.pairs + length t) (sym is) ∙ r.sum in
+    let sum : length r.done + length (it ∷ rest) ≡ length r.s.items = ap (λ (t : List Item). length r.done + length t) (sym is) ∙ r.sum in
     record {
       s = r.s;
       shows = r.shows;
       page = r.page;
-      pairs = pairs;
+      done = r.done ++ e ∷ [];
       kids = r.kids ++ option_to_list it.child;
-      reads = reads;
+      split = append_assoc r.done (e ∷ []) (entries_after next_code rest) ∙ ap (λ (t : List ℕ). r.done ++ e ∷ entries_after t rest) after ∙ ap (λ (t : List Item). r.done ++ entries_after code t) (sym is) ∙ r.split;
       kids_are = append_assoc r.kids (option_to_list it.child) (children_of rest) ∙ ap (λ (t : List ℕ). r.kids ++ t) (sym (child_first it.child (children_of rest))) ∙ kids_are;
       sum = omega (arith, one, sum);
-      few = subst (λ (n : ℕ). length (r.kids ++ option_to_list it.child) ≤ suc n) (sym one) (few_more r.kids it.child (length r.pairs) r.few);
-      before = all_both (λ q. is_gt (pair_cmp p q) ≡ true) r.pairs (q ∷ []) r.before (behind, tt);
+      few = subst (λ (n : ℕ). length (r.kids ++ option_to_list it.child) ≤ suc n) (sym one) (few_more r.kids it.child (length r.done) r.few);
+      before = all_both (λ (x : Entry). is_gt (pair_cmp p (front_of x)) ≡ true) r.done (e ∷ []) r.before (ap (λ (t : List ℕ). is_gt (pair_cmp p (pair_with (key_front t) it.row))) (sym after) ∙ behind, tt);
       index_is = omega (arith, one, r.index_is, more);
-      next = ap (slice_get (r.kids ++ option_to_list it.child)) one ∙ next_more r.s r.kids it rest (length r.pairs) r.page.branching kids_are sum r.few ∙ sym next;
-      codes = λ left. r.codes (subst (λ (t : List Item). HaveCodes (entries_after code t)) (sym is) (codes_after code next_code it rest after own left));
+      next = ap (slice_get (r.kids ++ option_to_list it.child)) one ∙ next_more r.s r.kids it rest (length r.done) r.page.branching kids_are sum r.few ∙ sym next;
     }
-
--- what is left after one more item
-pub reads_item : (rec_ref : ℕ) (bytes : List ℕ) (p : Pair) (code next_code : List ℕ) (it : Item) (walk rest : List Item) (index : ℕ) (child : Option ℕ) (k : List KeySeg) → (r : HasRead rec_ref bytes p code walk index child) → walk ≡ it ∷ rest → next_code ≡ key_after code it → key_in (key_after code it) ≡ Some k
-    → Reads (entries_after [] r.s.items) next_code rest (r.pairs ++ pair_with k it.row ∷ [])
-reads_item rec_ref bytes p code next_code it walk rest index child k r is after key =
-    subst (λ (t : List ℕ). Reads (entries_after [] r.s.items) t rest (r.pairs ++ pair_with k it.row ∷ [])) (sym after)
-    (reads_step (entries_after [] r.s.items) code it rest r.pairs k (subst (λ (t : List Item). Reads (entries_after [] r.s.items) code t r.pairs) is r.reads) key)
-
--- an item has no key's code
-pub read_failed : (rec_ref : ℕ) (bytes : List ℕ) (p : Pair) (code : List ℕ) (it : Item) (walk rest : List Item) (index : ℕ) (child : Option ℕ) → HasRead rec_ref bytes p code walk index child → walk ≡ it ∷ rest → key_in (key_after code it) ≡ None → node_in rec_ref bytes ≡ None
-read_failed rec_ref bytes p code it walk rest index child r is none =
-    sym (node_failed rec_ref bytes r.s r.shows (reads_none (entries_after [] r.s.items) code it rest r.pairs (subst (λ (t : List Item). Reads (entries_after [] r.s.items) code t r.pairs) is r.reads) none))
-
--- one that is left has none
-pub left_failed : (rec_ref : ℕ) (bytes : List ℕ) (p q : Pair) (code next_code : List ℕ) (walk rest : List Item) (index : ℕ) (child : Option ℕ) → (r : HasRead rec_ref bytes p code walk index child) → Reads (entries_after [] r.s.items) next_code rest (r.pairs ++ q ∷ [])
-    → is_some (each pair_in (entries_after next_code rest)) ≡ false → node_in rec_ref bytes ≡ None
-left_failed rec_ref bytes p q code next_code walk rest index child r reads none =
-    sym (node_failed rec_ref bytes r.s r.shows (left_none (each pair_in (entries_after [] r.s.items)) (each pair_in (entries_after next_code rest)) (r.pairs ++ q ∷ []) reads none))
 
 -- there is room to count one more item
 pub index_few : (rec_ref : ℕ) (bytes : List ℕ) (p : Pair) (code : List ℕ) (it : Item) (walk rest : List Item) (index : ℕ) (child : Option ℕ) → HasRead rec_ref bytes p code walk index child → walk ≡ it ∷ rest → index + 1 ≤ length bytes
 index_few rec_ref bytes p code it walk rest index child r is = omega (arith, items_few rec_ref bytes r.s r.page, r.sum, ap length is, r.index_is)
 
 -- ---- what a spot says
+
+-- a page with a spot that has no child is a leaf
+pub page_leaf : (rec_ref : ℕ) (bytes : List ℕ) (spot : Spot) → (o : IsOnPage rec_ref bytes spot) → spot.child ≡ None → IsPage rec_ref bytes (page_with o.entries [])
+page_leaf rec_ref bytes spot o none = subst (λ (cs : List ℕ). IsPage rec_ref bytes (page_with o.entries cs)) (by o.children o.page.branching (o.next ∙ none)) o.page
+  where
+    by : (cs : List ℕ) → IsBranching (page_with o.entries cs) → slice_get cs spot.index ≡ None → cs ≡ []
+    by [] br is = refl
+    by (c ∷ cs) br is =
+        let e : Some (get_or (c ∷ cs) spot.index 0) ≡ None = sym (slice_get-get_or (c ∷ cs) spot.index 0 (omega (arith, br, o.inside))) ∙ is in
+        absurd cc
 
 pub spot_leaf : (rec_ref : ℕ) (bytes : List ℕ) (p : Pair) (spot : Spot) → (r : IsSpot rec_ref bytes p spot) → spot.child ≡ None → r.children ≡ []
 spot_leaf rec_ref bytes p spot r none = by r.written.branches
@@ -303,8 +314,12 @@ same_node ps qs cs ds o e f =
     let k : node_with ps cs ≡ node_with qs ds = same_Some _ _ (e ∙ f) in
     (ap (λ (n : Node). n.pairs) k, ap (λ (n : Node). n.children) k)
 
-pub node_there : (rec_ref : ℕ) (bytes : List ℕ) (p : Pair) (spot : Spot) → IsSpot rec_ref bytes p spot → IsTrue (is_some (node_in rec_ref bytes))
-node_there rec_ref bytes p spot r = ap is_some r.stands
+pub node_there : (rec_ref : ℕ) (bytes : List ℕ) → (node_in rec_ref bytes ≡ None → ⊥) → IsTrue (is_some (node_in rec_ref bytes))
+node_there rec_ref bytes some = by (node_in rec_ref bytes) some
+  where
+    by : (o : Option Node) → (o ≡ None → ⊥) → is_some o ≡ true
+    by None h = absurd (h refl)
+    by (Some node) h = refl
 
 -- a page was written that is the leaf with the pair
 pub leaf_fills : (place : Place) (cache : Caching) (told : Option Holding) (room : Room) (at i : ℕ) (p : Pair) (ps pairs grown : List Pair) (cs : List ℕ) (next : Option Holding) (new : Caching) (after : Room) (sp : List ℕ) (ss : List Pair)

@@ -2,7 +2,7 @@
 //!
 //! `insert_at` goes down one path of pages to the leaf that the pair goes into, and writes that leaf; where it
 //! is cut, the page above it is written too, and so on up; `raise` puts pages above a root that became several.
-ghost use Rattle.std.specs.Prelude.{◌≡◌, ◌+◌, ◌^◌, ◌<◌, ◌≤◌, ◌∷◌, [], ℕ, List, Some, None, false, length, IfOk, IfErr, IfSome, IfNone, OnOk, IsTrue};
+ghost use Rattle.std.specs.Prelude.{◌≡◌, ◌+◌, ◌^◌, ◌<◌, ◌≤◌, ◌∷◌, [], ℕ, List, Some, None, false, is_some, length, IfOk, IfErr, IfSome, IfNone, OnOk, IsTrue};
 ghost use Rattle.std.specs.List.Sorted.{IsStrictlySortedBy};
 ghost use Rattle.myi_base.specs.Holding.{IfTold, Told, OthersStay};
 ghost use Rattle.myi_base.specs.Causes.{HasCause};
@@ -20,7 +20,7 @@ ghost use Rattle.myi_insertion.specs.Rooms.{IsWhole};
 ghost use Rattle.myi_insertion.specs.CachedChanges.{CanChange};
 ghost use Rattle.myi_insertion.specs.Written.{IsStripOf};
 ghost use Rattle.myi_keylist.specs.declared.pair.Pair.{Pair};
-ghost use Rattle.myi_insertion.specs.Spots.{IsSpot, with_pair};
+ghost use Rattle.myi_insertion.specs.Spots.{IsOnPage, IsSpot, with_pair};
 ghost use Rattle.myi_insertion.specs.Strips.{IsStrip, StandFor};
 ghost use Rattle.myi_insertion.specs.CachedTree.{IsTree, Inserted};
 ghost use Rattle.myi_insertion.specs.Filled.{KeepsFilled};
@@ -52,7 +52,9 @@ pub(crate) struct Task<'a> {
 fn leaf_bytes(task: &Task, page: &Passed) -> Result<Option<Vec<u8>>, AllocError>
     requires placed { IsPlaced task.now.setup.place }
     requires row { task.now.pair.now.row < 256 ^ task.now.setup.place.rec_ref }
-    requires spot { IsSpot task.now.setup.place.rec_ref page.now.bytes.items task.now.pair.now
+    requires page { IsOnPage task.now.setup.place.rec_ref page.now.bytes.items page.now.spot }
+    requires spot { IsTrue (is_some (node_in task.now.setup.place.rec_ref page.now.bytes.items))
+        → IsSpot task.now.setup.place.rec_ref page.now.bytes.items task.now.pair.now
         page.now.spot }
     requires leaf { page.now.spot.child ≡ None }
     requires long { length page.now.bytes.items ≡ task.now.setup.place.block_length }
@@ -101,7 +103,9 @@ fn put_leaf<F: Files>(
     requires whole { IsWhole room.old }
     requires at { IsPlace at }
     requires row { task.now.pair.now.row < 256 ^ task.now.setup.place.rec_ref }
-    requires spot { IsSpot task.now.setup.place.rec_ref page.now.bytes.items task.now.pair.now
+    requires page { IsOnPage task.now.setup.place.rec_ref page.now.bytes.items page.now.spot }
+    requires spot { IsTrue (is_some (node_in task.now.setup.place.rec_ref page.now.bytes.items))
+        → IsSpot task.now.setup.place.rec_ref page.now.bytes.items task.now.pair.now
         page.now.spot }
     requires leaf { page.now.spot.child ≡ None }
     requires long { length page.now.bytes.items ≡ task.now.setup.place.block_length }
@@ -120,7 +124,8 @@ fn put_leaf<F: Files>(
     ensures others { Told (F.holds files.old) (F.holds files.new) (OthersStay cache.old.name) }
     ensures name { cache.new.name ≡ cache.old.name }
     ensures counted { CountsOn cache.old cache.new }
-    ensures faults { IfErr result IsFileOrMemory }
+    ensures damaged { IfErr result (DamagedAt (λ p. (p ≡ at)
+        × (node_in task.now.setup.place.rec_ref page.now.bytes.items ≡ None))) }
     ensures cause { HasCause File (F.faults files.old) (F.faults files.new) result }
     ensures reads { F.reads files.old ≤ F.reads files.new }
 {
@@ -130,7 +135,7 @@ fn put_leaf<F: Files>(
         let same = Strip::of_page(setup.alloc, at)?;
         return Ok(same);
     }
-    let leaf = page.read(setup.alloc, setup.place.rec_ref)?;
+    let leaf = page.read(setup.alloc, setup.place.rec_ref, at)?;
     let grown = leaf.with_pair(
         setup.alloc,
         page.spot.index,
@@ -187,12 +192,17 @@ pub(crate) fn insert_at<F: Files>(
     if levels == 0 {
         return Err(TreeFault::Memory);
     }
-    let strip = insert_at(task, files, cache, room, child, levels - 1)?;
+    let strip = match insert_at(task, files, cache, room, child, levels - 1) {
+        Ok(strip) => strip,
+        Err(fault) => {
+            return Err(page.fault_from(setup.alloc, setup.place.rec_ref, at, fault));
+        }
+    };
     if strip.places.len() == 1 {
         let same = Strip::of_page(setup.alloc, at)?;
         return Ok(same);
     }
-    let node = page.read(setup.alloc, setup.place.rec_ref)?;
+    let node = page.read(setup.alloc, setup.place.rec_ref, at)?;
     let grown = node.with_strip(
         setup.alloc,
         page.spot.index,
@@ -299,7 +309,7 @@ pub(crate) fn raise<F: Files>(
 
 /// Puts a pair that is not there into the tree at a place, and moves its root where it has a new one. `Damaged`
 /// comes at the place on the path of the pair where no page stands; a path of more than 64 levels is answered by
-/// `Memory`.
+/// `Memory`. A key that is no key's code is looked for only on a page that is cut, or above a fault.
 pub fn insert<F: Files>(
     alloc: Global,
     place: &mut Place,

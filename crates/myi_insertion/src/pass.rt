@@ -1,36 +1,33 @@
 //! A page on the way of a pair: where the pair goes on it.
 //!
-//! `spot_in` goes over the bytes of a page once, and `pass` asks a key cache for the page at a place. The bytes are
-//! kept, and are read as lists (`Passed::read`) only where something is to be changed on the page.
-ghost use Rattle.std.specs.Prelude.{◌≡◌, ◌≤◌, ℕ, Bool, true, false, Some, None, is_some, IfOk, IfErr, IfSome, IfNone, OnOk, IsTrue, length};
+//! `spot_in` goes over the bytes of a page up to the place of the pair, and `pass` asks a key cache for the page at a
+//! place. The bytes are kept, and are read as lists (`Passed::read`) only where something is to be changed on the page.
+ghost use Rattle.std.specs.Prelude.{◌≡◌, ◌≢◌, ◌≤◌, Some, None, Err, is_some, IfOk, IfErr, IfSome, IfNone, OnOk, IsTrue, length};
 ghost use Rattle.std.specs.Ordering.{is_gt};
 ghost use Rattle.myi_base.specs.Holding.{IfTold, Told, OthersStay};
 ghost use Rattle.myi_base.specs.Causes.{HasCause};
-ghost use Rattle.myi_keys.specs.Comparing.{key_front, IsCode};
+ghost use Rattle.myi_keys.specs.Comparing.{key_front};
 ghost use Rattle.myi_keypage.specs.Page.{IsPlace};
-ghost use Rattle.myi_keypage.specs.Views.{entries_after};
 ghost use Rattle.myi_keycache.specs.Kept.{AddsOnly};
 ghost use Rattle.myi_keycache.specs.Caching.{pages_of, CanGet, Stays};
 ghost use Rattle.myi_keylist.specs.PairOrder.{pair_with, pair_cmp};
 ghost use Rattle.myi_btree.specs.declared.fault.TreeFault.TheVariants.{File};
-ghost use Rattle.myi_btree.specs.Walk.{each};
-ghost use Rattle.myi_btree.specs.Nodes.{pair_in, node_in};
+ghost use Rattle.myi_btree.specs.Nodes.{node_in};
 ghost use Rattle.myi_btree.specs.Sizes.{IsPlaced};
 ghost use Rattle.myi_btree.specs.Faults.{DamagedAt};
 ghost use Rattle.myi_btree.specs.CachedTrees.{node_lent, ReadsOnly};
 ghost use Rattle.myi_search.specs.Counting.{CountsOn};
 ghost use Rattle.myi_insertion.specs.Written.{page_node, CanWrite};
 ghost use Rattle.myi_insertion.specs.Damage.{IsInFile, ShowsSame};
-ghost use Rattle.myi_insertion.specs.Spots.{HaveCodes, IsSpot};
+ghost use Rattle.myi_insertion.specs.Spots.{IsOnPage, IsFirstDamage, IsSpot};
 
 use crate::insertion::Task;
 use crate::page::{PageData, change_code, read_pairs};
 use myi_btree::TreeFault;
 use myi_io::Files;
 use myi_keycache::KeyCache;
-use myi_keypage::{PageWalk, read_page};
-use myi_keys::compare_codes;
-use myi_search::is_code;
+use myi_keypage::read_page;
+use myi_keys::{codes_read_back, compare_codes};
 use std::alloc::{AllocError, Global};
 
 /// Where a pair goes on a page: how many of its pairs stand before it, and in a node the child that is next.
@@ -60,24 +57,8 @@ fn is_behind(code: &[u8], row: u64, other: &[u8], other_row: u64) -> bool
     compare_codes(code, other).then(row.cmp(&other_row)).is_gt()
 }
 
-// Whether each item that is left has the code of a key.
-fn are_codes(walk: &mut PageWalk, code: &mut Vec<u8>) -> Result<bool, AllocError>
-    ensures all { IfOk result (λ all. all
-        ≡ is_some (each pair_in (entries_after code.old.items walk.old))) }
-    ensures codes { IfOk result (λ all. all ≡ true
-        → HaveCodes (entries_after code.old.items walk.old)) }
-{
-    while let Some(item) = walk.next_item() {
-        change_code(code, item.prefix, item.rest)?;
-        if !is_code(code) {
-            return Ok(false);
-        }
-    }
-    Ok(true)
-}
-
 /// Where the pair of a code and a row goes on the page that bytes are, with row pointers of `rec_ref` bytes, and None
-/// where they are no page or a key of it is no key's code.
+/// where they are no page. That a key of it is no key's code is not seen here.
 pub(crate) fn spot_in(
     alloc: Global,
     bytes: &[u8],
@@ -87,10 +68,12 @@ pub(crate) fn spot_in(
 ) -> Result<Option<Spot>, AllocError>
     requires wide { 2 ≤ rec_ref }
     requires narrow { rec_ref ≤ 8 }
-    ensures spot { IfOk result (λ spot. IfSome spot
-        (IsSpot rec_ref bytes.now (pair_with (key_front key.now) row))) }
+    ensures page { IfOk result (λ spot. IfSome spot (IsOnPage rec_ref bytes.now)) }
+    ensures spot { IfOk result (λ spot. IfSome spot (λ s. IsTrue (is_some (node_in rec_ref bytes.now))
+        → IsSpot rec_ref bytes.now (pair_with (key_front key.now) row) s)) }
     ensures none { IfOk result (λ spot. IfNone spot (node_in rec_ref bytes.now ≡ None)) }
 {
+    codes_read_back();
     let Some(view) = read_page(bytes, rec_ref) else {
         return Ok(None);
     };
@@ -100,14 +83,7 @@ pub(crate) fn spot_in(
     let mut child = view.first_child();
     while let Some(item) = walk.next_item() {
         change_code(&mut code, item.prefix, item.rest)?;
-        if !is_code(&code) {
-            return Ok(None);
-        }
         if !is_behind(key, row, &code, item.row) {
-            let all = are_codes(&mut walk, &mut code)?;
-            if !all {
-                return Ok(None);
-            }
             return Ok(Some(Spot { index, child }));
         }
         index += 1;
@@ -135,8 +111,11 @@ pub(crate) fn pass<F: Files>(
         CanGet cache.old m at task.now.setup.place.block_length
         → node_lent task.now.setup.place cache.old m at
         ≡ node_in task.now.setup.place.rec_ref page.bytes.items)) }
-    ensures spot { IfOk result (λ page. IsSpot task.now.setup.place.rec_ref page.bytes.items
-        task.now.pair.now page.spot) }
+    ensures page { IfOk result (λ page. IsOnPage task.now.setup.place.rec_ref page.bytes.items
+        page.spot) }
+    ensures spot { IfOk result (λ page.
+        IsTrue (is_some (node_in task.now.setup.place.rec_ref page.bytes.items))
+        → IsSpot task.now.setup.place.rec_ref page.bytes.items task.now.pair.now page.spot) }
     ensures long { IfOk result (λ page. length page.bytes.items
         ≡ task.now.setup.place.block_length) }
     ensures at { OnOk result (IsPlace at) }
@@ -178,18 +157,39 @@ pub(crate) fn pass<F: Files>(
 }
 
 impl Passed {
-    /// The page as lists.
-    pub(crate) fn read(&self, alloc: Global, rec_ref: u8) -> Result<PageData, AllocError>
+    /// The page as lists. `Damaged` comes where a key of it is no key's code.
+    pub(crate) fn read(&self, alloc: Global, rec_ref: u8, at: u64) -> Result<PageData, TreeFault>
         requires wide { 2 ≤ rec_ref }
         requires narrow { rec_ref ≤ 8 }
-        requires page { IsTrue (is_some (node_in rec_ref self.now.bytes.items)) }
         ensures node { IfOk result (λ page. Some (page_node page)
             ≡ node_in rec_ref self.now.bytes.items) }
         ensures written { IfOk result (λ page. CanWrite rec_ref page.pairs page.children.items) }
+        ensures damaged { IfErr result (DamagedAt (λ p. (p ≡ at)
+            × (node_in rec_ref self.now.bytes.items ≡ None))) }
+        ensures file { result ≢ Err File }
     {
         match read_pairs(alloc, &self.bytes, rec_ref)? {
             Some(page) => Ok(page),
-            None => unreachable!(),
+            None => Err(TreeFault::Damaged { at }),
+        }
+    }
+
+    /// The fault of a call on the pages below this one, or where a key of this one is no key's code, `Damaged`.
+    pub(crate) fn fault_from(
+        &self,
+        alloc: Global,
+        rec_ref: u8,
+        at: u64,
+        below: TreeFault,
+    ) -> TreeFault
+        requires wide { 2 ≤ rec_ref }
+        requires narrow { rec_ref ≤ 8 }
+        ensures damaged { DamagedAt (IsFirstDamage rec_ref self.now.bytes.items at below) result }
+        ensures file { result ≡ File → below ≡ File }
+    {
+        match self.read(alloc, rec_ref, at) {
+            Ok(_) => below,
+            Err(fault) => fault,
         }
     }
 }

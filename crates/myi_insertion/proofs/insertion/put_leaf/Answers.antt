@@ -1,4 +1,5 @@
 use Rattle.std.proofs.Common.{◌≡◌, ℕ, List, [], ◌∷◌, ◌++◌, Some, length, take, drop, refl, sym, ap, subst, ◌∙◌, arith}
+use Rattle.std.specs.Prelude.{is_some}
 use Rattle.myi_keys.specs.Comparing.{key_front}
 use Rattle.myi_keylist.specs.declared.pair.Pair.{Pair}
 use Rattle.myi_keylist.specs.PairOrder.{pair_with}
@@ -9,15 +10,12 @@ use Rattle.myi_insertion.specs.Spots.{with_pair}
 use Rattle.myi_insertion.proofs.WriteLaws.{wrote}
 use Rattle.myi_insertion.proofs.LeafLaws.{leaf_lays}
 use Rattle.myi_insertion.proofs.SplitLaws.{if_some, pair_written}
-use Rattle.myi_insertion.proofs.SpotLaws.{same_node, node_there, leaf_fills}
+use Rattle.myi_insertion.proofs.SpotLaws.{same_node, leaf_fills}
 use Rattle.myi_insertion.proofs.insertion.put_leaf.Goals as goal
-
-pub read-requires-clause-page : goal.read-requires-clause-page
-read-requires-clause-page g c = node_there c.args.task.now.setup.place.rec_ref c.args.page.now.bytes.items c.args.task.now.pair.now c.args.page.now.spot c.requires.spot
 
 pub with_pair-requires-clause-inside : goal.with_pair-requires-clause-inside
 with_pair-requires-clause-inside g c =
-    let r = c.requires.spot in
+    let r = c.requires.spot (ap is_some (sym c.in_ok-leaf.ensures.node)) in
     let same = same_node c.in_ok-leaf.leaf.pairs r.pairs c.in_ok-leaf.leaf.children.items r.children _ c.in_ok-leaf.ensures.node r.stands in
     omega (arith, r.inside, ap length same.0)
 
@@ -27,7 +25,7 @@ with_pair-requires-clause-code g c = is_code_of c.code.result.now c.args.task.no
 pub settle-requires-clause-page : goal.settle-requires-clause-page
 settle-requires-clause-page g c = λ κs lives.
     let p : Pair = c.args.task.now.pair.now in
-    let r = c.requires.spot in
+    let r = c.requires.spot (ap is_some (sym c.in_ok-leaf.ensures.node)) in
     let i : ℕ = c.args.page.now.spot.index in
     let leaf = c.in_ok-leaf.leaf in
     let code : pair_with (key_front c.code.result.now) p.row ≡ p = pair_again c.code.result.now p.row p c.code.ensures.key c.code.ensures.value refl in

@@ -1,10 +1,11 @@
 use Rattle.std.proofs.Common.{◌≡◌, ℕ, List, None, refl, sym, ap, subst, ◌∙◌}
+use Rattle.std.specs.Prelude.{is_some, IsTrue}
 use Rattle.std.proofs.lemmas.Result.{err_from_is_err_and}
 use Rattle.myi_keys.specs.Comparing.{key_front}
 use Rattle.myi_keylist.specs.declared.pair.Pair.{Pair}
 use Rattle.myi_keylist.specs.PairOrder.{pair_with}
 use Rattle.myi_btree.specs.Nodes.{node_in}
-use Rattle.myi_insertion.specs.Spots.{IsSpot}
+use Rattle.myi_insertion.specs.Spots.{IsOnPage, IsSpot}
 use Rattle.myi_insertion.proofs.DamageLaws.{shows_told}
 use Rattle.myi_insertion.proofs.LoadLaws.{same_place, lent_off, lent_none, lent_is, short_only, if_err}
 use Rattle.myi_insertion.proofs.PageLaws.{pair_again}
@@ -28,13 +29,20 @@ pub returns-clause-node : goal.returns-clause-node
 returns-clause-node g c = λ m held can.
     lent_is c.args.task.now.setup.place c.args.cache.now m c.args.at c.in_ok-bytes.bytes.now (node_in c.args.task.now.setup.place.rec_ref c.in_ok-kept.kept.items) c.if-at-ne0.false (c.in_ok-bytes.ensures.page m held can) (ap (node_in c.args.task.now.setup.place.rec_ref) c.in_ok-kept.ensures)
 
+pub returns-clause-page : goal.returns-clause-page
+returns-clause-page g c =
+    let rec_ref : ℕ = c.args.task.now.setup.place.rec_ref in
+    subst (λ (t : List ℕ). IsOnPage rec_ref t c.in-Some.spot) (sym c.in_ok-kept.ensures) (if_some c.in_ok-found.found c.in-Some.spot (IsOnPage rec_ref c.in_ok-bytes.bytes.now) c.in-Some.is c.in_ok-found.ensures.page)
+
 pub returns-clause-spot : goal.returns-clause-spot
-returns-clause-spot g c =
+returns-clause-spot g c = λ some.
     let rec_ref : ℕ = c.args.task.now.setup.place.rec_ref in
     let p : Pair = c.args.task.now.pair.now in
-    let same : pair_with (key_front c.code.result.now) p.row ≡ p = pair_again c.code.result.now p.row p c.code.ensures.key c.code.ensures.value refl in
-    let spot = if_some c.in_ok-found.found c.in-Some.spot (IsSpot rec_ref c.in_ok-bytes.bytes.now (pair_with (key_front c.code.result.now) p.row)) c.in-Some.is c.in_ok-found.ensures.spot in
-    subst (λ (q : Pair). IsSpot rec_ref c.in_ok-kept.kept.items q c.in-Some.spot) same (subst (λ (t : List ℕ). IsSpot rec_ref t (pair_with (key_front c.code.result.now) p.row) c.in-Some.spot) (sym c.in_ok-kept.ensures) spot)
+    let q : Pair = pair_with (key_front c.code.result.now) p.row in
+    let same : q ≡ p = pair_again c.code.result.now p.row p c.code.ensures.key c.code.ensures.value refl in
+    let there = if_some c.in_ok-found.found c.in-Some.spot (λ s. IsTrue (is_some (node_in rec_ref c.in_ok-bytes.bytes.now)) → IsSpot rec_ref c.in_ok-bytes.bytes.now q s) c.in-Some.is c.in_ok-found.ensures.spot in
+    let spot = there (subst (λ (t : List ℕ). IsTrue (is_some (node_in rec_ref t))) c.in_ok-kept.ensures some) in
+    subst (λ (x : Pair). IsSpot rec_ref c.in_ok-kept.kept.items x c.in-Some.spot) same (subst (λ (t : List ℕ). IsSpot rec_ref t q c.in-Some.spot) (sym c.in_ok-kept.ensures) spot)
 
 pub returns-in_default-clause-damaged : goal.returns-in_default-clause-damaged
 returns-in_default-clause-damaged g c = λ p e. (
