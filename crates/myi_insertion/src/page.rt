@@ -36,6 +36,7 @@ impl Drop for PageData {
 }
 
 /// The code of the key after this one, of which it keeps a front.
+#[inline(always)]
 pub(crate) fn change_code(code: &mut Vec<u8>, prefix: usize, rest: &[u8]) -> Result<(), AllocError>
     ensures { OnOk result (code.new.items ≡ take prefix code.old.items ++ rest.now) }
 {

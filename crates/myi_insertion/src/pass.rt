@@ -50,6 +50,7 @@ impl Drop for Passed {
 }
 
 // Whether a pair stands behind another one, both by a code and a row.
+#[inline(always)]
 fn is_behind(code: &[u8], row: u64, other: &[u8], other_row: u64) -> bool
     ensures { result ≡ is_gt (pair_cmp (pair_with (key_front code.now) row)
         (pair_with (key_front other.now) other_row)) }
