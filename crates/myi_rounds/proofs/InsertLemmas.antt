@@ -117,26 +117,19 @@ said_end d asked s (y ∷ xs) x =
     let t : TableState = stepped_by d s (asked y) in
     ap (λ l. reply_said in_table d y.line s (asked y) ++ l) (said_end d asked t xs x) ∙ sym (append_assoc (reply_said in_table d y.line s (asked y)) (inserts_said d asked t xs) (reply_said in_table d x.line (state_after d asked t xs) (asked x)))
 
-pub inserted_more : (d : Defs) (ls : List Line) (base : TableState) (steps : List Step) (x : Step) (i j : TableInserter) (old new : List Replied) (answer : Option StepAnswer) → HaveInserted d ls base steps i old
-    → ((rows : List Values) → IsInserter i rows → IsAnswered d base rows (asked_by ls x) answer j) → map said_of new ≡ map said_of old ++ lines_of x.line answer → HaveInserted d ls base (steps ++ x ∷ []) j new
-inserted_more d ls base steps x i j old new answer have turn e =
-    let a = turn have.rows have.ready in
+pub inserted_more : (d : Defs) (ls : List Line) (base : TableState) (steps : List Step) (x : Step) (i : TableInserter) (rows more : List Values) (old new : List Replied) (answer : Option StepAnswer) → HaveInserted d ls base steps rows old
+    → (a : IsAnswered d base rows (asked_by ls x) answer i) → more ≡ a.more → map said_of new ≡ map said_of old ++ lines_of x.line answer → HaveInserted d ls base (steps ++ x ∷ []) more new
+inserted_more d ls base steps x i rows more old new answer have a are e =
     let asked : Step → Option Change = asked_by ls in
     record {
-      rows = a.more;
-      ready = a.ready;
       put = changes_end d asked base steps x ∙ ap (λ (cs : List Change). cs ++ accepted_of d (state_after d asked base steps) (asked x)) have.put
-          ∙ ap (λ (s : TableState). map insert_at_end have.rows ++ accepted_of d s (asked x)) have.state ∙ sym a.put;
-      state = state_end d asked base steps x ∙ ap (λ (s : TableState). stepped_by d s (asked x)) have.state ∙ a.state;
+          ∙ ap (λ (s : TableState). map insert_at_end rows ++ accepted_of d s (asked x)) have.state ∙ sym a.put ∙ ap (map insert_at_end) (sym are);
+      state = state_end d asked base steps x ∙ ap (λ (s : TableState). stepped_by d s (asked x)) have.state ∙ a.state ∙ ap (with_rows d base) (sym are);
       said = e ∙ ap (λ (l : List LineAnswer). l ++ lines_of x.line answer) have.said ∙ ap (λ l. inserts_said d asked base steps ++ l) (a.said x.line ∙ ap (λ (s : TableState). reply_said in_table d x.line s (asked x)) (sym have.state))
           ∙ sym (said_end d asked base steps x);
-      can = a.can have.can;
+      can = subst (CanFold d base) (sym are) (a.can have.can);
     }
 
--- a refusal: nothing was put
-pub inserted_none : (d : Defs) (ls : List Line) (base : TableState) (steps : List Step) (i j : TableInserter) (replies : List Replied) → HaveInserted d ls base steps i replies → ((rows : List Values) → IsInserter i rows → IsInserter j rows) → HaveInserted d ls base steps j replies
-inserted_none d ls base steps i j replies have again = record { rows = have.rows; ready = again have.rows have.ready; put = have.put; state = have.state; said = have.said; can = have.can }
-
 -- before the first step
-pub none_inserted : (d : Defs) (ls : List Line) (base : TableState) (i : TableInserter) → IsInserter i [] → HaveInserted d ls base [] i []
-none_inserted d ls base i ready = record { rows = []; ready = ready; put = refl; state = refl; said = refl; can = tt }
+pub none_inserted : (d : Defs) (ls : List Line) (base : TableState) → HaveInserted d ls base [] [] []
+none_inserted d ls base = record { put = refl; state = refl; said = refl; can = tt }

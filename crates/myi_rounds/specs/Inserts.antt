@@ -72,11 +72,9 @@ pub record IsAnswered (d : Defs) (base : TableState) (rows : List Values) (asked
   pub said : (n : ℕ) → lines_of n answer ≡ reply_said in_table d n (with_rows d base rows) asked
   pub can : CanFold d base rows → CanFold d base more
 
--- What these steps ask was done, where the table was shared in this base: the inserter has put the rows that were accepted, each behind
--- those before it, and the answers are what the steps say.
-pub record HaveInserted (d : Defs) (ls : List Line) (base : TableState) (steps : List Step) (i : TableInserter) (replies : List Replied) : Type 0 where
-  pub rows : List Values
-  pub ready : IsInserter i rows
+-- What these steps ask was done, where the table was shared in this base: these rows were put, each of which was accepted behind those before
+-- it, and the answers are what the steps say.
+pub record HaveInserted (d : Defs) (ls : List Line) (base : TableState) (steps : List Step) (rows : List Values) (replies : List Replied) : Type 0 where
   pub put : changes d (asked_by ls) base steps ≡ map insert_at_end rows
   pub state : state_after d (asked_by ls) base steps ≡ with_rows d base rows
   pub said : map said_of replies ≡ inserts_said d (asked_by ls) base steps

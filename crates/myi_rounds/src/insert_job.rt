@@ -5,23 +5,31 @@ ghost use Rattle.myi_rounds.specs.Inserts.{said_of, lines_of};
 use crate::gate::{Gate, end_step, pass_step};
 use crate::inserting::{Replied, insert_next};
 use myi_history::StepAnswer;
-use myi_inserter::{InsertFault, Inserter};
+use myi_inserter::{InsertFault, Inserter, put_rows_are_known};
 use myi_io::FileReader;
 use myi_locks::Step;
 use myi_script::Line;
 use std::alloc::Global;
+use std::marker::Model;
 
 /// The inserts of a session, which are done one after the other, and what they answered so far.
 #[derive(Drop)]
 pub struct InsertJob<'a, R: FileReader> {
-    pub inserter: Inserter<R>,
-    /// The lines of the script.
-    pub lines: &'a [Line],
-    /// The steps of the run.
-    pub steps: &'a [Step],
-    /// How many of them are done, the first ones.
-    pub done: usize,
-    pub replies: Vec<Replied>,
+    inserter: Inserter<R>,
+    lines: &'a [Line],
+    steps: &'a [Step],
+    done: usize,
+    replies: Vec<Replied>,
+}
+
+impl<'a, R: FileReader> Model for InsertJob<'a, R> {
+    ghost use Rattle.myi_rounds.specs.InsertJob.{Inserts, IsInsertJob, job_of};
+
+    ghost Value = { Inserts R };
+
+    ghost view = { λ j. job_of j.inserter j.lines.now j.steps.now j.done j.replies.items };
+
+    ghost invariant = { λ j. IsInsertJob j.inserter.table j.lines.now j.steps.now j.done };
 }
 
 // Notes what a line answered, if it did, where there is room for it.
@@ -42,7 +50,7 @@ impl<'a, R: FileReader> InsertJob<'a, R> {
     ghost use Rattle.myi_history.specs.Lines.{MayRun};
     ghost use Rattle.myi_inserter.specs.declared.fault.InsertFault.TheVariants.{File};
     ghost use Rattle.myi_inserter.specs.Inserter.{IsInserter};
-    ghost use Rattle.myi_rounds.specs.InsertJob.{IsInsertJob, faults_of, GoesOn};
+    ghost use Rattle.myi_rounds.specs.InsertJob.{job_of, faults_of, GoesOn};
 
     /// The inserts of these steps of a script's lines, of which none is done.
     pub fn new(
@@ -53,13 +61,11 @@ impl<'a, R: FileReader> InsertJob<'a, R> {
     ) -> InsertJob<'a, R>
         requires ready { (rows : List Values) × IsInserter inserter.table rows }
         requires lines { MayRun inserter.table.defs lines.now }
-        ensures ready { IsInsertJob result }
-        ensures inserter { result.inserter ≡ inserter }
-        ensures lines { result.lines.now ≡ lines.now }
-        ensures steps { result.steps.now ≡ steps.now }
-        ensures none { result.done ≡ 0 }
-        ensures replies { result.replies.items ≡ [] }
+        ensures job { result ≡ job_of inserter lines.now steps.now 0 [] }
+        ensures rows { (rows : List Values) → IsInserter inserter.table rows
+            → result.rows ≡ rows }
     {
+        put_rows_are_known();
         InsertJob {
             inserter,
             lines,
@@ -69,17 +75,30 @@ impl<'a, R: FileReader> InsertJob<'a, R> {
         }
     }
 
+    /// How many steps the run has.
+    pub fn count(&self) -> usize
+        ensures { result ≡ length self.now.steps }
+    {
+        self.steps.len()
+    }
+
+    /// How many of them are done, the first ones.
+    pub fn done(&self) -> usize
+        ensures { result ≡ self.now.done }
+    {
+        self.done
+    }
+
     /// Does the next step, if one is left. A refusal leaves it to be done: nothing was put, and a later call may be made.
     pub fn step<G: Gate>(&mut self, gate: &G) -> Result<(), InsertFault>
-        requires ready { IsInsertJob self.old }
         ensures next { OnOk result
-            (self.new.done ≡ min (self.old.done + 1) (length self.old.steps.now)) }
+            (self.new.done ≡ min (self.old.done + 1) (length self.old.steps)) }
         ensures refused { OnErr result (self.new.done ≡ self.old.done) }
-        ensures ready { IsInsertJob self.new }
         ensures on { GoesOn R.holds self.old self.new }
-        ensures cause { HasCause File (faults_of R.faults self.old.inserter)
-            (faults_of R.faults self.new.inserter) result }
+        ensures cause { HasCause File (faults_of R.faults self.old.files)
+            (faults_of R.faults self.new.files) result }
     {
+        put_rows_are_known();
         if self.done == self.steps.len() {
             return Ok(());
         }
@@ -96,16 +115,28 @@ impl<'a, R: FileReader> InsertJob<'a, R> {
 
     /// Does the steps that are left, up to one that is refused.
     pub fn run<G: Gate>(&mut self, gate: &G) -> Result<(), InsertFault>
-        requires ready { IsInsertJob self.old }
-        ensures done { OnOk result (self.new.done ≡ length self.old.steps.now) }
-        ensures ready { IsInsertJob self.new }
+        ensures done { OnOk result (self.new.done ≡ length self.old.steps) }
         ensures on { GoesOn R.holds self.old self.new }
-        ensures cause { HasCause File (faults_of R.faults self.old.inserter)
-            (faults_of R.faults self.new.inserter) result }
+        ensures cause { HasCause File (faults_of R.faults self.old.files)
+            (faults_of R.faults self.new.files) result }
     {
         for _ in self.done..self.steps.len() {
             self.step(gate)?;
         }
         Ok(())
+    }
+
+    /// The inserter, and what was answered.
+    pub fn into_parts(self) -> (Inserter<R>, Vec<Replied>)
+        ensures parts { job_of result.0 self.entry.lines self.entry.steps self.entry.done
+            result.1.items ≡ self.entry }
+        ensures ready { IsInserter result.0.table self.entry.rows }
+    {
+        let InsertJob {
+            inserter,
+            replies,
+            ..
+        } = self;
+        (inserter, replies)
     }
 }

@@ -55,8 +55,8 @@ pub(crate) fn insert_next<R: FileReader>(
         → IsInserter inserter.new.table rows) }
     ensures ready { (rows : List Values) × IsInserter inserter.new.table rows }
     ensures on { InsertsOn R.holds inserter.old inserter.new }
-    ensures cause { HasCause File (faults_of R.faults inserter.old)
-        (faults_of R.faults inserter.new) result }
+    ensures cause { HasCause File (faults_of R.faults inserter.old.files)
+        (faults_of R.faults inserter.new.files) result }
 {
     put_rows_can_be_folded();
     let Some(act) = act_of(lines, line) else {

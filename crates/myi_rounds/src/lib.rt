@@ -8,8 +8,8 @@
 //!   of the reads of the run's first steps, each with a number of changes. A refusal ends a run, and the job keeps how many
 //!   steps are done, so that the others may be done later, by the job or by whoever has the table back.
 //! - `InsertJob` does the inserts of a session in the same way, by the `Inserter`, and keeps their answers as `Replied`. What holds
-//!   of each is `IsInsertJob`, and what its calls leave `GoesOn` of `specs/InsertJob`: the rows that were put are those which the
-//!   run's first steps insert, as `HasInserted` says.
+//!   of each is `IsInsertJob`, and what its calls leave `GoesOn` of `specs/InsertJob`: the rows that it has put are those which
+//!   the run's first steps insert, as `HasInserted` says.
 //! - The law `said_stays_said` says that nothing of it is lost while others insert, and `jobs_fit_their_runs` that the numbers
 //!   are those which `myi_history` asks of a run (`RunFits`).
 //! - `Gate` is called when a step begins and when it ends.
