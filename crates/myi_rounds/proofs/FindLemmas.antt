@@ -1,6 +1,6 @@
 -- What a reader finds for a statement is what the statement finds in the table that it sees.
 use Rattle.std.proofs.Common.{◌≡◌, ◌<◌, ◌-◌, [], ◌∷◌, ◌++◌, ℕ, suc, List, map, length, Option, Some, Result, Ok, Err, refl, sym, ap, subst, ◌∙◌, arith}
-use Rattle.std.specs.Prelude.{IfOk, OnOk}
+use Rattle.std.specs.Prelude.{IfOk, IfErr, OnOk, OnErr}
 use Rattle.myi_defs.specs.declared.types.Defs.{Defs}
 use Rattle.myi_pack.specs.Packed.{Values}
 use Rattle.myi_pair.specs.KeyList.{PlacedRow}
@@ -29,6 +29,14 @@ use Rattle.myi_rounds.specs.Reads.{table_range, IsSeen, read_said}
 pub if_ok_by : {T E : Type 0} {P Q : T → Type 0} (r : Result T E) → ((x : T) → P x → Q x) → IfOk r P → IfOk r Q
 if_ok_by (Ok x) turn is = turn x is
 if_ok_by (Err e) turn is = tt
+
+pub if_err_by : {T E : Type 0} {P Q : E → Type 0} (r : Result T E) → ((e : E) → P e → Q e) → IfErr r P → IfErr r Q
+if_err_by (Ok x) turn is = tt
+if_err_by (Err e) turn is = turn e is
+
+pub on_err_by : {T E : Type 0} {P Q : Type 0} (r : Result T E) → (P → Q) → OnErr r P → OnErr r Q
+on_err_by (Ok x) turn is = tt
+on_err_by (Err e) turn is = turn is
 
 pub on_ok_by : {T E : Type 0} {P Q : Type 0} (r : Result T E) → (P → Q) → OnOk r P → OnOk r Q
 on_ok_by (Ok x) turn is = turn is

@@ -7,6 +7,9 @@ pub mod ReaderLemmas
 pub mod SaidLemmas
 -- jobs that go on
 pub mod JobLemmas
+-- what the inserts of a session did, and their job
+pub mod InsertLemmas
+pub mod InsertJobLemmas
 -- the numbers of a job's reads
 pub mod FitLemmas
 -- what the crates above cite

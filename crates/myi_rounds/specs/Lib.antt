@@ -4,3 +4,7 @@
 pub mod Reads
 -- the reads of a session as a job
 pub mod ReadJob
+-- what inserts do and say that go beside reads
+pub mod Inserts
+-- the inserts of a session as a job
+pub mod InsertJob

@@ -7,6 +7,9 @@
 //!   holds of each is `IsReadJob`; what its calls leave is `GoesOn`, which says of the texts what `HasSaid` does: they are those
 //!   of the reads of the run's first steps, each with a number of changes. A refusal ends a run, and the job keeps how many
 //!   steps are done, so that the others may be done later, by the job or by whoever has the table back.
+//! - `InsertJob` does the inserts of a session in the same way, by the `Inserter`, and keeps their answers as `Replied`. What holds
+//!   of each is `IsInsertJob`, and what its calls leave `GoesOn` of `specs/InsertJob`: the rows that it has put are those which
+//!   the run's first steps insert, as `HasInserted` says.
 //! - The law `said_stays_said` says that nothing of it is lost while others insert, and `jobs_fit_their_runs` that the numbers
 //!   are those which `myi_history` asks of a run (`RunFits`).
 //! - `Gate` is called when a step begins and when it ends.
@@ -20,11 +23,15 @@
 
 mod finding;
 mod gate;
+mod insert_job;
+mod inserting;
 mod laws;
 mod read_job;
 mod reads;
 mod statements;
 
 pub use gate::{Gate, OpenGate};
+pub use insert_job::InsertJob;
+pub use inserting::Replied;
 pub use laws::{jobs_fit_their_runs, said_stays_said};
 pub use read_job::ReadJob;
