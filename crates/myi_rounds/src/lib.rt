@@ -11,7 +11,7 @@
 //!   of each is `IsInsertJob`, and what its calls leave `GoesOn` of `specs/InsertJob`: the rows that it has put are those which
 //!   the run's first steps insert, as `HasInserted` says.
 //! - The law `said_stays_said` says that nothing of it is lost while others insert, and `jobs_fit_their_runs` that the numbers
-//!   are those which `myi_history` asks of a run (`RunFits`).
+//!   are those which `myi_history` asks of a run (`RunFits`); `jobs_insert_as_their_runs` says the like of inserts.
 //! - `Gate` is called when a step begins and when it ends.
 //!
 //! ```
@@ -33,5 +33,5 @@ mod statements;
 pub use gate::{Gate, OpenGate};
 pub use insert_job::InsertJob;
 pub use inserting::Replied;
-pub use laws::{jobs_fit_their_runs, said_stays_said};
+pub use laws::{jobs_fit_their_runs, jobs_insert_as_their_runs, said_stays_said};
 pub use read_job::ReadJob;
