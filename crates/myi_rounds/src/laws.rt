@@ -48,10 +48,12 @@ pub fn said_stays_said()
 pub fn jobs_fit_their_runs()
     ensures rising { (p : ScriptRound) (behind : ℕ) (taken : List SessionNumber) (run : Run)
         (ns : List ℕ) → reads_only p.locks run.session ≡ false
-        → length ns ≡ length run.steps → RiseWithin p.before behind ns → RunFits p behind taken run ns }
+        → length ns ≡ length run.steps → RiseWithin p.before behind ns
+        → RunFits p behind taken run ns }
     ensures taken { (p : ScriptRound) (behind : ℕ) (taken : List SessionNumber) (run : Run)
         (ns : List ℕ) → reads_only p.locks run.session ≡ true
-        → length ns ≡ length run.steps → AllAre (number_at run.session taken) ns → RunFits p behind taken run ns }
+        → length ns ≡ length run.steps → AllAre (number_at run.session taken) ns
+        → RunFits p behind taken run ns }
     ensures said { (o : Opening) (h : List Change) (steps : List Step) (ns : List ℕ)
         → o.script.takes ≡ in_table → AllByRecursion (λ x. is_read x.kind ≡ true) steps
         → length ns ≡ length steps
