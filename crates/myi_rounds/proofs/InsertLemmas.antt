@@ -1,6 +1,8 @@
 -- What the inserts of a session did, and one more of them.
 use Rattle.std.proofs.Common.{◌≡◌, ℕ, List, [], ◌∷◌, ◌++◌, map, option_map, Option, None, Some, Result, Ok, Err, refl, sym, ap, subst, ◌∙◌, append_assoc}
-use Rattle.std.specs.Prelude.{IfOk, IfErr, OnOk, OnErr}
+use Rattle.std.specs.Prelude.{Bool, IfOk, IfErr, OnOk, OnErr}
+use Rattle.std.specs.List.{AllByRecursion}
+use Rattle.myi_keycache.specs.declared.setup.Counters.{Counters}
 use Rattle.std.proofs.lemmas.List.{append-nil, map-append}
 use Rattle.myi_defs.specs.declared.types.Defs.{Defs}
 use Rattle.myi_pack.specs.Packed.{Values}
@@ -15,8 +17,9 @@ use Rattle.myi_script.specs.declared.types.Act.TheVariants as act
 use Rattle.myi_history.specs.declared.answers.StepAnswer.{StepAnswer}
 use Rattle.myi_history.specs.declared.answers.StepAnswer.TheVariants as step
 use Rattle.myi_history.specs.Answers.{LineAnswer, answer_on}
-use Rattle.myi_history.specs.History.{in_table, accepted_of, stepped_by, changes, state_after}
-use Rattle.myi_history.specs.Text.{by_reply, reply_said}
+use Rattle.myi_history.specs.History.{Opening, ScriptRound, Taking, in_table, reads_only, asked_in, accepted_of, stepped_by, changes, state_after}
+use Rattle.myi_history.specs.Lines.{act_of}
+use Rattle.myi_history.specs.Text.{by_reply, reply_said, change_said, write_said, step_said, said_by, others_said}
 use Rattle.myi_history.proofs.CallerLemmas.{not_made, stays}
 use Rattle.myi_snapshots.specs.Appended.{with_rows}
 use Rattle.myi_inserter.specs.declared.fault.InsertFault.{InsertFault}
@@ -24,7 +27,7 @@ use Rattle.myi_inserter.specs.declared.fault.InsertFault.TheVariants as fault
 use Rattle.myi_inserter.specs.declared.inserter.TableInserter.{TableInserter}
 use Rattle.myi_inserter.specs.Inserter.{IsInserter, IsPut, IsReplyOf, step_behind}
 use Rattle.myi_rounds.specs.declared.inserting.Replied.{Replied}
-use Rattle.myi_rounds.specs.Inserts.{inserted_row, asked_by, answer_to, lines_of, said_of, inserts_said, IsAnswered, HaveInserted}
+use Rattle.myi_rounds.specs.Inserts.{inserted_row, asked_by, answer_to, lines_of, said_of, inserts_said, IsAnswered, HaveInserted, InsertsAtEnd}
 
 -- ---- what is asked
 
@@ -133,3 +136,25 @@ inserted_more d ls base steps x i rows more old new answer have a are e =
 -- before the first step
 pub none_inserted : (d : Defs) (ls : List Line) (base : TableState) → HaveInserted d ls base [] [] []
 none_inserted d ls base = record { put = refl; state = refl; said = refl; can = tt }
+
+-- ---- as a run does
+
+pub same_changes : (o : Opening) (p : ScriptRound) (s : TableState) (xs : List Step) → AllByRecursion (InsertsAtEnd o p) xs → changes o.defs (asked_in o.script p) s xs ≡ changes o.defs (asked_by o.script.lines) s xs
+same_changes o p s [] all = refl
+same_changes o p s (x ∷ xs) all =
+    ap (λ (c : Option Change). accepted_of o.defs s c ++ changes o.defs (asked_in o.script p) (stepped_by o.defs s c) xs) all.0.asked
+    ∙ ap (λ l. accepted_of o.defs s (asked_by o.script.lines x) ++ l) (same_changes o p (stepped_by o.defs s (asked_by o.script.lines x)) xs all.1)
+
+one_said : (o : Opening) (p : ScriptRound) (s : TableState) (c : Counters) (x : Step) → o.script.takes ≡ in_table → InsertsAtEnd o p x → said_by o p s c x ≡ reply_said in_table o.defs x.line s (asked_by o.script.lines x)
+one_said o p s c x table is =
+    ap (λ k. step_said x.line c (write_said o.script o.defs (reads_only p.locks x.session) x.line s (asked_in o.script p x)) k) is.kind
+    ∙ ap (λ (b : Bool). write_said o.script o.defs b x.line s (asked_in o.script p x)) is.free
+    ∙ ap (λ (t : Taking). change_said t (act_of o.script.lines x.line) o.defs x.line s (asked_in o.script p x)) table
+    ∙ ap (λ (a : Option Change). reply_said in_table o.defs x.line s a) is.asked
+
+pub same_said : (o : Opening) (p : ScriptRound) (s : TableState) (c : Counters) (xs : List Step) → o.script.takes ≡ in_table → AllByRecursion (InsertsAtEnd o p) xs → others_said o p s c xs ≡ inserts_said o.defs (asked_by o.script.lines) s xs
+same_said o p s c [] table all = refl
+same_said o p s c (x ∷ xs) table all =
+    ap (λ l. l ++ others_said o p (stepped_by o.defs s (asked_in o.script p x)) c xs) (one_said o p s c x table all.0)
+    ∙ ap (λ (a : Option Change). reply_said in_table o.defs x.line s (asked_by o.script.lines x) ++ others_said o p (stepped_by o.defs s a) c xs) all.0.asked
+    ∙ ap (λ l. reply_said in_table o.defs x.line s (asked_by o.script.lines x) ++ l) (same_said o p (stepped_by o.defs s (asked_by o.script.lines x)) c xs table all.1)

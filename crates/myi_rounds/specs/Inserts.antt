@@ -1,18 +1,19 @@
 -- What the inserts of a session do and say while others read: each is one at the end of the table, behind those before it.
-use Rattle.std.specs.Prelude.{◌≡◌, ◌++◌, ℕ, List, [], ◌∷◌, map, option_map, Option, Some, None, Result, Ok, Err}
+use Rattle.std.specs.Prelude.{◌≡◌, ◌++◌, ℕ, false, List, [], ◌∷◌, map, option_map, Option, Some, None, Result, Ok, Err}
 use Rattle.myi_defs.specs.declared.types.Defs.{Defs}
 use Rattle.myi_pack.specs.Packed.{Values}
 use Rattle.myi_state.specs.State.{TableState}
 use Rattle.myi_state.specs.Changes.{Change, insert_at_end}
 use Rattle.myi_table.specs.Folding.{CanFold}
 use Rattle.myi_locks.specs.declared.steps.Step.{Step}
+use Rattle.myi_locks.specs.declared.steps.StepKind.TheVariants as kind
 use Rattle.myi_script.specs.declared.types.Act.{Act}
 use Rattle.myi_script.specs.declared.types.Act.TheVariants as act
 use Rattle.myi_script.specs.declared.types.Line.{Line}
 use Rattle.myi_history.specs.declared.answers.StepAnswer.{StepAnswer}
 use Rattle.myi_history.specs.declared.answers.StepAnswer.TheVariants as step
 use Rattle.myi_history.specs.Answers.{LineAnswer, answer_on}
-use Rattle.myi_history.specs.History.{in_table, accepted_of, stepped_by, changes, state_after}
+use Rattle.myi_history.specs.History.{Opening, ScriptRound, in_table, reads_only, asked_in, accepted_of, stepped_by, changes, state_after}
 use Rattle.myi_history.specs.Lines.{act_of}
 use Rattle.myi_history.specs.RoundTexts.{answer_of}
 use Rattle.myi_history.specs.Text.{reply_said}
@@ -79,3 +80,11 @@ pub record HaveInserted (d : Defs) (ls : List Line) (base : TableState) (steps :
   pub state : state_after d (asked_by ls) base steps ≡ with_rows d base rows
   pub said : map said_of replies ≡ inserts_said d (asked_by ls) base steps
   pub can : CanFold d base rows
+
+-- ---- runs
+
+-- In a round the step is an insert of a session that holds no READ or READ LOCAL, and asks of the table what its line inserts.
+pub record InsertsAtEnd (o : Opening) (p : ScriptRound) (x : Step) : Type 0 where
+  pub kind : x.kind ≡ kind.Insert
+  pub free : reads_only p.locks x.session ≡ false
+  pub asked : asked_in o.script p x ≡ asked_by o.script.lines x

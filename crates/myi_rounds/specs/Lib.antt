@@ -8,3 +8,5 @@ pub mod ReadJob
 pub mod Inserts
 -- the inserts of a session as a job
 pub mod InsertJob
+-- jobs that go on side by side
+pub mod Jobs

@@ -94,6 +94,7 @@ impl<'a, R: FileReader> InsertJob<'a, R> {
         ensures next { OnOk result
             (self.new.done ≡ min (self.old.done + 1) (length self.old.steps)) }
         ensures refused { OnErr result (self.new.done ≡ self.old.done) }
+        ensures unmoved { OnErr result (self.new.rows ≡ self.old.rows) }
         ensures on { GoesOn R.holds self.old self.new }
         ensures cause { HasCause File (faults_of R.faults self.old.files)
             (faults_of R.faults self.new.files) result }

@@ -2,6 +2,8 @@
 //! and stands for the crates above.
 ghost use Rattle.std.specs.Prelude.{◌≡◌, ◌+◌, ◌^◌, ◌<◌, ℕ, true, false, List, [], length, take, Option, None};
 ghost use Rattle.std.specs.List.{AllByRecursion};
+ghost use Rattle.myi_defs.specs.declared.types.Defs.{Defs};
+ghost use Rattle.myi_keycache.specs.declared.setup.Counters.{Counters};
 ghost use Rattle.myi_pack.specs.Packed.{Values};
 ghost use Rattle.myi_state.specs.State.{TableState};
 ghost use Rattle.myi_state.specs.Changes.{Change};
@@ -15,11 +17,12 @@ ghost use Rattle.myi_locks.specs.declared.steps.Step.{Step};
 ghost use Rattle.myi_locks.specs.Steps.{is_read};
 ghost use Rattle.myi_script.specs.declared.types.Line.{Line};
 ghost use Rattle.myi_history.specs.Bounds.{SessionNumber, number_at};
-ghost use Rattle.myi_history.specs.History.{Opening, ScriptRound, in_table, reads_only};
+ghost use Rattle.myi_history.specs.History.{Opening, ScriptRound, in_table, reads_only, asked_in, changes};
 ghost use Rattle.myi_history.specs.RoundTexts.{LineText};
 ghost use Rattle.myi_history.specs.SideBySide.{RunFits};
 ghost use Rattle.myi_history.specs.Text as text;
-ghost use Rattle.myi_history.specs.Text.{reads_said};
+ghost use Rattle.myi_history.specs.Text.{reads_said, others_said};
+ghost use Rattle.myi_rounds.specs.Inserts.{asked_by, inserts_said, HaveInserted, InsertsAtEnd};
 ghost use Rattle.myi_rounds.specs.Reads.{AreRead, RiseWithin, AllAre, reads_by};
 ghost use Rattle.myi_rounds.specs.ReadJob.{SaidBy};
 
@@ -45,13 +48,29 @@ pub fn said_stays_said()
 pub fn jobs_fit_their_runs()
     ensures rising { (p : ScriptRound) (behind : ℕ) (taken : List SessionNumber) (run : Run)
         (ns : List ℕ) → reads_only p.locks run.session ≡ false
-        → length ns ≡ length run.steps → RiseWithin p.before behind ns → RunFits p behind taken run ns }
+        → length ns ≡ length run.steps → RiseWithin p.before behind ns
+        → RunFits p behind taken run ns }
     ensures taken { (p : ScriptRound) (behind : ℕ) (taken : List SessionNumber) (run : Run)
         (ns : List ℕ) → reads_only p.locks run.session ≡ true
-        → length ns ≡ length run.steps → AllAre (number_at run.session taken) ns → RunFits p behind taken run ns }
+        → length ns ≡ length run.steps → AllAre (number_at run.session taken) ns
+        → RunFits p behind taken run ns }
     ensures said { (o : Opening) (h : List Change) (steps : List Step) (ns : List ℕ)
         → o.script.takes ≡ in_table → AllByRecursion (λ x. is_read x.kind ≡ true) steps
         → length ns ≡ length steps
         → reads_said o h steps ns
         ≡ reads_by o.defs o.script.lines (text.state_at o h) steps ns }
+{}
+
+/// An inserter that has put no row has done what no step asks (`begun`). Where a run's steps are inserts of a session that holds no
+/// READ or READ LOCAL, and ask of the table what the lines insert (`InsertsAtEnd`), a job changes and says what the run does.
+pub fn jobs_insert_as_their_runs()
+    ensures begun { (d : Defs) (ls : List Line) (base : TableState)
+        → HaveInserted d ls base [] [] [] }
+    ensures changes { (o : Opening) (p : ScriptRound) (s : TableState) (steps : List Step)
+        → AllByRecursion (InsertsAtEnd o p) steps
+        → changes o.defs (asked_in o.script p) s steps
+        ≡ changes o.defs (asked_by o.script.lines) s steps }
+    ensures said { (o : Opening) (p : ScriptRound) (s : TableState) (c : Counters)
+        (steps : List Step) → o.script.takes ≡ in_table → AllByRecursion (InsertsAtEnd o p) steps
+        → others_said o p s c steps ≡ inserts_said o.defs (asked_by o.script.lines) s steps }
 {}

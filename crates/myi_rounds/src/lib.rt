@@ -11,13 +11,15 @@
 //!   of each is `IsInsertJob`, and what its calls leave `GoesOn` of `specs/InsertJob`: the rows that it has put are those which
 //!   the run's first steps insert, as `HasInserted` says.
 //! - The law `said_stays_said` says that nothing of it is lost while others insert, and `jobs_fit_their_runs` that the numbers
-//!   are those which `myi_history` asks of a run (`RunFits`).
+//!   are those which `myi_history` asks of a run (`RunFits`); `jobs_insert_as_their_runs` says the like of inserts.
+//! - `run_side_by_side` does the jobs of a round, each on a thread of its own. What is refused in a session is left to be done.
 //! - `Gate` is called when a step begins and when it ends.
 //!
 //! ```
-//! let mut job = ReadJob::new(alloc, reader, lines, run.steps.as_slice(), None);
-//! let ran = job.run(&gate);
-//! let (reader, texts) = job.into_parts();
+//! let mut jobs = Vec::new(alloc);
+//! jobs.push(Job::Inserts(InsertJob::new(alloc, inserter, lines, steps)))?;
+//! jobs.push(Job::Reads(ReadJob::new(alloc, reader, lines, others, None)))?;
+//! run_side_by_side(rt, gate, &mut jobs);
 //! ```
 #![tactic(auto)]
 
@@ -25,6 +27,7 @@ mod finding;
 mod gate;
 mod insert_job;
 mod inserting;
+mod job;
 mod laws;
 mod read_job;
 mod reads;
@@ -33,5 +36,6 @@ mod statements;
 pub use gate::{Gate, OpenGate};
 pub use insert_job::InsertJob;
 pub use inserting::Replied;
-pub use laws::{jobs_fit_their_runs, said_stays_said};
+pub use job::{Job, run_side_by_side};
+pub use laws::{jobs_fit_their_runs, jobs_insert_as_their_runs, said_stays_said};
 pub use read_job::ReadJob;

@@ -106,6 +106,7 @@ impl<'a, R: FileReader> ReadJob<'a, R> {
         ensures next { OnOk result
             (self.new.done ≡ min (self.old.done + 1) (length self.old.steps)) }
         ensures refused { OnErr result (self.new.done ≡ self.old.done) }
+        ensures kept { OnErr result (self.new.texts ≡ self.old.texts) }
         ensures on { GoesOn R.holds self.old self.new }
         ensures never { IfErr result (NeverDamaged (told_by R.holds self.old.reader.files)) }
         ensures cause { HasCause File (faults_of R.faults self.old.reader)
