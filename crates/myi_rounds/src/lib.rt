@@ -12,13 +12,16 @@
 //!   the run's first steps insert, as `HasInserted` says.
 //! - The law `said_stays_said` says that nothing of it is lost while others insert, and `jobs_fit_their_runs` that the numbers
 //!   are those which `myi_history` asks of a run (`RunFits`); `jobs_insert_as_their_runs` says the like of inserts.
-//! - `run_side_by_side` does the jobs of a round, each on a thread of its own. What is refused in a session is left to be done.
+//! - `run_side_by_side` does the jobs of a round, each on a thread of its own. What is refused in a session is left to be done, and
+//!   its job tells why.
 //! - `Gate` is called when a step begins and when it ends.
 //!
 //! ```
 //! let mut jobs = Vec::new(alloc);
-//! jobs.push(Job::Inserts(InsertJob::new(alloc, inserter, lines, steps)))?;
-//! jobs.push(Job::Reads(ReadJob::new(alloc, reader, lines, others, None)))?;
+//! let job = InsertJob::new(alloc, inserter, lines, steps);
+//! jobs.push(Job::Inserts(InsertRun { job, refused: None }))?;
+//! let job = ReadJob::new(alloc, reader, lines, others, None);
+//! jobs.push(Job::Reads(ReadRun { job, refused: None }))?;
 //! run_side_by_side(rt, gate, &mut jobs);
 //! ```
 #![tactic(auto)]
@@ -36,6 +39,6 @@ mod statements;
 pub use gate::{Gate, OpenGate};
 pub use insert_job::InsertJob;
 pub use inserting::Replied;
-pub use job::{Job, run_side_by_side};
+pub use job::{InsertRun, Job, ReadRun, run_side_by_side};
 pub use laws::{jobs_fit_their_runs, jobs_insert_as_their_runs, said_stays_said};
 pub use read_job::ReadJob;
