@@ -38,9 +38,9 @@ pub struct Round {
 
 /// The parts of a sharing that jobs work on.
 #[derive(Drop)]
-struct Shares {
-    inserter: Inserter<UntoldReader>,
-    readers: Vec<Reader<UntoldReader>>,
+pub(crate) struct Shares {
+    pub(crate) inserter: Inserter<UntoldReader>,
+    pub(crate) readers: Vec<Reader<UntoldReader>>,
 }
 
 // The jobs of a sharing.

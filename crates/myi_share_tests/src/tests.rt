@@ -1,4 +1,5 @@
 //! Rounds on threads.
+use crate::jobs::run_script_round;
 use crate::round::{Counts, run_round};
 use crate::rows::{NAME, SETUP, TEXT, number_of, row_of};
 use case_lines::Untold;
@@ -44,5 +45,34 @@ fn eight_readers_and_an_inserter_on_threads(rt: HostRuntime) -> Result<(), Fail>
     table.close(&mut files)?;
     let found = check(alloc, &mut files, NAME)?;
     assert!(rt; found.is_empty());
+    Ok(())
+}
+
+// How many rows the first read of a text found, and after how many changes.
+fn counts_in(text: &[u8]) -> Option<(u64, u64)> {
+    let line = text.split(|byte| *byte == b'\n').next()?;
+    let mut words = std::str::from_utf8(line).ok()?.split(' ').skip(2);
+    let count = words.next()?.parse().ok()?;
+    let number = words.skip(1).next()?.parse().ok()?;
+    Some((count, number))
+}
+
+// Runs of a script side by side: all steps are done, and the first read of each finds the rows that its number says.
+#[test]
+fn runs_of_a_script_on_threads(rt: HostRuntime) -> Result<(), Fail> {
+    let alloc = rt.alloc();
+    let files = MemFiles::new(alloc, Vec::new(alloc), Vec::new(alloc))?;
+    let mut files = Untold { files };
+    let table = filled(alloc, &mut files, 4)?;
+    let said = run_script_round(&rt, alloc, &mut files, table, 7)?;
+    assert_eq!(rt; said.inserted, 3);
+    assert_eq!(rt; said.answered, 3);
+    assert_eq!(rt; said.refused, 0);
+    assert_eq!(rt; said.texts.len(), 7);
+    for text in said.texts.iter() {
+        let (count, number) = counts_in(text).ok_or("no read")?;
+        assert!(rt; number <= 2);
+        assert_eq!(rt; count, number.wrapping_add(4));
+    }
     Ok(())
 }
