@@ -92,3 +92,15 @@ front_of d end s (update at values ∷ cs) sound state l are = absurd are.0
 
 pub appends_stand_behind : (d : Defs) (s : TableState) (cs : List Change) → IsSound d → IsState d s → AreAppends d cs → rows_before s.space.end (replay d s cs).rows ≡ s.rows
 appends_stand_behind d s cs sound state are = front_of d s.space.end s cs sound state (omega arith) are ∙ all_stay s.space.end s.rows (rows_before_end d s sound state)
+
+-- the table does not end before the end that was
+pub appends_grow : (d : Defs) (s : TableState) (cs : List Change) → IsSound d → IsState d s → AreAppends d cs → s.space.end ≤ (replay d s cs).space.end
+appends_grow d s [] sound state are = omega arith
+appends_grow d s (insert_at_end values ∷ cs) sound state are =
+    let next = accepted-kept d s (insert_at_end values) sound are.0 state in
+    let more = grows d s values sound next in
+    let rest = appends_grow d (accepted d s (insert_at_end values)).state cs sound next are.1 in
+    omega (arith, more, rest)
+appends_grow d s (insert values ∷ cs) sound state are = absurd are.0
+appends_grow d s (delete at ∷ cs) sound state are = absurd are.0
+appends_grow d s (update at values ∷ cs) sound state are = absurd are.0

@@ -8,7 +8,7 @@ pub use Rattle.myi_history.proofs.ReadLemmas.{are_matching, matching_once}
 -- ranges_find_merged_rows
 pub use Rattle.myi_history.proofs.MergedLemmas.{merged_once}
 -- histories_are_replayed
-pub use Rattle.myi_history.proofs.ReplayLemmas.{replay_append, replay_round}
+pub use Rattle.myi_history.proofs.ReplayLemmas.{replay_append, replay_changes, replay_round}
 -- appended_rows_stand_behind
 pub use Rattle.myi_history.proofs.AppendLemmas.{appends_stand_behind}
 -- refused_changes_leave
@@ -41,3 +41,8 @@ pub use Rattle.myi_history.proofs.SeenLemmas.{run_state, run_appends, seen_rows,
 pub use Rattle.myi_history.proofs.LineOrderLemmas.{texts_in_order}
 -- lines_are_answered_once
 pub use Rattle.myi_history.proofs.OnceLemmas.{answered_once}
+-- texts_come_in_any_order
+pub use Rattle.myi_history.proofs.LineOrderLemmas.{texts_own, texts_order}
+-- sessions_go_beside_inserts
+pub use Rattle.myi_history.proofs.BesideLemmas.{rows_inserted, table_between}
+pub use Rattle.myi_history.proofs.SeenLemmas.{seen_within}

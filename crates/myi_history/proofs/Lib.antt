@@ -14,6 +14,7 @@ mod FoundLemmas
 mod StepLemmas
 mod SeenLemmas
 mod SideLemmas
+mod BesideLemmas
 mod PartLemmas
 mod LineOrderLemmas
 mod SpokenLemmas

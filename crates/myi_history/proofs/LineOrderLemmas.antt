@@ -177,6 +177,20 @@ ordered_once key xs ys p rise own =
     (permuted_in zs ys (IsPermutation-trans zs xs ys (IsPermutation-sym xs zs q) p))
     (permuted_in ys zs (IsPermutation-trans ys xs zs (IsPermutation-sym xs ys p) q))
 
+-- where no key is met twice, no two have one
+few_own : {X : Type 0} (key : X → ℕ) (xs : List X) → ((n : ℕ) → hits key n xs ≤ 1) → HaveOwnKeys key xs
+few_own key [] few = tt
+few_own key (x ∷ xs) few =
+    let none : hits key (key x) xs ≡ 0 = (let a = hits_cons key (key x) x xs in let b = hit (key x) (key x) refl in let c = few (key x) in omega arith) in
+    (none_met key (key x) xs none, few_own key xs (λ n. let a = hits_cons key n x xs in let c = few n in omega arith))
+
+pub permuted_own : {X : Type 0} (key : X → ℕ) (xs ys : List X) → IsPermutation xs ys → HaveOwnKeys key xs → HaveOwnKeys key ys
+permuted_own key xs ys p own = few_own key ys (λ n. let e = sum_by-IsPermutation (λ x. one_if (key x) n) xs ys p in let k = own_hits key xs own n in omega arith)
+
+pub permuted_order : {X : Type 0} (key : X → ℕ) (xs ys : List X) → IsPermutation xs ys → HaveOwnKeys key xs → all_put_by key ys ≡ all_put_by key xs
+permuted_order key xs ys p own =
+    ordered_once key xs (all_put_by key ys) (IsPermutation-trans xs ys (all_put_by key ys) p (all_permutes key [] ys)) (rises_all key [] ys tt) own
+
 pub rises_from : {X : Type 0} (key : X → ℕ) (xs : List X) → IsNonDecreasingBy key xs → Rises key xs
 rises_from key [] h = tt
 rises_from key (x ∷ xs) h = (
@@ -234,3 +248,11 @@ put_texts acc (x ∷ xs) = put_texts (put_line x acc) xs ∙ ap (λ q. fold (λ 
 -- what is said, put by its lines, has the texts in order of line
 pub texts_in_order : (said : List LineAnswer) → flat_map said_text (put_lines [] said) ≡ joined (in_line_order (texts_of said))
 texts_in_order said = sym (flat_map-map (λ (t : LineText). t.1) text_of (put_lines [] said)) ∙ ap joined (put_texts [] said)
+
+-- ---- texts in another order
+
+pub texts_own : (texts others : List LineText) → IsPermutation texts others → HaveOwnLines texts → HaveOwnLines others
+texts_own texts others p own = permuted_own (λ (t : LineText). t.0) texts others p own
+
+pub texts_order : (texts others : List LineText) → IsPermutation texts others → HaveOwnLines texts → in_line_order others ≡ in_line_order texts
+texts_order texts others p own = permuted_order (λ (t : LineText). t.0) texts others p own

@@ -92,7 +92,7 @@ next_is o front back p e =
     let f = follows_history o front back p e in
     round_is o p (locks_after o front) (table_after o front) (number_after o front) f.locks f.state f.before f.round
 
-next_stands : (o : Opening) (front back : List ScriptRound) → MayRun o.defs o.script.lines → rounds_of o ≡ front ++ back → has_steps (locks_after o front) ≡ true
+pub next_stands : (o : Opening) (front back : List ScriptRound) → MayRun o.defs o.script.lines → rounds_of o ≡ front ++ back → has_steps (locks_after o front) ≡ true
     → (more : List ScriptRound) × (back ≡ next_after o front ∷ more)
 next_stands o front [] run e left =
     let same : has_steps (locks_behind (first_locks o) (rounds_of o)) ≡ has_steps (locks_after o front) = ap (λ ps. has_steps (locks_behind (first_locks o) ps)) (e ∙ append-nil front) in

@@ -1,5 +1,5 @@
 -- While a session holds READ or READ LOCAL, rows are inserted at the end alone, so it goes on to find the rows that it took the lock at.
-use Rattle.std.proofs.Common.{◌≡◌, ℕ, ◌==◌, ◌&&◌, ◌||◌, not, List, [], ◌∷◌, ◌++◌, Option, Some, None, Result, Ok, Err, Bool, true, false, cond, refl, ap, sym, ◌∙◌, inl, inr, subst, append_assoc, append-nil}
+use Rattle.std.proofs.Common.{◌≡◌, ℕ, ◌≤◌, ◌==◌, ◌&&◌, ◌||◌, not, List, [], ◌∷◌, ◌++◌, Option, Some, None, Result, Ok, Err, Bool, true, false, cond, refl, ap, sym, ◌∙◌, inl, inr, subst, append_assoc, append-nil}
 use Rattle.std.specs.Prelude.{◌⊎◌, option_map}
 use Rattle.std.specs.List.{AllByRecursion, find, list_any}
 use Rattle.std.proofs.lemmas.Bool.Decides.{eqb_tells}
@@ -37,7 +37,7 @@ use Rattle.myi_history.specs.Bounds.{SessionNumber, number_at, taken_by}
 use Rattle.myi_history.specs.Running.{taken_in, locks_after, table_after, number_after, next_after, seen_number, seen_state, HasRun}
 use Rattle.myi_history.proofs.LineLemmas.{steps_run}
 use Rattle.myi_history.proofs.ReplayLemmas.{replay_append, replay_round}
-use Rattle.myi_history.proofs.AppendLemmas.{appends_stand_behind}
+use Rattle.myi_history.proofs.AppendLemmas.{appends_stand_behind, appends_grow}
 use Rattle.myi_history.proofs.RunLemmas.{locks_more, table_more, taken_more, next_is, table_now}
 use Rattle.myi_history.proofs.StepLemmas.{Each, EachLeft, each_so, IsOfLine, round_has, round_leaves, opening_has, are_of_lines}
 
@@ -490,3 +490,10 @@ seen_same o front c n run sound base has reads list =
 
 pub run_state : (o : Opening) (front : List ScriptRound) (c : List Numbers) → MayRun o.defs o.script.lines → IsSound o.defs → IsState o.defs o.base → HasRun o front c → IsState o.defs (table_after o front)
 run_state o front c run sound base has = stays_state o run sound base front has.first.0 has.first.1
+
+-- it is a state, and does not end behind the table
+pub seen_within : (o : Opening) (front : List ScriptRound) (c : List Numbers) (n : ℕ) → MayRun o.defs o.script.lines → IsSound o.defs → IsState o.defs o.base → HasRun o front c → reads_only (locks_after o front) n ≡ true
+    → IsState o.defs (seen_state o front n) × ((seen_state o front n).space.end ≤ (table_after o front).space.end)
+seen_within o front c n run sound base has reads =
+    let w = sees o run sound base front has.first.0 has.first.1 n reads in
+    (w.state, subst (λ (s : TableState). (seen_state o front n).space.end ≤ s.space.end) (sym w.table) (appends_grow o.defs (seen_state o front n) w.since sound w.state w.appends))

@@ -1,8 +1,15 @@
 -- The numbers of a round of kind Together whose sessions go side by side: which a session's reads may be given, one session after
 -- the other.
-use Rattle.std.specs.Prelude.{◌≡◌, ℕ, ◌≤◌, List, [], ◌∷◌, ◌++◌, length, MatchBool}
+use Rattle.std.specs.Prelude.{◌≡◌, ℕ, ◌≤◌, false, List, [], ◌∷◌, ◌++◌, length, MatchBool, Some}
 use Rattle.std.specs.List.{AllByRecursion}
+use Rattle.myi_pack.specs.Packed.{Values}
 use Rattle.myi_locks.specs.declared.steps.Run.{Run}
+use Rattle.myi_locks.specs.declared.steps.Step.{Step}
+use Rattle.myi_locks.specs.declared.steps.StepKind.TheVariants as kind
+use Rattle.myi_locks.specs.Rounds.{LockState}
+use Rattle.myi_script.specs.declared.types.Act.TheVariants as act
+use Rattle.myi_script.specs.declared.types.Line.{Line}
+use Rattle.myi_history.specs.Lines.{act_of}
 use Rattle.myi_history.specs.History.{ScriptRound, reads_only}
 use Rattle.myi_history.specs.Bounds.{SessionNumber, number_at}
 
@@ -23,3 +30,10 @@ abbrev pub RunsFit : ScriptRound → ℕ → List SessionNumber → List Run →
 RunsFit p behind taken [] ns = ns ≡ []
 RunsFit p behind taken (run ∷ runs) ns =
     (own : List ℕ) × (rest : List ℕ) × (ns ≡ own ++ rest) × RunFits p behind taken run own × RunsFit p behind taken runs rest
+
+-- the step is an insert of a session that holds no READ and no READ LOCAL, and its line inserts a row
+pub record InsertsRow (ls : List Line) (r : LockState) (x : Step) : Type 0 where
+  pub kind : x.kind ≡ kind.Insert
+  pub free : reads_only r x.session ≡ false
+  pub row : Values
+  pub inserts : act_of ls x.line ≡ Some (act.Insert row)

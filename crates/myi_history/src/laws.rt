@@ -1,6 +1,6 @@
 //! Laws over histories and texts of scripts. Each is the contract of a function that does nothing,
 //! so that it is proved with the crate and stands for the crates above.
-ghost use Rattle.std.specs.Prelude.{◌≡◌, ◌++◌, [], ◌∷◌, ◌≤◌, ℕ, Bool, false, List, map, length, Some, Err};
+ghost use Rattle.std.specs.Prelude.{◌≡◌, ◌++◌, [], ◌∷◌, ◌≤◌, ℕ, Bool, false, List, map, length, Option, Some, Err};
 ghost use Rattle.myi_defs.specs.declared.types.Defs.{Defs};
 ghost use Rattle.myi_defs.specs.Sound.{IsSound};
 ghost use Rattle.myi_history.specs.Appending.{AreAppends, rows_before};
@@ -15,16 +15,17 @@ ghost use Rattle.myi_history.specs.Reads.{rows_between, MergedRow, rows_from, me
 ghost use Rattle.myi_history.specs.Reads.{place_cmp, place_of};
 ghost use Rattle.myi_tablestate.specs.Keyed.{KeyedRefusal, keyed_step};
 ghost use Rattle.myi_locks.specs.Script as locks;
+ghost use Rattle.myi_locks.specs.declared.steps.Step.{Step};
 ghost use Rattle.myi_locks.specs.Rounds.{has_steps};
 ghost use Rattle.myi_script.specs.declared.types.Line.{Line};
 ghost use Rattle.myi_script.specs.Script.{IsScript};
 ghost use Rattle.myi_history.specs.Lines.{MayRun, script_steps};
-ghost use Rattle.myi_history.specs.History.{Opening, ScriptRound, rounds_of, history, changes_in, state_behind, first_locks, locks_behind, accepted_of, stepped_by};
+ghost use Rattle.myi_history.specs.History.{Opening, ScriptRound, rounds_of, history, changes_in, state_behind, first_locks, locks_behind, accepted_of, stepped_by, changes, state_after};
 ghost use Rattle.std.specs.List.{flat_map};
 ghost use Rattle.myi_history.specs.Answers.{LineAnswer, said_text};
 ghost use Rattle.myi_history.specs.Text.{Numbers, no_numbers, put_lines};
 ghost use Rattle.myi_history.specs.RoundTexts.{said_of, texts_of, in_line_order, joined};
-ghost use Rattle.myi_history.specs.RoundTexts.{HaveOwnLines};
+ghost use Rattle.myi_history.specs.RoundTexts.{HaveOwnLines, LineText};
 ghost use Rattle.myi_history.specs.Bounds.{PastNumbers, RoundFits, AreWithin};
 ghost use Rattle.myi_history.specs.OneThread.{FollowsHistory, IsForced, in_turn, HaveReadsInTurn, StatsRise};
 
@@ -62,6 +63,8 @@ pub fn ranges_find_merged_rows()
 pub fn histories_are_replayed()
     ensures append { (d : Defs) (s : TableState) (cs ds : List Change)
         → replay d s (cs ++ ds) ≡ replay d (replay d s cs) ds }
+    ensures steps { (d : Defs) (asked : Step → Option Change) (s : TableState) (xs : List Step)
+        → replay d s (changes d asked s xs) ≡ state_after d asked s xs }
     ensures round { (o : Opening) (p : ScriptRound)
         → replay o.defs p.state (changes_in o p) ≡ state_behind o p }
 {}
@@ -121,6 +124,14 @@ pub fn numbers_are_forced()
 pub fn texts_stand_in_line_order()
     ensures { (said : List LineAnswer)
         → flat_map said_text (put_lines [] said) ≡ joined (in_line_order (texts_of said)) }
+{}
+
+/// Texts of which each line has one stand in one order of line, whatever order they come in.
+pub fn texts_come_in_any_order()
+    ensures own { (texts others : List LineText) → IsPermutation texts others
+        → HaveOwnLines texts → HaveOwnLines others }
+    ensures order { (texts others : List LineText) → IsPermutation texts others
+        → HaveOwnLines texts → in_line_order others ≡ in_line_order texts }
 {}
 
 /// In a round of a script that may run, no line is answered twice.

@@ -38,11 +38,11 @@ pub use laws::{
     appended_rows_stand_behind, histories_are_replayed, lines_are_answered_once,
     numbers_are_forced, numbers_can_be_given, ranges_find_matching_rows, ranges_find_merged_rows,
     refused_changes_leave, rounds_are_whole, rounds_follow_the_history, scripts_may_run,
-    texts_stand_in_line_order,
+    texts_come_in_any_order, texts_stand_in_line_order,
 };
 pub use lines::script_steps;
 pub use round_texts::RoundTexts;
 pub use running::{
     rounds_go_on_in_turn, rounds_go_on_side_by_side, runs_begin, runs_end, runs_go_on,
-    runs_that_stop, tables_are_read,
+    runs_that_stop, sessions_go_beside_inserts, tables_are_read,
 };

@@ -3,8 +3,8 @@
 //! those of one thread that does a round's reads before its inserts are among them. Each law is the
 //! contract of a function that does nothing, so that it is proved with the crate and stands for the
 //! crates above.
-ghost use Rattle.std.specs.Prelude.{◌≡◌, ◌++◌, [], ◌∷◌, ℕ, true, false, nat_lt, List, filter, Option};
-ghost use Rattle.std.specs.List.{flat_map};
+ghost use Rattle.std.specs.Prelude.{◌≡◌, ◌++◌, ◌-◌, ◌≤◌, [], ◌∷◌, ℕ, true, false, nat_lt, List, filter, take, Option};
+ghost use Rattle.std.specs.List.{AllByRecursion, flat_map};
 ghost use Rattle.myi_keycache.specs.declared.setup.Counters.{Counters};
 ghost use Rattle.myi_defs.specs.declared.types.Defs.{Defs};
 ghost use Rattle.myi_defs.specs.Sound.{IsSound};
@@ -16,7 +16,7 @@ ghost use Rattle.myi_locks.specs.declared.steps.Run.{Run};
 ghost use Rattle.myi_locks.specs.declared.steps.Runs.{Runs};
 ghost use Rattle.myi_locks.specs.declared.steps.Round.TheVariants.{Together};
 ghost use Rattle.myi_locks.specs.Rounds.{has_steps};
-ghost use Rattle.myi_locks.specs.Done.{advanced};
+ghost use Rattle.myi_locks.specs.Done.{advanced, run_steps};
 ghost use Rattle.myi_history.specs.Answers.{said_text};
 ghost use Rattle.myi_history.specs.Appending.{AreAppends, rows_before};
 ghost use Rattle.myi_history.specs.Bounds.{AreWithin, taken_by};
@@ -28,7 +28,7 @@ ghost use Rattle.myi_history.specs.Reads.{found};
 ghost use Rattle.myi_history.specs.Running.{HasRun, IsNext, IsNextInTurn, counted_in, taken_in};
 ghost use Rattle.myi_history.specs.Running.{locks_after, next_after, number_after, run_text};
 ghost use Rattle.myi_history.specs.Running.{seen_state, table_after};
-ghost use Rattle.myi_history.specs.SideBySide.{RunsFit};
+ghost use Rattle.myi_history.specs.SideBySide.{InsertsRow, RunsFit};
 ghost use Rattle.myi_history.specs.Text.{Numbers, round_said, shell_text, state_at};
 
 /// Before the first round nothing is done.
@@ -52,6 +52,28 @@ pub fn rounds_go_on_side_by_side()
         → (next_after o front).round ≡ Together inserter readers
         → RunsFit (next_after o front) (number_behind o (next_after o front)) (taken_in front)
         readers.runs ns.reads → IsNext o front c ns }
+{}
+
+/// In a round of kind Together the inserter's steps insert the rows of their lines, and its session
+/// holds no READ or READ LOCAL (`inserts`). The table after a number of changes between those before
+/// a round and those behind it is the one before it with the first changes of the round (`between`).
+/// What a session that holds READ or READ LOCAL sees is a state, and does not end behind the table
+/// (`seen`).
+pub fn sessions_go_beside_inserts()
+    ensures inserts { (o : Opening) (front : List ScriptRound) (c : List Numbers)
+        (inserter : Option Run) (readers : Runs) → MayRun o.defs o.script.lines → HasRun o front c
+        → (next_after o front).round ≡ Together inserter readers
+        → AllByRecursion (InsertsRow o.script.lines (locks_after o front)) (run_steps inserter) }
+    ensures between { (o : Opening) (front : List ScriptRound) (c : List Numbers) (n : ℕ)
+        → MayRun o.defs o.script.lines → HasRun o front c → has_steps (locks_after o front) ≡ true
+        → number_after o front ≤ n → n ≤ number_behind o (next_after o front)
+        → state_at o (history o) n ≡ replay o.defs (table_after o front)
+        (take (n - number_after o front) (changes_in o (next_after o front))) }
+    ensures seen { (o : Opening) (front : List ScriptRound) (c : List Numbers) (n : ℕ)
+        → MayRun o.defs o.script.lines → IsSound o.defs → IsState o.defs o.base → HasRun o front c
+        → reads_only (locks_after o front) n ≡ true
+        → IsState o.defs (seen_state o front n)
+        × ((seen_state o front n).space.end ≤ (table_after o front).space.end) }
 {}
 
 /// Where a step is left, the run goes on by the next round, with numbers that are within their
