@@ -5,3 +5,4 @@ pub mod MatchLemmas
 pub mod ReaderLemmas
 pub mod BaseLemmas
 pub mod KnownLaws
+pub mod IndexLemmas

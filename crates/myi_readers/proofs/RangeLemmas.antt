@@ -1,6 +1,6 @@
 -- Reading the rows of the base between bounds, one after the other.
 use Rattle.std.proofs.Common.{◌≡◌, ℕ, zero, suc, ◌+◌, ◌*◌, ◌<◌, ◌≤◌, Bool, true, false, Option, Some, None, Err, List, [], ◌∷◌, ◌++◌, length, map, slice_index_or, refl, sym, ap, subst, ◌∙◌, arith, append_assoc}
-use Rattle.std.specs.Prelude.{nat_lt}
+use Rattle.std.specs.Prelude.{nat_lt, MatchOption}
 use Rattle.std.specs.List.{AllByRecursion}
 use Rattle.std.proofs.lemmas.Bool.Decides.{nat_tests}
 use Rattle.std.proofs.lemmas.List.{append-nil, map-append, length_push}
@@ -30,12 +30,12 @@ use Rattle.myi_rowtrees.specs.RowLists.{lists_of}
 use Rattle.myi_ranges.specs.declared.fault.RangeFault.{RangeFault}
 use Rattle.myi_ranges.specs.declared.fault.RangeFault.TheVariants as range
 use Rattle.myi_ranges.specs.declared.ranges.RangeRows.{RangeRows}
-use Rattle.myi_ranges.specs.Ranges.{begin_at, searches, coming, ReadsAhead, Answers, HasTable, RoseBySearches, ReadInFew, row_cost_by, row_cost}
+use Rattle.myi_ranges.specs.Ranges.{begin_at, searches, coming, ReadsAhead, Answers, HasTable, RoseBySearches, ReadInFew, IsFirstToCome, FailsInFew, row_cost_by, row_cost}
 use Rattle.myi_ranges.specs.Ranges as ranges
 use Rattle.myi_keyedrows.specs.declared.keyed_rows.KeyedRows.{KeyedRows}
 use Rattle.myi_keyedrows.specs.KeyedRows.{defs_of, HoldTable}
 use Rattle.myi_table.specs.declared.ranges.Range.{Range}
-use Rattle.myi_table.specs.Reading.{IsSameReading, begun, bounds_of, cost_of, AnswersRange}
+use Rattle.myi_table.specs.Reading.{IsSameReading, begun, bounds_of, cost_of, AnswersRange, ReadsInRange}
 use Rattle.myi_readers.specs.declared.fault.SeenFault.{SeenFault}
 use Rattle.myi_readers.specs.declared.fault.SeenFault.TheVariants as seen
 use Rattle.myi_readers.specs.Faults.{of_range}
@@ -218,6 +218,50 @@ came_all d s range now next before mid after rows law sound table key c none few
       let same : cost_of d c.found + 0 ≡ cost_of d c.found = omega arith in
       rose_less (c.times + searches now.reached) (length c.found + 2) (length (listed d (suc range.key) s.rows)) (cost_of d c.found) before after c.left (subst (λ (n : ℕ). RoseBySearches (c.times + searches now.reached) (length (listed d (suc range.key) s.rows)) n before after) same all);
 }
+
+-- ---- how often the files are read, whatever is answered
+
+pub reads_none : (d : Defs) (s : TableState) (range : Range) (at : ℕ) → ReadsInRange d s range at at
+reads_none d s range at = record {
+  read = [];
+  others = coming d (begun range) s.rows;
+  first = refl;
+  few = record { levels = 0; fit = omega arith; few = omega arith };
+}
+
+pub reads_so_far : (d : Defs) (s : TableState) (range : Range) (now : RangeRows) (before at : ℕ) (rows : List (ℕ × Values)) → Came d s (begun range) now before at rows → ReadsInRange d s range before at
+reads_so_far d s range now before at rows c = record {
+  read = c.found;
+  others = coming d now s.rows;
+  first = c.coming;
+  few = rose_less c.times (length c.found + 2) (length (listed d (suc range.key) s.rows)) (cost_of d c.found) before at (let left = c.left in omega (arith, left)) c.few;
+}
+
+-- and those that a call which answers no row may count for
+pub reads_failed : (d : Defs) (s : TableState) (range : Range) (now : RangeRows) (before mid after : ℕ) (rows : List (ℕ × Values)) → now.key ≡ range.key → Came d s (begun range) now before mid rows → FailsInFew d s now mid after → ReadsInRange d s range before after
+reads_failed d s range now before mid after rows key c failed = by failed.next failed.comes (subst (λ (k : ℕ). RoseBySearches (searches now.reached) (length (listed d (suc k) s.rows)) (row_cost d failed.next) mid after) key failed.few)
+  where
+    by : (o : Option StoredRow) → MatchOption o (Unit {0}) (IsFirstToCome d s now) → RoseBySearches (searches now.reached) (length (listed d (suc range.key) s.rows)) (row_cost d o) mid after → ReadsInRange d s range before after
+    by None none few =
+        let all = rose_both c.times (searches now.reached) (length (listed d (suc range.key) s.rows)) (cost_of d c.found) 0 before mid after c.few few in
+        let same : cost_of d c.found + 0 ≡ cost_of d c.found = omega arith in
+        record {
+          read = c.found;
+          others = coming d now s.rows;
+          first = c.coming;
+          few = rose_less (c.times + searches now.reached) (length c.found + 2) (length (listed d (suc range.key) s.rows)) (cost_of d c.found) before after c.left (subst (λ (n : ℕ). RoseBySearches (c.times + searches now.reached) (length (listed d (suc range.key) s.rows)) n before after) same all);
+        }
+    by (Some r) (there, others, order) few =
+        let all = rose_both c.times (searches now.reached) (length (listed d (suc range.key) s.rows)) (cost_of d c.found) (row_cost_by d.format d.slot_length r) before mid after c.few few in
+        let sum : cost_of d (c.found ++ r ∷ []) ≡ cost_of d c.found + row_cost_by d.format d.slot_length r = sum_by_push (λ (q : StoredRow). row_cost_by d.format d.slot_length q) c.found r in
+        record {
+          read = c.found ++ r ∷ [];
+          others = others;
+          first = c.coming ∙ ap (λ (q : List Pair). map (pair_of_row d (suc range.key)) c.found ++ q) (order ∙ ap (λ (k : ℕ). pair_of_row d (suc k) r ∷ others) key)
+              ∙ sym (append_assoc (map (pair_of_row d (suc range.key)) c.found) (pair_of_row d (suc range.key) r ∷ []) others) ∙ ap (λ (q : List Pair). q ++ others) (sym (map-append (pair_of_row d (suc range.key)) c.found (r ∷ [])));
+          few = rose_less (c.times + searches now.reached) (length (c.found ++ r ∷ []) + 2) (length (listed d (suc range.key) s.rows)) (cost_of d (c.found ++ r ∷ [])) before after (let left = c.left in let long = length_push c.found r in omega (arith, left, long))
+              (subst (λ (n : ℕ). RoseBySearches (c.times + searches now.reached) (length (listed d (suc range.key) s.rows)) n before after) (sym sum) all);
+        }
 
 -- ---- one call after another
 

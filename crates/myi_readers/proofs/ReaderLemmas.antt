@@ -1,5 +1,6 @@
 -- What holds of a reader after its calls.
-use Rattle.std.proofs.Common.{◌≡◌, ℕ, ◌+◌, ◌-◌, ◌^◌, ◌<◌, ◌≤◌, List, [], ◌∷◌, length, take, min, refl, sym, ap, subst, ◌∙◌, arith}
+use Rattle.std.proofs.Common.{◌≡◌, ℕ, suc, ◌+◌, ◌-◌, ◌^◌, ◌<◌, ◌≤◌, List, [], ◌∷◌, length, take, min, refl, sym, ap, subst, ◌∙◌, arith}
+use Rattle.std.specs.Prelude.{slice_index_or, slice_set}
 use Rattle.std.proofs.lemmas.List.{length-take, take_all}
 use Rattle.myi_defs.specs.declared.types.Defs.{Defs}
 use Rattle.myi_pack.specs.Packed.{Values}
@@ -16,11 +17,15 @@ use Rattle.myi_tail.specs.Spelled.{spelled}
 use Rattle.myi_snapshots.specs.declared.snapshot.Snapshot.{Snapshot}
 use Rattle.myi_snapshots.specs.Appended.{with_rows}
 use Rattle.myi_snapshots.specs.Known.{known_rows, packed_rows, end_with}
-use Rattle.myi_snapshots.specs.Knowing.{Knowing, told_place}
+use Rattle.myi_snapshots.specs.Knowing.{Knowing, packed_of, told_place}
 use Rattle.myi_snapshots.specs.Seen.{IsTaken}
 use Rattle.myi_snapshots.proofs.CallerLemmas.{ends, first}
 use Rattle.myi_readers.specs.declared.reader.TableReader.{TableReader}
-use Rattle.myi_readers.specs.Reader.{IsReader, IsSameReader}
+use Rattle.myi_readers.specs.Reader.{IsReader, IsSameReader, rows_known}
+use Rattle.myi_readers.specs.declared.known_keys.KnownKeys.{KnownKeys}
+use Rattle.myi_readers.specs.Indexes.{IsIndexOf, AreIndexes}
+use Rattle.myi_readers.proofs.SeenLemmas.{packed_known}
+use Rattle.myi_readers.proofs.IndexLemmas.{indexes_on, indexes_set}
 
 -- ---- trees that were searched
 
@@ -36,11 +41,46 @@ reader_again r k is left name written = record {
   behind = is.behind ∙ sym (ap (λ (f : SlotFile). f.counts.length) left.file);
   room = is.room;
   whole = is.whole;
+  indexed = subst (λ (n : ℕ). AreIndexes r.defs n (known_rows r.defs r.seat.known) r.index.items) (sym (ap (λ (f : SlotFile). f.counts.length) left.file)) is.indexed;
   small = is.small;
 }
 
+-- indexes that took in more rows
+pub reader_index : (r q : TableReader) → q ≡ record r { index = q.index } → IsReader r → AreIndexes r.defs r.rows.rows.file.counts.length (known_rows r.defs r.seat.known) q.index.items → IsReader q
+reader_index r q same is indexed = subst IsReader (sym same) (record {
+  sound = is.sound;
+  defs = is.defs;
+  named = is.named;
+  apart = is.apart;
+  keys = is.keys;
+  written = is.written;
+  of_table = is.of_table;
+  behind = is.behind;
+  room = is.room;
+  whole = is.whole;
+  indexed = indexed;
+  small = is.small;
+})
+
 pub same_again : (r : TableReader) (k : KeyedRows) → IsLeft r.rows k → IsSameReader r (record r { rows = k })
 same_again r k left = record { defs = refl; number = refl; tail = refl; file = left.file; places = left.places }
+
+-- the index of a key as it stands by the rows that the object on the words knows
+pub index_as_known : (r : TableReader) (k : ℕ) (x : KnownKeys) → IsReader r → k < length r.defs.keys → slice_index_or r.index.items k x ≡ x → IsIndexOf r.defs (suc k) r.known.begin (packed_of r.known) x
+index_as_known r k x is lt there =
+    let low : k < length r.index.items = let keys = is.indexed.keys in omega (arith, keys, lt) in
+    subst (λ (l : List (List ℕ)). IsIndexOf r.defs (suc k) r.known.begin l x) (sym (packed_known r is)) (subst (λ (n : ℕ). IsIndexOf r.defs (suc k) n (rows_known r) x) (sym is.behind)
+    (subst (IsIndexOf r.defs (suc k) r.rows.rows.file.counts.length (rows_known r)) there (is.indexed.each k x low)))
+
+-- the index of a key took in more rows
+pub reader_set : (r q : TableReader) (k : ℕ) (x : KnownKeys) → q ≡ record r { index = q.index } → q.index.items ≡ slice_set r.index.items k x → IsReader r → k < length r.defs.keys → IsIndexOf r.defs (suc k) r.known.begin (packed_of r.known) x → IsReader q
+reader_set r q k x same set is lt there =
+    let low : k < length r.index.items = let keys = is.indexed.keys in omega (arith, keys, lt) in
+    let here : IsIndexOf r.defs (suc k) r.rows.rows.file.counts.length (rows_known r) x = subst (λ (l : List (List ℕ)). IsIndexOf r.defs (suc k) r.rows.rows.file.counts.length l x) (packed_known r is) (subst (λ (n : ℕ). IsIndexOf r.defs (suc k) n (packed_of r.known) x) is.behind there) in
+    reader_index r q same is (subst (AreIndexes r.defs r.rows.rows.file.counts.length (rows_known r)) (sym set) (indexes_set r.defs r.rows.rows.file.counts.length (rows_known r) r.index.items k x low here is.indexed))
+
+pub index_same : (r : TableReader) (k : KeyedRows) (q : TableReader) → q ≡ record r { rows = k; index = q.index } → IsLeft r.rows k → IsSameReader r q
+index_same r k q same left = subst (λ (t : TableReader). IsSameReader r t) (sym same) (record { defs = refl; number = refl; tail = refl; file = left.file; places = left.places })
 
 -- ---- words that were read on
 
@@ -71,6 +111,7 @@ reader_on r seat known words count is caught shown read = record {
   behind = ap (λ (k : Knowing). k.begin) read ∙ is.behind;
   room = ap (λ (k : Knowing). k.room) read ∙ is.room ∙ sym (ap room_of caught.tail);
   whole = ap (λ (k : Knowing). k.whole) read ∙ ap spelled shown;
+  indexed = indexes_on r.defs r.rows.rows.file.counts.length (known_rows r.defs r.seat.known) (known_rows r.defs seat.known) r.index.items (first r.defs seat.known r.seat.known caught.more) is.indexed;
   small = subst (λ (n : ℕ). r.number + n < 2 ^ 64) (sym (ap room_of caught.tail)) is.small;
 }
 

@@ -27,11 +27,10 @@ use Rattle.myi_state.specs.Changes.{insert_at_end, accepted, behind_taken}
 use Rattle.myi_state.specs.Sound.{IsState}
 use Rattle.myi_state.proofs.CallerLemmas.{accepted-kept}
 use Rattle.myi_tablestate.specs.Listed.{placed}
-use Rattle.myi_tail.specs.Spelled.{spelled}
 use Rattle.myi_snapshots.specs.declared.snapshot.Snapshot.{Snapshot}
 use Rattle.myi_snapshots.specs.Appended.{with_rows, rows_before, AllFit}
 use Rattle.myi_snapshots.specs.Known.{is_row, is_short, packed_rows, size_of, end_with}
-use Rattle.myi_snapshots.specs.Knowing.{packed_of, told_place}
+use Rattle.myi_snapshots.specs.Knowing.{Knowing, packed_of, told_place}
 use Rattle.myi_snapshots.specs.Seen.{seen_rows}
 use Rattle.myi_snapshots.proofs.CallerLemmas.{last, ends}
 use Rattle.myi_readers.specs.declared.reader.TableReader.{TableReader}
@@ -98,22 +97,21 @@ passes_at p xs i lt =
     ap p (get_or-take (prefix_len p xs) xs i [] few) ∙ prefix_len_passes p xs i [] few
 
 -- the bytes of a known row are a row of the table
-pub record IsKnownRow (r : TableReader) (i : ℕ) (bytes : List ℕ) : Type 0 where
-  pub packs : is_some (row_of r.defs bytes) ≡ true
-  pub short : r.defs.format ≡ Dynamic → length bytes < 2 ^ 32
-  pub same : bytes ≡ slice_index_or (rows_known r) i []
+pub record IsKnownRow (d : Defs) (packed : List (List ℕ)) (i : ℕ) (bytes : List ℕ) : Type 0 where
+  pub packs : is_some (row_of d bytes) ≡ true
+  pub short : d.format ≡ Dynamic → length bytes < 2 ^ 32
+  pub same : bytes ≡ slice_index_or packed i []
 
-pub known_row : (r : TableReader) (i : ℕ) (bytes : List ℕ) → IsReader r → i < length (rows_known r) → bytes ≡ slice_index_or (packed_of r.known) i [] → IsKnownRow r i bytes
-known_row r i bytes is lt read =
-    let here : bytes ≡ slice_index_or (rows_known r) i [] = read ∙ ap (λ (l : List (List ℕ)). slice_index_or l i []) (packed_known r is) in
-    let row : is_row r.defs bytes ≡ true = ap (is_row r.defs) here ∙ passes_at (is_row r.defs) (spelled r.seat.known) i lt in
-    let parts = and_parts (is_some (row_of r.defs bytes)) (is_short r.defs.format (length bytes)) row in
-    record { packs = parts.0; short = short_of r.defs.format (length bytes) parts.1; same = here }
+pub known_row : (d : Defs) (k : Knowing) (i : ℕ) (bytes : List ℕ) → k.defs ≡ d → i < length (packed_of k) → bytes ≡ slice_index_or (packed_of k) i [] → IsKnownRow d (packed_of k) i bytes
+known_row d k i bytes of_table lt read =
+    let row : is_row d bytes ≡ true = ap (λ (e : Defs). is_row e bytes) (sym of_table) ∙ ap (is_row k.defs) read ∙ passes_at (is_row k.defs) k.whole i lt in
+    let parts = and_parts (is_some (row_of d bytes)) (is_short d.format (length bytes)) row in
+    record { packs = parts.0; short = short_of d.format (length bytes) parts.1; same = read }
 
 -- the key of a known row
-pub key_is : (r : TableReader) (i k : ℕ) (bytes : List ℕ) (view : Values) (key : List KeySeg) → IsKnownRow r i bytes → row_of r.defs bytes ≡ Some view → key ≡ key_of r.defs k view → key ≡ key_of r.defs k (unwrap_or (row_of r.defs (slice_index_or (rows_known r) i [])) [])
-key_is r i k bytes view key is read found =
-    found ∙ ap (λ (o : Option Values). key_of r.defs k (unwrap_or o [])) (sym read) ∙ ap (λ (b : List ℕ). key_of r.defs k (unwrap_or (row_of r.defs b) [])) is.same
+pub key_is : (d : Defs) (packed : List (List ℕ)) (i k : ℕ) (bytes : List ℕ) (view : Values) (key : List KeySeg) → IsKnownRow d packed i bytes → row_of d bytes ≡ Some view → key ≡ key_of d k view → key ≡ key_of d k (unwrap_or (row_of d (slice_index_or packed i [])) [])
+key_is d packed i k bytes view key is read found =
+    found ∙ ap (λ (o : Option Values). key_of d k (unwrap_or o [])) (sym read) ∙ ap (λ (b : List ℕ). key_of d k (unwrap_or (row_of d b) [])) is.same
 
 pub known_end : (r : TableReader) → IsReader r → told_place (end_with r.known.defs r.known.begin (packed_of r.known)) ≡ told_place (end_known r)
 known_end r is =
@@ -143,7 +141,7 @@ all_seen d base known packed end snap first rows sound i are fit ends_at one two
 
 -- ---- one known row after the other
 
-take_more : (xs : List (List ℕ)) (i : ℕ) → i < length xs → take (suc i) xs ≡ take i xs ++ slice_index_or xs i [] ∷ []
+pub take_more : (xs : List (List ℕ)) (i : ℕ) → i < length xs → take (suc i) xs ≡ take i xs ++ slice_index_or xs i [] ∷ []
 take_more [] i lt = absurd (omega (arith, lt))
 take_more (x ∷ xs) zero lt = refl
 take_more (x ∷ xs) (suc i) lt = ap (λ (l : List (List ℕ)). x ∷ l) (take_more xs i (omega (arith, lt)))
@@ -157,7 +155,7 @@ packed_more d at (x ∷ xs) b =
     (packed_more d (at + size_of d x) xs b ∙ ap (λ (n : ℕ). placed_packed d (at + size_of d x) xs ++ (n, unwrap_or (row_of d b) []) ∷ []) e)
 
 -- a place that is past the end of its type is told as that end, which stands before no other place
-told_before : (n below : ℕ) (v : Values) → below < 2 ^ 64 → placed_before below ((told_place n, v) ∷ []) ≡ placed_before below ((n, v) ∷ [])
+pub told_before : (n below : ℕ) (v : Values) → below < 2 ^ 64 → placed_before below ((told_place n, v) ∷ []) ≡ placed_before below ((n, v) ∷ [])
 told_before n below v small = by (nat_lt n (2 ^ 64)) refl
   where
     by : (b : Bool) → nat_lt n (2 ^ 64) ≡ b → placed_before below ((told_place n, v) ∷ []) ≡ placed_before below ((n, v) ∷ [])
@@ -172,7 +170,7 @@ told_before n below v small = by (nat_lt n (2 ^ 64)) refl
         ap (λ (b : Bool). cond b ((told_place n, v) ∷ []) []) (le-ltb (told_place n) below told)
         ∙ sym (ap (λ (b : Bool). cond b ((n, v) ∷ []) []) (le-ltb n below far))
 
-told_sum : (a b : ℕ) → told_place (told_place a + b) ≡ told_place (a + b)
+pub told_sum : (a b : ℕ) → told_place (told_place a + b) ≡ told_place (a + b)
 told_sum a b = omega arith
 
 -- the rows up to a number came, with what is made of them, and the next position is told

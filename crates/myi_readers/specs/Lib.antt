@@ -2,6 +2,8 @@
 
 -- what holds of each reader, and what it knows
 pub mod Reader
+-- the rows that it knows, by their keys
+pub mod Indexes
 -- the rows that match bounds
 pub mod Ranges
 -- how refusals are told
@@ -12,5 +14,5 @@ pub mod Faults
 pub mod Placed
 -- rows by their keys and positions
 pub mod KeyedRows
--- the rows of the base that match
+-- the rows of the base that match, and those that are known
 pub mod Matches

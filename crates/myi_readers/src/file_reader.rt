@@ -22,6 +22,7 @@ impl<R: FileReader> Reader<R> {
     ghost use Rattle.myi_state.specs.State.{TableState};
     ghost use Rattle.myi_tablestate.specs.Listed.{placed};
     ghost use Rattle.myi_keyedrows.specs.KeyedRows.{HoldTable, IsKept, IfHold};
+    ghost use Rattle.myi_table.specs.Reading.{ReadsInRange};
     ghost use Rattle.myi_tail.specs.Prefix.{BeginsWith};
     ghost use Rattle.myi_snapshots.specs.Knowing.{told_place};
     ghost use Rattle.myi_snapshots.specs.Seen.{seen_rows, IsTaken};
@@ -84,6 +85,10 @@ impl<R: FileReader> Reader<R> {
             (λ m own base. ReadsFew self.old.table.defs base range.now
             (R.reads self.old.files.rows.reader + R.reads self.old.files.index.reader)
             (R.reads self.new.files.rows.reader + R.reads self.new.files.index.reader))) }
+        ensures read { IfHold (told_by R.holds self.old.files) self.old.table.rows
+            (λ m own base. ReadsInRange self.old.table.defs base range.now
+            (R.reads self.old.files.rows.reader + R.reads self.old.files.index.reader)
+            (R.reads self.new.files.rows.reader + R.reads self.new.files.index.reader)) }
         ensures ready { IsReader self.new.table }
         ensures same { IsSameReader self.old.table self.new.table }
         ensures known { self.new.table.known ≡ self.old.table.known }

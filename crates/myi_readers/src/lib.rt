@@ -8,7 +8,8 @@
 //! - `lock` loads the count of published words, reads on up to it, and answers a `Snapshot`: how many changes were made and
 //!   where the data file ends behind them. It takes no memory.
 //! - `scan` answers all rows that are seen by a snapshot, in order of their positions; `range` those of a `Range`, in order of
-//!   the key and then of their positions.
+//!   the key and then of their positions. A range finds those that are known in an index of its key (`KnownKeys`), into which
+//!   it first takes the rows that became known since the last range in that key.
 //! - `Reader` has the reader objects of the two files beside it, and the same calls on them.
 //! - The law `first_inserted_rows_are_known` says which rows a reader knows, where its words are the first of an inserter's.
 //!
@@ -24,6 +25,8 @@ mod fault;
 mod file_reader;
 mod keyed_row;
 mod known;
+mod known_keys;
+mod known_places;
 mod laws;
 mod ranges;
 mod reader;
@@ -31,5 +34,7 @@ mod scans;
 
 pub use fault::SeenFault;
 pub use file_reader::Reader;
+pub use known_keys::KnownKeys;
+pub use known_places::KnownPlaces;
 pub use laws::first_inserted_rows_are_known;
 pub use reader::TableReader;

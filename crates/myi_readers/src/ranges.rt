@@ -1,5 +1,5 @@
 //! The rows that are seen by a snapshot and match bounds.
-ghost use Rattle.std.specs.Prelude.{◌≡◌, ◌≢◌, ◌<◌, ◌≤◌, ◌∷◌, ◌++◌, ℕ, suc, true, [], length, map, filter, nat_lt, IfOk, IfErr, IfSome, OnOk};
+ghost use Rattle.std.specs.Prelude.{◌≡◌, ◌≢◌, ◌<◌, ◌≤◌, ◌∷◌, ◌++◌, ℕ, suc, [], length, map, filter, nat_lt, IfOk, IfErr, IfSome, OnOk, OnErr};
 ghost use Rattle.myi_base.specs.Holding.{IfTold};
 ghost use Rattle.myi_base.specs.Causes.{HasCause};
 ghost use Rattle.myi_defs.specs.Sound.{IsSound};
@@ -8,18 +8,19 @@ ghost use Rattle.myi_keys.specs.declared.values.KeySeg.{KeySeg};
 ghost use Rattle.myi_keycache.specs.Kept.{AllWritten};
 ghost use Rattle.myi_keycache.specs.Caching.{pages_of};
 ghost use Rattle.myi_state.specs.State.{TableState};
-ghost use Rattle.myi_tablestate.specs.Matching.{reaches, stays_below, lies_between};
-ghost use Rattle.myi_ranges.specs.Ranges.{Answers, ReadInFew, searches};
+ghost use Rattle.myi_ranges.specs.Ranges.{Answers, ReadInFew, FailsInFew, searches};
 ghost use Rattle.myi_keyedrows.specs.KeyedRows.{defs_of, HoldTable, IsKept, IfHold, IsLeft};
-ghost use Rattle.myi_table.specs.Reading.{IsSameReading, bounds_of};
+ghost use Rattle.myi_table.specs.Reading.{IsSameReading, ReadsInRange};
 ghost use Rattle.myi_readers.specs.declared.fault.SeenFault.TheVariants.{File};
 ghost use Rattle.myi_readers.specs.declared.keyed_row.KeyedRow.{KeyedRow};
+ghost use Rattle.myi_readers.specs.Indexes.{are_crossed, from_key, to_key};
 ghost use Rattle.myi_readers.specs.KeyedRows.{keyed_of, placed_of};
 ghost use Rattle.myi_readers.specs.Matches.{FindsBase};
 ghost use Rattle.myi_readers.specs.Ranges.{HoldRange, NeverDamaged, IsUnfit};
 
 use crate::fault::SeenFault;
 use crate::keyed_row::KeyedRow;
+use crate::known_keys::KnownKeys;
 use crate::reader::TableReader;
 use myi_data::key_of;
 use myi_defs::Defs;
@@ -33,31 +34,49 @@ use myi_snapshots::Snapshot;
 use myi_table::Range;
 use myi_tablestate::key_lists_are_in_order;
 use std::alloc::{AllocError, Global};
+use std::ops::Bound;
 
-// Whether a key is not below a bound.
-fn reaches(from: &Option<KeyVal>, key: &KeyVal) -> bool
-    ensures { result ≡ reaches from.now key.now }
+// Whether no key lies between the bounds of a range, since its least key is above its greatest.
+fn are_crossed(range: &Range) -> bool
+    ensures { result ≡ are_crossed range.now.from range.now.to }
 {
-    match from {
-        Some(low) => low.compare(key).is_le(),
-        None => true,
+    let Some(low) = &range.from else {
+        return false;
+    };
+    match &range.to {
+        Some(high) => low.compare(high).is_gt(),
+        None => false,
     }
 }
 
-// Whether a key is not above a bound.
-fn stays_below(to: &Option<KeyVal>, key: &KeyVal) -> bool
-    ensures { result ≡ stays_below to.now key.now }
+// The same key.
+fn copy_of(alloc: Global, key: &KeyVal) -> Result<KeyVal, AllocError>
+    ensures { IfOk result (λ copy. copy ≡ key.now) }
 {
-    match to {
-        Some(high) => key.compare(high).is_le(),
-        None => true,
-    }
+    let code = Vec::from_slice(alloc, key.code())?;
+    Ok(KeyVal::of_code(code))
 }
 
-fn lies_between(range: &Range, key: &KeyVal) -> bool
-    ensures { result ≡ lies_between (bounds_of range.now) key.now }
+// The bound of the pairs of a least key and above.
+fn from_key(alloc: Global, from: &Option<KeyVal>) -> Result<Bound<Pair>, AllocError>
+    ensures { IfOk result (λ bound. bound ≡ from_key from.now) }
 {
-    reaches(&range.from, key) && stays_below(&range.to, key)
+    let Some(low) = from else {
+        return Ok(Bound::Unbounded);
+    };
+    let key = copy_of(alloc, low)?;
+    Ok(Bound::Included(Pair { key, row: 0 }))
+}
+
+// The bound of the pairs of a greatest key and below.
+fn to_key(alloc: Global, to: &Option<KeyVal>) -> Result<Bound<Pair>, AllocError>
+    ensures { IfOk result (λ bound. bound ≡ to_key to.now) }
+{
+    let Some(high) = to else {
+        return Ok(Bound::Unbounded);
+    };
+    let key = copy_of(alloc, high)?;
+    Ok(Bound::Included(Pair { key, row: u64::MAX }))
 }
 
 // Appends a row of a file by its key in the key of that number, counted from 0. It is refused as damaged where it has not
@@ -113,6 +132,9 @@ fn next_match<F: Files>(
     ensures few { IfOk result (λ row. IfTold (F.holds files.old) (λ m. (own : ℕ → ℕ) (s : TableState)
         → HoldRange defs.now reading.old rows.old own s m
         → ReadInFew defs.now s reading.old row (F.reads files.old) (F.reads files.new))) }
+    ensures failed { OnErr result (IfTold (F.holds files.old) (λ m. (own : ℕ → ℕ) (s : TableState)
+        → HoldRange defs.now reading.old rows.old own s m
+        → FailsInFew defs.now s reading.old (F.reads files.old) (F.reads files.new))) }
     ensures again { IfTold (F.holds files.old) (λ m. (own : ℕ → ℕ) (s : TableState)
         → HoldRange defs.now reading.old rows.old own s m
         → HoldRange defs.now reading.new rows.new own s m) }
@@ -146,6 +168,8 @@ fn base_matches<F: Files>(
     requires kept { IsKept (F.holds files.old) rows.old }
     ensures found { IfOk result (λ found. IfHold (F.holds files.old) rows.old (λ m own base.
         FindsBase defs.now base range.now (F.reads files.old) (F.reads files.new) found.items)) }
+    ensures read { IfHold (F.holds files.old) rows.old (λ m own base.
+        ReadsInRange defs.now base range.now (F.reads files.old) (F.reads files.new)) }
     ensures still { IfHold (F.holds files.old) rows.old (λ m own base.
         HoldTable rows.new own base m) }
     ensures written { AllWritten (pages_of rows.new.trees.cache) }
@@ -184,65 +208,80 @@ fn placed_rows(found: Vec<KeyedRow>) -> Result<Vec<(u64, Row)>, AllocError>
 }
 
 impl TableReader {
-    ghost use Rattle.std.specs.Prelude.{◌≡◌, ◌<◌, ◌≤◌, ◌∷◌, ◌++◌, ℕ, suc, List, [], length, map, slice_index_or, unwrap_or, IfOk, IfErr, OnOk};
+    ghost use Rattle.std.specs.Prelude.{◌≡◌, ◌^◌, ◌<◌, ◌∷◌, ◌++◌, List, [], All, length, IsPermutation, IfOk, IfErr, OnOk};
+    ghost use Rattle.std.specs.Range.Bound.{IsForward};
+    ghost use Rattle.std.specs.BTreeMap.Range.{IsLeBy, IsLtBy, entries_between};
     ghost use Rattle.myi_base.specs.Causes.{HasCause};
     ghost use Rattle.myi_pack.specs.Packed.{Values};
-    ghost use Rattle.myi_pack.specs.Unpacking.{row_of};
-    ghost use Rattle.myi_data.specs.Keys.{key_of};
-    ghost use Rattle.myi_state.specs.State.{StoredRow};
-    ghost use Rattle.myi_tablestate.specs.Listed.{placed};
-    ghost use Rattle.myi_tablestate.specs.Matching.{AreMatching};
+    ghost use Rattle.myi_keylist.specs.PairOrder.{pair_cmp};
     ghost use Rattle.myi_keyedrows.specs.KeyedRows.{HoldTable, IsKept, IfHold};
-    ghost use Rattle.myi_table.specs.Reading.{bounds_of, AnswersRange};
+    ghost use Rattle.myi_table.specs.Reading.{ReadsInRange};
     ghost use Rattle.myi_readers.specs.declared.fault.SeenFault.TheVariants.{File};
-    ghost use Rattle.myi_readers.specs.Reader.{IsReader, AreKnown, IsSameReader, rows_known};
-    ghost use Rattle.myi_readers.specs.KeyedRows.{all_keyed, all_between};
-    ghost use Rattle.myi_readers.specs.Placed.{placed_before, placed_packed};
+    ghost use Rattle.myi_readers.specs.Reader.{IsReader, AreKnown, IsSameReader, IndexesAll, rows_known};
+    ghost use Rattle.myi_readers.specs.Indexes.{entry_rows};
+    ghost use Rattle.myi_readers.specs.Matches.{known_matches};
     ghost use Rattle.myi_readers.specs.Ranges.{AnswersSeen, ReadsFew, NeverDamaged};
 
-    // The key of the known row of a number, in the key of that number, counted from 0.
-    fn known_key(&self, key: usize, i: usize) -> Result<KeyVal, AllocError>
-        requires ready { IsReader self.now }
-        requires key { key < length self.now.defs.keys }
-        requires there { i < length (rows_known self.now) }
-        ensures { IfOk result (λ k. k ≡ key_of self.now.defs (suc key)
-            (unwrap_or (row_of self.now.defs (slice_index_or (rows_known self.now) i [])) [])) }
+    // Takes the rows that became known into the index of the key of that number, counted from 0.
+    fn index_known(&mut self, key: usize) -> Result<(), AllocError>
+        requires ready { IsReader self.old }
+        requires key { key < length self.old.defs.keys }
+        ensures ready { IsReader self.new }
+        ensures whole { OnOk result (IndexesAll self.new key) }
+        ensures few { OnOk result (length (rows_known self.new) < 2 ^ 64) }
+        ensures same { self.new ≡ record self.old { index = self.new.index } }
     {
-        let view = view_packed(&self.defs, self.known.bytes(i));
-        key_of(self.defs.raw.allocator(), &self.defs, key + 1, &view)
+        self.index[key].read_on(&self.defs, key, &self.known)?;
+        Ok(())
     }
 
-    // Appends the known row of a number, which stands at a position, by its key where it matches and that is before a place.
-    fn push_known_match(
+    // Appends the row of an entry of an index, where it stands before a place.
+    fn push_entry(
         &self,
         found: &mut Vec<KeyedRow>,
-        range: &Range,
-        i: usize,
+        pair: &Pair,
         at: u64,
         below: u64,
     ) -> Result<(), AllocError>
         requires ready { IsReader self.now }
-        requires key { range.now.key < length self.now.defs.keys }
-        requires there { i < length (rows_known self.now) }
-        ensures { OnOk result (found.new.items ≡ found.old.items ++ all_keyed self.now.defs (suc range.now.key)
-            (all_between self.now.defs (suc range.now.key) (bounds_of range.now) (placed_before below
-            ((at, unwrap_or (row_of self.now.defs (slice_index_or (rows_known self.now) i [])) [])
-            ∷ [])))) }
+        requires there { pair.now.row < length (rows_known self.now) }
+        ensures { OnOk result (found.new.items ≡ found.old.items
+            ++ entry_rows self.now.defs (rows_known self.now) below ((pair.now, at) ∷ [])) }
     {
         if at >= below {
             return Ok(());
         }
-        let key = self.known_key(range.key, i)?;
-        if !lies_between(range, &key) {
-            return Ok(());
-        }
-        let row = self.known.row(self.defs.raw.allocator(), i)?;
+        let alloc = self.defs.raw.allocator();
+        let row = self.known.row(alloc, pair.row as usize)?;
+        let key = copy_of(alloc, &pair.key)?;
         let pair = Pair { key, row: at };
         found.push(KeyedRow { pair, row })?;
         Ok(())
     }
 
-    // Appends the rows that are known, match and stand before a place.
+    // Appends the rows of the entries of an index between bounds, where they stand before a place.
+    fn push_between(
+        &self,
+        found: &mut Vec<KeyedRow>,
+        keys: &KnownKeys,
+        bounds: (Bound<Pair>, Bound<Pair>),
+        below: u64,
+    ) -> Result<(), AllocError>
+        requires ready { IsReader self.now }
+        requires there { All (λ e. e.0.row < length (rows_known self.now))
+            keys.now.places }
+        requires forward { IsForward (IsLeBy pair_cmp) (IsLtBy pair_cmp) bounds.0 bounds.1 }
+        ensures { OnOk result (found.new.items ≡ found.old.items
+            ++ entry_rows self.now.defs (rows_known self.now) below
+            (entries_between pair_cmp bounds.0 bounds.1 keys.now.places)) }
+    {
+        for (pair, at) in keys.places.between(bounds) {
+            self.push_entry(found, pair, *at, below)?;
+        }
+        Ok(())
+    }
+
+    // Appends the rows that are known, match and stand before a place, of an index that has all that are known.
     fn push_known_matches(
         &self,
         found: &mut Vec<KeyedRow>,
@@ -251,21 +290,25 @@ impl TableReader {
     ) -> Result<(), AllocError>
         requires ready { IsReader self.now }
         requires key { range.now.key < length self.now.defs.keys }
-        ensures { OnOk result (found.new.items ≡ found.old.items ++ all_keyed self.now.defs (suc range.now.key)
-            (all_between self.now.defs (suc range.now.key) (bounds_of range.now) (placed_before below
-            (placed_packed self.now.defs self.now.rows.rows.file.counts.length
-            (rows_known self.now))))) }
+        requires whole { IndexesAll self.now range.now.key }
+        requires few { length (rows_known self.now) < 2 ^ 64 }
+        ensures { OnOk result (IsPermutation
+            (found.old.items ++ known_matches self.now range.now below) found.new.items) }
     {
-        let mut at = self.rows.rows.counts().length;
-        for i in 0..self.known.count() {
-            self.push_known_match(found, range, i, at, below)?;
-            at = at.saturating_add(self.known.size(i));
+        if are_crossed(range) {
+            return Ok(());
         }
+        let alloc = self.defs.raw.allocator();
+        let from = from_key(alloc, &range.from)?;
+        let to = to_key(alloc, &range.to)?;
+        self.push_between(found, &self.index[range.key], (from, to), below)?;
         Ok(())
     }
 
     /// The rows that are seen by a snapshot and match, with their positions, in order of the key and then of the positions.
-    /// Those of the base are searched for in the tree of the key and then read one by one.
+    /// Those of the base are searched for in the tree of the key and then read one by one, and those that are known in an
+    /// index of their keys, into which those come first that became known since the last range in this key. How often the
+    /// files are read is said of each answer (`read`).
     pub fn range<F: Files>(
         &mut self,
         files: &mut F,
@@ -280,6 +323,8 @@ impl TableReader {
             → AnswersSeen self.old.defs base known snap.now range.now rows.items)) }
         ensures few { OnOk result (IfHold (F.holds files.old) self.old.rows (λ m own base.
             ReadsFew self.old.defs base range.now (F.reads files.old) (F.reads files.new))) }
+        ensures read { IfHold (F.holds files.old) self.old.rows (λ m own base.
+            ReadsInRange self.old.defs base range.now (F.reads files.old) (F.reads files.new)) }
         ensures ready { IsReader self.new }
         ensures same { IsSameReader self.old self.new }
         ensures known { self.new.known ≡ self.old.known }
@@ -292,6 +337,7 @@ impl TableReader {
     {
         let mut found = base_matches(files, &self.defs, &mut self.rows, range)?;
         keep_before(&mut found, snap.length);
+        self.index_known(range.key)?;
         self.push_known_matches(&mut found, range, snap.length)?;
         found.sort()?;
         let rows = placed_rows(found)?;

@@ -14,6 +14,7 @@ ghost use Rattle.myi_snapshots.specs.Knowing.{told_place};
 ghost use Rattle.myi_snapshots.specs.Seen.{IsTaken};
 ghost use Rattle.myi_readers.specs.Reader.{IsReader, AreKnown, IsSameReader, rows_known, end_known};
 
+use crate::known_keys::{KnownKeys, begin_indexes};
 use myi_defs::Defs;
 use myi_keyedrows::KeyedRows;
 use myi_opening::TableFile;
@@ -34,6 +35,8 @@ pub struct TableReader {
     pub seat: ReaderSeat,
     /// The rows that the words of the seat spell.
     pub known: KnownRows,
+    /// These rows by their keys, in each key of the table, as far as a range has looked for them.
+    pub index: Vec<KnownKeys>,
     /// How many changes were made before the table was shared.
     pub number: u64,
 }
@@ -46,6 +49,7 @@ impl Drop for TableReader {
             rows: _,
             seat: _,
             known: _,
+            index: _,
             number: _,
         } = self;
     }
@@ -53,7 +57,7 @@ impl Drop for TableReader {
 
 impl TableReader {
     /// A reader of a table, with a seat that knows no words. It knows no rows, and has memory for those that the words of the
-    /// seat's tail may spell.
+    /// seat's tail may spell, but none for their keys.
     pub fn new(
         alloc: Global,
         table: &Table,
@@ -86,13 +90,16 @@ impl TableReader {
         let defs = table.defs().copy()?;
         let name = TableFile::Data.of(alloc, table.name())?;
         let rows = table.open_again()?;
-        let known = KnownRows::new(alloc, &defs, table.length(), words)?;
+        let end = table.length();
+        let known = KnownRows::new(alloc, &defs, end, words)?;
+        let index = begin_indexes(alloc, &defs, end)?;
         Ok(TableReader {
             defs,
             name,
             rows,
             seat,
             known,
+            index,
             number,
         })
     }
@@ -137,6 +144,7 @@ impl TableReader {
             rows: _,
             seat,
             known: _,
+            index: _,
             number: _,
         } = self;
         seat

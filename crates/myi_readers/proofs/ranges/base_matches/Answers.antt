@@ -1,4 +1,4 @@
-use Rattle.std.proofs.Common.{◌≡◌, ◌<◌, ◌≤◌, true, ◌++◌, ◌∷◌, ℕ, suc, List, [], Option, length, refl, sym, ap, subst, ◌∙◌, arith}
+use Rattle.std.proofs.Common.{◌≡◌, ◌<◌, ◌≤◌, true, ◌++◌, ◌∷◌, ℕ, suc, List, [], Option, None, length, refl, sym, ap, subst, ◌∙◌, arith}
 use Rattle.std.specs.Prelude.{IfErr, IfSome}
 use Rattle.std.specs.List.{AllByRecursion}
 use Rattle.std.proofs.lemmas.Result.{err_from_is_err_and}
@@ -17,7 +17,7 @@ use Rattle.myi_table.specs.Reading.{begun}
 use Rattle.myi_readers.specs.declared.keyed_row.KeyedRow.{KeyedRow}
 use Rattle.myi_readers.specs.KeyedRows.{keyed_of}
 use Rattle.myi_readers.specs.Ranges.{HoldRange, NeverDamaged}
-use Rattle.myi_readers.proofs.RangeLemmas.{Came, came_none, came_more, came_all, same_begun, begun_ahead, same_reading_then, row_fits, unfit_untold}
+use Rattle.myi_readers.proofs.RangeLemmas.{Came, came_none, came_more, came_all, same_begun, begun_ahead, same_reading_then, row_fits, unfit_untold, reads_none, reads_so_far, reads_failed}
 use Rattle.myi_readers.proofs.ranges.base_matches.Goals as goal
 
 pub loop-found-init : goal.loop-found-init
@@ -132,3 +132,41 @@ returns-in_err-push_keyed-clause-never g c =
     let answered = subst (λ (o : Option (ℕ × Values)). Answers d k.1 c.loop-found.reading c.next_match.new.reading o) c.in-Some.is (c.in_ok-row.ensures.row m (was.holds ∙ held) k.0 k.1 (was.still m held k.0 k.1 k.2)) in
     row_fits d k.1 c.loop-found.reading c.next_match.new.reading c.in-Some.row.0 c.in-Some.row.1 (subst (λ (e : Defs). IsTable e k.1) c.requires.defs k.2.table) answered in
     subst (λ r. IfErr r (NeverDamaged told)) (sym e.1) (subst (NeverDamaged told) (sym e.2) (unfit_untold told d c.in-Some.row c.in_err-push_keyed.field-0.0 fit c.in_err-push_keyed.ensures.unfit))
+
+pub returns-in_err-reading-clause-read : goal.returns-in_err-reading-clause-read
+returns-in_err-reading-clause-read g c = λ m held own base h. reads_none c.args.defs.now base c.args.range.now (g.F.Files.reads c.args.files.now)
+
+pub returns-in_err-row-clause-read : goal.returns-in_err-row-clause-read
+returns-in_err-row-clause-read g c = λ m held own base h.
+    let was = c.loop-found.invariant in
+    let so = was.so_far m held own base h in
+    reads_failed c.args.defs.now base c.args.range.now c.loop-found.reading (g.F.Files.reads c.args.files.now) (g.F.Files.reads c.loop-found.files) (g.F.Files.reads c.next_match.new.files) so.0 (ap (λ (r : RangeRows). r.key) was.reading) so.1
+    (c.in_err-row.ensures.failed m (was.holds ∙ held) own base (was.still m held own base h))
+
+pub returns-in_err-push_keyed-clause-read : goal.returns-in_err-push_keyed-clause-read
+returns-in_err-push_keyed-clause-read g c = λ m held own base h.
+    let was = c.loop-found.invariant in
+    let call = c.next_match in
+    let d = c.args.defs.now in
+    let range = c.args.range.now in
+    let now = c.loop-found.reading in
+    let next = call.new.reading in
+    let row : ℕ × Values = c.in-Some.row in
+    let so = was.so_far m held own base h in
+    let stood = was.still m held own base h in
+    let answered = subst (λ (o : Option (ℕ × Values)). Answers d base now next o) c.in-Some.is (c.in_ok-row.ensures.row m (was.holds ∙ held) own base stood) in
+    let cheap = subst (λ (o : Option (ℕ × Values)). ReadInFew d base now o (g.F.Files.reads c.loop-found.files) (g.F.Files.reads call.new.files)) c.in-Some.is (c.in_ok-row.ensures.few m (was.holds ∙ held) own base stood) in
+    let one = subst (λ (o : Option (ℕ × Values)). IfSome o (λ found. searches next.reached ≤ 1)) c.in-Some.is c.in_ok-row.ensures.onward in
+    let rows = subst (λ (e : Defs). AllByRecursion (IsRow e) base.rows) c.requires.defs h.table.state.rows in
+    reads_so_far d base range next (g.F.Files.reads c.args.files.now) (g.F.Files.reads call.new.files) (so.0 ++ row ∷ [])
+    (came_more d base (begun range) now next (g.F.Files.reads c.args.files.now) (g.F.Files.reads c.loop-found.files) (g.F.Files.reads call.new.files) so.0 row.0 row.1 rows (ap (λ (r : RangeRows). r.key) was.reading) one so.1 answered cheap)
+
+pub returns-clause-read : goal.returns-clause-read
+returns-clause-read g c = λ m held own base h.
+    let was = c.loop-found.invariant in
+    let d = c.args.defs.now in
+    let now = c.loop-found.reading in
+    let so = was.so_far m held own base h in
+    let cheap = subst (λ (o : Option (ℕ × Values)). ReadInFew d base now o (g.F.Files.reads c.loop-found.files) (g.F.Files.reads c.next_match.new.files)) c.in_default.is (c.in_ok-row.ensures.few m (was.holds ∙ held) own base (was.still m held own base h)) in
+    reads_failed d base c.args.range.now now (g.F.Files.reads c.args.files.now) (g.F.Files.reads c.loop-found.files) (g.F.Files.reads c.next_match.new.files) so.0 (ap (λ (r : RangeRows). r.key) was.reading) so.1
+    (record { next = None; comes = tt; few = cheap })

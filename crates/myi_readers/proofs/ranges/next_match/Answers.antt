@@ -1,6 +1,12 @@
-use Rattle.std.proofs.Common.{◌<◌, length, ap, arith, inl}
+use Rattle.std.proofs.Common.{◌<◌, ℕ, length, sym, ap, subst, arith, inl}
+use Rattle.std.specs.Prelude.{OnErr}
+use Rattle.std.proofs.lemmas.Result.{err_from_is_err_and}
+use Rattle.myi_base.specs.Holding.{IfTold}
 use Rattle.myi_blocks.specs.Places.{NotedFile}
+use Rattle.myi_state.specs.State.{TableState}
+use Rattle.myi_ranges.specs.Ranges.{FailsInFew}
 use Rattle.myi_keyedrows.specs.declared.keyed_rows.KeyedRows.{KeyedRows}
+use Rattle.myi_readers.specs.Ranges.{HoldRange}
 use Rattle.myi_readers.proofs.RangeLemmas.{has_table, searched_holds}
 use Rattle.myi_readers.proofs.ranges.next_match.Goals as goal
 
@@ -58,3 +64,14 @@ returns-clause-left g c = record { file = ap (λ (f : NotedFile). f.file) c.next
 
 pub returns-in_err-row-clause-left : goal.returns-in_err-row-clause-left
 returns-in_err-row-clause-left g c = record { file = ap (λ (f : NotedFile). f.file) c.next_row.ensures.rows; places = c.next_row.ensures.searched.places; room = c.next_row.ensures.searched.room }
+
+pub returns-in_err-row-clause-failed : goal.returns-in_err-row-clause-failed
+returns-in_err-row-clause-failed g c =
+    let e = err_from_is_err_and c.from_residual.result c.from_residual.ensures.1 in
+    let told = g.F.Files.holds c.args.files.now in
+    let d = c.args.defs.now in
+    let r = c.args.reading.now in
+    let k : KeyedRows = c.args.rows.now in
+    let P : Type 0 = IfTold told (λ m. (own : ℕ → ℕ) (s : TableState) → HoldRange d r k own s m → FailsInFew d s r (g.F.Files.reads c.args.files.now) (g.F.Files.reads c.next_row.new.files)) in
+    let failed : P = λ m held own s h. c.in_err-row.ensures.failed m held s (has_table d r k own s m c.requires.defs (omega (arith, c.requires.key, c.requires.each)) h) in
+    subst (λ q. OnErr q P) (sym e.1) failed
