@@ -34,7 +34,7 @@ use Rattle.myi_rounds.specs.Inserts.{inserted_row, asked_by, answer_to, lines_of
 pub asked_insert : (o : Option Act) (a : Act) (row : Values) → ◌≡◌ {A = Option Act} (Some a) o → a ≡ act.Insert row → option_map insert_at_end (inserted_row o) ≡ Some (insert_at_end row)
 asked_insert o a row is insert = ap (λ (p : Option Act). option_map insert_at_end (inserted_row p)) (sym is) ∙ ap (λ (b : Act). option_map insert_at_end (inserted_row (Some b))) insert
 
-inserts_none : (a : Act) → ((row : Values) → a ≡ act.Insert row → ⊥) → inserted_row (Some a) ≡ None
+pub inserts_none : (a : Act) → ((row : Values) → a ≡ act.Insert row → ⊥) → inserted_row (Some a) ≡ None
 inserts_none (act.Insert row) other = absurd (other row refl)
 inserts_none (act.Update at row) other = refl
 inserts_none (act.Delete at) other = refl

@@ -12,5 +12,12 @@ pub mod InsertLemmas
 pub mod InsertJobLemmas
 -- the numbers of a job's reads
 pub mod FitLemmas
+-- the jobs of a round, and what is left of them
+pub mod EachLemmas
+pub mod BackLemmas
+pub mod PutLemmas
+pub mod RoundLemmas
+-- how many words inserts take
+pub mod WordLemmas
 -- what the crates above cite
 pub mod CallerLemmas

@@ -10,3 +10,13 @@ pub mod Inserts
 pub mod InsertJob
 -- jobs that go on side by side
 pub mod Jobs
+-- a round whose runs go side by side
+pub mod Rounds
+-- what cuts a round off
+pub mod Faults
+-- what serves private contracts
+
+-- the jobs of a round, and what is left of them
+pub mod Backs
+-- how many words inserts take
+pub mod Words

@@ -23,14 +23,14 @@ impl Gate for OpenGate {
 }
 
 /// Calls the gate before a step.
-pub(crate) fn pass_step<G: Gate>(gate: &G, step: &Step) {
+pub fn pass_step<G: Gate>(gate: &G, step: &Step) {
     if step.line != 0 {
         gate.pass(step.session, step.line);
     }
 }
 
 /// Calls the gate behind a step.
-pub(crate) fn end_step<G: Gate>(gate: &G, step: &Step) {
+pub fn end_step<G: Gate>(gate: &G, step: &Step) {
     if step.line != 0 {
         gate.done(step.session, step.line);
     }

@@ -44,7 +44,7 @@ fn note(replies: &mut Vec<Replied>, line: u32, answer: Option<StepAnswer>)
 }
 
 impl<'a, R: FileReader> InsertJob<'a, R> {
-    ghost use Rattle.std.specs.Prelude.{◌≡◌, ◌+◌, [], List, length, min, IfErr, OnOk, OnErr};
+    ghost use Rattle.std.specs.Prelude.{◌≡◌, ◌+◌, ◌≤◌, [], List, length, min, IfErr, OnOk, OnErr};
     ghost use Rattle.myi_base.specs.Causes.{HasCause};
     ghost use Rattle.myi_pack.specs.Packed.{Values};
     ghost use Rattle.myi_history.specs.Lines.{MayRun};
@@ -84,7 +84,8 @@ impl<'a, R: FileReader> InsertJob<'a, R> {
 
     /// How many of them are done, the first ones.
     pub fn done(&self) -> usize
-        ensures { result ≡ self.now.done }
+        ensures done { result ≡ self.now.done }
+        ensures within { result ≤ length self.now.steps }
     {
         self.done
     }

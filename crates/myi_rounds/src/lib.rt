@@ -14,18 +14,21 @@
 //!   are those which `myi_history` asks of a run (`RunFits`); `jobs_insert_as_their_runs` says the like of inserts.
 //! - `run_side_by_side` does the jobs of a round, each on a thread of its own. What is refused in a session is left to be done, and
 //!   its job tells why.
-//! - `Gate` is called when a step begins and when it ends.
+//! - `go_side_by_side` is a whole round on a table that stays with its owner: it shares the table, runs the jobs, and takes it back
+//!   with the rows that were put. What it is asked is an `AskedRound`, and how far each run came a `WentRound`; what holds of both
+//!   is `HasGone`.
+//! - `Gate` is called when a step begins and when it ends. `act_of` and `range_of` answer what a line asks of a table.
 //!
 //! ```
-//! let mut jobs = Vec::new(alloc);
-//! let job = InsertJob::new(alloc, inserter, lines, steps);
-//! jobs.push(Job::Inserts(InsertRun { job, refused: None }))?;
-//! let job = ReadJob::new(alloc, reader, lines, others, None);
-//! jobs.push(Job::Reads(ReadRun { job, refused: None }))?;
-//! run_side_by_side(rt, gate, &mut jobs);
+//! let reads = [AskedReads { steps: others, taken: None }];
+//! let asked = AskedRound { number, lines, inserts: steps, reads: &reads };
+//! let host = Host { rt, gate: &OpenGate, alloc };
+//! let went = go_side_by_side(&host, &mut table, &mut files, &asked)?;
 //! ```
 #![tactic(auto)]
 
+mod backs;
+mod fault;
 mod finding;
 mod gate;
 mod insert_job;
@@ -34,11 +37,16 @@ mod job;
 mod laws;
 mod read_job;
 mod reads;
+mod round;
 mod statements;
+mod words;
 
-pub use gate::{Gate, OpenGate};
+pub use fault::RoundFault;
+pub use gate::{Gate, OpenGate, end_step, pass_step};
 pub use insert_job::InsertJob;
 pub use inserting::Replied;
 pub use job::{InsertRun, Job, ReadRun, run_side_by_side};
 pub use laws::{jobs_fit_their_runs, jobs_insert_as_their_runs, said_stays_said};
 pub use read_job::ReadJob;
+pub use round::{AskedReads, AskedRound, Host, WentReads, WentRound, go_side_by_side};
+pub use statements::{act_of, range_of};

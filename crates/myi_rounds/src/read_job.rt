@@ -46,7 +46,7 @@ impl<'a, R: FileReader> Model for ReadJob<'a, R> {
 }
 
 impl<'a, R: FileReader> ReadJob<'a, R> {
-    ghost use Rattle.std.specs.Prelude.{◌≡◌, ◌+◌, [], length, min, IfErr, OnOk, OnErr};
+    ghost use Rattle.std.specs.Prelude.{◌≡◌, ◌+◌, ◌≤◌, [], length, min, IfErr, OnOk, OnErr};
     ghost use Rattle.myi_base.specs.Causes.{HasCause};
     ghost use Rattle.myi_adapters.specs.TwoReaders.{told_by};
     ghost use Rattle.myi_keyedrows.specs.KeyedRows.{IsKept};
@@ -96,7 +96,8 @@ impl<'a, R: FileReader> ReadJob<'a, R> {
 
     /// How many of them are done, the first ones.
     pub fn done(&self) -> usize
-        ensures { result ≡ self.now.done }
+        ensures done { result ≡ self.now.done }
+        ensures within { result ≤ length self.now.steps }
     {
         self.done
     }

@@ -11,7 +11,7 @@ use myi_table::Range;
 use std::alloc::{AllocError, Global};
 
 /// The statement of a line, by the line's number.
-pub(crate) fn act_of(lines: &[Line], line: u32) -> Option<&Act>
+pub fn act_of(lines: &[Line], line: u32) -> Option<&Act>
     requires grow { LinesGrow 1 lines.now }
     ensures { option_copied result ≡ spec.act_of lines.now line }
 {
@@ -37,7 +37,7 @@ fn bound_of(alloc: Global, bound: &Option<KeyVal>) -> Result<Option<KeyVal>, All
 }
 
 /// The rows of a script's range, whose keys are counted from 1.
-pub(crate) fn range_of(alloc: Global, range: &script::Range) -> Result<Range, AllocError>
+pub fn range_of(alloc: Global, range: &script::Range) -> Result<Range, AllocError>
     requires { 0 < range.now.key }
     ensures { IfOk result (λ r. r ≡ table_range range.now) }
 {

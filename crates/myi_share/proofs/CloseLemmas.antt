@@ -1,5 +1,5 @@
 -- A table that is taken back: the rows that are put into it, and what it stands for.
-use Rattle.std.proofs.Common.{◌≡◌, ℕ, ◌≤◌, true, List, map, All, Any, Option, Result, Err, IfErr, sym, ap, subst, ◌∙◌}
+use Rattle.std.proofs.Common.{◌≡◌, ℕ, ◌+◌, ◌-◌, ◌^◌, ◌≤◌, true, List, [], ◌∷◌, length, map, min, All, Any, Option, Result, Err, IfErr, refl, sym, ap, subst, ◌∙◌, arith}
 use Rattle.std.proofs.lemmas.List.Elements.{All-from_recursion}
 use Rattle.myi_base.specs.Holding.{Holding}
 use Rattle.myi_base.specs.Causes.{HasCause}
@@ -13,7 +13,8 @@ use Rattle.myi_tablestate.specs.Keyed.{after_keyed}
 use Rattle.myi_rowtrees.specs.Duplicates.{MayRepeat}
 use Rattle.myi_table.specs.declared.fault.ChangeFault.{ChangeFault}
 use Rattle.myi_table.specs.declared.fault.ChangeFault.TheVariants.{File, Memory}
-use Rattle.myi_table.specs.Table.{OpenTable, defs_in, HoldState, HoldsThen, IsKept, IfHolds}
+use Rattle.myi_search.specs.Counting.{CountsOn}
+use Rattle.myi_table.specs.Table.{OpenTable, defs_in, HoldState, HoldsThen, IsKept, IsSame, IfHolds}
 use Rattle.myi_table.specs.Counting.{sum_of}
 use Rattle.myi_table.specs.Faults.{CutsOff}
 use Rattle.myi_table.specs.Folding.{appended, CanFold}
@@ -23,12 +24,9 @@ use Rattle.myi_snapshots.specs.Known.{known_rows, values_of}
 use Rattle.myi_readers.specs.declared.file_reader.Reader.{Reader}
 use Rattle.myi_inserter.specs.declared.inserter.TableInserter.{TableInserter}
 use Rattle.myi_inserter.specs.Inserter.{IsInserter}
-use Rattle.myi_share.specs.Taking.{sum_with, counted, with_counts}
+use Rattle.myi_share.specs.Taking.{sum_with, counted, counting, with_counts, all_counted, AreNotBelow}
 
 -- ---- a table with other counters beside its own
-
-abbrev pub counting : OpenTable → Counters → OpenTable
-counting t a = record t { added = a }
 
 holds_on : (t : OpenTable) (a : Counters) (s : TableState) (m : Holding) → HoldState t s m → HoldState (counting t a) s m
 holds_on t a s m h = record { whole = h.whole; own = h.own; files = h.files }
@@ -36,9 +34,42 @@ holds_on t a s m h = record { whole = h.whole; own = h.own; files = h.files }
 holds_before : (t : OpenTable) (a : Counters) (s : TableState) (m : Holding) → HoldState (counting t a) s m → HoldState t s m
 holds_before t a s m h = record { whole = h.whole; own = h.own; files = h.files }
 
-pub all_counted : {R : Type 0} (rest own half new : OpenTable) (more : Counters) (i : TableInserter) (readers : List (Reader R)) → own ≡ rest → half ≡ record own { added = sum_of own.added more } → more ≡ i.rows.trees.cache.counters → new ≡ record half { added = sum_with half.added (map counted readers) } → new ≡ with_counts rest i readers
-all_counted rest own half new more i readers view is same last =
-    last ∙ ap (λ (h : OpenTable). record h { added = sum_with h.added (map counted readers) }) (is ∙ ap (λ (x : OpenTable). record x { added = sum_of x.added more }) view ∙ ap (λ (c : Counters). record rest { added = sum_of rest.added c }) same)
+pub counted_all : {R : Type 0} (rest half new : OpenTable) (more : Counters) (i : TableInserter) (readers : List (Reader R)) → half ≡ counting rest (sum_of rest.added more) → more ≡ i.rows.trees.cache.counters → new ≡ counting half (sum_with half.added (map counted readers)) → new ≡ with_counts rest i readers
+counted_all rest half new more i readers is same last =
+    last ∙ ap (λ (h : OpenTable). record h { added = sum_with h.added (map counted readers) }) (is ∙ ap (λ (c : Counters). record rest { added = sum_of rest.added c }) same)
+
+-- counters are added to a table, and then others
+pub half_then : (old half new : OpenTable) (a : Counters) → half ≡ counting old a → new ≡ counting half new.added → new ≡ counting old new.added
+half_then old half new a is last = last ∙ ap (λ (h : OpenTable). record h { added = new.added }) is
+
+-- What puts rows after counters were added keeps what holds beside them.
+pub same_after : (old half new : OpenTable) → half ≡ counting old half.added → IsSame half new → IsSame (counting old new.added) new
+same_after old half new is same =
+    let there : IsSame (counting old half.added) new = subst (λ (h : OpenTable). IsSame h new) is same in
+    record { name = there.name; setup = there.setup; header = there.header; lost = there.lost; defs = there.defs; added = refl }
+
+pub counting_same : (old new : OpenTable) → new ≡ counting old new.added → IsSame (counting old new.added) new
+counting_same old new is = subst (λ (t : OpenTable). IsSame (counting old new.added) t) (sym is) (record { name = refl; setup = refl; header = refl; lost = refl; defs = refl; added = refl })
+
+pub counting_on : (old new : OpenTable) (a : Counters) → new ≡ counting old a → CountsOn old.rows.trees.cache new.rows.trees.cache
+counting_on old new a is = subst (λ (t : OpenTable). CountsOn old.rows.trees.cache t.rows.trees.cache) (sym is) (record { setup = refl; read_requests = omega arith; reads = omega arith; write_requests = omega arith; writes = omega arith; fewer = λ h. h })
+
+goes_up : (a b c m : ℕ) → min a m ≤ b → min (a + c) m ≤ min (b + c) m
+goes_up a b c m h = omega arith
+
+-- a key cache counts on, and what was added stays
+pub counts_up : (t u : OpenTable) → CountsOn t.rows.trees.cache u.rows.trees.cache → u.added ≡ t.added → AreNotBelow (all_counted t) (all_counted u)
+counts_up t u on same =
+    let a : Counters = t.rows.trees.cache.counters in
+    let b : Counters = u.rows.trees.cache.counters in
+    let c : Counters = t.added in
+    let up : AreNotBelow (sum_of a c) (sum_of b c) = record {
+      read_requests = goes_up a.read_requests b.read_requests c.read_requests (2 ^ 64 - 1) on.read_requests;
+      reads = goes_up a.reads b.reads c.reads (2 ^ 64 - 1) on.reads;
+      write_requests = goes_up a.write_requests b.write_requests c.write_requests (2 ^ 64 - 1) on.write_requests;
+      writes = goes_up a.writes b.writes c.writes (2 ^ 64 - 1) on.writes;
+    } in
+    subst (λ (x : Counters). AreNotBelow (sum_of a c) (sum_of b x)) (sym same) up
 
 pub kept_counting : (told : Option Holding) (rest t : OpenTable) (a : Counters) → t ≡ counting rest a → IsKept told rest → IsKept told t
 kept_counting told rest t a is kept = subst (IsKept told) (sym is) (λ whole m held. let h = kept whole m held in (h.0, holds_on rest a h.0 m h.1))
@@ -74,6 +105,11 @@ pub folds_got : FoldsRows → (told next : Option Holding) (rest t new : OpenTab
 folds_got law told next rest t new a rows got is same can folded =
     let there = of_rest told rest t a (λ (x : OpenTable) (s : TableState). HoldsThen next new (after_keyed (defs_in x) s (appended got))) is folded in
     λ m held s hold. subst (HoldsThen next new) (ap (λ (l : List Values). after_keyed (defs_in rest) s (appended l)) same ∙ law (defs_in rest) s rows (can m held s hold)) (there m held s hold)
+
+-- nothing is put where there is no row
+pub none_folded : (told : Option Holding) (t : OpenTable) (rows : List Values) → length rows ≡ 0 → IfHolds told t (λ m s. HoldsThen told t (after_keyed (defs_in t) s (appended rows)))
+none_folded told t [] none = λ m held s hold. (m, held, hold)
+none_folded told t (x ∷ xs) none = absurd (omega (arith, none))
 
 -- ---- why it is refused
 

@@ -8,8 +8,10 @@ use Rattle.myi_keyedrows.specs.KeyedRows.{HoldTable}
 use Rattle.myi_table.specs.Table.{OpenTable, defs_in, IsKept, IfHolds}
 use Rattle.myi_table.specs.Folding.{CanFold}
 use Rattle.myi_tail.specs.Seats.{TailId}
+use Rattle.myi_readers.specs.declared.file_reader.Reader.{Reader}
 use Rattle.myi_readers.specs.declared.reader.TableReader.{TableReader}
 use Rattle.myi_readers.specs.Reader.{IsReader}
+use Rattle.myi_inserter.specs.declared.file_inserter.Inserter.{Inserter}
 use Rattle.myi_inserter.specs.declared.inserter.TableInserter.{TableInserter}
 use Rattle.myi_inserter.specs.Inserter.{IsInserter}
 use Rattle.myi_share.specs.declared.sharing.Shared.{Shared}
@@ -48,6 +50,14 @@ pub record IsReaderOf (of : Sharing) (told objects : Option Holding) (r : TableR
 -- the sharing that an inserter and the rest are of
 abbrev pub sharing_of : OpenTable → TableInserter → Sharing
 sharing_of table i = record { table = table; tail = i.appender.tail; number = i.number }
+
+-- These are parts of one sharing of a table that is not broken, and stands for a state where the files tell what they hold, and these are the
+-- rows that were put in it. The two files of the table hold what they held when it was shared. Readers may be missing.
+pub record ArePartsBeside {R : Type 0} (shows : R → Option (List ℕ)) (table : OpenTable) (told : Option Holding) (i : Inserter R) (rs : List (Reader R)) (rows : List Values) : Type 0 where
+  pub whole : table.broken ≡ None
+  pub kept : IsKept told table
+  pub inserter : IsInserterOf (sharing_of table i.table) told (told_by shows i.files) i.table rows
+  pub readers : All (λ r. IsReaderOf (sharing_of table i.table) told (told_by shows r.files) r.table) rs
 
 -- The parts are of one sharing, and these are the rows that were put in it; the table is not broken, and stands for a state where the
 -- files tell what they hold. The two files of the table hold what they held when it was shared. Readers may be missing.

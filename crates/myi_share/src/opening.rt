@@ -20,11 +20,11 @@ use myi_table::Table;
 use myi_tail::{Appender, ReaderSeat, Tail};
 use std::alloc::Global;
 
-/// The inserter and the readers of a sharing.
+/// The inserter and the readers of a sharing, each with reader objects of its own, so that each may go to a thread of its own.
 #[derive(Drop)]
-pub(crate) struct Parts<R: FileReader> {
-    pub(crate) inserter: Inserter<R>,
-    pub(crate) readers: Vec<Reader<R>>,
+pub struct Parts<R: FileReader> {
+    pub inserter: Inserter<R>,
+    pub readers: Vec<Reader<R>>,
 }
 
 // A file, by a reader object.

@@ -2,13 +2,13 @@
 ghost use Rattle.std.specs.Prelude.{◌≡◌, ◌+◌, ◌^◌, ◌<◌, ◌≤◌, [], None, All, IfOk, IfErr, IsTrue, vec_len};
 ghost use Rattle.myi_base.specs.Holding.{Told};
 ghost use Rattle.myi_base.specs.Causes.{HasCause, Rose};
-ghost use Rattle.myi_adapters.specs.TwoReaders.{told_by};
 ghost use Rattle.myi_search.specs.Counting.{CountsOn};
 ghost use Rattle.myi_keyedrows.specs.KeyedRows.{IsLeft};
 ghost use Rattle.myi_table.specs.Table.{IsKept, StillHolds, IsSame, KeepsRows, ChangesItsOwn};
 ghost use Rattle.myi_tail.specs.Seats.{room_of, IsNew};
 ghost use Rattle.myi_share.specs.declared.fault.ShareFault.TheVariants.{File};
-ghost use Rattle.myi_share.specs.Sharing.{sharing_of, IsInserterOf, IsReaderOf, ArePartsOf};
+ghost use Rattle.myi_share.specs.Sharing.{sharing_of, ArePartsBeside, ArePartsOf};
+ghost use Rattle.myi_share.specs.Taking.{all_counted, AreNotBelow};
 
 use crate::fault::ShareFault;
 use crate::opening::{Parts, parts_of};
@@ -42,8 +42,11 @@ pub struct Shared<R: FileReader> {
     pub readers: Vec<Reader<R>>,
 }
 
-// Writes what a table has put, and makes the inserter and the readers of a sharing.
-fn begin<F: Files>(
+/// Begins a sharing of a table that stays with its owner, among an inserter and so many readers, behind so many changes, with
+/// room for so many words of rows. Its two files get what it has put. Until `take_back` neither it nor they may be changed.
+///
+/// The table stands for the state that it had, also after a refusal, which shares nothing.
+pub fn begin_sharing<F: Files>(
     alloc: Global,
     table: &mut Table,
     files: &mut F,
@@ -53,19 +56,18 @@ fn begin<F: Files>(
 ) -> Result<Parts<F::Reader>, ShareFault>
     requires writable { IsTrue F.writable }
     requires whole { table.old.broken ≡ None }
+    requires kept { IsKept (F.holds files.old) table.old }
     requires room { words < usize.MAX }
     requires small { number + words < 2 ^ 64 }
-    ensures inserter { IfOk result (λ p. IsInserterOf (sharing_of table.new p.inserter.table)
-        (F.holds files.new) (told_by F.Reader.holds p.inserter.files) p.inserter.table []) }
-    ensures readers { IfOk result (λ p. All (λ r. IsReaderOf
-        (sharing_of table.new p.inserter.table)
-        (F.holds files.new) (told_by F.Reader.holds r.files) r.table) p.readers.items) }
+    ensures parts { IfOk result (λ p. ArePartsBeside F.Reader.holds table.new
+        (F.holds files.new) p.inserter p.readers.items []) }
     ensures count { IfOk result (λ p. vec_len p.readers ≡ readers) }
     ensures room { IfOk result (λ p. room_of p.inserter.table.appender.tail ≡ words) }
     ensures number { IfOk result (λ p. p.inserter.table.number ≡ number) }
     ensures new { IfOk result (λ p. All (λ r. IsNew p.inserter.table.appender.tail r.table.seat)
         p.readers.items) }
     ensures still { StillHolds (F.holds files.old) (F.holds files.new) table.old table.new }
+    ensures kept { IsKept (F.holds files.new) table.new }
     ensures same { IsSame table.old table.new }
     ensures whole { table.new.broken ≡ None }
     ensures changed { table.new.changed ≡ table.old.changed }
@@ -73,6 +75,7 @@ fn begin<F: Files>(
     ensures others { ChangesItsOwn (F.holds files.old) (F.holds files.new) table.old }
     ensures rows { Told (F.holds files.old) (F.holds files.new) (KeepsRows table.old.name) }
     ensures counted { CountsOn table.old.rows.trees.cache table.new.rows.trees.cache }
+    ensures counts { AreNotBelow (all_counted table.old) (all_counted table.new) }
     ensures cause { HasCause File (F.faults files.old) (F.faults files.new) result }
 {
     table.flush(files)?;
@@ -131,7 +134,7 @@ pub fn share<F: Files>(
         → Rose (F.faults files.old) (F.faults files.new)) }
 {
     let mut table = table;
-    match begin(alloc, &mut table, files, readers, words, number) {
+    match begin_sharing(alloc, &mut table, files, readers, words, number) {
         Ok(Parts { inserter, readers }) => Ok(Shared {
             rest: ShareRest { table },
             inserter,
