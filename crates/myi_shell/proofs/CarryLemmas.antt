@@ -16,7 +16,7 @@ use Rattle.myi_shell.specs.declared.fault.ShellFault.{ShellFault}
 use Rattle.myi_shell.specs.declared.fault.ShellFault.TheVariants as fault
 use Rattle.myi_shell.specs.declared.target.Target.{Target}
 use Rattle.myi_shell.specs.declared.target.Target.TheVariants.{One, Many}
-use Rattle.myi_shell.specs.Targets.{AreNotBelow, IsKept, IsSame, ChangesItsOwn, IsCarried, StillHolds}
+use Rattle.myi_shell.specs.Targets.{AreNotBelow, IsKept, IsSameTable, IsSame, ChangesItsOwn, IsCarried, StillHolds}
 use Rattle.myi_shell.specs.Changing.{NothingDamaged}
 use Rattle.myi_shell.specs.Running.{of_sink}
 use Rattle.myi_shell.proofs.TargetTouches.{each_itself, each_then}
@@ -36,12 +36,25 @@ one_same_then old half new one two = record {
   added = two.added ∙ one.added;
 }
 
+-- a table that a call leaves is the same one
+pub same_table : (t u : OpenTable) → table.IsSame t u → IsSameTable t u
+same_table t u same = record { name = same.name; setup = same.setup; header = same.header; lost = same.lost; defs = same.defs }
+
+table_then : (old half new : OpenTable) → IsSameTable old half → IsSameTable half new → IsSameTable old new
+table_then old half new one two = record {
+  name = two.name ∙ one.name;
+  setup = two.setup ∙ one.setup;
+  header = two.header ∙ one.header;
+  lost = two.lost ∙ one.lost;
+  defs = two.defs ∙ one.defs;
+}
+
 pub same_none : (t : Target) → IsSame t t
-same_none (One t) = one_itself t
+same_none (One t) = same_table t t (one_itself t)
 same_none (Many g) = (refl, each_itself g.tables table.IsSame one_itself)
 
 pub same_then : (old half new : Target) → IsSame old half → IsSame half new → IsSame old new
-same_then (One t) (One u) (One v) h k = one_same_then t u v h k
+same_then (One t) (One u) (One v) h k = table_then t u v h k
 same_then (One t) (One u) (Many v) h k = absurd k
 same_then (One t) (Many u) v h k = absurd h
 same_then (Many t) (One u) v h k = absurd h
@@ -172,3 +185,7 @@ not_ok {T} {E} P {f} result is = subst (λ r. IfOk r P) (sym is) tt
 
 pub not_on_ok : {T E : Type 0} (P : Type 0) {f : E} (result : Result T E) → result ≡ Err f → OnOk result P
 not_on_ok {T} {E} P {f} result is = subst (λ r. OnOk r P) (sym is) tt
+
+pub on_ok_all : {T E : Type 0} {P : Type 0} (result : Result T E) → P → OnOk result P
+on_ok_all (Ok done) p = p
+on_ok_all (Err f) p = tt

@@ -88,7 +88,7 @@ insert_says n c written Unlock is = cc
 insert_says n c written Stats is = cc
 insert_says n c written End is = cc
 
-insert_reads_none : (k : StepKind) → is_insert k ≡ true → is_read k ≡ false
+pub insert_reads_none : (k : StepKind) → is_insert k ≡ true → is_read k ≡ false
 insert_reads_none Insert is = refl
 insert_reads_none Rows is = cc
 insert_reads_none Release is = cc

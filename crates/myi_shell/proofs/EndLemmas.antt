@@ -17,12 +17,13 @@ use Rattle.myi_merge.specs.Merged.{OfEach}
 use Rattle.myi_merge.specs.Changing.{EachClosed, KeepEachRows}
 use Rattle.myi_shell.specs.declared.target.Target.{Target}
 use Rattle.myi_shell.specs.declared.target.Target.TheVariants.{One, Many}
-use Rattle.myi_shell.specs.Targets.{Standing, HoldState, IfHolds, IsSame, IsUntouchedOne, TouchesAt, IsTouchedBy, index_in, IsShut, KeepsRows}
+use Rattle.myi_shell.specs.Targets.{IsSameTable, Standing, HoldState, IfHolds, IsSame, IsUntouchedOne, TouchesAt, IsTouchedBy, index_in, IsShut, KeepsRows}
 use Rattle.myi_shell.specs.declared.fault.ShellFault.{ShellFault}
 use Rattle.myi_shell.specs.declared.fault.ShellFault.TheVariants as fault
 use Rattle.myi_shell.specs.Damage.{IsPrintedDamage}
 use Rattle.myi_shell.specs.Carrying as one
 use Rattle.myi_shell.proofs.TouchLemmas.{touched_same}
+use Rattle.myi_shell.proofs.CarryLemmas.{same_table}
 use Rattle.myi_shell.proofs.TargetTouches.{each_long, same_index}
 use Rattle.myi_shell.specs.Running.{standing, standing_in, HasEnded, IsPrinted, IsPrintedPart, IsClosedBy, AreClosedUnchanged, AreClosedWith, AreClosed, AreClosedAtEnd, StandsBehind, AreClosedBehind, IfSink, told_before, ended}
 
@@ -89,7 +90,7 @@ rows_kept told mid name m q held shown rows =
     subst (λ (z : Holding). table.KeepsRows name m z) (same_Some one.0 q (sym one.1 ∙ shown)) one.2
 
 -- the files of a table that was closed behind these changes
-one_closed : (s : TableState) (changes : List Change) (told mid : Option Holding) (t u : OpenTable) (m q n : Holding) → told ≡ Some m → mid ≡ Some q → table.IsSame t u → one.IsTouchedBy told mid t u 0 (length changes)
+one_closed : (s : TableState) (changes : List Change) (told mid : Option Holding) (t u : OpenTable) (m q n : Holding) → told ≡ Some m → mid ≡ Some q → IsSameTable t u → one.IsTouchedBy told mid t u 0 (length changes)
     → IsClosed u s n → table.KeepsRows u.name q n → IsClosedBy s changes t m n
 one_closed s changes told mid t u m q n held shown same touched closed kept = record {
   files = record { last = u; same = same; closed = closed };
@@ -102,7 +103,7 @@ one_closed s changes told mid t u m q n held shown same touched closed kept = re
 }
 
 -- of one that is untouched
-rest_closed : (s : TableState) (told mid : Option Holding) (t u : OpenTable) (m q n : Holding) → told ≡ Some m → mid ≡ Some q → table.IsSame t u → IsUntouchedOne told mid t u → IsClosed u s n → table.KeepsRows u.name q n → IsClosedBy s [] t m n
+rest_closed : (s : TableState) (told mid : Option Holding) (t u : OpenTable) (m q n : Holding) → told ≡ Some m → mid ≡ Some q → IsSameTable t u → IsUntouchedOne told mid t u → IsClosed u s n → table.KeepsRows u.name q n → IsClosedBy s [] t m n
 rest_closed s told mid t u m q n held shown same h closed kept = one_closed s [] told mid t u m q n held shown same (touched_same told mid t u 0 0 h.name refl h.untouched) closed kept
 
 each_closed : (ss : List TableState) (told mid : Option Holding) (ts us : List OpenTable) (m q n : Holding) → told ≡ Some m → mid ≡ Some q → OfEach ts us table.IsSame → OfEach ts us (IsUntouchedOne told mid) → EachClosed us ss n → KeepEachRows us q n
@@ -114,7 +115,7 @@ each_closed (s ∷ ss) told mid [] [] m q n held shown same h closed kept = absu
 each_closed (s ∷ ss) told mid (t ∷ ts) [] m q n held shown same h closed kept = absurd same
 each_closed [] told mid (t ∷ ts) (u ∷ us) m q n held shown same h closed kept = absurd closed
 each_closed (s ∷ ss) told mid (t ∷ ts) (u ∷ us) m q n held shown same h closed kept = (
-  rest_closed s told mid t u m q n held shown same.0 h.0 closed.0 kept.0,
+  rest_closed s told mid t u m q n held shown (same_table t u same.0) h.0 closed.0 kept.0,
   each_closed ss told mid ts us m q n held shown same.1 h.1 closed.1 kept.1,
 )
 
@@ -127,11 +128,11 @@ list_closed front back s changes told mid [] (u ∷ us) m q n held shown same h 
 list_closed [] back s changes told mid (t ∷ ts) [] m q n held shown same h closed kept = absurd same
 list_closed (r ∷ front) back s changes told mid (t ∷ ts) [] m q n held shown same h closed kept = absurd same
 list_closed [] back s changes told mid (t ∷ ts) (u ∷ us) m q n held shown same h closed kept = (
-  one_closed s changes told mid t u m q n held shown same.0 h.0 closed.0 kept.0,
+  one_closed s changes told mid t u m q n held shown (same_table t u same.0) h.0 closed.0 kept.0,
   each_closed back told mid ts us m q n held shown same.1 h.1 closed.1 kept.1,
 )
 list_closed (r ∷ front) back s changes told mid (t ∷ ts) (u ∷ us) m q n held shown same h closed kept = (
-  rest_closed r told mid t u m q n held shown same.0 h.0 closed.0 kept.0,
+  rest_closed r told mid t u m q n held shown (same_table t u same.0) h.0 closed.0 kept.0,
   list_closed front back s changes told mid ts us m q n held shown same.1 h.1 closed.1 kept.1,
 )
 

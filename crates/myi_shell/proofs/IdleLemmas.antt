@@ -52,7 +52,7 @@ leaves_then told mid next old half ls same takes one two =
 -- ---- calls that leave all data files
 
 -- the one table of that name
-one_named : (own name : List ℕ) (i : ℕ) (m n : Holding) → slice_get (own ∷ []) i ≡ Some name → KeepsRows own m n → KeepsRows name m n
+pub one_named : (own name : List ℕ) (i : ℕ) (m n : Holding) → slice_get (own ∷ []) i ≡ Some name → KeepsRows own m n → KeepsRows name m n
 one_named own name zero m n at keeps = subst (λ (q : List ℕ). KeepsRows q m n) (same_Some own name at) keeps
 one_named own name (suc i) m n at keeps = absurd cc
 

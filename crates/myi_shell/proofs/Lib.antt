@@ -22,3 +22,6 @@ mod RoundLemmas
 mod RoundsLemmas
 mod RunLemmas
 mod EndLemmas
+mod BesideLemmas
+mod SideLemmas
+mod ThreadLemmas

@@ -33,7 +33,7 @@ use Rattle.myi_merge.specs.Merged.{OpenMerge, IsMerge, IsLike, HoldEach}
 use Rattle.myi_merge.specs.Reading as list
 use Rattle.myi_merge.specs.Reading.{answered, numbered, all_rows, merged_cmp, AreMerged, AnswersMerged}
 use Rattle.myi_merge.proofs.CallerLemmas.{like_at}
-use Rattle.myi_shell.specs.Reading.{table_range}
+use Rattle.myi_rounds.specs.Reads.{table_range}
 
 -- ---- the rows of all tables
 

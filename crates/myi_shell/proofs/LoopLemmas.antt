@@ -33,7 +33,7 @@ drop_none (y ∷ ys) zero out = absurd (omega (arith, out))
 drop_none (y ∷ ys) (suc i) out = drop_none ys i (omega (arith, out))
 
 -- texts that are added one by one
-text_more : {A : Type 0} (f : A → List LineText) (all : List A → List LineText) → ((x : A) (xs : List A) → all (x ∷ xs) ≡ f x ++ all xs)
+pub text_more : {A : Type 0} (f : A → List LineText) (all : List A → List LineText) → ((x : A) (xs : List A) → all (x ∷ xs) ≡ f x ++ all xs)
     → (old half new : List LineText) (xs : List A) (i : ℕ) (d : A) → i < length xs → half ++ all (drop i xs) ≡ old ++ all xs → new ≡ half ++ f (get_or xs i d) → new ++ all (drop (i + 1) xs) ≡ old ++ all xs
 text_more f all step old half new xs i d lt so_far adds =
     ap (λ t. t ++ all (drop (i + 1) xs)) adds ∙ append_assoc half (f (get_or xs i d)) (all (drop (i + 1) xs))

@@ -18,7 +18,7 @@ use Rattle.myi_table.specs.declared.ranges.Range.{Range}
 use Rattle.myi_table.specs.Reading.{bounds_of, AnswersRange}
 use Rattle.myi_shell.specs.declared.reading.Snapshot.{Snapshot}
 use Rattle.myi_shell.specs.Stepping.{seen_rows}
-use Rattle.myi_shell.specs.Reading.{table_range}
+use Rattle.myi_rounds.specs.Reads.{table_range}
 
 pub in_table : (d : Defs) (r : script.Range) (q : Range) (places keys : ℕ) → q ≡ table_range r → places ≡ keys → keys ≡ length d.keys → IsRange d r → q.key < places
 in_table d r q places keys is one two range =

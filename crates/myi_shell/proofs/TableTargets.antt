@@ -23,6 +23,7 @@ use Rattle.myi_shell.specs.declared.changes.Changed.{Changed}
 use Rattle.myi_shell.specs.declared.target.Target.{Target}
 use Rattle.myi_shell.specs.declared.target.Target.TheVariants.{One}
 use Rattle.myi_shell.specs.Carrying as one
+use Rattle.myi_shell.proofs.CarryLemmas.{same_table}
 use Rattle.myi_shell.specs.Changing.{IsChanged, IsChangedBy, NeverDamaged, NothingDamaged, reply_of, count_by, table_changed}
 use Rattle.myi_shell.specs.Targets.{Standing, moved, counted_in, AreNotBelow, IsCarried, IsUntouchedOne, HoldsThen, IfHolds}
 
@@ -81,7 +82,7 @@ sums_on told next t u carried =
 pub table_carried : (told next : Option Holding) (t u : OpenTable) → one.IsCarried told next t u → IsCarried told next (One t) (One u)
 table_carried told next t u carried = record {
   kept = carried.kept;
-  same = carried.same;
+  same = same_table t u carried.same;
   defs = carried.same.defs;
   takes = refl;
   others = carried.others;

@@ -18,3 +18,5 @@ pub mod Reading
 pub mod Carrying
 -- what the steps of a round do and say where the table is in a state
 pub mod Stepping
+-- a round whose sessions go side by side
+pub mod Beside

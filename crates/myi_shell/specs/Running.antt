@@ -22,7 +22,7 @@ use Rattle.myi_shell.specs.declared.fault.ShellFault.TheVariants as fault
 use Rattle.myi_shell.specs.declared.target.Target.{Target}
 use Rattle.myi_shell.specs.declared.target.Target.TheVariants.{One, Many}
 use Rattle.myi_shell.specs.Targets as on
-use Rattle.myi_shell.specs.Targets.{Standing, HoldsThen, IsTouchedBy, AreNotBelow}
+use Rattle.myi_shell.specs.Targets.{Standing, IsSameTable, HoldsThen, IsTouchedBy, AreNotBelow}
 use Rattle.myi_shell.specs.Stepping.{RunState, end_in}
 
 -- how a script begins on a table with these definitions that stands for a state
@@ -120,7 +120,7 @@ IsStopped told fault.Memory = Unit {0}
 -- the files of a table stand for a state, by the header that the table was closed with
 pub record IsClosedAs (s : TableState) (t : OpenTable) (n : Holding) : Type 0 where
   pub last : OpenTable
-  pub same : table.IsSame t last
+  pub same : IsSameTable t last
   pub closed : IsClosed last s n
 
 -- The two files are a clean pair that stands for what these changes lead to. With no change the data file holds what it held and the

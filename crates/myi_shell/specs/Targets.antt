@@ -16,6 +16,7 @@ use Rattle.myi_table.specs.Closing.{IsClosed}
 use Rattle.myi_merge.specs.Changing.{ChangesTheirOwn, EachClosed, KeepEachRows}
 use Rattle.myi_merge.specs.Changing as list
 use Rattle.myi_shell.specs.Carrying as one
+pub use Rattle.myi_share.specs.Taking.{AreNotBelow}
 use Rattle.myi_shell.specs.declared.target.Target.{Target}
 use Rattle.myi_shell.specs.declared.target.Target.TheVariants.{One, Many}
 
@@ -96,18 +97,19 @@ abbrev pub counted_in : Target → Counters
 counted_in (One t) = sum_of t.rows.trees.cache.counters t.added
 counted_in (Many g) = counted_by g.tables
 
--- no count is lower
-pub record AreNotBelow (old new : Counters) : Type 0 where
-  pub read_requests : old.read_requests ≤ new.read_requests
-  pub reads : old.reads ≤ new.reads
-  pub write_requests : old.write_requests ≤ new.write_requests
-  pub writes : old.writes ≤ new.writes
-
 -- ---- what calls leave
 
--- what changes leave of each table: its name and setup, the header that was read, its definitions
+-- the same table: its name and setup, the header that was read, its definitions; more may be counted beside
+pub record IsSameTable (old new : OpenTable) : Type 0 where
+  pub name : new.name ≡ old.name
+  pub setup : new.setup ≡ old.setup
+  pub header : new.header ≡ old.header
+  pub lost : new.lost ≡ old.lost
+  pub defs : table.defs_in new ≡ table.defs_in old
+
+-- what a round leaves of each table
 abbrev pub IsSame : Target → Target → Type 0
-IsSame (One t) (One u) = table.IsSame t u
+IsSame (One t) (One u) = IsSameTable t u
 IsSame (One t) (Many h) = ⊥
 IsSame (Many g) (One u) = ⊥
 IsSame (Many g) (Many h) = (h.method ≡ g.method) × OfEach g.tables h.tables table.IsSame

@@ -9,7 +9,6 @@ ghost use Rattle.myi_table.specs.Table.{defs_in, IsKept, IfHolds, StillHolds};
 ghost use Rattle.myi_shell.specs.Carrying.{IsCarried, IsUntouched};
 ghost use Rattle.myi_shell.specs.Changing.{NeverDamaged, NothingDamaged};
 ghost use Rattle.myi_shell.specs.Stepping.{seen_rows, read_answer};
-ghost use Rattle.myi_shell.specs.Reading.{table_range};
 ghost use Rattle.myi_history.specs.Reads.{found, merged_found};
 ghost use Rattle.myi_history.specs.History.{in_list};
 ghost use Rattle.myi_shell.specs.Targets as on;
@@ -19,11 +18,11 @@ ghost use Rattle.myi_shell.specs.declared.fault.ShellFault.TheVariants.{File};
 use crate::fault::ShellFault;
 use myi_history::RoundTexts;
 use myi_io::Files;
-use myi_keys::KeyVal;
 use myi_merge::Merge;
 use myi_pack::Row;
-use myi_script::{self as script, Act};
-use myi_table::{Range, Table};
+use myi_rounds::range_of;
+use myi_script::Act;
+use myi_table::Table;
 use std::alloc::{AllocError, Global};
 
 /// What a statement reads: the table after so many changes, whose rows are those below a place, or
@@ -32,27 +31,6 @@ use std::alloc::{AllocError, Global};
 pub(crate) struct Snapshot {
     pub(crate) number: u64,
     pub(crate) below: Option<u64>,
-}
-
-// The same bound.
-fn bound_of(alloc: Global, bound: &Option<KeyVal>) -> Result<Option<KeyVal>, AllocError>
-    ensures { IfOk result (λ same. same ≡ bound.now) }
-{
-    let Some(key) = bound else { return Ok(None) };
-    let code = Vec::from_slice(alloc, key.code())?;
-    Ok(Some(KeyVal::of_code(code)))
-}
-
-// The rows of a script's range, whose keys are counted from 1.
-fn range_of(alloc: Global, range: &script::Range) -> Result<Range, AllocError>
-    requires { 0 < range.now.key }
-    ensures { IfOk result (λ r. r ≡ table_range range.now) }
-{
-    Ok(Range {
-        key: range.key as usize - 1,
-        from: bound_of(alloc, &range.from)?,
-        to: bound_of(alloc, &range.to)?,
-    })
 }
 
 /// Notes the lines of a read that found these rows.

@@ -15,15 +15,16 @@ ghost use Rattle.myi_shell.specs.Running.{IfSink, StandsBehind, AreClosedBehind}
 ghost use Rattle.myi_shell.specs.declared.fault.ShellFault.TheVariants.{File, Sink};
 
 use crate::fault::ShellFault;
-use crate::gate::Gate;
 use crate::script_run::ScriptRun;
 use crate::target::Target;
 use myi_history::{script_steps, scripts_may_run};
 use myi_io::{Files, Sink};
 use myi_locks::Locks;
+use myi_rounds::{Gate, Host};
 use myi_script::{Line, Script};
 use myi_table::ChangeFault;
 use std::alloc::{AllocError, Global};
+use std::thread::Threads;
 
 /// Runs a script on a table or a list, and closes its tables. `setting` is that of concurrent
 /// inserts, as `Locks::new` has it. The lines are printed round by round, in order of their
@@ -35,17 +36,16 @@ use std::alloc::{AllocError, Global};
 /// every table where no line asks for a change. A run that is cut off has printed a first part of
 /// such a text. Where the output failed, the table is closed too, behind the round whose lines were
 /// being printed. Where closing a table fails that no fault broke, that is the answer, whatever
-/// happened before. `gate` is called before and after each step. Over files that tell nothing of
-/// what they hold a step may meet damage: the lines of its round so far are printed then, one of
-/// which says so, and nothing follows.
-pub fn run_script<F: Files, O: Sink, G: Gate>(
-    alloc: Global,
+/// happened before. The gate of the host is called before and after each step, on the thread that
+/// does it. Over files that tell nothing of what they hold a step may meet damage: the lines of its
+/// round so far are printed then, one of which says so, and nothing follows.
+pub fn run_script<T: Threads + Sync, F: Files, O: Sink, G: Gate>(
+    host: &Host<'_, T, G>,
     target: Target,
     script: &Script,
     setting: u8,
     files: &mut F,
     out: &mut O,
-    gate: &G,
 ) -> Result<(), ShellFault>
     requires writable { IsTrue F.writable }
     requires setting { setting ≤ 2 }
@@ -75,17 +75,9 @@ pub fn run_script<F: Files, O: Sink, G: Gate>(
 {
     let mut target = target;
     let lines = script.lines.as_slice();
-    let host = Host { alloc, gate };
-    let ran = run(&host, &mut target, lines, setting, files, out);
+    let ran = run(host, &mut target, lines, setting, files, out);
     let closed = target.close(files);
     ended(ran, closed)
-}
-
-// The memory of a run, and its gate.
-#[derive(Drop)]
-struct Host<'a, G> {
-    alloc: Global,
-    gate: &'a G,
 }
 
 // The answer of a script, by how it ran and how its table was closed.
@@ -122,8 +114,8 @@ fn begin(
 }
 
 // Does the rounds of a script one after the other.
-fn run<F: Files, O: Sink, G: Gate>(
-    host: &Host<'_, G>,
+fn run<T: Threads + Sync, F: Files, O: Sink, G: Gate>(
+    host: &Host<'_, T, G>,
     target: &mut Target,
     lines: &[Line],
     setting: u8,
@@ -164,6 +156,6 @@ fn run<F: Files, O: Sink, G: Gate>(
         setting,
         target.length(),
     )?;
-    while state.next_round(host.gate, target, files, lines, out)? {}
+    while state.next_round(host, target, files, lines, out)? {}
     Ok(())
 }

@@ -1,21 +1,22 @@
 //! `ScriptRun`: a script that goes on, round by round.
 //!
-//! The table is the caller's. In a round the reads go first, each over the table as it is, and
-//! then what changes it. What the steps say is noted, and printed behind the round in order of
-//! the lines.
+//! The table is the caller's. In a round that one thread does the reads go first, each over the
+//! table as it is, and then what changes it; the runs of one on a table may go side by side
+//! (`beside.rt`). What the steps say is noted, and printed behind the round in order of the lines.
 
+use crate::beside::{has_one_run, steps_in};
 use crate::fault::{ShellFault, note_damage};
-use crate::gate::{Gate, end_step, pass_step};
 use crate::reading::Snapshot;
-use crate::statements::act_of;
 use crate::target::Target;
 use myi_history::{RoundTexts, StepAnswer};
 use myi_io::{Files, Sink};
 use myi_keycache::Counters;
 use myi_locks::{LockKind, Locks, Round, Run, Step, StepKind};
+use myi_rounds::{Gate, Host, act_of, end_step, pass_step};
 use myi_script::Line;
 use std::alloc::{AllocError, Global};
 use std::collections::BTreeMap;
+use std::thread::Threads;
 
 /// What stood at a session's Take of READ or READ LOCAL: how many changes were accepted, and how
 /// long the data file was.
@@ -30,11 +31,11 @@ pub(crate) struct Taken {
 /// round said so far.
 #[derive(Drop)]
 pub(crate) struct ScriptRun {
-    locks: Locks,
-    number: u64,
-    taken: BTreeMap<u32, Taken>,
-    first: Taken,
-    texts: RoundTexts,
+    pub(crate) locks: Locks,
+    pub(crate) number: u64,
+    pub(crate) taken: BTreeMap<u32, Taken>,
+    pub(crate) first: Taken,
+    pub(crate) texts: RoundTexts,
 }
 
 impl ScriptRun {
@@ -70,6 +71,7 @@ impl ScriptRun {
     ghost use Rattle.myi_shell.specs.Stepping.{HasItsKinds, AreDone};
     ghost use Rattle.myi_shell.specs.Stepping.{taken_behind, taken_now, taken_as, holes_in};
     ghost use Rattle.myi_shell.specs.Running.{ForOpening, HasDone, HasGoneOn};
+    ghost use Rattle.myi_shell.specs.Beside.{IsDone};
     ghost use Rattle.myi_shell.specs.Running.{IsPrintedPart, IsStopped, IfSink, StandsBehind};
 
     /// A script before its first round.
@@ -109,15 +111,15 @@ impl ScriptRun {
         }
     }
 
-    // What stood at the session's last Take of READ or READ LOCAL.
-    fn taken_by(&self, session: u32) -> Taken
+    /// What stood at the session's last Take of READ or READ LOCAL.
+    pub(crate) fn taken_by(&self, session: u32) -> Taken
         ensures { result ≡ (state_of self.now).taken session }
     {
         self.taken.get(&session).copied().unwrap_or(self.first)
     }
 
-    // Whether the session holds READ or READ LOCAL.
-    fn reads_only(&self, session: u32) -> bool
+    /// Whether the session holds READ or READ LOCAL.
+    pub(crate) fn reads_only(&self, session: u32) -> bool
         ensures { result ≡ reads_only self.now.locks session }
     {
         matches!(
@@ -198,8 +200,8 @@ impl ScriptRun {
         Ok(())
     }
 
-    // Runs of steps that read.
-    fn read_runs<F: Files, G: Gate>(
+    /// Runs of steps that read.
+    pub(crate) fn read_runs<F: Files, G: Gate>(
         &mut self,
         gate: &G,
         target: &mut Target,
@@ -296,8 +298,8 @@ impl ScriptRun {
         Ok(())
     }
 
-    // The inserts of a round of kind Together.
-    fn insert_run<F: Files, G: Gate>(
+    /// The inserts of a round of kind Together.
+    pub(crate) fn insert_run<F: Files, G: Gate>(
         &mut self,
         gate: &G,
         target: &mut Target,
@@ -381,8 +383,8 @@ impl ScriptRun {
         }
     }
 
-    // Notes what a step answered that is no read.
-    fn say(&mut self, line: u32, answer: StepAnswer) -> Result<(), ShellFault>
+    /// Notes what a step answered that is no read.
+    pub(crate) fn say(&mut self, line: u32, answer: StepAnswer) -> Result<(), ShellFault>
         ensures said { OnOk result (self.new ≡ record self.old {
           texts = self.old.texts ++ text_of (answer_on line (answer_of answer)) ∷ [];
         }) }
@@ -481,10 +483,53 @@ impl ScriptRun {
         }
     }
 
-    // Does a round, prints its lines, and goes on in the locks.
-    fn do_round<F: Files, O: Sink, G: Gate>(
+    // The steps of a round, before which this was counted: on a table the runs of one of kind Together
+    // go side by side, where it has more than one.
+    fn any_round<T: Threads + Sync, F: Files, G: Gate>(
         &mut self,
-        gate: &G,
+        host: &Host<'_, T, G>,
+        target: &mut Target,
+        files: &mut F,
+        lines: &[Line],
+        round: &Round,
+        counters: Counters,
+    ) -> Result<(), ShellFault>
+        requires writable { IsTrue F.writable }
+        requires lines { MayRun (defs_in target.old) lines.now }
+        requires kept { IsKept (F.holds files.old) target.old }
+        requires whole { IsWhole target.old }
+        requires kinds { HasItsKinds round.now }
+        ensures done { OnOk result (IfHolds (F.holds files.old) target.old (λ m s.
+            IsDone (defs_in target.old) (script_on target.old lines.now) (state_of self.old)
+            counters s round.now (F.holds files.new) target.new (state_of self.new))) }
+        ensures locks { self.new.locks ≡ self.old.locks }
+        ensures taken { OnOk result ((n : ℕ) → (state_of self.new).taken n
+            ≡ taken_behind round.now (taken_now (state_of self.old) target.old)
+            (state_of self.old).taken n) }
+        ensures idle { Told (F.holds files.old) (F.holds files.new)
+            (LeavesIdle target.old lines.now) }
+        ensures carried { IsCarried (F.holds files.old) (F.holds files.new) target.old target.new }
+        ensures touched { OnOk result (IsTouchedBy (F.holds files.old) (F.holds files.new)
+            target.old target.new self.old.number self.new.number) }
+        ensures whole { OnOk result (IsWhole target.new) }
+        ensures refused { IfErr result (NothingDamaged (F.holds files.old)) }
+        ensures noted { IfErr result (IsNoted self.new.texts) }
+        ensures cause { HasCause File (F.faults files.old) (F.faults files.new) result }
+    {
+        let Round::Together { inserter, readers } = round else {
+            return self.round(host.gate, target, files, lines, round, counters);
+        };
+        if target.is_list() || has_one_run(inserter, readers) {
+            return self.round(host.gate, target, files, lines, round, counters);
+        }
+        let inserts = steps_in(inserter);
+        self.beside(host, target, files, lines, inserts, readers.runs.as_slice())
+    }
+
+    // Does a round, prints its lines, and goes on in the locks.
+    fn do_round<T: Threads + Sync, F: Files, O: Sink, G: Gate>(
+        &mut self,
+        host: &Host<'_, T, G>,
         target: &mut Target,
         files: &mut F,
         lines: &[Line],
@@ -528,7 +573,7 @@ impl ScriptRun {
         ensures sink { HasCause Sink (O.faults out.old) (O.faults out.new) result }
     {
         let counters = target.counters();
-        self.round(gate, target, files, lines, round, counters)?;
+        self.any_round(host, target, files, lines, round, counters)?;
         self.texts.write(out)?;
         self.locks.advance(round);
         Ok(())
@@ -556,9 +601,9 @@ impl ScriptRun {
     }
 
     /// Does the next round, and prints its lines. There was none where the answer is false.
-    pub(crate) fn next_round<F: Files, O: Sink, G: Gate>(
+    pub(crate) fn next_round<T: Threads + Sync, F: Files, O: Sink, G: Gate>(
         &mut self,
-        gate: &G,
+        host: &Host<'_, T, G>,
         target: &mut Target,
         files: &mut F,
         lines: &[Line],
@@ -601,7 +646,7 @@ impl ScriptRun {
         if let Round::Finished = round {
             return Ok(false);
         }
-        match self.do_round(gate, target, files, lines, out, &round) {
+        match self.do_round(host, target, files, lines, out, &round) {
             Ok(()) => {}
             Err(fault) => return Err(self.cut_off(out, fault)),
         }

@@ -9,7 +9,6 @@ ghost use Rattle.myisamkit.specs.Lines as spec;
 ghost use Rattle.myisamkit.specs.Turns.{check_turn, checked_text, checked_status, unless_silent};
 ghost use Rattle.myisamkit.specs.Turns.{CheckDone, CheckStops};
 
-use crate::host::Host;
 use crate::lines::{finding_lines, ok_line};
 use crate::options::Options;
 use crate::recover::{not_worked_on, recover_table};
@@ -17,7 +16,7 @@ use crate::say::say;
 use crate::status::{Status, Stop};
 use myi_check::check;
 use myi_io::{Files, Sink};
-use myi_shell::Gate;
+use myi_shell::{Gate, Host};
 use std::alloc::{AllocError, Global};
 use std::thread::Threads;
 

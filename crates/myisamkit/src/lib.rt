@@ -28,7 +28,6 @@ mod create;
 mod describe;
 mod description;
 mod dump;
-mod host;
 mod laws;
 mod lines;
 mod make;

@@ -14,7 +14,6 @@ ghost use Rattle.myisamkit.specs.Turns.{recover_turn, fault_status, unless_silen
 ghost use Rattle.myisamkit.specs.Turns.{RepairDone, RepairCutOff, RepairStops};
 ghost use Rattle.myisamkit.specs.Turns.{is_row_by_row, LeavesRepaired, OldOrNew};
 
-use crate::host::Host;
 use crate::lines::{absent_line, reason_of, recovered_line, refused_line};
 use crate::options::{Mode, Options, TreeWork};
 use crate::say::say;
@@ -23,7 +22,7 @@ use myi_io::{Files, Sink};
 use myi_parallel::{OpenGate, Workers, parallel_recover};
 use myi_repair::{RepairFault, Report, recover};
 use myi_saferepair::safe_recover;
-use myi_shell::Gate;
+use myi_shell::{Gate, Host};
 use std::alloc::{AllocError, Global};
 use std::thread::Threads;
 

@@ -8,18 +8,18 @@ ghost use Rattle.myisamkit.specs.Statuses.{IsFault};
 ghost use Rattle.myisamkit.specs.Shells as shells;
 ghost use Rattle.myisamkit.specs.ShellSteps.{IsReady, IsRunnable};
 
-use crate::host::Host;
 use crate::say::say;
 use crate::shell_ready::{Found, Job, prepare};
 use crate::status::{Status, Stop};
 use myi_io::{Files, Sink};
 use myi_pair::findings_are_none_where_clean;
 use myi_script::Script;
-use myi_shell::{Gate, ShellFault, Target, run_script};
+use myi_shell::{Gate, Host, ShellFault, Target, run_script};
 use myi_tablestate::clean_pairs_stand_for_tables;
+use std::thread::Threads;
 
 /// Runs a script on tables with which nothing is wrong; else says what is.
-pub(crate) fn run_shell<R, G: Gate, F: Files, O: Sink>(
+pub(crate) fn run_shell<R: Threads + Sync, G: Gate, F: Files, O: Sink>(
     host: &Host<'_, R, G>,
     files: &mut F,
     out: &mut O,
@@ -58,7 +58,7 @@ pub(crate) fn run_shell<R, G: Gate, F: Files, O: Sink>(
 }
 
 // Runs a script on its tables, which are loaded.
-fn run_ready<R, G: Gate, F: Files, O: Sink>(
+fn run_ready<R: Threads + Sync, G: Gate, F: Files, O: Sink>(
     host: &Host<'_, R, G>,
     files: &mut F,
     out: &mut O,
@@ -94,7 +94,7 @@ fn run_ready<R, G: Gate, F: Files, O: Sink>(
     clean_pairs_stand_for_tables();
     findings_are_none_where_clean();
     let setting = job.options.concurrent;
-    match run_script(host.alloc, target, &script, setting, files, out, host.gate) {
+    match run_script(host, target, &script, setting, files, out) {
         Ok(()) => Ok(Status::Ok),
         // Its line was printed. Files that tell what they hold give no cause for it.
         Err(ShellFault::Damaged { .. }) => Ok(Status::Refused),

@@ -7,13 +7,12 @@ ghost use Rattle.myisamkit.specs.Statuses.{IsFault};
 ghost use Rattle.myisamkit.specs.Turns.{MayFind};
 ghost use Rattle.myisamkit.specs.Runs.{TablesEnd, TablesSaid, TablesSaidPart, TablesStop};
 
-use crate::host::Host;
 use crate::options::Options;
 use crate::status::{Status, Stop};
 use crate::turn::run_table;
 use crate::words::{Names, table_name};
 use myi_io::{Files, Sink};
-use myi_shell::Gate;
+use myi_shell::{Gate, Host};
 use std::thread::Threads;
 
 /// Gives each table that the words name its turn, and answers the greatest status.

@@ -13,7 +13,6 @@ ghost use Rattle.myisamkit.specs.Lines as spec;
 
 use crate::create::create_from_text;
 use crate::dump::dump_table;
-use crate::host::Host;
 use crate::lines::usage_line;
 use crate::make::make_of_rows;
 use crate::say::say;
@@ -22,7 +21,7 @@ use crate::status::{Status, Stop};
 use crate::tables::run_tables;
 use crate::words::{Plan, read_words};
 use myi_io::{Files, Sink};
-use myi_shell::Gate;
+use myi_shell::{Gate, Host};
 use std::alloc::Global;
 use std::thread::Threads;
 

@@ -9,14 +9,13 @@ ghost use Rattle.myisamkit.specs.Turns.{turn, MayFind, TurnDone, TurnStops};
 use crate::analyze::analyze_table;
 use crate::check::check_table;
 use crate::describe::describe_table;
-use crate::host::Host;
 use crate::options::{Mode, Options};
 use crate::recover::recover_table;
 use crate::sort::{Order, sort_table};
 use crate::sort_index::sort_index_table;
 use crate::status::{Status, Stop};
 use myi_io::{Files, Sink};
-use myi_shell::Gate;
+use myi_shell::{Gate, Host};
 use std::thread::Threads;
 
 /// Gives a table its turn.
